@@ -1,0 +1,5 @@
+pub mod Decimals
+pub mod Entries
+pub mod Inverse
+pub mod Names
+pub mod Taking

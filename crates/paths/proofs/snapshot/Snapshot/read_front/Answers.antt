@@ -1,0 +1,18 @@
+use Rattle.std.proofs.Common.{◌+◌, ap, ◌∙◌, arith}
+use Rattle.paths.proofs.Entries.{front_starts, front_goes_on, front_ends, front_faults}
+use Rattle.paths.proofs.snapshot.Snapshot.read_front.Goals as goal
+
+pub loop-files-init : goal.loop-files-init
+loop-files-init g c = (front_starts _ _ _ _ _ c.new-files.ensures c.in-Ok.ensures.line, c.in-Ok.ensures.count)
+
+pub returns-in-Ok-None-clause-ok : goal.returns-in-Ok-None-clause-ok
+returns-in-Ok-None-clause-ok g c = front_ends _ _ _ _ _ _ _ c.in-Ok-None.field-0-is (omega (arith, c.len-entry.ensures.count, c.len-entry.ensures.limit)) c.loop-files.invariant.0 c.in-Ok-None.ensures.entry
+
+pub loop-files-preserved : goal.loop-files-preserved
+loop-files-preserved g c = (
+    front_goes_on _ _ _ _ _ _ _ _ _ c.in-Ok-Some.field-0-is c.in-Ok-push.ensures.ok (omega (arith, c.len-entry.ensures.count, c.len-entry.ensures.limit)) c.loop-files.invariant.0 c.in-Ok-Some.ensures.entry,
+    c.in-Ok-Some.ensures.count ∙ c.loop-files.invariant.1)
+
+pub returns-in-Err-read_entry-clause-fault : goal.returns-in-Err-read_entry-clause-fault
+returns-in-Err-read_entry-clause-fault g c =
+    front_faults _ _ _ _ _ _ c.len-entry.ensures.rules (ap (λ n. n + 1) c.len-entry.ensures.count) c.loop-files.invariant.0 c.in-Err-read_entry.ensures.entry

@@ -1,0 +1,10 @@
+use Rattle.std.proofs.Common.{◌≡◌, ◌≤◌, ◌-◌, take, length}
+use Rattle.paths.proofs.Taking.{Takes}
+use Rattle.paths.proofs.text.fill.Given as goal
+
+abbrev pub invariant-loop-filled : goal.invariant-loop-filled
+invariant-loop-filled g l = Takes l.fn.input.0 l.fn.left l.input.0 l.left (take l.filled l.room)
+    × (l.filled ≤ length l.room) × (l.input.1 ≡ l.fn.input.1)
+
+abbrev pub decreases-loop-filled : goal.decreases-loop-filled
+decreases-loop-filled g l = length l.room - l.filled

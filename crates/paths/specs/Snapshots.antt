@@ -1,0 +1,127 @@
+-- The text of a snapshot of a file tree.
+use Rattle.std.specs.Prelude.{◌≡◌, ℕ, ◌+◌, ◌<◌, ◌≤◌, ◌==◌, ◌&&◌, not, Bool, true, false, List, [], ◌∷◌, ◌++◌, length, All, codes, decimal, bytes_eq, nat_eq, slice_index_or, flat_map, Option, Result, MatchResult}
+use Rattle.std.specs.List.{list_all, list_any, starts_with, slice_split, AllPairs, position}
+use Rattle.std.specs.Str.{is_utf8}
+use Rattle.std.specs.Ordering.{is_lt, nat_cmp}
+use Rattle.std.specs.Cmp.Lexicographic.{slice_cmp}
+use Rattle.paths.specs.declared.file.File.{File}
+
+-- a line feed, and a slash
+abbrev pub feed : ℕ
+feed = 10
+
+abbrev pub slash : ℕ
+slash = 47
+
+-- the greatest number of files, of bytes of a file, of bytes of a name and of bytes of a text, and the greatest time
+abbrev pub most_files : ℕ
+most_files = 65536
+
+abbrev pub most_bytes : ℕ
+most_bytes = 16777216
+
+abbrev pub longest_name : ℕ
+longest_name = 1024
+
+abbrev pub latest_time : ℕ
+latest_time = 253402300799
+
+abbrev pub longest_text : ℕ
+longest_text = 1073741824
+
+-- the line in front of a file
+abbrev pub file_line : File → List ℕ
+file_line f = codes "file " ++ decimal f.mtime ++ codes " " ++ decimal (length f.name) ++ codes " " ++ decimal (length f.bytes)
+
+-- a file: its line, its name and its bytes, each with a line feed
+abbrev pub file_text : File → List ℕ
+file_text f = file_line f ++ feed ∷ (f.name ++ feed ∷ (f.bytes ++ feed ∷ []))
+
+-- the first line, without its line feed
+abbrev pub first_line : List ℕ
+first_line = codes "haboob-snapshot 1"
+
+-- the last line, without its line feed
+abbrev pub last_line : List File → List ℕ
+last_line files = codes "end " ++ decimal (length files)
+
+-- the text up to the last line, and the whole text
+abbrev pub text_before_end : List File → List ℕ
+text_before_end files = (first_line ++ feed ∷ []) ++ flat_map file_text files
+
+abbrev pub snapshot_text : List File → List ℕ
+snapshot_text files = text_before_end files ++ (last_line files ++ feed ∷ [])
+
+-- a part of a name between slashes: not empty, `.` or `..`
+abbrev pub is_part : List ℕ → Bool
+is_part part = not (bytes_eq part []) && not (bytes_eq part (codes ".")) && not (bytes_eq part (codes ".."))
+
+-- a name: UTF-8 without byte 0, of such parts
+abbrev pub is_name : List ℕ → Bool
+is_name name = is_utf8 name && list_all (λ b. not (b == 0)) name && list_all is_part (slice_split (λ b. b == slash) name)
+
+-- the first name comes before the second, by their bytes
+abbrev pub comes_before : List ℕ → List ℕ → Bool
+comes_before m n = is_lt (slice_cmp nat_cmp m n)
+
+-- the name lies in the folder: it begins with the folder's name and a slash
+abbrev pub lies_in : List ℕ → List ℕ → Bool
+lies_in folder name = starts_with nat_eq name (folder ++ slash ∷ [])
+
+-- a file within the limits
+pub record IsFile (f : File) : Type 0 where
+  pub mtime : f.mtime ≤ latest_time
+  pub some : 0 < length f.name
+  pub short : length f.name ≤ longest_name
+  pub name : is_name f.name ≡ true
+  pub bytes : length f.bytes ≤ most_bytes
+
+-- The files of a snapshot: their names rise, and no file has the name of a folder. (A name that lies in a folder comes
+-- after the folder's own name, so it is enough to look at later files.)
+pub record IsSnapshot (files : List File) : Type 0 where
+  pub count : length files ≤ most_files
+  pub each : All IsFile files
+  pub rising : AllPairs (λ f g. comes_before f.name g.name ≡ true) files
+  pub apart : AllPairs (λ f g. lies_in f.name g.name ≡ false) files
+
+-- the bytes are the text of a snapshot of these files
+pub record IsSnapshotText (bytes : List ℕ) (files : List File) : Type 0 where
+  pub text : bytes ≡ snapshot_text files
+  pub rules : IsSnapshot files
+  pub size : length bytes ≤ longest_text
+
+abbrev pub no_file : File
+no_file = record { name = []; mtime = 0; bytes = [] }
+
+-- the file of a number below the number of files
+abbrev pub file_of : List File → ℕ → File
+file_of files n = slice_index_or files n no_file
+
+-- the name, of so many bytes, may stand behind those of these files
+pub record FitsName (files : List File) (len : ℕ) (name : List ℕ) : Type 0 where
+  pub length_is : length name ≡ len
+  pub is : is_name name ≡ true
+  pub order : list_all (λ f. comes_before f.name name) files ≡ true
+  pub apart : list_any (λ f. lies_in f.name name) files ≡ false
+
+-- the file may stand behind these files
+pub record Follows (files : List File) (f : File) : Type 0 where
+  pub room : length files < most_files
+  pub file : IsFile f
+  pub order : list_all (λ g. comes_before g.name f.name) files ≡ true
+  pub apart : list_any (λ g. lies_in g.name f.name) files ≡ false
+
+-- the number of the file of this name, and whether some file lies in this folder
+abbrev pub position_of : List File → List ℕ → Option ℕ
+position_of files name = position (λ f. bytes_eq f.name name) files
+
+abbrev pub has_folder : List File → List ℕ → Bool
+has_folder files folder = list_any (λ f. lies_in folder f.name) files
+
+-- The file of this name stands there, behind those that come before it; or none has it, those before the place come before
+-- it and the others after it.
+abbrev pub IsPlace : List File → List ℕ → Result ℕ ℕ → Type 0
+IsPlace files name r = MatchResult r
+    (λ i. (i < length files) × ((file_of files i).name ≡ name) × ((k : ℕ) → k < i → comes_before (file_of files k).name name ≡ true))
+    (λ i. (i ≤ length files) × ((k : ℕ) → k < i → comes_before (file_of files k).name name ≡ true)
+        × ((k : ℕ) → i ≤ k → k < length files → comes_before name (file_of files k).name ≡ true))

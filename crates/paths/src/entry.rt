@@ -1,0 +1,201 @@
+ghost use Rattle.std.specs.Prelude.{◌≡◌, ◌<◌, ◌≤◌, ◌-◌, ◌^◌, ◌&&◌, ◌==◌, not, length, IfOk, IfSome, ◌≢◌};
+ghost use Rattle.std.specs.List.{list_all, list_any, slice_split};
+ghost use Rattle.std.specs.Str.{is_utf8};
+ghost use Rattle.paths.specs.Texts.{Gives};
+ghost use Rattle.paths.specs.Snapshots.{slash, is_name, is_part, FitsName, Follows};
+ghost use Rattle.paths.specs.SnapshotFaults.{CountsKind, is_unforeseen_kind, header_at, name_at, body_at, file_at, announced, entry_at};
+
+use crate::file::{FileLine, Heading};
+use crate::heading::read_heading;
+use crate::{Bytes, File, Input, Snapshot, SnapshotFaultKind, Stop, read_byte_of, read_line, read_run};
+use std::alloc::Global;
+use std::io::Read;
+
+/// The greatest time of a file, in seconds since 1970-01-01.
+const LATEST_TIME: u64 = 253_402_300_799;
+/// The most bytes of a file.
+const MOST_BYTES: u64 = 16_777_216;
+/// The most bytes of a name.
+const LONGEST_NAME: u64 = 1_024;
+/// The most files.
+const MOST_FILES: usize = 65_536;
+
+/// Whether these bytes may be a file's name: UTF-8 without byte 0, whose parts between slashes are names of their own.
+fn is_name(name: &[u8]) -> bool
+    ensures { result ≡ is_name name.now }
+{
+    is_text(name) && has_no_zero(name) && has_good_parts(name)
+}
+
+/// Whether these bytes are UTF-8.
+fn is_text(bytes: &[u8]) -> bool
+    ensures { result ≡ is_utf8 bytes.now }
+{
+    match std::str::from_utf8(bytes) {
+        Ok(_) => true,
+        Err(_) => false,
+    }
+}
+
+/// Whether no byte is 0.
+fn has_no_zero(bytes: &[u8]) -> bool
+    ensures { result ≡ list_all (λ b. not (b == 0)) bytes.now }
+{
+    bytes.iter().all(|byte| *byte != 0)
+}
+
+/// Whether each part between slashes may be one.
+fn has_good_parts(name: &[u8]) -> bool
+    ensures { result ≡ list_all is_part (slice_split (λ b. b == slash) name.now) }
+{
+    name.split(|byte| *byte == b'/').all(|part| is_part(part))
+}
+
+/// Whether these bytes may be a part of a name between slashes.
+fn is_part(part: &[u8]) -> bool
+    ensures { result ≡ is_part part.now }
+{
+    !part.is_empty() && part != b".".as_slice() && part != b"..".as_slice()
+}
+
+/// Reads the first line.
+pub fn read_header<R: Read>(input: &mut Input<R>, left: &mut usize) -> Result<(), SnapshotFaultKind>
+    requires { input.old.1 < 2 ^ 64 - 1 }
+    ensures line { Gives is_unforeseen_kind header_at input.old.0 left.old input.new.0 left.new result }
+    ensures count { CountsKind input.old.1 input.new.1 result }
+{
+    match read_line(input, left) {
+        Ok(line) => {
+            if line.as_slice() == b"haboob-snapshot 1".as_slice() {
+                Ok(())
+            } else {
+                Err(SnapshotFaultKind::Header)
+            }
+        }
+        Err(Stop::TooLong) => Err(SnapshotFaultKind::Header),
+        Err(stop) => Err(SnapshotFaultKind::from(stop)),
+    }
+}
+
+/// Reads a name of so many bytes that may stand behind those of the snapshot.
+fn read_name<R: Read>(
+    alloc: Global,
+    input: &mut Input<R>,
+    left: &mut usize,
+    files: &Snapshot,
+    len: usize,
+) -> Result<Bytes, SnapshotFaultKind>
+    requires { input.old.1 < 2 ^ 64 - 1 }
+    ensures name { Gives is_unforeseen_kind (name_at files.now len) input.old.0 left.old input.new.0 left.new result }
+    ensures fits { IfOk result (λ name. FitsName files.now len name) }
+    ensures count { CountsKind input.old.1 input.new.1 result }
+{
+    let name = read_run(alloc, input, left, len)?;
+    let end = read_byte_of(input, left)?;
+    if end != b'\n' || !is_name(name.as_slice()) {
+        return Err(SnapshotFaultKind::Name);
+    }
+    if !files.precedes(name.as_slice()) {
+        return Err(SnapshotFaultKind::Order);
+    }
+    if files.has_file_above(name.as_slice()) {
+        return Err(SnapshotFaultKind::Conflict);
+    }
+    Ok(name)
+}
+
+/// Reads the bytes of a file, so many.
+fn read_body<R: Read>(
+    alloc: Global,
+    input: &mut Input<R>,
+    left: &mut usize,
+    len: usize,
+) -> Result<Bytes, SnapshotFaultKind>
+    requires { input.old.1 < 2 ^ 64 - 1 }
+    ensures bytes { Gives is_unforeseen_kind (body_at len) input.old.0 left.old input.new.0 left.new result }
+    ensures length { IfOk result (λ bytes. length bytes ≡ len) }
+    ensures count { CountsKind input.old.1 input.new.1 result }
+{
+    let bytes = read_run(alloc, input, left, len)?;
+    let end = read_byte_of(input, left)?;
+    if end != b'\n' {
+        return Err(SnapshotFaultKind::Length);
+    }
+    Ok(bytes)
+}
+
+/// Reads the file that a line announced, behind those of the snapshot.
+fn read_file<R: Read>(
+    alloc: Global,
+    input: &mut Input<R>,
+    left: &mut usize,
+    files: &Snapshot,
+    line: FileLine,
+) -> Result<File, SnapshotFaultKind>
+    requires { input.old.1 < 2 ^ 64 - 1 }
+    ensures file { Gives is_unforeseen_kind (file_at files.now line) input.old.0 left.old input.new.0 left.new result }
+    ensures fits { IfOk result (λ file. Follows files.now file) }
+    ensures count { CountsKind input.old.1 input.new.1 result }
+{
+    if line.mtime > LATEST_TIME {
+        return Err(SnapshotFaultKind::Number);
+    }
+    if line.len > MOST_BYTES || files.len() >= MOST_FILES {
+        return Err(SnapshotFaultKind::TooLarge);
+    }
+    if line.name_len == 0 || line.name_len > LONGEST_NAME {
+        return Err(SnapshotFaultKind::Name);
+    }
+    let name = read_name(alloc, input, left, files, line.name_len as usize)?;
+    let bytes = read_body(alloc, input, left, line.len as usize)?;
+    Ok(File {
+        name,
+        mtime: line.mtime,
+        bytes,
+    })
+}
+
+/// Reads what a line announced: a file, or `None` for the end.
+fn read_announced<R: Read>(
+    alloc: Global,
+    input: &mut Input<R>,
+    left: &mut usize,
+    files: &Snapshot,
+    heading: Heading,
+) -> Result<Option<File>, SnapshotFaultKind>
+    requires { input.old.1 < 2 ^ 64 - 1 }
+    ensures entry { Gives is_unforeseen_kind (announced files.now heading) input.old.0 left.old input.new.0 left.new result }
+    ensures fits { IfOk result (λ entry. IfSome entry (λ file. Follows files.now file)) }
+    ensures count { CountsKind input.old.1 input.new.1 result }
+{
+    match heading {
+        Heading::File(line) => match read_file(alloc, input, left, files, line) {
+            Ok(file) => Ok(Some(file)),
+            Err(kind) => Err(kind),
+        },
+        Heading::End(count) => {
+            if count == files.len() as u64 {
+                Ok(None)
+            } else {
+                Err(SnapshotFaultKind::Count)
+            }
+        }
+    }
+}
+
+/// Reads the entry behind the files of the snapshot: a file, or `None` for the last line.
+pub fn read_entry<R: Read>(
+    alloc: Global,
+    input: &mut Input<R>,
+    left: &mut usize,
+    files: &Snapshot,
+) -> Result<Option<File>, SnapshotFaultKind>
+    requires { input.old.1 < 2 ^ 64 - 1 }
+    ensures entry { Gives is_unforeseen_kind (entry_at files.now) input.old.0 left.old input.new.0 left.new result }
+    ensures fits { IfOk result (λ entry. IfSome entry (λ file. Follows files.now file)) }
+    ensures count { CountsKind input.old.1 input.new.1 result }
+{
+    let line = read_line(input, left)?;
+    let heading = read_heading(line.as_slice())?;
+    read_announced(alloc, input, left, files, heading)
+}

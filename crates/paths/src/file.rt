@@ -1,0 +1,27 @@
+use crate::Bytes;
+
+/// A file of a snapshot.
+#[derive(Debug, Drop)]
+pub struct File {
+    /// The path from the root, its parts joined by `/`.
+    pub name: Bytes,
+    /// When the file was last changed, in seconds since 1970-01-01.
+    pub mtime: u64,
+    pub bytes: Bytes,
+}
+
+/// The line in front of a file: its time, and how many bytes its name and the file itself have. A number past 64 bits
+/// stands as the greatest of 64 bits, which is past every limit.
+#[derive(Clone, Copy, Debug, PartialEq, Eq)]
+pub struct FileLine {
+    pub mtime: u64,
+    pub name_len: u64,
+    pub len: u64,
+}
+
+/// What a line of a snapshot announces: a file, or the end behind so many files.
+#[derive(Clone, Copy, Debug, PartialEq, Eq)]
+pub enum Heading {
+    File(FileLine),
+    End(u64),
+}

@@ -1,0 +1,74 @@
+ghost use Rattle.std.specs.Prelude.{◌≡◌, ◌<◌, ◌-◌, ◌^◌, ◌++◌, IfOk, IfErr, false, true, Option, ℕ, List};
+ghost use Rattle.std.specs.Option.{unwrap_or};
+ghost use Rattle.paths.specs.SnapshotFaults.{ReadsFront, IsFrontFault, IsFirstFault, ReadsWhole, IsForeseen, CountsFault};
+
+use crate::entry::{read_entry, read_header};
+use crate::{Input, Snapshot, SnapshotFault, SnapshotFaultKind};
+use std::alloc::Global;
+use std::io::Read;
+
+/// The most bytes of a snapshot text.
+const LONGEST_TEXT: usize = 1_073_741_824;
+
+impl Snapshot {
+    /// Reads a snapshot text, to its last line. What follows is left unread, byte for byte.
+    ///
+    /// An `Err` names the first fault of the text; the input is left somewhere behind what was read.
+    pub fn read_front<R: Read>(
+        alloc: Global,
+        input: &mut Input<R>,
+    ) -> Result<Snapshot, SnapshotFault>
+        requires { input.old.1 < 2 ^ 64 - 1 }
+        ensures ok { IfOk result (ReadsFront input.old.0 input.new.0) }
+        ensures fault { IfErr result (IsForeseen IsFrontFault input.old.0) }
+        ensures count { CountsFault input.old.1 input.new.1 result }
+    {
+        let mut left = LONGEST_TEXT;
+        match read_header(input, &mut left) {
+            Ok(()) => (),
+            Err(kind) => return Err(SnapshotFault { entry: 0, kind }),
+        }
+        let mut files = Snapshot::new(alloc);
+        loop {
+            let entry = files.len() + 1;
+            match read_entry(alloc, input, &mut left, &files) {
+                Ok(None) => return Ok(files),
+                Ok(Some(file)) => match files.push(file) {
+                    Ok(()) => continue,
+                    Err(_) => {
+                        let kind = SnapshotFaultKind::Memory;
+                        return Err(SnapshotFault { entry, kind });
+                    }
+                },
+                Err(kind) => return Err(SnapshotFault { entry, kind }),
+            }
+        }
+    }
+
+    /// Reads a whole snapshot text: the input ends behind its last line.
+    ///
+    /// An `Err` names the first fault of the text; the input is left somewhere behind what was read.
+    pub fn read<R: Read>(alloc: Global, input: &mut Input<R>) -> Result<Snapshot, SnapshotFault>
+        requires { input.old.1 < 2 ^ 64 - 1 }
+        ensures ok { IfOk result (ReadsWhole input.old.0 input.new.0) }
+        ensures fault { IfErr result (IsForeseen IsFirstFault input.old.0) }
+        ensures count { CountsFault input.old.1 input.new.1 result }
+    {
+        let files = match Snapshot::read_front(alloc, input) {
+            Ok(files) => files,
+            Err(fault) => return Err(fault),
+        };
+        let entry = files.len() + 1;
+        match input.read_byte() {
+            Ok(None) => Ok(files),
+            Ok(Some(_)) => {
+                let kind = SnapshotFaultKind::Trailing;
+                Err(SnapshotFault { entry, kind })
+            }
+            Err(_) => {
+                let kind = SnapshotFaultKind::Read;
+                Err(SnapshotFault { entry, kind })
+            }
+        }
+    }
+}

@@ -1,0 +1,148 @@
+ghost use Rattle.std.specs.Prelude.{◌≡◌, ◌<◌, ◌≤◌, ◌++◌, [], ◌∷◌, length, OnOk, OnErr, Option, List, ℕ};
+ghost use Rattle.std.specs.List.{list_all, list_any};
+ghost use Rattle.paths.specs.Snapshots.{file_of, Follows, position_of, has_folder, comes_before, lies_in, slash, IsPlace, IsSnapshot};
+
+use crate::File;
+use std::alloc::{AllocError, Global};
+use std::marker::{Brand, Model};
+
+/// Names a snapshot in types, by the list of its files: what speaks of one snapshot, as a page of one of its files, takes
+/// a type that names it.
+pub trait Tree {
+    ghost use Rattle.std.specs.Prelude.{List};
+    ghost use Rattle.paths.specs.declared.file.File.{File};
+
+    ghost files: { List File };
+}
+
+impl Tree for Brand {
+    ghost files = { [] };
+}
+
+/// The files of a tree at one moment, in the order of their names. Contracts see the list of the files.
+#[derive(Debug, Drop)]
+pub struct Snapshot {
+    files: Vec<File>,
+}
+
+impl Model for Snapshot {
+    ghost use Rattle.std.specs.Prelude.{List};
+    ghost use Rattle.paths.specs.declared.file.File.{File};
+    ghost use Rattle.paths.specs.Snapshots.{IsSnapshot};
+
+    ghost Value = { List File };
+
+    ghost view = { λ s. s.files.items };
+
+    ghost invariant = { λ s. IsSnapshot s.files.items };
+}
+
+impl Snapshot {
+    /// A snapshot without files.
+    pub fn new(alloc: Global) -> Snapshot
+        ensures { result ≡ [] }
+    {
+        Snapshot {
+            files: Vec::new(alloc),
+        }
+    }
+
+    /// Adds a file behind the others.
+    pub fn push(&mut self, file: File) -> Result<(), AllocError>
+        requires { Follows self.old file }
+        ensures ok { OnOk result (self.new ≡ self.old ++ file ∷ []) }
+        ensures err { OnErr result (self.new ≡ self.old) }
+    {
+        self.files.push(file)?;
+        Ok(())
+    }
+
+    /// How many files there are, at most 65,536.
+    pub fn len(&self) -> usize
+        ensures count { result ≡ length self.now }
+        ensures limit { result ≤ 65536 }
+        // The files of every snapshot keep the rules.
+        ensures rules { IsSnapshot self.now }
+    {
+        self.files.len()
+    }
+
+    /// The name of a file: the path from the root, its parts joined by `/`.
+    pub fn name(&self, file: usize) -> &[u8]
+        requires { file < length self.now }
+        ensures { result.now ≡ (file_of self.now file).name }
+    {
+        self.files[file].name.as_slice()
+    }
+
+    /// When a file was last changed, in seconds since 1970-01-01.
+    pub fn mtime(&self, file: usize) -> u64
+        requires { file < length self.now }
+        ensures value { result ≡ (file_of self.now file).mtime }
+        ensures limit { result ≤ 253402300799 }
+    {
+        self.files[file].mtime
+    }
+
+    /// The bytes of a file, at most 16,777,216.
+    pub fn bytes(&self, file: usize) -> &[u8]
+        requires { file < length self.now }
+        ensures value { result.now ≡ (file_of self.now file).bytes }
+        ensures limit { length result.now ≤ 16777216 }
+    {
+        self.files[file].bytes.as_slice()
+    }
+
+    /// Where the file of a name is, or where it would stand.
+    fn search(&self, name: &[u8]) -> Result<usize, usize>
+        ensures { IsPlace self.now name.now result }
+    {
+        self.files
+            .binary_search_by(|file| file.name.as_slice().cmp(name))
+    }
+
+    /// The number of the file of a name.
+    pub fn position(&self, name: &[u8]) -> Option<usize>
+        ensures { result ≡ position_of self.now name.now }
+    {
+        match self.search(name) {
+            Ok(file) => Some(file),
+            Err(_) => None,
+        }
+    }
+
+    /// Whether some file lies in the folder whose name and a slash are given.
+    pub fn has_folder(&self, name: &[u8]) -> bool
+        ensures { (folder : List ℕ) → name.now ≡ folder ++ slash ∷ [] → result ≡ has_folder self.now folder }
+    {
+        match self.search(name) {
+            Ok(_) => true,
+            Err(place) => {
+                place < self.len() && self.name(place).starts_with(name)
+            }
+        }
+    }
+
+    /// Whether each name comes before this one.
+    pub fn precedes(&self, name: &[u8]) -> bool
+        ensures { result ≡ list_all (λ f. comes_before f.name name.now) self.now }
+    {
+        let count = self.len();
+        count == 0 || self.name(count - 1).cmp(name).is_lt()
+    }
+
+    /// Whether a file has the name of a folder in which this name lies.
+    pub fn has_file_above(&self, name: &[u8]) -> bool
+        ensures { result ≡ list_any (λ f. lies_in f.name name.now) self.now }
+    {
+        for (at, byte) in name.iter().enumerate() {
+            if *byte == b'/' {
+                match self.search(&name[..at]) {
+                    Ok(_) => return true,
+                    Err(_) => continue,
+                }
+            }
+        }
+        false
+    }
+}

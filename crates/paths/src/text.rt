@@ -1,0 +1,146 @@
+ghost use Rattle.std.specs.Prelude.{◌≡◌, ℕ, ◌+◌, ◌-◌, ◌<◌, ◌≤◌, ◌^◌, ◌++◌, [], ◌∷◌, length, IfOk};
+ghost use Rattle.paths.specs.Texts.{Gives, Counts, TakesSome, Fills, is_unforeseen, byte_at, line_at, run_at};
+
+use crate::{Bytes, Failed, Input, Stop};
+use std::alloc::Global;
+use std::io::Read;
+use std::marker::Model;
+
+/// The bytes of a line, at most 65, kept without memory of its own.
+#[derive(Drop)]
+pub struct Line {
+    bytes: [u8; 65],
+    len: usize,
+}
+
+impl Model for Line {
+    ghost use Rattle.std.specs.Prelude.{ℕ, List, take, ◌≤◌};
+
+    ghost Value = { List ℕ };
+
+    ghost view = { λ l. take l.len l.bytes };
+
+    ghost invariant = { λ l. l.len ≤ 65 };
+}
+
+impl Line {
+    pub fn new() -> Line
+        ensures { result ≡ [] }
+    {
+        Line {
+            bytes: [0; 65],
+            len: 0,
+        }
+    }
+
+    pub fn as_slice(&self) -> &[u8]
+        ensures { result.now ≡ self.now }
+    {
+        &self.bytes[..self.len]
+    }
+
+    fn push(&mut self, byte: u8)
+        requires { length self.old < 65 }
+        ensures { self.new ≡ self.old ++ byte ∷ [] }
+    {
+        self.bytes[self.len] = byte;
+        self.len += 1;
+    }
+}
+
+/// Makes one read of a text that may take `left` more bytes, and answers how many came, at least one. Where the text may
+/// take none, one byte further is looked for: the text is too large if it is there, and cut if it is not.
+fn read_some_of<R: Read>(
+    input: &mut Input<R>,
+    left: &mut usize,
+    room: &mut [u8],
+) -> Result<usize, Stop>
+    requires healthy { input.old.1 < 2 ^ 64 - 1 }
+    requires room { 0 < length room.old }
+    ensures some { TakesSome input.old.0 left.old input.new.0 left.new room.new result }
+    ensures count { Counts input.old.1 input.new.1 result }
+{
+    if *left == 0 {
+        return Err(match input.read_byte() {
+            Ok(Some(_)) => Stop::TooLarge,
+            Ok(None) => Stop::Cut,
+            Err(Failed) => Stop::Read,
+        });
+    }
+    let want = room.len().min(*left);
+    match input.read_some(&mut room[..want]) {
+        Ok(0) => Err(Stop::Cut),
+        Ok(count) => {
+            *left -= count;
+            Ok(count)
+        }
+        Err(Failed) => Err(Stop::Read),
+    }
+}
+
+/// Reads the next byte of a text that may take `left` more bytes.
+pub fn read_byte_of<R: Read>(input: &mut Input<R>, left: &mut usize) -> Result<u8, Stop>
+    requires { input.old.1 < 2 ^ 64 - 1 }
+    ensures byte { Gives is_unforeseen byte_at input.old.0 left.old input.new.0 left.new result }
+    ensures count { Counts input.old.1 input.new.1 result }
+{
+    let mut room = [0];
+    match read_some_of(input, left, &mut room) {
+        Ok(_) => Ok(room[0]),
+        Err(stop) => Err(stop),
+    }
+}
+
+/// Reads the next line of a text that may take `left` more bytes, byte by byte, and leaves what follows its line feed.
+pub fn read_line<R: Read>(input: &mut Input<R>, left: &mut usize) -> Result<Line, Stop>
+    requires { input.old.1 < 2 ^ 64 - 1 }
+    ensures line { Gives is_unforeseen line_at input.old.0 left.old input.new.0 left.new result }
+    ensures count { Counts input.old.1 input.new.1 result }
+{
+    let mut line = Line::new();
+    for _ in 0..65usize {
+        match read_byte_of(input, left) {
+            Ok(b'\n') => return Ok(line),
+            Ok(byte) => line.push(byte),
+            Err(stop) => return Err(stop),
+        }
+    }
+    Err(Stop::TooLong)
+}
+
+/// Fills the room with the next bytes of a text that may take `left` more bytes.
+fn fill<R: Read>(input: &mut Input<R>, left: &mut usize, room: &mut [u8]) -> Result<(), Stop>
+    requires { input.old.1 < 2 ^ 64 - 1 }
+    ensures run { Fills input.old.0 left.old input.new.0 left.new room.new result }
+    ensures count { Counts input.old.1 input.new.1 result }
+{
+    let mut filled = 0;
+    while filled < room.len() {
+        match read_some_of(input, left, &mut room[filled..]) {
+            Ok(more) => filled += more,
+            Err(stop) => return Err(stop),
+        }
+    }
+    Ok(())
+}
+
+/// Reads the next `count` bytes of a text that may take `left` more bytes. The room is made before the first read.
+pub fn read_run<R: Read>(
+    alloc: Global,
+    input: &mut Input<R>,
+    left: &mut usize,
+    count: usize,
+) -> Result<Bytes, Stop>
+    requires { input.old.1 < 2 ^ 64 - 1 }
+    ensures run { Gives is_unforeseen (run_at count) input.old.0 left.old input.new.0 left.new result }
+    ensures length { IfOk result (λ run. length run ≡ count) }
+    ensures count { Counts input.old.1 input.new.1 result }
+{
+    let Ok(mut bytes) = vec![in alloc; 0; count] else {
+        return Err(Stop::Memory);
+    };
+    match fill(input, left, &mut bytes) {
+        Ok(()) => Ok(Bytes::from_vec(bytes)),
+        Err(stop) => Err(stop),
+    }
+}
