@@ -2,4 +2,5 @@ pub mod Decimals
 pub mod Entries
 pub mod Inverse
 pub mod Names
+pub mod Segmenting
 pub mod Taking

@@ -1,4 +1,5 @@
 ghost use Rattle.std.specs.Prelude.{◌≡◌, length, vec_items};
+ghost use Rattle.std.specs.Str.{is_utf8};
 
 use std::marker::Model;
 
@@ -35,5 +36,15 @@ impl Bytes {
         ensures { result.now ≡ self.now }
     {
         &self.bytes
+    }
+}
+
+/// Whether these bytes are UTF-8.
+pub fn is_text(bytes: &[u8]) -> bool
+    ensures { result ≡ is_utf8 bytes.now }
+{
+    match std::str::from_utf8(bytes) {
+        Ok(_) => true,
+        Err(_) => false,
     }
 }

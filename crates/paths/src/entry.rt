@@ -1,10 +1,10 @@
 ghost use Rattle.std.specs.Prelude.{◌≡◌, ◌<◌, ◌≤◌, ◌-◌, ◌^◌, ◌&&◌, ◌==◌, not, length, IfOk, IfSome, ◌≢◌};
 ghost use Rattle.std.specs.List.{list_all, list_any, slice_split};
-ghost use Rattle.std.specs.Str.{is_utf8};
 ghost use Rattle.paths.specs.Texts.{Gives};
 ghost use Rattle.paths.specs.Snapshots.{slash, is_name, is_part, FitsName, Follows};
 ghost use Rattle.paths.specs.SnapshotFaults.{CountsKind, is_unforeseen_kind, header_at, name_at, body_at, file_at, announced, entry_at};
 
+use crate::bytes::is_text;
 use crate::file::{FileLine, Heading};
 use crate::heading::read_heading;
 use crate::{Bytes, File, Input, Snapshot, SnapshotFaultKind, Stop, read_byte_of, read_line, read_run};
@@ -25,16 +25,6 @@ fn is_name(name: &[u8]) -> bool
     ensures { result ≡ is_name name.now }
 {
     is_text(name) && has_no_zero(name) && has_good_parts(name)
-}
-
-/// Whether these bytes are UTF-8.
-fn is_text(bytes: &[u8]) -> bool
-    ensures { result ≡ is_utf8 bytes.now }
-{
-    match std::str::from_utf8(bytes) {
-        Ok(_) => true,
-        Err(_) => false,
-    }
 }
 
 /// Whether no byte is 0.

@@ -1,24 +1,32 @@
 //! Devices that count their failures, the snapshot of a file tree, and what a request's target names in it.
 #![tactic(auto)]
 
+mod asked;
 mod bytes;
 mod device;
 mod entry;
 mod file;
 mod heading;
 mod numbers;
+mod outcome;
 mod reading;
+mod segments;
 mod snapshot;
 mod snapshot_fault;
+mod step;
 mod stop;
+mod target;
 mod text;
 
+pub use asked::Asked;
 pub use bytes::Bytes;
 pub use device::{Failed, Input, Output};
 pub use file::File;
-pub use heading::read_heading;
 pub use numbers::number;
+pub use outcome::Outcome;
+pub use segments::Segments;
 pub use snapshot::{Snapshot, Tree};
 pub use snapshot_fault::{SnapshotFault, SnapshotFaultKind};
 pub use stop::Stop;
+pub use target::inspect;
 pub use text::{Line, read_byte_of, read_line, read_run};

@@ -1,0 +1,13 @@
+-- One step of a walk over segments.
+use Rattle.std.specs.Prelude.{ℕ, Bool, List}
+use Rattle.paths.specs.Targets.{walked}
+use Rattle.paths.specs.declared.asked.Asked.{Asked}
+use Rattle.paths.specs.declared.asked.Asked.TheVariants as askeds
+use Rattle.paths.specs.declared.step.Step.{Step}
+use Rattle.paths.specs.declared.step.Step.TheVariants as steps
+
+-- what the walk asks for after the step, with these segments kept and these ahead
+abbrev pub after_step : Step → List (List ℕ) → Bool → List (List ℕ) → Asked
+after_step steps.On kept folder more = walked kept folder more
+after_step steps.Missing kept folder more = askeds.Missing
+after_step steps.AboveRoot kept folder more = askeds.BadTarget
