@@ -39,17 +39,21 @@ announced_takes files line (headings.File l) a b o is small h =
     let pair : (Some file.0.0, file.0.1) ≡ (o, b) = ok_is {A = Option File × Ahead} {E = SnapshotFaultKind} _ _ _ _ refl refl file.2 in
     let f = file.0.0 in
     let text = file_line_inverse line l is (let x = t.in_time in omega arith) (let x = t.in_name in omega arith) (let x = t.in_bytes in omega arith) in
-    subst (λ (v : Option File × Ahead). (rest : List ℕ) × TakesAhead a rest v.1 × ((line ++ feed ∷ []) ++ rest ≡ entry_text files v.0)) pair
-      ((f.name ++ feed ∷ []) ++ (f.bytes ++ feed ∷ []), t.parts,
-      ap (λ v. (v ++ feed ∷ []) ++ ((f.name ++ feed ∷ []) ++ (f.bytes ++ feed ∷ []))) text ∙ file_parts f l t.mtime t.name t.len)
+    subst (λ (v : Option File × Ahead). (rest : List ℕ) × TakesAhead a rest v.1 × ((line ++ feed ∷ []) ++ rest ≡ entry_text files v.0)) pair (
+      (f.name ++ feed ∷ []) ++ (f.bytes ++ feed ∷ []),
+      t.parts,
+      ap (λ v. (v ++ feed ∷ []) ++ ((f.name ++ feed ∷ []) ++ (f.bytes ++ feed ∷ []))) text ∙ file_parts f l t.mtime t.name t.len,
+    )
 announced_takes files line (headings.End count) a b o is small h =
     let good = when_ok (count == length files) Count _ _ h in
     let pair : (None, a) ≡ (o, b) = ok_is {A = Option File × Ahead} {E = SnapshotFaultKind} _ _ _ _ refl refl good.1 in
     let same : count ≡ length files = (Decides-eqb count (length files)).0 good.0 in
     let text = end_line_inverse line count is (omega arith) in
-    subst (λ (v : Option File × Ahead). (rest : List ℕ) × TakesAhead a rest v.1 × ((line ++ feed ∷ []) ++ rest ≡ entry_text files v.0)) pair
-      ([], record { bytes = refl; left = omega arith },
-      append-nil (line ++ feed ∷ []) ∙ ap (λ v. v ++ feed ∷ []) (text ∙ ap (λ n. codes "end " ++ decimal n) same))
+    subst (λ (v : Option File × Ahead). (rest : List ℕ) × TakesAhead a rest v.1 × ((line ++ feed ∷ []) ++ rest ≡ entry_text files v.0)) pair (
+      [],
+      record { bytes = refl; left = omega arith },
+      append-nil (line ++ feed ∷ []) ∙ ap (λ v. v ++ feed ∷ []) (text ∙ ap (λ n. codes "end " ++ decimal n) same),
+    )
 
 pub entry_takes : (files : List File) (a b : Ahead) (o : Option File) → length files ≤ most_files → entry_at files a ≡ Ok (o, b) → TakesAhead a (entry_text files o) b
 entry_takes files a b o small h =
@@ -93,12 +97,16 @@ pub front_faults : (o n : Option (List ℕ)) (nl entry : ℕ) (files : List File
     → IsForeseen IsFrontFault o (record { entry = entry; kind = kind })
 front_faults o n nl entry files kind rules is t h = λ k foreseen.
     let left : nl ≡ longest_text - length (text_before_end files) = omega (arith, t.count k) in
-    inr (files, unwrap_or n [], record {
-      whole = t.bytes k;
-      rules = rules;
-      entry = is;
-      kind = subst (λ (l : ℕ). entry_at files (record { bytes = unwrap_or n []; left = l }) ≡ Err kind) left (h (t.known k) foreseen);
-    })
+    inr (
+      files,
+      unwrap_or n [],
+      record {
+        whole = t.bytes k;
+        rules = rules;
+        entry = is;
+        kind = subst (λ (l : ℕ). entry_at files (record { bytes = unwrap_or n []; left = l }) ≡ Err kind) left (h (t.known k) foreseen);
+      },
+    )
 
 consumed : (n m : Option (List ℕ)) (b : ℕ) → Consumes n m (b ∷ []) → is_some n ≡ true → unwrap_or n [] ≡ b ∷ unwrap_or m []
 consumed None m b p k = absurd cc
@@ -110,9 +118,14 @@ pub trailing_faults : (o n m : Option (List ℕ)) (entry b : ℕ) (x : Option �
     → IsSnapshot files → entry ≡ length files + 1 → is_some o ≡ true → false ≡ false → IsFirstFault (unwrap_or o []) (record { entry = entry; kind = Trailing })
 trailing_faults o n m entry b x files some front byte rules is k foreseen =
     let took : Consumes n m (b ∷ []) = subst (λ (v : Option ℕ). TakesByte n m v) some byte in
-    inr (files, b, unwrap_or m [], record {
-      whole = front.text k ∙ ap (λ v. snapshot_text files ++ v) (consumed n m b took (front.known k));
-      rules = rules;
-      entry = is;
-      kind = refl;
-    })
+    inr (
+      files,
+      b,
+      unwrap_or m [],
+      record {
+        whole = front.text k ∙ ap (λ v. snapshot_text files ++ v) (consumed n m b took (front.known k));
+        rules = rules;
+        entry = is;
+        kind = refl;
+      },
+    )

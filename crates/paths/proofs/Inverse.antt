@@ -81,13 +81,13 @@ line_inverse a b line h =
     let found : k < length F = omega (arith, not_full, not_all) in
     let is : get_or F k 0 ≡ 10 = (Decides-eqb (get_or F k 0) 10).0 (passes_at_first (λ c. c == 10) F 0 found) in
     let same : get_or a.bytes k 0 ≡ 10 =
-      sym (get_or-take a.left a.bytes k 0 (omega arith)) ∙ sym (get_or-take 65 (front a) k 0 (omega arith)) ∙ is in
+    sym (get_or-take a.left a.bytes k 0 (omega arith)) ∙ sym (get_or-take 65 (front a) k 0 (omega arith)) ∙ is in
     let cut : line_front a ≡ take k a.bytes = take-take k 65 (front a) (omega arith) ∙ take-take k a.left a.bytes (omega arith) in
     let line_is : line ≡ take k a.bytes = sym (ap (λ (p : List ℕ × Ahead). p.0) pair) ∙ cut in
     let rest_is : drop (k + 1) a.bytes ≡ b.bytes = ap (λ n. drop (n + 1) a.bytes) (sym long) ∙ ap (λ (p : List ℕ × Ahead). p.1.bytes) pair in
     let left_is : a.left - (length (line_front a) + 1) ≡ b.left = ap (λ (p : List ℕ × Ahead). p.1.left) pair in
     let here : a.bytes ≡ take k a.bytes ++ (10 ∷ drop (k + 1) a.bytes) =
-      sym (take-append-drop k a.bytes) ∙ ap (λ v. take k a.bytes ++ v) (drop_more a.bytes k 0 (omega arith) ∙ ap (λ c. c ∷ drop (k + 1) a.bytes) same) in
+    sym (take-append-drop k a.bytes) ∙ ap (λ v. take k a.bytes ++ v) (drop_more a.bytes k 0 (omega arith) ∙ ap (λ c. c ∷ drop (k + 1) a.bytes) same) in
     record {
       bytes = here ∙ ap (λ v. take k a.bytes ++ (10 ∷ v)) rest_is ∙ ap (λ v. v ++ (10 ∷ b.bytes)) (sym line_is) ∙ sym (append_assoc line (10 ∷ []) b.bytes);
       left = omega (arith, length-append line (feed ∷ []), ap length line_is, length-take k a.bytes);
@@ -102,11 +102,13 @@ run_inverse n a b run h =
     let left_is : a.left - n ≡ b.left = ap (λ (p : List ℕ × Ahead). p.1.left) pair in
     let enough : n ≤ length (front a) = let t = there.0 in grind (arith, nat_tests) in
     let size_front : length (front a) ≡ min a.left (length a.bytes) = length-take a.left a.bytes in
-    let size : length run ≡ n = omega (arith, ap length run_is, length-take n a.bytes) in
-    (record {
-      bytes = sym (take-append-drop n a.bytes) ∙ ap (λ v. v ++ drop n a.bytes) run_is ∙ ap (λ v. run ++ v) rest_is;
-      left = omega arith;
-    }, size)
+    let size : length run ≡ n = omega (arith, ap length run_is, length-take n a.bytes) in (
+      record {
+        bytes = sym (take-append-drop n a.bytes) ∙ ap (λ v. v ++ drop n a.bytes) run_is ∙ ap (λ v. run ++ v) rest_is;
+        left = omega arith;
+      },
+      size,
+    )
 
 pub byte_takes : (a b : Ahead) (c : ℕ) → byte_at a ≡ Ok (c, b) → TakesAhead a (c ∷ []) b
 byte_takes a b c h =
@@ -153,10 +155,10 @@ rest_inverse text n rest h small =
     let first = cond_some (nat_lt (position_or_len (λ b. b == 32) text) (length text)) _ _ at.1 in
     let within : position_or_len (λ b. b == 32) text < length text = let t = first.0 in grind (arith, nat_tests) in
     let is : get_or text k 0 ≡ 32 = ap (λ i. get_or text i 0) (sym first.1)
-      ∙ (Decides-eqb (get_or text (position_or_len (λ b. b == 32) text) 0) 32).0 (passes_at_first (λ b. b == 32) text 0 within) in
+    ∙ (Decides-eqb (get_or text (position_or_len (λ b. b == 32) text) 0) 32).0 (passes_at_first (λ b. b == 32) text 0 within) in
     let front_is : take k text ≡ decimal n = number_inverse (take k text) n (number.1 ∙ ap (λ v. Some v) number_is) small in
     sym (take-append-drop k text) ∙ ap (λ v. v ++ drop k text) front_is
-      ∙ ap (λ v. decimal n ++ v) (drop_more text k 0 (let e = first.1 in omega arith) ∙ ap (λ c. c ∷ drop (k + 1) text) is ∙ ap (λ v. 32 ∷ v) rest_is)
+    ∙ ap (λ v. decimal n ++ v) (drop_more text k 0 (let e = first.1 in omega arith) ∙ ap (λ c. c ∷ drop (k + 1) text) is ∙ ap (λ v. 32 ∷ v) rest_is)
 
 pub three_inverse : (text : List ℕ) (a b c : ℕ) → three_numbers text ≡ Some (a, b, c) → a < 2 ^ 64 - 1 → b < 2 ^ 64 - 1 → c < 2 ^ 64 - 1
     → text ≡ decimal a ++ 32 ∷ (decimal b ++ 32 ∷ decimal c)
@@ -169,8 +171,8 @@ three_inverse text a b c h sa sb sc =
     let b_is : second.0.0 ≡ b = ap (λ (p : ℕ × ℕ × ℕ). p.1) all in
     let c_is : third.0 ≡ c = ap (λ (p : ℕ × ℕ × ℕ). p.2) all in
     rest_inverse text a first.0.1 (first.1 ∙ ap (λ n. Some (n, first.0.1)) a_is) sa
-      ∙ ap (λ v. decimal a ++ 32 ∷ v) (rest_inverse first.0.1 b second.0.1 (second.1 ∙ ap (λ n. Some (n, second.0.1)) b_is) sb
-      ∙ ap (λ v. decimal b ++ 32 ∷ v) (number_inverse second.0.1 c (third.1 ∙ ap (λ n. Some n) c_is) sc))
+    ∙ ap (λ v. decimal a ++ 32 ∷ v) (rest_inverse first.0.1 b second.0.1 (second.1 ∙ ap (λ n. Some (n, second.0.1)) b_is) sb
+    ∙ ap (λ v. decimal b ++ 32 ∷ v) (number_inverse second.0.1 c (third.1 ∙ ap (λ n. Some n) c_is) sc))
 
 -- ---- lines
 
@@ -201,21 +203,21 @@ chosen false x y z h = inr (refl, h)
 pub file_line_inverse : (line : List ℕ) (l : FileLine) → heading_of line ≡ Ok (headings.File l) → l.mtime < 2 ^ 64 - 1 → l.name_len < 2 ^ 64 - 1 → l.len < 2 ^ 64 - 1
     → line ≡ codes "file " ++ (decimal l.mtime ++ 32 ∷ (decimal l.name_len ++ 32 ∷ decimal l.len))
 file_line_inverse line l h sm sn sl = elim (chosen (starts_with nat_eq line (codes "file ")) _ _ _ h) [
-    | inl f ↦ begins line (codes "file ") f.0 ∙ ap (λ v. codes "file " ++ v) (three_inverse (drop 5 line) l.mtime l.name_len l.len (file_heading_is _ l f.1) sm sn sl)
-    | inr e ↦ elim (chosen (starts_with nat_eq line (codes "end ")) _ _ _ e.1) [
-      | inl n ↦ absurd (end_heading_not _ l n.1)
-      | inr k ↦ absurd (let no = k.1 in cc)
-    ]
+  | inl f ↦ begins line (codes "file ") f.0 ∙ ap (λ v. codes "file " ++ v) (three_inverse (drop 5 line) l.mtime l.name_len l.len (file_heading_is _ l f.1) sm sn sl)
+  | inr e ↦ elim (chosen (starts_with nat_eq line (codes "end ")) _ _ _ e.1) [
+    | inl n ↦ absurd (end_heading_not _ l n.1)
+    | inr k ↦ absurd (let no = k.1 in cc)
   ]
+]
 
 pub end_line_inverse : (line : List ℕ) (n : ℕ) → heading_of line ≡ Ok (headings.End n) → n < 2 ^ 64 - 1 → line ≡ codes "end " ++ decimal n
 end_line_inverse line n h small = elim (chosen (starts_with nat_eq line (codes "file ")) _ _ _ h) [
-    | inl f ↦ absurd (file_heading_not _ n f.1)
-    | inr e ↦ elim (chosen (starts_with nat_eq line (codes "end ")) _ _ _ e.1) [
-      | inl i ↦ begins line (codes "end ") i.0 ∙ ap (λ v. codes "end " ++ v) (number_inverse (drop 4 line) n (end_heading_is _ n i.1) small)
-      | inr k ↦ absurd (let no = k.1 in cc)
-    ]
+  | inl f ↦ absurd (file_heading_not _ n f.1)
+  | inr e ↦ elim (chosen (starts_with nat_eq line (codes "end ")) _ _ _ e.1) [
+    | inl i ↦ begins line (codes "end ") i.0 ∙ ap (λ v. codes "end " ++ v) (number_inverse (drop 4 line) n (end_heading_is _ n i.1) small)
+    | inr k ↦ absurd (let no = k.1 in cc)
   ]
+]
 
 pub header_inverse : (a b : Ahead) (u : Unit {0}) → header_at a ≡ Ok (u, b) → TakesAhead a (first_line ++ feed ∷ []) b
 header_inverse a b u h =
@@ -248,9 +250,10 @@ name_inverse files n a b name h =
     let apart = unless_ok (list_any (λ f. lies_in f.name run.0.0) files) Conflict _ _ order.1 in
     let pair : (run.0.0, end.0.1) ≡ (name, b) = ok_is {A = List ℕ × Ahead} {E = SnapshotFaultKind} _ _ _ _ refl refl apart.1 in
     let is_feed : end.0.0 ≡ feed = let g = good.0 in ends_by_feed end.0.0 (is_name run.0.0) g in
-    let took = ahead_then a run.0.1 end.0.1 run.0.0 (end.0.0 ∷ []) run_read.0 end_read in
-    (subst (λ (v : List ℕ × Ahead). TakesAhead a (v.0 ++ feed ∷ []) v.1) pair (subst (λ (c : ℕ). TakesAhead a (run.0.0 ++ c ∷ []) end.0.1) is_feed took),
-    sym (ap (λ (p : List ℕ × Ahead). length p.0) pair) ∙ run_read.1)
+    let took = ahead_then a run.0.1 end.0.1 run.0.0 (end.0.0 ∷ []) run_read.0 end_read in (
+      subst (λ (v : List ℕ × Ahead). TakesAhead a (v.0 ++ feed ∷ []) v.1) pair (subst (λ (c : ℕ). TakesAhead a (run.0.0 ++ c ∷ []) end.0.1) is_feed took),
+      sym (ap (λ (p : List ℕ × Ahead). length p.0) pair) ∙ run_read.1,
+    )
 
 pub body_inverse : (n : ℕ) (a b : Ahead) (bytes : List ℕ) → body_at n a ≡ Ok (bytes, b) → TakesAhead a (bytes ++ feed ∷ []) b × (length bytes ≡ n)
 body_inverse n a b bytes h =
@@ -261,9 +264,10 @@ body_inverse n a b bytes h =
     let good = when_ok (end.0.0 == feed) _ _ _ end.2 in
     let pair : (run.0.0, end.0.1) ≡ (bytes, b) = ok_is {A = List ℕ × Ahead} {E = SnapshotFaultKind} _ _ _ _ refl refl good.1 in
     let is_feed : end.0.0 ≡ feed = (Decides-eqb end.0.0 feed).0 good.0 in
-    let took = ahead_then a run.0.1 end.0.1 run.0.0 (end.0.0 ∷ []) run_read.0 end_read in
-    (subst (λ (v : List ℕ × Ahead). TakesAhead a (v.0 ++ feed ∷ []) v.1) pair (subst (λ (c : ℕ). TakesAhead a (run.0.0 ++ c ∷ []) end.0.1) is_feed took),
-    sym (ap (λ (p : List ℕ × Ahead). length p.0) pair) ∙ run_read.1)
+    let took = ahead_then a run.0.1 end.0.1 run.0.0 (end.0.0 ∷ []) run_read.0 end_read in (
+      subst (λ (v : List ℕ × Ahead). TakesAhead a (v.0 ++ feed ∷ []) v.1) pair (subst (λ (c : ℕ). TakesAhead a (run.0.0 ++ c ∷ []) end.0.1) is_feed took),
+      sym (ap (λ (p : List ℕ × Ahead). length p.0) pair) ∙ run_read.1,
+    )
 
 -- what a file's line, its name and its bytes take
 pub record TakesFile (a : Ahead) (l : FileLine) (f : File) (b : Ahead) : Type 0 where

@@ -65,14 +65,15 @@ searched files rising key (Ok at) in_range equal =
     (in_range, is, λ k lt. subst (λ (v : List ℕ). comes_before (file_of files k).name v ≡ true) is (rising k at no_file lt in_range))
 searched files rising key (Err at) in_range parted =
     let rise : IsNonDecreasingBy (λ f. ordering_index (slice_cmp nat_cmp f.name key)) files =
-      IsNonDecreasingBy-from_default (λ f. ordering_index (slice_cmp nat_cmp f.name key)) files no_file (λ i j le in_range. elim (cases_lt i j) [
-        | inl lt ↦ rises (file_of files i).name (file_of files j).name key (rising i j no_file lt in_range)
-        | inr ge ↦ let same : i ≡ j = omega arith in rw same (omega arith)
-      ]) in
-    (in_range,
-    λ k lt. ap is_lt ((parted rise).0 k no_file (omega arith) lt),
-    λ k le lt. let g : slice_cmp nat_cmp (file_of files k).name key ≡ Greater = (parted rise).1 k no_file le lt in
-      ap is_lt (nat_list_cmp_total.antisymm key (file_of files k).name ∙ ap ordering_reverse g))
+    IsNonDecreasingBy-from_default (λ f. ordering_index (slice_cmp nat_cmp f.name key)) files no_file (λ i j le in_range. elim (cases_lt i j) [
+      | inl lt ↦ rises (file_of files i).name (file_of files j).name key (rising i j no_file lt in_range)
+      | inr ge ↦ let same : i ≡ j = omega arith in rw same (omega arith)
+    ]) in (
+      in_range,
+      λ k lt. ap is_lt ((parted rise).0 k no_file (omega arith) lt),
+      λ k le lt. let g : slice_cmp nat_cmp (file_of files k).name key ≡ Greater = (parted rise).1 k no_file le lt in
+          ap is_lt (nat_list_cmp_total.antisymm key (file_of files k).name ∙ ap ordering_reverse g),
+    )
 
 pub not_true : (b : Bool) → (b ≡ true → ⊥) → b ≡ false
 not_true true h = absurd (h refl)
@@ -88,20 +89,20 @@ found_position files key i place =
     let lt = place.0 in
     let p : File → Bool = λ f. bytes_eq f.name key in
     let first : position_or_len p files ≡ i = position_or_len_is p files i no_file (omega arith)
-      (λ k below. not_true _ (λ h. not_before_itself key
-        (subst (λ (v : List ℕ). comes_before v key ≡ true) (same_name _ key h) (place.2 k below))))
-      (λ _. (bytes_eq-Decides _ key).1 place.1) in
+    (λ k below. not_true _ (λ h. not_before_itself key
+    (subst (λ (v : List ℕ). comes_before v key ≡ true) (same_name _ key h) (place.2 k below))))
+    (λ _. (bytes_eq-Decides _ key).1 place.1) in
     rw first (grind (arith, nat_tests))
 
 pub missing_position : (files : List File) (key : List ℕ) (i : ℕ) → IsPlace files key (Err i) → position_of files key ≡ None
 missing_position files key i place =
     let p : File → Bool = λ f. bytes_eq f.name key in
     let first : position_or_len p files ≡ length files = position_or_len_is p files (length files) no_file (omega arith)
-      (λ k below. not_true _ (λ h. elim (cases_lt k i) [
-        | inl lt ↦ not_before_itself key (subst (λ (v : List ℕ). comes_before v key ≡ true) (same_name _ key h) (place.1 k lt))
-        | inr ge ↦ not_before_itself key (subst (λ (v : List ℕ). comes_before key v ≡ true) (same_name _ key h) (place.2 k ge below))
-      ]))
-      (λ lt. absurd (omega arith)) in
+    (λ k below. not_true _ (λ h. elim (cases_lt k i) [
+      | inl lt ↦ not_before_itself key (subst (λ (v : List ℕ). comes_before v key ≡ true) (same_name _ key h) (place.1 k lt))
+      | inr ge ↦ not_before_itself key (subst (λ (v : List ℕ). comes_before key v ≡ true) (same_name _ key h) (place.2 k ge below))
+    ]))
+    (λ lt. absurd (omega arith)) in
     rw first (grind (arith, nat_tests))
 
 -- all names come before one that the last comes before
@@ -111,6 +112,7 @@ order_by_last files rising name some = go (comes_before (file_of files (length f
   where
     p : File → Bool
     p f = comes_before f.name name
+
     go : (b : Bool) → comes_before (file_of files (length files - 1)).name name ≡ b → b ≡ list_all (λ f. comes_before f.name name) files
     go true e = sym (list_all-from_AllPass (λ f. comes_before f.name name) files (λ k d lt.
         let is : get_or files k d ≡ file_of files k = get_or_default files k d no_file lt in
@@ -135,44 +137,44 @@ pub above_found : (files : List File) (name : List ℕ) (k i : ℕ) → k < leng
     → list_any (λ f. lies_in f.name name) files ≡ true
 above_found files name k i lt is place = list_any_at (λ f. lies_in f.name name) files i no_file place.0
     (lies (file_of files i).name name (drop (k + 1) name)
-      (sym (take-append-drop k name) ∙ ap (λ v. take k name ++ v) (drop_more name k 0 lt ∙ ap (λ b. b ∷ drop (k + 1) name) is)
-        ∙ sym (append_assoc (take k name) (slash ∷ []) (drop (k + 1) name)) ∙ ap (λ v. (v ++ slash ∷ []) ++ drop (k + 1) name) (sym place.1)))
+    (sym (take-append-drop k name) ∙ ap (λ v. take k name ++ v) (drop_more name k 0 lt ∙ ap (λ b. b ∷ drop (k + 1) name) is)
+    ∙ sym (append_assoc (take k name) (slash ∷ []) (drop (k + 1) name)) ∙ ap (λ v. (v ++ slash ∷ []) ++ drop (k + 1) name) (sym place.1)))
 
 pub above_none : (files : List File) (name : List ℕ) → ((k : ℕ) → k < length name → get_or name k 0 ≡ slash → HasNoFile files (take k name))
     → list_any (λ f. lies_in f.name name) files ≡ false
 above_none files name none = list_any_none (λ f. lies_in f.name name) files (λ j d lt.
     let is : get_or files j d ≡ file_of files j = get_or_default files j d no_file lt in
     ap (λ (f : File). lies_in f.name name) is ∙ not_true _ (λ h.
-      let folder = (file_of files j).name in
-      let cut : name ≡ folder ++ slash ∷ drop (length (folder ++ slash ∷ [])) name = lies_rest folder name h ∙ append_assoc folder (slash ∷ []) (drop (length (folder ++ slash ∷ [])) name) in
-      none (length folder)
-        (omega (arith, ap length cut, length-append folder (slash ∷ drop (length (folder ++ slash ∷ [])) name)))
-        (ap (λ v. get_or v (length folder) 0) cut ∙ get_or_at folder slash (drop (length (folder ++ slash ∷ [])) name) 0 (length folder) refl)
-        j lt (sym (ap (take (length folder)) cut ∙ take_at folder _ (length folder) refl))))
+    let folder = (file_of files j).name in
+    let cut : name ≡ folder ++ slash ∷ drop (length (folder ++ slash ∷ [])) name = lies_rest folder name h ∙ append_assoc folder (slash ∷ []) (drop (length (folder ++ slash ∷ [])) name) in
+    none (length folder)
+    (omega (arith, ap length cut, length-append folder (slash ∷ drop (length (folder ++ slash ∷ [])) name)))
+    (ap (λ v. get_or v (length folder) 0) cut ∙ get_or_at folder slash (drop (length (folder ++ slash ∷ [])) name) 0 (length folder) refl)
+    j lt (sym (ap (take (length folder)) cut ∙ take_at folder _ (length folder) refl))))
 
 -- a place that is none has no file of that name
 pub no_file_at : (files : List File) (name : List ℕ) (i : ℕ) → IsPlace files name (Err i) → HasNoFile files name
 no_file_at files name i place j lt is = elim (cases_lt j i) [
-    | inl below ↦ not_before_itself name (subst (λ (v : List ℕ). comes_before v name ≡ true) is (place.1 j below))
-    | inr ge ↦ not_before_itself name (subst (λ (v : List ℕ). comes_before name v ≡ true) is (place.2 j ge lt))
-  ]
+  | inl below ↦ not_before_itself name (subst (λ (v : List ℕ). comes_before v name ≡ true) is (place.1 j below))
+  | inr ge ↦ not_before_itself name (subst (λ (v : List ℕ). comes_before name v ≡ true) is (place.2 j ge lt))
+]
 
 -- what comes between a key and something that begins with the key begins with it too
 begins_between : (key m rest : List ℕ) → comes_before key m ≡ true → comes_before m (key ++ rest) ≡ true → (more : List ℕ) × (m ≡ key ++ more)
 begins_between [] m rest a b = (m, refl)
 begins_between (x ∷ key) [] rest a b = absurd (true≢false (sym a))
 begins_between (x ∷ key) (y ∷ m) rest a b = elim (cases_lt x y) [
-    | inl lt ↦ absurd (let e : nat_cmp y x ≡ Greater = grind (arith, nat_tests) in true≢false (sym (rw e at b)))
-    | inr ge ↦ elim (cases_lt y x) [
-      | inl lt ↦ absurd (let e : nat_cmp x y ≡ Greater = grind (arith, nat_tests) in true≢false (sym (rw e at a)))
-      | inr le ↦
+  | inl lt ↦ absurd (let e : nat_cmp y x ≡ Greater = grind (arith, nat_tests) in true≢false (sym (rw e at b)))
+  | inr ge ↦ elim (cases_lt y x) [
+    | inl lt ↦ absurd (let e : nat_cmp x y ≡ Greater = grind (arith, nat_tests) in true≢false (sym (rw e at a)))
+    | inr le ↦
         let same : x ≡ y = omega arith in
         let ex : nat_cmp x y ≡ Equal = grind (arith, nat_tests) in
         let ey : nat_cmp y x ≡ Equal = grind (arith, nat_tests) in
         let further = begins_between key m rest (rw ex at a) (rw ey at b) in
         (further.0, cc (same, further.1))
-    ]
   ]
+]
 
 longer_not_before : (key rest : List ℕ) → comes_before (key ++ rest) key ≡ true → ⊥
 longer_not_before [] [] h = true≢false (sym h)
@@ -186,32 +188,33 @@ folder_found files folder i lt h = list_any_at (λ f. lies_in folder f.name) fil
 pub folder_by_place : (files : List File) → AreRising files → (folder : List ℕ) (i : ℕ) → IsPlace files (folder ++ slash ∷ []) (Err i) → i < length files
     → lies_in folder (file_of files i).name ≡ has_folder files folder
 folder_by_place files rising folder i place lt = one_answer _ _
-    ((λ h. h), (λ h. h))
-    (let P : Bool → Type 0 = λ b. b ≡ true in
-    (λ h.
-      let any = Any-from_list_any (λ f. lies_in folder f.name) files h in
-      let j = any.0 in
-      let is : any.1 ≡ file_of files j = sym any.3 ∙ get_or_default files j any.1 no_file any.2 in
-      let inside : lies_in folder (file_of files j).name ≡ true = ap (λ (f : File). lies_in folder f.name) (sym is) ∙ any.4 in
-      let cut = lies_rest folder (file_of files j).name inside in
-      elim (cases_lt j i) [
-        | inl below ↦ absurd (longer_not_before (folder ++ slash ∷ []) _ (subst (λ (v : List ℕ). comes_before v (folder ++ slash ∷ []) ≡ true) cut (place.1 j below)))
-        | inr ge ↦ elim (cases_lt i j) [
-          | inl above ↦
-            let between = begins_between (folder ++ slash ∷ []) (file_of files i).name _ (place.2 i (omega arith) lt)
-              (subst (λ (v : List ℕ). comes_before (file_of files i).name v ≡ true) cut (rising i j no_file above any.2)) in
-            lies folder (file_of files i).name between.0 between.1
-          | inr le ↦ let same : i ≡ j = omega arith in rw same inside
-        ]
-      ]),
-    (λ h. folder_found files folder i lt h))
+    ((λ h. h), (λ h. h)) (
+      let P : Bool → Type 0 = λ b. b ≡ true in
+          (λ h.
+          let any = Any-from_list_any (λ f. lies_in folder f.name) files h in
+          let j = any.0 in
+          let is : any.1 ≡ file_of files j = sym any.3 ∙ get_or_default files j any.1 no_file any.2 in
+          let inside : lies_in folder (file_of files j).name ≡ true = ap (λ (f : File). lies_in folder f.name) (sym is) ∙ any.4 in
+          let cut = lies_rest folder (file_of files j).name inside in
+          elim (cases_lt j i) [
+            | inl below ↦ absurd (longer_not_before (folder ++ slash ∷ []) _ (subst (λ (v : List ℕ). comes_before v (folder ++ slash ∷ []) ≡ true) cut (place.1 j below)))
+            | inr ge ↦ elim (cases_lt i j) [
+              | inl above ↦
+                  let between = begins_between (folder ++ slash ∷ []) (file_of files i).name _ (place.2 i (omega arith) lt)
+                  (subst (λ (v : List ℕ). comes_before (file_of files i).name v ≡ true) cut (rising i j no_file above any.2)) in
+                  lies folder (file_of files i).name between.0 between.1
+              | inr le ↦ let same : i ≡ j = omega arith in rw same inside
+            ]
+          ]),
+      (λ h. folder_found files folder i lt h),
+    )
 
 pub no_folder : (files : List File) (folder : List ℕ) (i : ℕ) → IsPlace files (folder ++ slash ∷ []) (Err i) → length files ≤ i → has_folder files folder ≡ false
 no_folder files folder i place past = list_any_none (λ f. lies_in folder f.name) files (λ j d lt.
     let is : get_or files j d ≡ file_of files j = get_or_default files j d no_file lt in
     ap (λ (f : File). lies_in folder f.name) is ∙ not_true _ (λ h.
-      longer_not_before (folder ++ slash ∷ []) _
-        (subst (λ (v : List ℕ). comes_before v (folder ++ slash ∷ []) ≡ true) (lies_rest folder (file_of files j).name h) (place.1 j (omega arith)))))
+    longer_not_before (folder ++ slash ∷ []) _
+    (subst (λ (v : List ℕ). comes_before v (folder ++ slash ∷ []) ≡ true) (lies_rest folder (file_of files j).name h) (place.1 j (omega arith)))))
 
 pub folder_named : (files : List File) (folder key : List ℕ) (i : ℕ) → IsPlace files key (Ok i) → key ≡ folder ++ slash ∷ [] → true ≡ has_folder files folder
 folder_named files folder key i place is = sym (folder_found files folder i place.0 (lies folder (file_of files i).name [] (place.1 ∙ (is ∙ sym (append-nil (folder ++ slash ∷ []))))))
@@ -220,7 +223,7 @@ pub folder_tested : (files : List File) → AreRising files → (folder key : Li
     → key ≡ folder ++ slash ∷ [] → m ≡ (file_of files i).name → r ≡ starts_with nat_eq m key → r ≡ has_folder files folder
 folder_tested files rising folder key i m r place lt is name tested =
     tested ∙ (ap (λ v. starts_with nat_eq v key) name ∙ (ap (starts_with nat_eq (file_of files i).name) is
-      ∙ folder_by_place files rising folder i (subst (λ (v : List ℕ). IsPlace files v (Err i)) is place) lt))
+    ∙ folder_by_place files rising folder i (subst (λ (v : List ℕ). IsPlace files v (Err i)) is place) lt))
 
 pub folder_missing : (files : List File) (folder key : List ℕ) (i : ℕ) → IsPlace files key (Err i) → length files ≤ i → key ≡ folder ++ slash ∷ [] → has_folder files folder ≡ false
 folder_missing files folder key i place past is = no_folder files folder i (subst (λ (v : List ℕ). IsPlace files v (Err i)) is place) past

@@ -18,8 +18,8 @@ split_some p text k h =
     let found = cond_some (nat_lt (position_or_len p text) (length text)) _ _ (sym h) in
     let within : position_or_len p text < length text = let t = found.0 in grind (arith, nat_tests) in
     slice_split_first p text 0 within
-      ∙ ap (λ n. take n text ∷ slice_split p (drop (n + 1) text)) found.1
-      ∙ ap (λ v. take k text ∷ slice_split p v) (sym (take_rest text (k + 1)))
+    ∙ ap (λ n. take n text ∷ slice_split p (drop (n + 1) text)) found.1
+    ∙ ap (λ v. take k text ∷ slice_split p v) (sym (take_rest text (k + 1)))
 
 pub split_none : (p : ℕ → Bool) (text : List ℕ) → None ≡ position p text → slice_split p text ≡ text ∷ []
 split_none p text h =

@@ -73,7 +73,7 @@ front_whole line t l a b =
 feeds_stop : (line r : List ℕ) → prefix_len (λ b. not (b == 10)) line ≡ length line → before_first (λ b. b == 10) (line ++ 10 ∷ r) ≡ line
 feeds_stop line r h =
     let e : prefix_len (λ b. not (b == 10)) (line ++ 10 ∷ r) ≡ length line =
-      rw (prefix_len-append (λ b. not (b == 10)) line (10 ∷ r), eq-eqb (prefix_len (λ b. not (b == 10)) line) (length line) h) (omega arith) in
+    rw (prefix_len-append (λ b. not (b == 10)) line (10 ∷ r), eq-eqb (prefix_len (λ b. not (b == 10)) line) (length line) h) (omega arith) in
     take_at line (10 ∷ r) (prefix_len (λ b. not (b == 10)) (line ++ 10 ∷ r)) (sym e)
 
 -- nothing but the line, of which each byte is no line feed
@@ -100,11 +100,11 @@ pub line_whole : (line t : List ℕ) (l nl : ℕ) → prefix_len (λ b. not (b =
 line_whole line t l nl feeds short left =
     let cut = front_whole line t l short (omega arith) in
     line_is (record { bytes = line ++ 10 ∷ t; left = l }) (record { bytes = t; left = nl }) line
-      (ap (before_first (λ b. b == 10)) cut.1 ∙ feeds_stop line cut.0 feeds) (omega arith)
-      (omega (arith, length-take l (line ++ 10 ∷ t), length-append line (10 ∷ t)))
-      (let b : drop (length line + 1) (line ++ 10 ∷ t) ≡ t = ap (drop (length line + 1)) (sym (append_assoc line (10 ∷ []) t)) ∙ drop_at (line ++ 10 ∷ []) t (length line + 1) (length-append line (10 ∷ [])) in
-       let n : l - (length line + 1) ≡ nl = omega arith in
-       ap (λ bs. record { bytes = bs; left = l - (length line + 1) }) b ∙ ap (λ k. record { bytes = t; left = k }) n)
+    (ap (before_first (λ b. b == 10)) cut.1 ∙ feeds_stop line cut.0 feeds) (omega arith)
+    (omega (arith, length-take l (line ++ 10 ∷ t), length-append line (10 ∷ t)))
+    (let b : drop (length line + 1) (line ++ 10 ∷ t) ≡ t = ap (drop (length line + 1)) (sym (append_assoc line (10 ∷ []) t)) ∙ drop_at (line ++ 10 ∷ []) t (length line + 1) (length-append line (10 ∷ [])) in
+    let n : l - (length line + 1) ≡ nl = omega arith in
+    ap (λ bs. record { bytes = bs; left = l - (length line + 1) }) b ∙ ap (λ k. record { bytes = t; left = k }) n)
 
 pub line_long : (line t : List ℕ) (l nl : ℕ) → prefix_len (λ b. not (b == 10)) line ≡ length line → length line ≡ 65 → l ≡ length line + nl
     → line_at (record { bytes = line ++ t; left = l }) ≡ Err TooLong
@@ -141,9 +141,11 @@ pub line_ok : (o n m : Option (List ℕ)) (l nl ml b : ℕ) (line : List ℕ) �
 line_ok o n m l nl ml b line t short feed byte k =
     let last = takes_byte n m nl ml b byte in
     let kn = t.takes.known k in
-    let text : unwrap_or o [] ≡ line ++ 10 ∷ unwrap_or m [] = t.takes.bytes k ∙ ap (λ v. line ++ v) (last.bytes kn ∙ ap (λ x. x ∷ unwrap_or m []) feed) in
-    (ap (λ v. line_at (record { bytes = v; left = l })) text
-      ∙ line_whole line (unwrap_or m []) l ml t.feeds short (omega (arith, t.takes.count k, last.count kn)), last.known kn)
+    let text : unwrap_or o [] ≡ line ++ 10 ∷ unwrap_or m [] = t.takes.bytes k ∙ ap (λ v. line ++ v) (last.bytes kn ∙ ap (λ x. x ∷ unwrap_or m []) feed) in (
+      ap (λ v. line_at (record { bytes = v; left = l })) text
+          ∙ line_whole line (unwrap_or m []) l ml t.feeds short (omega (arith, t.takes.count k, last.count kn)),
+      last.known kn,
+    )
 
 pub line_err : (o n : Option (List ℕ)) (l nl : ℕ) (line : List ℕ) (e : Stop) → TakesLine o l n nl line → length line ≤ 64
     → (is_some n ≡ true → is_unforeseen e ≡ false → byte_at (ahead_of n nl) ≡ Err e)
@@ -151,8 +153,8 @@ pub line_err : (o n : Option (List ℕ)) (l nl : ℕ) (line : List ℕ) (e : Sto
 line_err o n l nl line e t short byte k foreseen =
     let none = byte_none (ahead_of n nl) e (byte (t.takes.known k) foreseen) in
     ap (λ v. line_at (record { bytes = v; left = l })) (t.takes.bytes k)
-      ∙ (line_ends line (unwrap_or n []) l nl t.feeds short (t.takes.count k) none.0
-      ∙ ap (λ (s : Stop). let r : Result (List ℕ × Ahead) Stop = Err s in r) (ended_past line (unwrap_or n []) l nl (t.takes.count k) ∙ none.1))
+    ∙ (line_ends line (unwrap_or n []) l nl t.feeds short (t.takes.count k) none.0
+    ∙ ap (λ (s : Stop). let r : Result (List ℕ × Ahead) Stop = Err s in r) (ended_past line (unwrap_or n []) l nl (t.takes.count k) ∙ none.1))
 
 pub line_too_long : (o n : Option (List ℕ)) (l nl : ℕ) (line : List ℕ) → TakesLine o l n nl line → length line ≡ 65
     → is_some o ≡ true → line_at (ahead_of o l) ≡ Err TooLong
@@ -171,7 +173,7 @@ take_put : (a k m : ℕ) (xs ys : List ℕ) → a ≤ length xs → m ≤ length
 take_put a k m xs ys in_xs in_ys =
     let front_length : length (take a xs) ≡ a = omega (arith, length-take a xs) in
     take_past (a + m) (take a xs) (ys ++ post_of a k xs) (omega arith)
-      ∙ ap (λ v. take a xs ++ v) (ap (λ n. take n (ys ++ post_of a k xs)) (let e : a + m - length (take a xs) ≡ m = omega arith in e) ∙ take-append-le m ys (post_of a k xs) in_ys)
+    ∙ ap (λ v. take a xs ++ v) (ap (λ n. take n (ys ++ post_of a k xs)) (let e : a + m - length (take a xs) ≡ m = omega arith in e) ∙ take-append-le m ys (post_of a k xs) in_ys)
 
 pub takes_part : (o n m : Option (List ℕ)) (l nl ml a k more : ℕ) (xs ys : List ℕ) → Takes o l n nl (take a xs) → a ≤ length xs → more ≤ length ys
     → nl ≡ more + ml → (is_some n ≡ true → (unwrap_or n [] ≡ take more ys ++ unwrap_or m []) × (is_some m ≡ true))

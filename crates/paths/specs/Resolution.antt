@@ -27,6 +27,11 @@ location segments = flat_map (λ s. slash ∷ flat_map location_byte s) segments
 abbrev pub joined : List (List ℕ) → List ℕ
 joined segments = join_with_byte slash segments
 
+-- what stands before a segment of a name: nothing before the first, else a slash
+abbrev pub slash_before : Bool → List ℕ
+slash_before true = []
+slash_before false = slash ∷ []
+
 -- a file by its name, or none
 abbrev pub file_or_missing : Option ℕ → Outcome
 file_or_missing (Some file) = outcomes.File file

@@ -66,9 +66,9 @@ name_at files n a = do
   name ← named kind_of (run_at n a)
   end ← named kind_of (byte_at name.1)
   if not (end.0 == feed) || not (is_name name.0) then Err Name
-    else if not (list_all (λ f. comes_before f.name name.0) files) then Err Order
-    else if list_any (λ f. lies_in f.name name.0) files then Err Conflict
-    else Ok (name.0, end.1)
+      else if not (list_all (λ f. comes_before f.name name.0) files) then Err Order
+      else if list_any (λ f. lies_in f.name name.0) files then Err Conflict
+      else Ok (name.0, end.1)
 
 -- the bytes of a file, so many
 abbrev pub body_at : ℕ → Ahead → Result (List ℕ × Ahead) SnapshotFaultKind
@@ -80,13 +80,13 @@ body_at n a = do
 -- the file that a line announces
 abbrev pub file_at : List File → FileLine → Ahead → Result (File × Ahead) SnapshotFaultKind
 file_at files line a =
-  if nat_lt latest_time line.mtime then Err Number
-  else if nat_lt most_bytes line.len || nat_le most_files (length files) then Err TooLarge
-  else if line.name_len == 0 || nat_lt longest_name line.name_len then Err Name
-  else (do
-    name ← name_at files line.name_len a
-    bytes ← body_at line.len name.1
-    Ok (record { name = name.0; mtime = line.mtime; bytes = bytes.0 }, bytes.1))
+    if nat_lt latest_time line.mtime then Err Number
+    else if nat_lt most_bytes line.len || nat_le most_files (length files) then Err TooLarge
+    else if line.name_len == 0 || nat_lt longest_name line.name_len then Err Name
+    else (do
+      name ← name_at files line.name_len a
+      bytes ← body_at line.len name.1
+      Ok (record { name = name.0; mtime = line.mtime; bytes = bytes.0 }, bytes.1))
 
 -- what a heading announces: a file, or the end (None)
 abbrev pub announced : List File → Heading → Ahead → Result (Option File × Ahead) SnapshotFaultKind

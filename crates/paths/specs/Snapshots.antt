@@ -124,4 +124,4 @@ abbrev pub IsPlace : List File → List ℕ → Result ℕ ℕ → Type 0
 IsPlace files name r = MatchResult r
     (λ i. (i < length files) × ((file_of files i).name ≡ name) × ((k : ℕ) → k < i → comes_before (file_of files k).name name ≡ true))
     (λ i. (i ≤ length files) × ((k : ℕ) → k < i → comes_before (file_of files k).name name ≡ true)
-        × ((k : ℕ) → i ≤ k → k < length files → comes_before name (file_of files k).name ≡ true))
+    × ((k : ℕ) → i ≤ k → k < length files → comes_before name (file_of files k).name ≡ true))

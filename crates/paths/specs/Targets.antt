@@ -33,7 +33,7 @@ path_of target =
     if list_any (λ b. b == 35) target then None
     else if starts_with nat_eq target (codes "/") then Some (before_first (λ b. b == 63) target)
     else if bytes_eq (map to_ascii_lowercase (take 7 target)) (codes "http://")
-      then option_map (before_first (λ b. b == 63)) (behind_authority (drop 7 target))
+    then option_map (before_first (λ b. b == 63)) (behind_authority (drop 7 target))
     else None
 
 -- two hexadecimal digits stand in front

@@ -61,7 +61,7 @@ Gives excused f old left new left_new r = is_some old ≡ true → MatchResult r
 abbrev pub TakesSome : Option (List ℕ) → ℕ → Option (List ℕ) → ℕ → List ℕ → Result ℕ Stop → Type 0
 TakesSome old left new left_new room r = MatchResult r
     (λ n. (0 < n) × (n ≤ length room) × (left ≡ n + left_new)
-        × (is_some old ≡ true → (unwrap_or old [] ≡ take n room ++ unwrap_or new []) × (is_some new ≡ true)))
+    × (is_some old ≡ true → (unwrap_or old [] ≡ take n room ++ unwrap_or new []) × (is_some new ≡ true)))
     (λ e. is_some old ≡ true → is_unforeseen e ≡ false → (length (front (ahead_of old left)) ≡ 0) × (e ≡ ended (ahead_of old left)))
 
 -- a room was filled with the next bytes

@@ -7,7 +7,9 @@ ghost use Rattle.paths.specs.SnapshotFaults.{CountsKind, is_unforeseen_kind, hea
 use crate::bytes::is_text;
 use crate::file::{FileLine, Heading};
 use crate::heading::read_heading;
-use crate::{Bytes, File, Input, Snapshot, SnapshotFaultKind, Stop, read_byte_of, read_line, read_run};
+use crate::{
+    Bytes, File, Input, Snapshot, SnapshotFaultKind, Stop, read_byte_of, read_line, read_run,
+};
 use std::alloc::Global;
 use std::io::Read;
 

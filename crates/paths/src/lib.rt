@@ -10,12 +10,15 @@ mod heading;
 mod numbers;
 mod outcome;
 mod reading;
+mod resolution;
 mod segments;
 mod snapshot;
 mod snapshot_fault;
 mod step;
 mod stop;
 mod target;
+#[cfg(test)]
+mod tests;
 mod text;
 
 pub use asked::Asked;
@@ -24,6 +27,7 @@ pub use device::{Failed, Input, Output};
 pub use file::File;
 pub use numbers::number;
 pub use outcome::Outcome;
+pub use resolution::{locate, resolve};
 pub use segments::Segments;
 pub use snapshot::{Snapshot, Tree};
 pub use snapshot_fault::{SnapshotFault, SnapshotFaultKind};

@@ -14,7 +14,9 @@ pub fn number(field: &[u8]) -> Option<u64>
         if !digit.is_ascii_digit() {
             return None;
         }
-        value = value.saturating_mul(10).saturating_add(u64::from(*digit - b'0'));
+        value = value
+            .saturating_mul(10)
+            .saturating_add(u64::from(*digit - b'0'));
     }
     Some(value)
 }

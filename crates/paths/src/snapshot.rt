@@ -117,9 +117,7 @@ impl Snapshot {
     {
         match self.search(name) {
             Ok(_) => true,
-            Err(place) => {
-                place < self.len() && self.name(place).starts_with(name)
-            }
+            Err(place) => { place < self.len() && self.name(place).starts_with(name) }
         }
     }
 

@@ -140,7 +140,11 @@ fn walk(alloc: Global, path: &[u8]) -> Result<Asked, AllocError>
 {
     let mut kept = Segments::new(alloc);
     let mut folder = true;
-    let mut ahead = if path.is_empty() { Some(path) } else { Some(&path[1..]) };
+    let mut ahead = if path.is_empty() {
+        Some(path)
+    } else {
+        Some(&path[1..])
+    };
     while let Some(text) = ahead {
         let (part, more) = split_segment(text);
         let segment = decode(alloc, part)?;

@@ -5,7 +5,8 @@ use Rattle.paths.proofs.text.fill.Goals as goal
 
 pub loop-filled-preserved : goal.loop-filled-preserved
 loop-filled-preserved g c =
-    let some = c.in-Ok.ensures.some in
-    (takes_part _ _ _ _ _ _ _ _ _ _ _ c.loop-filled.invariant.0 c.loop-filled.invariant.1 some.1 some.2 some.3,
-    search (rules, places),
-    c.in-Ok.ensures.count ∙ c.loop-filled.invariant.2)
+    let some = c.in-Ok.ensures.some in (
+      takes_part _ _ _ _ _ _ _ _ _ _ _ c.loop-filled.invariant.0 c.loop-filled.invariant.1 some.1 some.2 some.3,
+      search (rules, places),
+      c.in-Ok.ensures.count ∙ c.loop-filled.invariant.2,
+    )

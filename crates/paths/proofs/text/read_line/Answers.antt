@@ -12,9 +12,10 @@ returns-in-Err-clause-line g c = line_err _ _ _ _ _ _ c.loop.invariant.0 (omega 
 
 pub loop-preserved : goal.loop-preserved
 loop-preserved g c = (
-    rw c.push.ensures (line_more _ _ _ _ _ _ _ _ c.loop.invariant.0 (ne_eqb c.in-Ok.byte 10 c.in-Ok.byte-test.1) c.in-Ok.ensures.byte),
-    rw (c.push.ensures, length_push c.loop.line c.in-Ok.byte) (omega arith),
-    c.in-Ok.ensures.count ∙ c.loop.invariant.2)
+  rw c.push.ensures (line_more _ _ _ _ _ _ _ _ c.loop.invariant.0 (ne_eqb c.in-Ok.byte 10 c.in-Ok.byte-test.1) c.in-Ok.ensures.byte),
+  rw (c.push.ensures, length_push c.loop.line c.in-Ok.byte) (omega arith),
+  c.in-Ok.ensures.count ∙ c.loop.invariant.2,
+)
 
 pub returns-clause-line : goal.returns-clause-line
 returns-clause-line g c = λ k _. line_too_long _ _ _ _ _ c.loop.invariant.0 (omega arith) k

@@ -7,4 +7,4 @@ use Rattle.paths.proofs.snapshot.Snapshot.precedes.Goals as goal
 pub returns-else-count-eq0 : goal.returns-else-count-eq0
 returns-else-count-eq0 c =
     c.is_lt.ensures ∙ ap is_lt (c.cmp.ensures ∙ ap (λ v. slice_cmp nat_cmp v c.args.name.now) (c.name.ensures ∙ ap (λ n. (file_of c.args.self.now (n - 1)).name) c.len-count.ensures.count))
-      ∙ order_by_last c.args.self.now c.len-count.ensures.rules.rising c.args.name.now (omega (arith, c.len-count.ensures.count))
+    ∙ order_by_last c.args.self.now c.len-count.ensures.rules.rising c.args.name.now (omega (arith, c.len-count.ensures.count))

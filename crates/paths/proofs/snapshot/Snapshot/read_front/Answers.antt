@@ -10,8 +10,9 @@ returns-in-Ok-None-clause-ok g c = front_ends _ _ _ _ _ _ _ c.in-Ok-None.field-0
 
 pub loop-files-preserved : goal.loop-files-preserved
 loop-files-preserved g c = (
-    front_goes_on _ _ _ _ _ _ _ _ _ c.in-Ok-Some.field-0-is c.in-Ok-push.ensures.ok (omega (arith, c.len-entry.ensures.count, c.len-entry.ensures.limit)) c.loop-files.invariant.0 c.in-Ok-Some.ensures.entry,
-    c.in-Ok-Some.ensures.count ∙ c.loop-files.invariant.1)
+  front_goes_on _ _ _ _ _ _ _ _ _ c.in-Ok-Some.field-0-is c.in-Ok-push.ensures.ok (omega (arith, c.len-entry.ensures.count, c.len-entry.ensures.limit)) c.loop-files.invariant.0 c.in-Ok-Some.ensures.entry,
+  c.in-Ok-Some.ensures.count ∙ c.loop-files.invariant.1,
+)
 
 pub returns-in-Err-read_entry-clause-fault : goal.returns-in-Err-read_entry-clause-fault
 returns-in-Err-read_entry-clause-fault g c =

@@ -1,0 +1,8 @@
+use Rattle.std.proofs.Common.{◌≡◌, ◌∷◌, take, string_bytes}
+use Rattle.std.specs.List.{flat_map}
+use Rattle.paths.specs.Snapshots.{slash}
+use Rattle.paths.specs.Resolution.{location_byte}
+use Rattle.paths.proofs.resolution.location_of.Given as goal
+
+abbrev pub invariant-loop-segment : goal.invariant-loop-segment
+invariant-loop-segment l = string_bytes l.to ≡ flat_map (λ s. slash ∷ flat_map location_byte s) (take l.segment-index l.segments)

@@ -1,0 +1,129 @@
+ghost use Rattle.std.specs.Prelude.{◌≡◌, ◌++◌, [], ◌∷◌, true, false, IfOk, OnOk, string_bytes, codes, flat_map, List, ℕ};
+ghost use Rattle.paths.specs.Snapshots.{slash};
+ghost use Rattle.paths.specs.Targets.{asked};
+ghost use Rattle.paths.specs.Resolution.{outcome, joined, location, location_byte, slash_before};
+
+use crate::{Asked, Bytes, Outcome, Segments, Snapshot, inspect};
+use percent_encoding::{AsciiSet, NON_ALPHANUMERIC, ascii_set, percent_encode};
+use std::alloc::{AllocError, Global};
+
+/// The bytes that a location escapes, beside those outside ASCII: all but letters, digits and `-._~` (RFC 3986, 2.3).
+const RESERVED: AsciiSet = ascii_set!(
+    NON_ALPHANUMERIC
+        .remove(b'-')
+        .remove(b'.')
+        .remove(b'_')
+        .remove(b'~')
+);
+
+/// What a request is answered with, by what it asks for and the names of the snapshot.
+pub fn locate(alloc: Global, files: &Snapshot, asked: &Asked) -> Result<Outcome, AllocError>
+    ensures { IfOk result (λ o. o ≡ outcome files.now asked.now) }
+{
+    match asked {
+        Asked::Path {
+            segments,
+            folder: true,
+        } => find_index(alloc, files, segments),
+        Asked::Path {
+            segments,
+            folder: false,
+        } => find_file(alloc, files, segments),
+        Asked::Missing => Ok(Outcome::Missing),
+        Asked::BadTarget => Ok(Outcome::BadTarget),
+        Asked::NotAllowed => Ok(Outcome::NotAllowed),
+        Asked::NotKnown => Ok(Outcome::NotKnown),
+    }
+}
+
+/// What a request is answered with, by its method, its target and the names of the snapshot.
+pub fn resolve(
+    alloc: Global,
+    files: &Snapshot,
+    method: &[u8],
+    target: &[u8],
+) -> Result<Outcome, AllocError>
+    ensures { IfOk result (λ o. o ≡ outcome files.now (asked method.now target.now)) }
+{
+    let asked = inspect(alloc, method, target)?;
+    locate(alloc, files, &asked)
+}
+
+/// The `index.html` of the folder at these segments.
+fn find_index(alloc: Global, files: &Snapshot, segments: &Segments) -> Result<Outcome, AllocError>
+    ensures { IfOk result (λ o. o ≡ outcome files.now (Asked.Path segments.now true)) }
+{
+    let name = index_name(alloc, segments)?;
+    match files.position(&name) {
+        Some(file) => Ok(Outcome::File(file)),
+        None => Ok(Outcome::Missing),
+    }
+}
+
+/// The name of the `index.html` of the folder at these segments.
+fn index_name(alloc: Global, segments: &Segments) -> Result<Vec<u8>, AllocError>
+    ensures { IfOk result (λ name. name.items ≡ joined (segments.now ++ codes "index.html" ∷ [])) }
+{
+    let mut name = join(alloc, segments.as_slice())?;
+    append_segment(&mut name, segments.is_empty(), b"index.html")?;
+    Ok(name)
+}
+
+/// The file at these segments, or the location of the folder there.
+fn find_file(alloc: Global, files: &Snapshot, segments: &Segments) -> Result<Outcome, AllocError>
+    ensures { IfOk result (λ o. o ≡ outcome files.now (Asked.Path segments.now false)) }
+{
+    let mut name = join(alloc, segments.as_slice())?;
+    if let Some(file) = files.position(&name) {
+        return Ok(Outcome::File(file));
+    }
+    name.push(b'/')?;
+    if files.has_folder(&name) {
+        let to = location_of(alloc, segments.as_slice())?;
+        return Ok(Outcome::Move(to));
+    }
+    Ok(Outcome::Missing)
+}
+
+/// The segments, with a slash between each two.
+fn join(alloc: Global, segments: &[Bytes]) -> Result<Vec<u8>, AllocError>
+    ensures { IfOk result (λ name. name.items ≡ joined segments.now) }
+{
+    let mut name = Vec::new(alloc);
+    for (at, segment) in segments.iter().enumerate() {
+        append_segment(&mut name, at == 0, segment.as_slice())?;
+    }
+    Ok(name)
+}
+
+/// Adds a segment behind a name, and a slash between them where it isn't the first.
+fn append_segment(name: &mut Vec<u8>, first: bool, segment: &[u8]) -> Result<(), AllocError>
+    ensures { OnOk result (name.new.items ≡ name.old.items ++ (slash_before first ++ segment.now)) }
+{
+    if !first {
+        name.push(b'/')?;
+    }
+    name.extend_from_slice(segment)?;
+    Ok(())
+}
+
+/// The location of the folder at these segments.
+fn location_of(alloc: Global, segments: &[Bytes]) -> Result<Bytes, AllocError>
+    ensures { IfOk result (λ to. to ≡ location segments.now) }
+{
+    let mut to = String::new(alloc);
+    for segment in segments {
+        append_encoded(&mut to, segment.as_slice())?;
+    }
+    to.push('/')?;
+    Ok(Bytes::from_vec(to.into_bytes()))
+}
+
+/// Adds a slash and an encoded segment behind a location.
+fn append_encoded(to: &mut String, segment: &[u8]) -> Result<(), AllocError>
+    ensures { OnOk result (string_bytes to.new ≡ string_bytes to.old ++ (slash ∷ flat_map location_byte segment.now)) }
+{
+    to.push('/')?;
+    percent_encode(segment, RESERVED).append_to(to)?;
+    Ok(())
+}

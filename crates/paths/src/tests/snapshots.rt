@@ -1,0 +1,269 @@
+//! The snapshot text, entry by entry.
+use crate::tests::{Flaky, fault, fault_of, snapshot};
+use crate::{Input, Snapshot, SnapshotFaultKind as Kind};
+use std::test::Fail;
+
+static ONE: &[u8; 55] = b"haboob-snapshot 1\nfile 784111777 5 3\na.txt\nhi\n\nend 1\n  ";
+
+/// The text of one file, without the two bytes behind it.
+fn one() -> &'static [u8] {
+    &ONE[..53]
+}
+
+#[test]
+fn snapshot_of_one_file(rt: HostRuntime) -> Result<(), Fail> {
+    let files = snapshot(rt.alloc(), one())?;
+    assert_eq!(rt; files.len(), 1);
+    assert_eq!(rt; files.name(0), b"a.txt".as_slice());
+    assert_eq!(rt; files.mtime(0), 784_111_777);
+    assert_eq!(rt; files.bytes(0), b"hi\n".as_slice());
+    assert_eq!(rt; fault_of(rt.alloc(), b"haboob-snapshot 1\nend 0\n"), None);
+    Ok(())
+}
+
+#[test]
+fn snapshot_faults(rt: HostRuntime) {
+    let table: [(&[u8], usize, Kind); 40] = [
+        (
+            b"haboob-snapshot 1\nfile 0 5 0\nb.txt\n\nfile 0 5 0\na.txt\n\nend 2\n",
+            2,
+            Kind::Order,
+        ),
+        (
+            b"haboob-snapshot 1\nfile 0 1 0\na\n\nfile 0 1 0\na\n\nend 2\n",
+            2,
+            Kind::Order,
+        ),
+        (
+            b"haboob-snapshot 1\nfile 0 1 0\na\n\nfile 0 3 0\na/b\n\nend 2\n",
+            2,
+            Kind::Conflict,
+        ),
+        (
+            b"haboob-snapshot 1\nfile 0 1 0\na\n\nfile 0 3 0\na!b\n\nfile 0 3 0\na/b\n\nend 3\n",
+            3,
+            Kind::Conflict,
+        ),
+        (
+            b"haboob-snapshot 1\nfile 0 4 0\na//b\n\nend 1\n",
+            1,
+            Kind::Name,
+        ),
+        (
+            b"haboob-snapshot 1\nfile 0 2 0\n/b\n\nend 1\n",
+            1,
+            Kind::Name,
+        ),
+        (
+            b"haboob-snapshot 1\nfile 0 2 0\nb/\n\nend 1\n",
+            1,
+            Kind::Name,
+        ),
+        (
+            b"haboob-snapshot 1\nfile 0 1 0\n.\n\nend 1\n",
+            1,
+            Kind::Name,
+        ),
+        (
+            b"haboob-snapshot 1\nfile 0 4 0\na/..\n\nend 1\n",
+            1,
+            Kind::Name,
+        ),
+        (
+            b"haboob-snapshot 1\nfile 0 3 0\na\0b\n\nend 1\n",
+            1,
+            Kind::Name,
+        ),
+        (
+            b"haboob-snapshot 1\nfile 0 2 0\n\xc3\x28\n\nend 1\n",
+            1,
+            Kind::Name,
+        ),
+        (b"haboob-snapshot 1\nfile 0 0 0\n\n\nend 1\n", 1, Kind::Name),
+        (b"haboob-snapshot 1\nfile 0 1025 0\n", 1, Kind::Name),
+        (
+            b"haboob-snapshot 1\nfile 0 1 0\nab\n\nend 1\n",
+            1,
+            Kind::Name,
+        ),
+        (b"haboob-snapshot 1\nfile 0 1 0\n.", 1, Kind::Cut),
+        (
+            b"haboob-snapshot 1\nfile 784111777 5 3\na.txt\nhi\n\nend 2\n",
+            2,
+            Kind::Count,
+        ),
+        (
+            b"haboob-snapshot 1\nfile 784111777 5 3\na.txt\nhi\n\nend 0\n",
+            2,
+            Kind::Count,
+        ),
+        (
+            b"haboob-snapshot 1\nfile 784111777 5 3\na.txt\nhi\n\n",
+            2,
+            Kind::Cut,
+        ),
+        (
+            b"haboob-snapshot 1\nfile 784111777 5 3\na.txt\nhi\n\nend 1\n ",
+            2,
+            Kind::Trailing,
+        ),
+        (
+            b"haboob-snapshot 1\nfile 784111777 5 2\na.txt\nhi\n\nend 1\n",
+            2,
+            Kind::Kind,
+        ),
+        (
+            b"haboob-snapshot 1\nfile 784111777 5 1\na.txt\nhi\n\nend 1\n",
+            1,
+            Kind::Length,
+        ),
+        (
+            b"haboob-snapshot 1\nfile 784111777 5 1\na.txt\nh",
+            1,
+            Kind::Cut,
+        ),
+        (
+            b"haboob-snapshot 1\nfile 253402300800 5 1\na.txt\nh\nend 1\n",
+            1,
+            Kind::Number,
+        ),
+        (
+            b"haboob-snapshot 1\nfile 99999999999999999999999999 1 0\na\n\nend 1\n",
+            1,
+            Kind::Number,
+        ),
+        (
+            b"haboob-snapshot 1\nfile 0 1 16777217\na\n",
+            1,
+            Kind::TooLarge,
+        ),
+        (
+            b"haboob-snapshot 1\nfile 0 1 99999999999999999999999999\na\n",
+            1,
+            Kind::TooLarge,
+        ),
+        (
+            b"haboob-snapshot 1\nfile 0 99999999999999999999999999 1\na\n",
+            1,
+            Kind::Name,
+        ),
+        (
+            b"haboob-snapshot 1\nfile 00 1 0\na\n\nend 1\n",
+            1,
+            Kind::Number,
+        ),
+        (
+            b"haboob-snapshot 1\nfile 0  1 0\na\n\nend 1\n",
+            1,
+            Kind::Number,
+        ),
+        (
+            b"haboob-snapshot 1\nfile 0 1\na\n\nend 1\n",
+            1,
+            Kind::Number,
+        ),
+        (
+            b"haboob-snapshot 1\nfile 0 1 0 0\na\n\nend 1\n",
+            1,
+            Kind::Number,
+        ),
+        (
+            b"haboob-snapshot 1\nfile +0 1 0\na\n\nend 1\n",
+            1,
+            Kind::Number,
+        ),
+        (b"haboob-snapshot 1\nend 00\n", 1, Kind::Number),
+        (b"haboob-snapshot 1\nend \n", 1, Kind::Number),
+        (b"haboob-snapshot 1\nend\n", 1, Kind::Kind),
+        (b"haboob-snapshot 1\nfiles\n", 1, Kind::Kind),
+        (
+            b"haboob-snapshot 1\nend 0000000000000000000000000000000000000000000000000000000000000\n",
+            1,
+            Kind::Kind,
+        ),
+        (b"haboob-snapshot 2\nend 0\n", 0, Kind::Header),
+        (
+            b"haboob-snapshot 1 with so much behind it that the line can hold no more\n",
+            0,
+            Kind::Header,
+        ),
+        (b"haboob-snapshot", 0, Kind::Cut),
+    ];
+    for (text, entry, kind) in table {
+        assert_eq!(rt; fault_of(rt.alloc(), text), fault(entry, kind));
+    }
+}
+
+/// Cut after each of its bytes, the text is cut at the first entry that isn't whole.
+#[test]
+fn snapshot_cut_anywhere(rt: HostRuntime) {
+    let text = one();
+    for end in 0..text.len() {
+        let entry = if end < 18 {
+            0
+        } else if end < 47 {
+            1
+        } else {
+            2
+        };
+        assert_eq!(rt; fault_of(rt.alloc(), &text[..end]), fault(entry, Kind::Cut));
+    }
+    assert_eq!(rt; fault_of(rt.alloc(), text), None);
+}
+
+/// What follows the last line is left unread.
+#[test]
+fn front_leaves_the_rest(rt: HostRuntime) -> Result<(), Fail> {
+    let mut input = Input::new(ONE.as_slice());
+    let files = Snapshot::read_front(rt.alloc(), &mut input)?;
+    assert_eq!(rt; files.len(), 1);
+    let mut rest = [0; 9];
+    assert_eq!(rt; input.read_some(&mut rest)?, 2);
+    assert_eq!(rt; rest[0], b' ');
+    Ok(())
+}
+
+/// Whatever read fails, the fault names the entry that was being read, and the count is one.
+#[test]
+fn each_read_failing(rt: HostRuntime) {
+    let text = one();
+    let mut good = 0;
+    let mut last = 0;
+    for _ in 0..1000 {
+        let mut input = Input::new(Flaky::new(text, 3, good));
+        match Snapshot::read(rt.alloc(), &mut input) {
+            Ok(files) => {
+                assert_eq!(rt; files.len(), 1);
+                assert_eq!(rt; input.failures(), 0);
+                assert_eq!(rt; last, 2);
+                return;
+            }
+            Err(found) => {
+                assert_eq!(rt; found.kind, Kind::Read);
+                assert_eq!(rt; input.failures(), 1);
+                assert!(rt; found.entry == last || found.entry == last + 1);
+                last = found.entry;
+            }
+        }
+        good += 1;
+    }
+    assert!(rt; false, "no run met all its reads");
+}
+
+/// 65,536 files are read, and one more is too large, whatever its line says of it.
+#[test]
+fn most_files(rt: HostRuntime) -> Result<(), Fail> {
+    let mut text = Vec::new(rt.alloc());
+    text.extend_from_slice(b"haboob-snapshot 1\n")?;
+    for n in 0..65_536u32 {
+        text.extend_from_slice(b"file 0 5 0\n")?;
+        text.extend_from_slice(format!(in rt.alloc(); "{n:05}")?.as_bytes())?;
+        text.extend_from_slice(b"\n\n")?;
+    }
+    let mut whole = text.clone()?;
+    whole.extend_from_slice(b"end 65536\n")?;
+    assert_eq!(rt; fault_of(rt.alloc(), &whole), None);
+    text.extend_from_slice(b"file 0 0 0\n")?;
+    assert_eq!(rt; fault_of(rt.alloc(), &text), fault(65_537, Kind::TooLarge));
+    Ok(())
+}
