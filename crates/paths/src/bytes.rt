@@ -40,7 +40,7 @@ impl Bytes {
 }
 
 /// Whether these bytes are UTF-8.
-pub fn is_text(bytes: &[u8]) -> bool
+pub(crate) fn is_text(bytes: &[u8]) -> bool
     ensures { result ≡ is_utf8 bytes.now }
 {
     match std::str::from_utf8(bytes) {

@@ -51,7 +51,10 @@ fn is_part(part: &[u8]) -> bool
 }
 
 /// Reads the first line.
-pub fn read_header<R: Read>(input: &mut Input<R>, left: &mut usize) -> Result<(), SnapshotFaultKind>
+pub(crate) fn read_header<R: Read>(
+    input: &mut Input<R>,
+    left: &mut usize,
+) -> Result<(), SnapshotFaultKind>
     requires { input.old.1 < 2 ^ 64 - 1 }
     ensures line { Gives is_unforeseen_kind header_at input.old.0 left.old input.new.0 left.new result }
     ensures count { CountsKind input.old.1 input.new.1 result }
@@ -176,7 +179,7 @@ fn read_announced<R: Read>(
 }
 
 /// Reads the entry behind the files of the snapshot: a file, or `None` for the last line.
-pub fn read_entry<R: Read>(
+pub(crate) fn read_entry<R: Read>(
     alloc: Global,
     input: &mut Input<R>,
     left: &mut usize,

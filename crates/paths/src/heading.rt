@@ -6,7 +6,7 @@ use crate::file::{FileLine, Heading};
 use crate::numbers::{number, three_numbers};
 
 /// What a line of a snapshot announces.
-pub fn read_heading(line: &[u8]) -> Result<Heading, SnapshotFaultKind>
+pub(crate) fn read_heading(line: &[u8]) -> Result<Heading, SnapshotFaultKind>
     ensures { result ≡ heading_of line.now }
 {
     if let Some(fields) = line.strip_prefix(b"file ") {

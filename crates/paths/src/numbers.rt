@@ -43,7 +43,7 @@ fn number_and_rest(text: &[u8]) -> Option<(u64, &[u8])>
 }
 
 /// The numbers of three decimals that are parted by single spaces.
-pub fn three_numbers(text: &[u8]) -> Option<(u64, u64, u64)>
+pub(crate) fn three_numbers(text: &[u8]) -> Option<(u64, u64, u64)>
     ensures { result ≡ three_numbers text.now }
 {
     let (first, rest) = number_and_rest(text)?;

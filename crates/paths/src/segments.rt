@@ -19,7 +19,7 @@ impl Model for Segments {
 }
 
 impl Segments {
-    pub fn new(alloc: Global) -> Segments
+    pub(crate) fn new(alloc: Global) -> Segments
         ensures { result ≡ [] }
     {
         Segments {
@@ -33,14 +33,14 @@ impl Segments {
         &self.segments
     }
 
-    pub fn is_empty(&self) -> bool
+    pub(crate) fn is_empty(&self) -> bool
         ensures { result ≡ (length self.now == 0) }
     {
         self.segments.is_empty()
     }
 
     /// Adds a segment behind the others.
-    pub fn push(&mut self, segment: Bytes) -> Result<(), AllocError>
+    pub(crate) fn push(&mut self, segment: Bytes) -> Result<(), AllocError>
         ensures ok { OnOk result (self.new ≡ self.old ++ segment ∷ []) }
         ensures err { OnErr result (self.new ≡ self.old) }
     {
@@ -49,7 +49,7 @@ impl Segments {
     }
 
     /// Takes the last segment away.
-    pub fn drop_last(&mut self)
+    pub(crate) fn drop_last(&mut self)
         ensures { self.new ≡ take (length self.old - 1) self.old }
     {
         let _ = self.segments.pop();

@@ -39,7 +39,7 @@ impl Model for Snapshot {
 
 impl Snapshot {
     /// A snapshot without files.
-    pub fn new(alloc: Global) -> Snapshot
+    pub(crate) fn new(alloc: Global) -> Snapshot
         ensures { result ≡ [] }
     {
         Snapshot {
@@ -48,7 +48,7 @@ impl Snapshot {
     }
 
     /// Adds a file behind the others.
-    pub fn push(&mut self, file: File) -> Result<(), AllocError>
+    pub(crate) fn push(&mut self, file: File) -> Result<(), AllocError>
         requires { Follows self.old file }
         ensures ok { OnOk result (self.new ≡ self.old ++ file ∷ []) }
         ensures err { OnErr result (self.new ≡ self.old) }
@@ -102,7 +102,7 @@ impl Snapshot {
     }
 
     /// The number of the file of a name.
-    pub fn position(&self, name: &[u8]) -> Option<usize>
+    pub(crate) fn position(&self, name: &[u8]) -> Option<usize>
         ensures { result ≡ position_of self.now name.now }
     {
         match self.search(name) {
@@ -112,7 +112,7 @@ impl Snapshot {
     }
 
     /// Whether some file lies in the folder whose name and a slash are given.
-    pub fn has_folder(&self, name: &[u8]) -> bool
+    pub(crate) fn has_folder(&self, name: &[u8]) -> bool
         ensures { (folder : List ℕ) → name.now ≡ folder ++ slash ∷ [] → result ≡ has_folder self.now folder }
     {
         match self.search(name) {
@@ -122,7 +122,7 @@ impl Snapshot {
     }
 
     /// Whether each name comes before this one.
-    pub fn precedes(&self, name: &[u8]) -> bool
+    pub(crate) fn precedes(&self, name: &[u8]) -> bool
         ensures { result ≡ list_all (λ f. comes_before f.name name.now) self.now }
     {
         let count = self.len();
@@ -130,7 +130,7 @@ impl Snapshot {
     }
 
     /// Whether a file has the name of a folder in which this name lies.
-    pub fn has_file_above(&self, name: &[u8]) -> bool
+    pub(crate) fn has_file_above(&self, name: &[u8]) -> bool
         ensures { result ≡ list_any (λ f. lies_in f.name name.now) self.now }
     {
         for (at, byte) in name.iter().enumerate() {

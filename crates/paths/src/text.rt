@@ -24,7 +24,7 @@ impl Model for Line {
 }
 
 impl Line {
-    pub fn new() -> Line
+    pub(crate) fn new() -> Line
         ensures { result ≡ [] }
     {
         Line {
