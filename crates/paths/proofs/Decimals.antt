@@ -1,13 +1,13 @@
 -- Reading a decimal digit by digit, in 64 bits.
-use Rattle.std.proofs.Common.{◌≡◌, ℕ, ◌+◌, ◌-◌, ◌*◌, ◌^◌, ◌<◌, ◌≤◌, ◌==◌, ◌&&◌, not, cond, min, Bool, true, false, List, [], ◌∷◌, length, drop, get_or, Option, Some, None, ◌⊎◌, inl, inr, refl, sym, ap, ◌∙◌, arith}
+use Rattle.std.proofs.Common.{◌≡◌, ℕ, ◌+◌, ◌-◌, ◌*◌, ◌^◌, ◌<◌, ◌≤◌, ◌==◌, ◌&&◌, not, cond, min, Bool, true, false, List, [], ◌∷◌, length, drop, get_or, Some, None, ◌⊎◌, inl, inr, refl, sym, ap, ◌∙◌, arith}
 use Rattle.std.proofs.lemmas.Bool.{ne_eqb}
 use Rattle.std.proofs.lemmas.Bool.Decides.{nat_tests}
 use Rattle.std.proofs.lemmas.List.{drop_all}
 use Rattle.std.proofs.lemmas.Grind.{common_steps}
 use Rattle.std.specs.Char.{is_ascii_digit, digit_value}
 use Rattle.std.specs.Str.{all_ascii_digits}
-use Rattle.std.specs.Str.Parse.{digits_value_after, digits_value}
-use Rattle.paths.specs.Numbers.{is_decimal, number_of}
+use Rattle.std.specs.Str.Parse.{digits_value_after}
+use Rattle.paths.specs.Numbers.{number_of}
 
 -- the number of the digits that follow those of n, kept within 64 bits at each step
 abbrev pub capped : ℕ → List ℕ → ℕ

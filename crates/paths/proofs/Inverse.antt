@@ -1,31 +1,30 @@
 -- What stands in a text of which a part was read.
-use Rattle.std.proofs.Common.{◌≡◌, ◌≢◌, ℕ, zero, suc, ◌+◌, ◌-◌, ◌^◌, ◌<◌, ◌≤◌, ◌==◌, ◌&&◌, ◌||◌, ◌⊎◌, inl, inr, not, cond, nat_lt, nat_le, min, Bool, true, false, List, [], ◌∷◌, ◌++◌, length, take, drop, get_or, Option, Some, None, Result, Ok, Err, refl, sym, ap, ◌∙◌, subst, arith, codes, decimal, nat_eq, bytes_eq}
+use Rattle.std.proofs.Common.{◌≡◌, ◌≢◌, ℕ, ◌+◌, ◌-◌, ◌^◌, ◌<◌, ◌≤◌, ◌==◌, ◌&&◌, ◌||◌, ◌⊎◌, inl, inr, not, cond, nat_lt, nat_le, min, Bool, true, false, List, [], ◌∷◌, ◌++◌, length, take, drop, get_or, Option, Some, None, Result, Ok, Err, refl, sym, ap, ◌∙◌, subst, arith, codes, decimal, nat_eq, bytes_eq}
 use mathlib.Core.Bool.{true≢false}
-use Rattle.std.specs.List.{position_or_len, before_first, position, starts_with, list_all, list_any, prefix_len}
+use Rattle.std.specs.List.{position_or_len, position, starts_with, list_all, list_any}
 use Rattle.std.specs.Str.{all_ascii_digits}
 use Rattle.std.specs.Str.Parse.{digits_value}
 use Rattle.std.specs.Cmp.Lexicographic.{same_text}
-use Rattle.std.proofs.lemmas.Bool.{cases_lt, ne_eqb, eqb-false}
+use Rattle.std.proofs.lemmas.Bool.{eqb-false}
 use Rattle.std.proofs.lemmas.Bool.Decides.{nat_tests, Decides-eqb}
 use Rattle.std.proofs.lemmas.Option.{cond_some}
 use Rattle.paths.proofs.Taking.{byte_inverse}
 use Rattle.std.proofs.lemmas.Fmt.{decimal-digits_value}
 use Rattle.std.proofs.lemmas.Str.Parse.{IsNumeralModel, numerals_by_value, tells_all_ascii_digits}
-use Rattle.std.proofs.lemmas.List.{append_assoc, take_at, drop_at, length-take, length-append, take-take, take-append-drop, drop_more, get_or-take}
+use Rattle.std.proofs.lemmas.List.{append_assoc, length-take, length-append, take-take, take-append-drop, drop_more, get_or-take}
 use Rattle.std.proofs.lemmas.List.Sums.{passes_at_first, prefix_len-le-length}
 use Rattle.std.proofs.lemmas.Slice.Eq.{starts_is}
 use Rattle.paths.specs.declared.stop.Stop.{Stop}
 use Rattle.paths.specs.declared.file.File.{File}
 use Rattle.paths.specs.declared.file.FileLine.{FileLine}
-use Rattle.paths.specs.declared.file.Heading.{Heading}
 use Rattle.paths.specs.declared.file.Heading.TheVariants as headings
 use Rattle.paths.specs.declared.snapshot_fault.SnapshotFaultKind.{SnapshotFaultKind}
 use Rattle.paths.specs.declared.snapshot_fault.SnapshotFaultKind.TheVariants.{Name, Order, Conflict, Number, TooLarge}
 use Rattle.paths.specs.Numbers.{is_decimal, number_of, number_and_rest, three_numbers}
 use Rattle.paths.specs.Numbers.{◌>>=◌ as ◌>?=◌}
-use Rattle.paths.specs.Texts.{Ahead, byte_at, line_at, run_at, line_front, front, past, ended}
-use Rattle.paths.specs.Snapshots.{feed, file_line, file_text, first_line, last_line, latest_time, most_bytes, longest_name, most_files, is_name, comes_before, lies_in}
-use Rattle.paths.specs.SnapshotFaults.{kind_of, header_kind_of, named, ◌>>=◌, header_at, file_heading, end_heading, heading_of, name_at, body_at, file_at, announced, entry_at}
+use Rattle.paths.specs.Texts.{Ahead, byte_at, line_at, run_at, line_front, front, past}
+use Rattle.paths.specs.Snapshots.{feed, first_line, latest_time, most_bytes, longest_name, most_files, is_name, comes_before, lies_in}
+use Rattle.paths.specs.SnapshotFaults.{kind_of, header_kind_of, named, ◌>>=◌, header_at, file_heading, end_heading, heading_of, name_at, body_at, file_at}
 
 -- these bytes were taken from what was ahead
 pub record TakesAhead (a : Ahead) (taken : List ℕ) (b : Ahead) : Type 0 where

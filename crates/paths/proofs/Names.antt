@@ -1,19 +1,19 @@
 -- The order of names, and what a search among names that rise finds.
-use Rattle.std.proofs.Common.{◌≡◌, ◌≢◌, ℕ, ◌+◌, ◌-◌, ◌<◌, ◌≤◌, ◌⊎◌, inl, inr, Bool, true, false, List, [], ◌∷◌, ◌++◌, length, take, drop, get_or, Option, Some, None, Result, Ok, Err, All, refl, sym, ap, ◌∙◌, subst, cond, is_ok, nat_eq, nat_lt, arith, bytes_eq}
+use Rattle.std.proofs.Common.{◌≡◌, ◌≢◌, ℕ, ◌+◌, ◌-◌, ◌<◌, ◌≤◌, inl, inr, Bool, true, false, List, [], ◌∷◌, ◌++◌, length, take, drop, get_or, Some, None, Result, Ok, Err, refl, sym, ap, ◌∙◌, subst, nat_eq, arith, bytes_eq}
 use mathlib.Core.Bool.{true≢false}
-use Rattle.std.specs.List.{list_all, list_any, AllPairs, AllPass, Any, starts_with, position, position_or_len}
+use Rattle.std.specs.List.{list_all, list_any, AllPairs, starts_with, position_or_len}
 use Rattle.std.specs.List.Sorted.{IsSearchInRange, IsBinarySearchResult, IsNonDecreasingBy}
 use Rattle.std.specs.Ordering.{nat_cmp, ordering_index, is_lt, ordering_reverse}
 use Rattle.std.specs.declared.cmp.Ordering.{Ordering}
 use Rattle.std.specs.declared.cmp.Ordering.TheVariants.{Less, Equal, Greater}
 use Rattle.std.specs.Cmp.Lexicographic.{slice_cmp, same_text}
 use Rattle.std.specs.FinMap.{slice_cmp-IsAntisymmetric, nat_cmp-IsAntisymmetric}
-use Rattle.std.specs.Bool.{Decides, one_answer}
+use Rattle.std.specs.Bool.{one_answer}
 use Rattle.std.proofs.lemmas.Bool.{cases_lt}
 use Rattle.std.proofs.lemmas.Bool.Decides.{nat_tests, Decides-eqb}
 use Rattle.std.proofs.lemmas.Cmp.{nat_list_cmp_total}
 use Rattle.std.proofs.lemmas.List.Sorted.{IsNonDecreasingBy-from_default}
-use Rattle.std.proofs.lemmas.List.Sums.{position_or_len_is, list_all-from_AllPass, AllPass-from_list_all}
+use Rattle.std.proofs.lemmas.List.Sums.{position_or_len_is, list_all-from_AllPass}
 use Rattle.std.proofs.lemmas.List.Folds.{list_any_at, list_any_none, list_all_at, Any-from_list_any}
 use Rattle.std.proofs.lemmas.List.{get_or_default, append-nil, append_assoc, take_at, take-append-drop, drop_more, length-append, get_or_at}
 use Rattle.std.proofs.lemmas.Slice.Eq.{starts_is, bytes_eq-Decides}

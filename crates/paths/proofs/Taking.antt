@@ -1,15 +1,14 @@
 -- What one read after another takes of a text.
-use Rattle.std.proofs.Common.{◌≡◌, ◌≢◌, ℕ, suc, ◌+◌, ◌-◌, ◌<◌, ◌≤◌, ◌==◌, not, cond, nat_lt, nat_le, min, Bool, true, false, List, [], ◌∷◌, ◌++◌, length, take, drop, Option, Some, None, Result, Ok, Err, refl, sym, ap, ◌∙◌, arith, zero, is_some, unwrap_or, eq-eqb, slice_index}
+use Rattle.std.proofs.Common.{◌≡◌, ℕ, suc, ◌+◌, ◌-◌, ◌<◌, ◌≤◌, ◌==◌, not, cond, nat_lt, Bool, true, false, List, [], ◌∷◌, ◌++◌, length, take, drop, Option, Result, Ok, Err, refl, sym, ap, ◌∙◌, arith, zero, is_some, unwrap_or, eq-eqb, slice_index}
 use Rattle.std.proofs.lemmas.List.{append_assoc, take_at, drop_at, length-take, length-append, take-take, append-nil, take_all, take-append-le}
 use Rattle.std.proofs.Math.Seq.{take-append-add}
 use Rattle.std.proofs.lemmas.Bool.Decides.{nat_tests}
-use native.Mathlib.Numerals.{unary_clauses}
 use Rattle.std.specs.List.{prefix_len, before_first}
 use Rattle.std.proofs.lemmas.List.Folds.{prefix_len-append}
 use Rattle.paths.specs.declared.stop.Stop.{Stop}
-use Rattle.paths.specs.declared.stop.Stop.TheVariants.{TooLong, Cut, TooLarge, Read, Memory}
+use Rattle.paths.specs.declared.stop.Stop.TheVariants.{TooLong, Cut, TooLarge}
 use borrow.Rule.Slice.PartMut.{put_mid, post_of}
-use Rattle.paths.specs.Texts.{is_unforeseen, Ahead, ahead_of, byte_at, line_at, run_at, line_front, front, past, ended}
+use Rattle.paths.specs.Texts.{is_unforeseen, Ahead, ahead_of, byte_at, line_at, line_front, front, past, ended}
 
 -- so many bytes of the text were taken, and where the bytes of the input are known, just these
 pub record Takes (old : Option (List ℕ)) (left : ℕ) (new : Option (List ℕ)) (new_left : ℕ) (taken : List ℕ) : Type 0 where

@@ -1,10 +1,9 @@
 -- What a request is answered with, by what it asks for and the names of the files.
-use Rattle.std.specs.Prelude.{◌≡◌, ℕ, ◌/◌, ◌%◌, ◌≤◌, ◌==◌, ◌&&◌, ◌||◌, Bool, true, false, List, [], ◌∷◌, ◌++◌, map, Option, Some, None, codes, flat_map, nat_le, if◌then◌else◌}
+use Rattle.std.specs.Prelude.{ℕ, ◌==◌, ◌||◌, Bool, true, false, List, [], ◌∷◌, ◌++◌, Option, Some, None, codes, flat_map, if◌then◌else◌}
 use Rattle.std.specs.List.{join_with_byte}
 use Rattle.std.specs.Char.{is_ascii_alphanumeric}
 use Rattle.percent_encoding.specs.Percent.{percent_encode_byte}
 use Rattle.paths.specs.Snapshots.{slash, position_of, has_folder}
-use Rattle.paths.specs.Targets.{asked}
 use Rattle.paths.specs.declared.file.File.{File}
 use Rattle.paths.specs.declared.asked.Asked.{Asked}
 use Rattle.paths.specs.declared.asked.Asked.TheVariants as askeds

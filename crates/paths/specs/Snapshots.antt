@@ -1,5 +1,5 @@
 -- The text of a snapshot of a file tree.
-use Rattle.std.specs.Prelude.{◌≡◌, ℕ, ◌+◌, ◌<◌, ◌≤◌, ◌==◌, ◌&&◌, not, Bool, true, false, List, [], ◌∷◌, ◌++◌, length, All, codes, decimal, bytes_eq, nat_eq, slice_index_or, flat_map, Option, Result, MatchResult}
+use Rattle.std.specs.Prelude.{◌≡◌, ℕ, ◌<◌, ◌≤◌, ◌==◌, ◌&&◌, not, Bool, true, false, List, [], ◌∷◌, ◌++◌, length, All, codes, decimal, bytes_eq, nat_eq, slice_index_or, flat_map, Option, Result, MatchResult}
 use Rattle.std.specs.List.{list_all, list_any, starts_with, slice_split, AllPairs, position}
 use Rattle.std.specs.Str.{is_utf8}
 use Rattle.std.specs.Ordering.{is_lt, nat_cmp}

@@ -1,5 +1,5 @@
 -- Texts of limited size, read part by part: a byte, a line, a run of bytes whose number is known.
-use Rattle.std.specs.Prelude.{◌≡◌, ℕ, ◌+◌, ◌-◌, ◌==◌, ◌<◌, ◌≤◌, ◌++◌, Bool, true, false, List, [], ◌∷◌, take, drop, length, Option, Some, None, Result, Ok, Err, MatchResult, nat_lt, nat_le, if◌then◌else◌, unwrap_or, is_some, slice_index}
+use Rattle.std.specs.Prelude.{◌≡◌, ℕ, ◌+◌, ◌-◌, ◌==◌, ◌<◌, ◌≤◌, ◌++◌, Bool, true, false, List, [], take, drop, length, Option, Result, Ok, Err, MatchResult, nat_lt, nat_le, if◌then◌else◌, unwrap_or, is_some, slice_index}
 use Rattle.std.specs.List.{before_first}
 use Rattle.paths.specs.declared.stop.Stop.{Stop}
 use Rattle.paths.specs.declared.stop.Stop.TheVariants.{TooLong, Cut, TooLarge, Read, Memory}

@@ -1,4 +1,4 @@
-use Rattle.std.proofs.Common.{◌==◌, rules, refl}
+use Rattle.std.proofs.Common.{◌==◌, rules}
 use borrow.Author.Tests.{tests}
 use Rattle.std.proofs.lemmas.Iterator.Search.{all_from_yields_List}
 use Rattle.std.proofs.lemmas.Iterator.Splits.{YieldsList-from_slice_split}

@@ -1,4 +1,4 @@
-use Rattle.std.proofs.Common.{◌≡◌, ℕ, List, true, [], length, map}
+use Rattle.std.proofs.Common.{◌≡◌, true, [], length, map}
 use Rattle.std.specs.Option.{option_map}
 use Rattle.percent_encoding.specs.Percent.{percent_decode}
 use Rattle.paths.specs.Targets.{walked, segments_of, parts_of}

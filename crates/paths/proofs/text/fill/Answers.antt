@@ -1,4 +1,4 @@
-use Rattle.std.proofs.Common.{arith, length, ◌≤◌, ◌≡◌, ◌∙◌, rules}
+use Rattle.std.proofs.Common.{◌∙◌, rules}
 use Rattle.std.proofs.lemmas.List.{places}
 use Rattle.paths.proofs.Taking.{takes_part}
 use Rattle.paths.proofs.text.fill.Goals as goal

@@ -1,7 +1,7 @@
-use Rattle.std.proofs.Common.{arith, length, ◌≤◌, ◌≡◌, ◌∙◌}
+use Rattle.std.proofs.Common.{arith, ◌∙◌}
 use Rattle.std.proofs.lemmas.Bool.{ne_eqb}
 use Rattle.std.proofs.lemmas.List.{length_push}
-use Rattle.paths.proofs.Taking.{TakesLine, line_ok, line_err, line_more, line_too_long}
+use Rattle.paths.proofs.Taking.{line_ok, line_err, line_more, line_too_long}
 use Rattle.paths.proofs.text.read_line.Goals as goal
 
 pub returns-in-Ok-eq10-clause-line : goal.returns-in-Ok-eq10-clause-line

@@ -1,6 +1,5 @@
-use Rattle.std.proofs.Common.{◌≡◌, ℕ, ◌<◌, length, take, get_or, inl, inr, sym, ap, subst, ◌∙◌, arith}
+use Rattle.std.proofs.Common.{◌≡◌, ℕ, take, inl, inr, sym, subst, arith}
 use Rattle.std.proofs.lemmas.Bool.{cases_lt}
-use Rattle.paths.specs.Snapshots.{slash}
 use Rattle.paths.proofs.Names.{HasNoFile, above_found, above_none, no_file_at}
 use Rattle.paths.proofs.snapshot.Snapshot.has_file_above.Goals as goal
 

@@ -1,6 +1,6 @@
-use Rattle.std.proofs.Common.{◌≡◌, ◌≤◌, ◌<◌, length, false, Bool, nat_lt, sym, ◌∙◌, ap, subst, arith}
+use Rattle.std.proofs.Common.{◌≡◌, ◌≤◌, length, false, nat_lt, sym, ◌∙◌, arith}
 use Rattle.std.proofs.lemmas.Bool.Decides.{nat_tests}
-use Rattle.paths.proofs.Names.{AreRising, folder_named, folder_tested, folder_missing}
+use Rattle.paths.proofs.Names.{folder_named, folder_tested, folder_missing}
 use Rattle.paths.proofs.snapshot.Snapshot.has_folder.Goals as goal
 
 pub returns-in-Ok : goal.returns-in-Ok

@@ -1,4 +1,4 @@
-use Rattle.std.proofs.Common.{◌≡◌, ◌-◌, length, List, ℕ, is_lt, nat_cmp, arith, ap, ◌∙◌, sym}
+use Rattle.std.proofs.Common.{◌-◌, is_lt, nat_cmp, arith, ap, ◌∙◌}
 use Rattle.std.specs.Cmp.Lexicographic.{slice_cmp}
 use Rattle.paths.specs.Snapshots.{file_of}
 use Rattle.paths.proofs.Names.{order_by_last}
