@@ -39,6 +39,35 @@ impl<'a> Read for Flaky<'a> {
     }
 }
 
+/// A reader over memory that fails at its first read alone.
+#[derive(Drop)]
+pub struct Stumbling<'a> {
+    bytes: &'a [u8],
+    stumbled: bool,
+}
+
+impl<'a> Stumbling<'a> {
+    pub fn new(bytes: &'a [u8]) -> Stumbling<'a> {
+        Stumbling {
+            bytes,
+            stumbled: false,
+        }
+    }
+}
+
+impl<'a> Read for Stumbling<'a> {
+    fn read(&mut self, room: &mut [u8]) -> io::Result<usize> {
+        if !self.stumbled {
+            self.stumbled = true;
+            return Err(io::Error::other("interrupted"));
+        }
+        let count = room.len().min(self.bytes.len());
+        room[..count].copy_from_slice(&self.bytes[..count]);
+        self.bytes = &self.bytes[count..];
+        Ok(count)
+    }
+}
+
 /// The fault of a whole text.
 pub fn fault_of(alloc: Global, text: &[u8]) -> Option<SnapshotFault> {
     let mut input = Input::new(text);

@@ -1,5 +1,5 @@
 //! One call is one read or one write.
-use crate::tests::Flaky;
+use crate::tests::{Flaky, Stumbling};
 use crate::{Failed, Input, Output};
 use std::io;
 use std::io::Write;
@@ -33,6 +33,17 @@ fn reads_are_counted(rt: HostRuntime) -> Result<(), Fail> {
     assert_eq!(rt; input.read_byte(), Err(Failed));
     assert_eq!(rt; input.failures(), 2);
     Ok(())
+}
+
+/// A read that failed is not tried again in the same call.
+#[test]
+fn no_failure_is_tried_again(rt: HostRuntime) {
+    let mut input = Input::new(Stumbling::new(b"ab"));
+    let mut room = [0; 2];
+    assert_eq!(rt; input.read_some(&mut room), Err(Failed));
+    assert_eq!(rt; input.failures(), 1);
+    assert_eq!(rt; input.read_some(&mut room), Ok(2));
+    assert_eq!(rt; input.failures(), 1);
 }
 
 #[test]
