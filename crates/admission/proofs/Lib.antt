@@ -1,0 +1,15 @@
+pub mod ControlLemmas
+pub mod CreditLemmas
+pub mod LawLemmas
+pub mod NewLemmas
+pub mod OfferLemmas
+pub mod PassLemmas
+pub mod RateLemmas
+pub mod RequestLemmas
+pub mod SortLemmas
+pub mod StandLemmas
+pub mod TallyLemmas
+pub mod WalkLemmas
+pub mod WindowLemmas
+pub mod SoundLemmas
+pub mod UntilLemmas

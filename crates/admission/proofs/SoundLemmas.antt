@@ -1,0 +1,118 @@
+-- What each controller keeps stays so at an offer.
+use Rattle.std.proofs.Common.{◌≡◌, ℕ, zero, suc, ◌+◌, ◌%◌, ◌<◌, ◌≤◌, max, List, [], ◌∷◌, ◌++◌, length, drop, Bool, true, false, refl, sym, ◌∙◌, arith, nat_eq, if◌then◌else◌, length-append}
+use Rattle.std.proofs.lemmas.List.Sums.{prefix_len-le-length}
+use Rattle.std.proofs.lemmas.List.{length-drop}
+use Rattle.std.specs.Prelude.{nat_le}
+use Rattle.token_bucket.specs.declared.TheConstants.{MAX_TICK}
+use Rattle.token_bucket.specs.Standing as bucket
+use Rattle.admission.specs.declared.TheConstants.{MAX_OFFERS, MAX_SERVICE}
+use Rattle.admission.specs.declared.control.Control.{Control}
+use Rattle.admission.specs.Window.{Window}
+use Rattle.admission.specs.Standing.{Standing, RiseWithin, AllRates, IsSound}
+use Rattle.admission.specs.Running.{passed, next_control}
+
+-- ---- the rates and the instants of the controls
+
+pub rates_drop : (n : ℕ) (controls : List Control) → AllRates controls → AllRates (drop n controls)
+unfolding AllRates
+rates_drop zero controls rates = rates
+rates_drop (suc n) [] rates = tt
+rates_drop (suc n) (control ∷ controls) rates = rates_drop n controls rates.2
+
+rise_widen : (lo hi higher : ℕ) (controls : List Control) → RiseWithin lo hi controls → hi ≤ higher → RiseWithin lo higher controls
+unfolding RiseWithin
+rise_widen lo hi higher [] rise above = tt
+rise_widen lo hi higher (control ∷ controls) rise above =
+    (rise.0, omega (arith, rise.1), rise_widen control.instant hi higher controls rise.2 above)
+
+rise_push : (lo hi : ℕ) (controls : List Control) (control : Control) → RiseWithin lo hi controls → hi ≤ control.instant
+    → lo ≤ control.instant → RiseWithin lo control.instant (controls ++ control ∷ [])
+unfolding RiseWithin
+rise_push lo hi [] control rise above low = (low, omega arith, tt)
+rise_push lo hi (first ∷ controls) control rise above low =
+    (rise.0, omega (arith, rise.1), rise_push first.instant hi controls control rise.2 above (omega (arith, rise.1)))
+
+drop_push : (n : ℕ) (controls : List Control) (control : Control) → n ≤ length controls
+    → drop n (controls ++ control ∷ []) ≡ drop n controls ++ control ∷ []
+drop_push zero controls control within = refl
+drop_push (suc n) [] control within = absurd (omega arith)
+drop_push (suc n) (first ∷ controls) control within = drop_push n controls control (omega arith)
+
+-- where a control may be due
+rise_due : (due : Bool) (lo hi n : ℕ) (controls : List Control) (control : Control) → RiseWithin lo hi (drop n controls)
+    → hi ≤ control.instant → lo ≤ control.instant → n ≤ length controls
+    → RiseWithin lo control.instant (drop n (if due then (controls ++ control ∷ []) else controls))
+rise_due true lo hi n controls control rise above low within =
+    rw (drop_push n controls control within) (rise_push lo hi (drop n controls) control rise above low)
+rise_due false lo hi n controls control rise above low within = rise_widen lo hi control.instant (drop n controls) rise above
+
+length_due : (due : Bool) (controls : List Control) (control : Control)
+    → length controls ≤ length (if due then (controls ++ control ∷ []) else controls)
+length_due true controls control = omega (arith, length-append controls (control ∷ []))
+length_due false controls control = omega arith
+
+length_due_most : (due : Bool) (controls : List Control) (control : Control)
+    → length (if due then (controls ++ control ∷ []) else controls) ≤ length controls + 1
+length_due_most true controls control = omega (arith, length-append controls (control ∷ []))
+length_due_most false controls control = omega arith
+
+-- ---- an admitted offer
+
+pub sound_admitted : (c : Standing) (b : bucket.Standing) (reached tick service : ℕ) (window : Window) (controls : List Control) (own : ℕ)
+    → IsSound c → b.tick ≡ tick → tick ≤ MAX_TICK → service ≤ MAX_SERVICE → c.offers < MAX_OFFERS
+    → reached ≤ length c.controls → RiseWithin b.tick c.free (drop reached c.controls)
+    → window.size ≡ c.window.size
+    → controls ≡ (if nat_eq ((c.admitted + 1) % c.rules.every) 0
+    then (c.controls ++ next_control c.rules c.controls (max c.free tick + service) own ∷ []) else c.controls)
+    → AllRates controls
+    → IsSound (record {
+      rules = c.rules;
+      bucket = b;
+      offers = c.offers + 1;
+      admitted = c.admitted + 1;
+      free = max c.free tick + service;
+      window = window;
+      controls = controls;
+      reached = reached;
+    })
+sound_admitted c b reached tick service window controls own sound at within short room few rise size is rates = record {
+  offers = omega arith;
+  admitted = omega (arith, sound.admitted);
+  free = omega (arith, sound.free);
+  clock = omega arith;
+  every = sound.every;
+  size = size ∙ sound.size;
+  made = rw is (omega (
+    arith,
+    sound.made,
+    length_due_most (nat_eq ((c.admitted + 1) % c.rules.every) 0) c.controls
+        (next_control c.rules c.controls (max c.free tick + service) own),
+  ));
+  reached = rw is (omega (
+    arith,
+    length_due (nat_eq ((c.admitted + 1) % c.rules.every) 0) c.controls
+        (next_control c.rules c.controls (max c.free tick + service) own),
+  ));
+  rising = rw is (rise_due (nat_eq ((c.admitted + 1) % c.rules.every) 0) b.tick c.free reached c.controls
+      (next_control c.rules c.controls (max c.free tick + service) own) rise (omega arith) (omega arith) few);
+  rates = rates;
+}
+
+-- ---- the controls that a bucket passes
+
+pub passed-le : (pending : List Control) (tick : ℕ) → passed pending tick ≤ length pending
+passed-le pending tick = prefix_len-le-length (λ (c : Control). nat_le c.instant tick) pending
+
+pub reached-le : (controls : List Control) (reached tick : ℕ) → reached ≤ length controls
+    → reached + passed (drop reached controls) tick ≤ length controls
+reached-le controls reached tick within =
+    omega (arith, passed-le (drop reached controls) tick, length-drop reached controls)
+
+drop_nil : (n : ℕ) → drop n (let none : List Control = [] in none) ≡ []
+drop_nil zero = refl
+drop_nil (suc n) = refl
+
+pub drop_more : (n m : ℕ) (controls : List Control) → drop (n + m) controls ≡ drop m (drop n controls)
+drop_more zero m controls = let none : 0 + m ≡ m = omega arith in rw none refl
+drop_more (suc n) m [] = drop_nil (suc n + m) ∙ sym (drop_nil m)
+drop_more (suc n) m (control ∷ controls) = let more : suc n + m ≡ suc (n + m) = omega arith in rw more (drop_more n m controls)

@@ -1,0 +1,211 @@
+-- A bucket that passes the controls that time reaches keeps the credit and the rate of the requests so far.
+use Rattle.std.proofs.Common.{◌≡◌, ℕ, zero, suc, ◌+◌, ◌-◌, ◌*◌, ◌/◌, ◌<◌, ◌≤◌, min, List, [], ◌∷◌, length, drop, map, sym, ◌∙◌, ap, arith, inl, inr}
+use Rattle.std.specs.Prelude.{slice_index, nat_le}
+use Rattle.std.specs.List.{range_with_len}
+use Rattle.std.proofs.lemmas.Bool.{cases_lt, lt-leb}
+use Rattle.std.proofs.lemmas.List.Sums.{count_by-le-length}
+use Rattle.token_bucket.specs.declared.TheConstants.{TOKEN}
+use Rattle.token_bucket.specs.Accrual.{accrual}
+use Rattle.token_bucket.specs.Calls.{Advance, SetRate}
+use Rattle.token_bucket.specs.Running.{after}
+use Rattle.token_bucket.specs.Standing as bucket
+use Rattle.token_bucket.proofs.AccrualLemmas.{accrual-constant}
+use Rattle.admission.specs.declared.control.Control.{Control}
+use Rattle.admission.specs.Rules.{Rules}
+use Rattle.admission.specs.Requests.{Decided, Served, served, samples, finishes, done}
+use Rattle.admission.specs.Controls.{rate_after, rate_at, control_at, controls_of}
+use Rattle.admission.specs.Decisions.{credit}
+use Rattle.admission.specs.Standing.{RiseWithin}
+use Rattle.admission.specs.Running.{passing, passed}
+use Rattle.admission.specs.Fits.{IsRising, Stands}
+use Rattle.admission.proofs.CreditLemmas.{least_balance-le, least_balance-later, covered-later}
+use Rattle.admission.proofs.ControlLemmas.{fits_quotient, quotient_fits, quotient_below, length-finishes}
+use Rattle.admission.proofs.RequestLemmas.{upto-mono, upto-before, upto-at, rising-at}
+use Rattle.admission.proofs.PassLemmas.{passing-none, passing-next, passing-stop, passed-next, rise_parts}
+
+-- ---- how many controls are in force
+
+-- from a tick on, before the next control's instant, no further control comes into force
+in_force_before : (rules : Rules) (requests : List Served) (hi t u j : ℕ) → 0 < rules.every → IsRising 0 hi (finishes requests)
+    → j ≡ done requests t / rules.every → t ≤ u
+    → suc j * rules.every ≤ length requests → u < slice_index (finishes requests) (suc j * rules.every - 1)
+    → done requests u / rules.every ≡ j
+in_force_before rules requests hi t u j some rising at later within before =
+    let more : done requests t ≤ done requests u = upto-mono t u (finishes requests) later in
+    let least : j * rules.every ≤ done requests t = quotient_fits j rules.every (done requests t) some (omega (arith, at)) in
+    let place : suc j * rules.every - 1 < length (finishes requests) =
+    rw (length-finishes requests) (omega arith) in
+    let most : done requests u ≤ suc j * rules.every - 1 =
+    upto-before 0 hi u (suc j * rules.every - 1) (finishes requests) rising place before in
+    let below : done requests u / rules.every < suc j = quotient_below (suc j) rules.every (done requests u) some (omega arith) in
+    let above : j ≤ done requests u / rules.every = fits_quotient j rules.every (done requests u) some (omega arith) in
+    omega arith
+
+-- where no further control was made
+in_force_last : (rules : Rules) (requests : List Served) (t u j : ℕ) → 0 < rules.every
+    → j ≡ done requests t / rules.every → t ≤ u → length requests / rules.every ≤ j
+    → done requests u / rules.every ≡ j
+in_force_last rules requests t u j some at later last =
+    let more : done requests t ≤ done requests u = upto-mono t u (finishes requests) later in
+    let least : j * rules.every ≤ done requests t = quotient_fits j rules.every (done requests t) some (omega (arith, at)) in
+    let above : j ≤ done requests u / rules.every = fits_quotient j rules.every (done requests u) some (omega arith) in
+    let all : done requests u ≤ length requests =
+    omega (arith, count_by-le-length (λ finish. nat_le finish u) (finishes requests), length-finishes requests) in
+    let fit : done requests u / rules.every * rules.every ≤ done requests u =
+    quotient_fits (done requests u / rules.every) rules.every (done requests u) some (omega arith) in
+    let below : done requests u / rules.every ≤ length requests / rules.every =
+    fits_quotient (done requests u / rules.every) rules.every (length requests) some (omega arith) in
+    omega arith
+
+-- at its instant a control comes into force
+in_force_at : (rules : Rules) (requests : List Served) (hi j : ℕ) → 0 < rules.every → IsRising 0 hi (finishes requests)
+    → suc j * rules.every ≤ length requests
+    → done requests (slice_index (finishes requests) (suc j * rules.every - 1)) / rules.every ≡ suc j
+in_force_at rules requests hi j some rising within =
+    let instant : ℕ = slice_index (finishes requests) (suc j * rules.every - 1) in
+    let place : suc j * rules.every - 1 < length (finishes requests) =
+    rw (length-finishes requests) (omega arith) in
+    let reached : suc j * rules.every - 1 < done requests instant =
+    upto-at 0 hi instant (suc j * rules.every - 1) (finishes requests) rising place (omega arith) in
+    let above : suc j ≤ done requests instant / rules.every =
+    fits_quotient (suc j) rules.every (done requests instant) some (omega arith) in
+    let most : done requests instant ≤ suc j * rules.every =
+    elim (cases_lt (suc j * rules.every) (length (finishes requests))) [
+      | inl further ↦
+          upto-before 0 hi instant (suc j * rules.every) (finishes requests) rising further
+          (rising-at 0 hi (suc j * rules.every - 1) (suc j * rules.every) (finishes requests) rising (omega arith) further)
+      | inr last ↦ omega (arith, count_by-le-length (λ finish. nat_le finish instant) (finishes requests))
+    ] in
+    let below : done requests instant / rules.every < suc (suc j) =
+    quotient_below (suc (suc j)) rules.every (done requests instant) some (omega arith) in
+    omega arith
+
+-- ---- the bucket
+
+untaken : (full x : ℕ) → min full (x - 0) ≡ min full x
+untaken full x = omega arith
+
+-- a bucket that time passes for at one rate has the credit of that tick
+credit_later : (rules : Rules) (past : List Decided) (b : bucket.Standing) (reached tick : ℕ) → Stands rules past b reached
+    → b.tick ≤ tick → ((u : ℕ) → b.tick ≤ u → u < tick → done (served past) u / rules.every ≡ reached)
+    → (after b (Advance tick)).credit ≡ credit rules past tick
+credit_later rules past b reached tick stands later same =
+    let gained : accrual (rate_at rules (served past)) b.tick tick ≡ b.rate * (tick - b.tick) =
+    accrual-constant (rate_at rules (served past)) b.rate b.tick tick
+    (λ u above below. ap (rate_after rules (samples (served past))) (same u above below) ∙ sym stands.rate) in
+    rw (
+      least_balance-later (rate_at rules (served past)) (rules.depth * TOKEN) b.tick tick past stands.covered later,
+      gained,
+      ← stands.credit,
+      stands.depth,
+    )
+    (untaken (rules.depth * TOKEN) (b.credit + b.rate * (tick - b.tick)))
+
+-- where no control is reached
+stands_stop : (rules : Rules) (past : List Decided) (b : bucket.Standing) (reached tick : ℕ) → Stands rules past b reached
+    → b.tick ≤ tick → ((u : ℕ) → b.tick ≤ u → u ≤ tick → done (served past) u / rules.every ≡ reached)
+    → Stands rules past (after b (Advance tick)) reached
+stands_stop rules past b reached tick stands later same = record {
+  depth = stands.depth;
+  rate = stands.rate;
+  credit = credit_later rules past b reached tick stands later (λ u above below. same u above (omega arith));
+  in_force = sym (same tick later (omega arith));
+  covered = covered-later (rate_at rules (served past)) (rules.depth * TOKEN) b.tick tick past stands.covered later;
+}
+
+still : (full credit rate i : ℕ) → credit ≤ full → min full (credit + rate * (i - i) - 0) ≡ credit
+still full credit rate i within = let none : i - i ≡ 0 = omega arith in rw none (omega arith)
+
+-- where the next control is reached
+stands_reach : (rules : Rules) (past : List Decided) (b : bucket.Standing) (reached instant rate : ℕ) → Stands rules past b reached
+    → b.tick ≤ instant → ((u : ℕ) → b.tick ≤ u → u < instant → done (served past) u / rules.every ≡ reached)
+    → done (served past) instant / rules.every ≡ suc reached → rate ≡ rate_after rules (samples (served past)) (suc reached)
+    → Stands rules past (after (after b (Advance instant)) (SetRate rate)) (suc reached)
+stands_reach rules past b reached instant rate stands later same next is =
+    let credit_there : (after b (Advance instant)).credit ≡ credit rules past instant =
+    credit_later rules past b reached instant stands later same in
+    let within : credit rules past instant ≤ rules.depth * TOKEN =
+    least_balance-le (rate_at rules (served past)) (rules.depth * TOKEN) instant past in
+    record {
+      depth = stands.depth;
+      rate = is;
+      credit = rw (credit_there, stands.depth) (still (rules.depth * TOKEN) (credit rules past instant) b.rate instant within);
+      in_force = sym next;
+      covered = covered-later (rate_at rules (served past)) (rules.depth * TOKEN) b.tick instant past stands.covered later;
+    }
+
+-- ---- the pending controls
+
+-- the first of the controls from place j on
+pending_first : (f : ℕ → Control) (a m j : ℕ) (control : Control) (pending : List Control)
+    → drop j (map f (range_with_len a m)) ≡ control ∷ pending
+    → (j < m) × (control ≡ f (a + j)) × (drop (suc j) (map f (range_with_len a m)) ≡ pending)
+pending_first f a zero zero control pending at = absurd (cc)
+pending_first f a zero (suc j) control pending at = absurd (cc)
+pending_first f a (suc m) zero control pending at =
+    let place : a + 0 ≡ a = omega arith in
+    (omega arith, rw place (cc), cc)
+pending_first f a (suc m) (suc j) control pending at =
+    let rest = pending_first f (a + 1) m j control pending at in
+    let place : a + suc j ≡ a + 1 + j = omega arith in
+    (omega (arith, rest.0), rw place rest.1, rest.2)
+
+pending_none : (f : ℕ → Control) (a m j : ℕ) → drop j (map f (range_with_len a m)) ≡ [] → m ≤ j
+pending_none f a zero j at = omega arith
+pending_none f a (suc m) zero at = absurd (cc)
+pending_none f a (suc m) (suc j) at = omega (arith, pending_none f (a + 1) m j at)
+
+one_more : (j : ℕ) → 1 + j ≡ suc j
+one_more j = omega arith
+
+-- a bucket that passes them stands as the requests so far leave it at the new tick
+pub stands_passing : (rules : Rules) (past : List Decided) (hi : ℕ) (pending : List Control) (b : bucket.Standing) (j tick rise : ℕ)
+    → 0 < rules.every → IsRising 0 hi (finishes (served past)) → drop j (controls_of rules (served past)) ≡ pending
+    → RiseWithin b.tick rise pending → b.tick ≤ tick → Stands rules past b j
+    → Stands rules past (passing b pending tick) (j + passed pending tick)
+stands_passing rules past hi [] b j tick rise some rising at rises later stands =
+    let last : length (served past) / rules.every ≤ j =
+    pending_none (control_at rules (served past)) 1 (length (served past) / rules.every) j at in
+    let none : j + passed [] tick ≡ j = omega arith in
+    rw (passing-none b tick, none)
+    (stands_stop rules past b j tick stands later
+    (λ u above below. in_force_last rules (served past) b.tick u j some stands.in_force above last))
+stands_passing rules past hi (control ∷ pending) b j tick rise some rising at rises later stands =
+    let first = pending_first (control_at rules (served past)) 1 (length (served past) / rules.every) j control pending at in
+    let within : suc j * rules.every ≤ length (served past) =
+    quotient_fits (suc j) rules.every (length (served past)) some (omega (arith, first.0)) in
+    let is : control ≡ control_at rules (served past) (suc j) =
+    first.1 ∙ ap (control_at rules (served past)) (one_more j) in
+    let instant : control.instant ≡ slice_index (finishes (served past)) (suc j * rules.every - 1) =
+    ap (λ (c : Control). c.instant) is in
+    let before : (u : ℕ) → b.tick ≤ u → u < control.instant → done (served past) u / rules.every ≡ j =
+    λ u above below. in_force_before rules (served past) hi b.tick u j some rising stands.in_force above within (rw (← instant) below) in
+    elim (cases_lt tick control.instant) [
+      | inl ahead ↦
+          let none : j + passed (control ∷ pending) tick ≡ j = rw (lt-leb control.instant tick ahead) (omega arith) in
+          rw (passing-stop b control pending tick ahead, none)
+          (stands_stop rules past b j tick stands later (λ u above below. before u above (omega arith)))
+      | inr reached ↦
+          let more : j + passed (control ∷ pending) tick ≡ suc j + passed pending tick =
+          rw (passed-next control pending tick reached) (omega arith) in
+          let next : done (served past) control.instant / rules.every ≡ suc j =
+          rw instant (in_force_at rules (served past) hi j some rising within) in
+          rw (passing-next b control pending tick reached, more)
+          (stands_passing rules past hi pending (after (after b (Advance control.instant)) (SetRate control.rate)) (suc j) tick rise some rising
+          first.2 (rise_parts b.tick rise control pending rises).2 reached
+          (stands_reach rules past b j control.instant control.rate stands (rise_parts b.tick rise control pending rises).0 before next
+          (ap (λ (c : Control). c.rate) is)))
+    ]
+
+-- the controls that stay pending rise from the tick on
+pub rise_passing : (lo hi tick : ℕ) (pending : List Control) → RiseWithin lo hi pending
+    → RiseWithin tick hi (drop (passed pending tick) pending)
+unfolding RiseWithin
+rise_passing lo hi tick [] rise = tt
+rise_passing lo hi tick (control ∷ pending) rise =
+    elim (cases_lt tick control.instant) [
+      | inl ahead ↦ rw (lt-leb control.instant tick ahead) (omega arith, rise.1, rise.2)
+      | inr reached ↦
+          let more : passed (control ∷ pending) tick ≡ suc (passed pending tick) = passed-next control pending tick reached ∙ omega arith in
+          rw more (rise_passing control.instant hi tick pending rise.2)
+    ]

@@ -1,0 +1,79 @@
+-- The controls up to a tick are the first of all controls.
+use Rattle.std.proofs.Common.{◌≡◌, ℕ, zero, suc, ◌+◌, ◌-◌, ◌*◌, ◌/◌, ◌<◌, ◌≤◌, List, ◌∷◌, length, map, take, Bool, true, false, refl, sym, ◌∙◌, ap, arith, inl, inr}
+use Rattle.std.specs.Prelude.{filter, nat_le, slice_index}
+use Rattle.std.specs.List.{range_with_len}
+use Rattle.std.proofs.lemmas.Bool.{cases_lt, le-leb, lt-leb}
+use Rattle.std.proofs.lemmas.List.Sums.{count_by-le-length}
+use Rattle.admission.specs.declared.control.Control.{Control}
+use Rattle.admission.specs.Rules.{Rules}
+use Rattle.admission.specs.Requests.{Offer, Served, served, finishes, done}
+use Rattle.admission.specs.Decisions.{decided}
+use Rattle.admission.specs.Standing.{Standing}
+use Rattle.admission.specs.Controls.{control_at, controls_of, controls_until}
+use Rattle.admission.specs.Fits.{tick_from, IsRising, Fits}
+use Rattle.admission.proofs.ControlLemmas.{fits_quotient, quotient_fits, length-finishes}
+use Rattle.admission.proofs.RequestLemmas.{upto-before, upto-at}
+
+-- where the first j pass and the others don't
+filter_first : (p : Control → Bool) (f : ℕ → Control) (a m j : ℕ)
+    → ((k : ℕ) → a ≤ k → k < a + j → p (f k) ≡ true) → ((k : ℕ) → a + j ≤ k → k < a + m → p (f k) ≡ false)
+    → filter p (map f (range_with_len a m)) ≡ take j (map f (range_with_len a m))
+filter_first p f a zero zero ones others = refl
+filter_first p f a zero (suc j) ones others = refl
+filter_first p f a (suc m) zero ones others =
+    let here : p (f a) ≡ false = others a (omega arith) (omega arith) in
+    rw here (filter_first p f (a + 1) m zero (λ k above below. absurd (omega arith)) (λ k above below. others k (omega arith) (omega arith)))
+filter_first p f a (suc m) (suc j) ones others =
+    let here : p (f a) ≡ true = ones a (omega arith) (omega arith) in
+    rw here (ap (λ (cs : List Control). f a ∷ cs)
+    (filter_first p f (a + 1) m j (λ k above below. ones k (omega arith) (omega arith)) (λ k above below. others k (omega arith) (omega arith))))
+
+product_some : (k e : ℕ) → 0 < e → 1 ≤ k → 1 ≤ k * e
+product_some k e some first = let e_le : e ≤ k * e = grind arith in omega arith
+
+-- a control in force has its instant behind it
+reached : (rules : Rules) (requests : List Served) (hi tick k : ℕ) → 0 < rules.every → IsRising 0 hi (finishes requests)
+    → 1 ≤ k → k ≤ done requests tick / rules.every → (control_at rules requests k).instant ≤ tick
+reached rules requests hi tick k some rising first within =
+    let fit : k * rules.every ≤ done requests tick = quotient_fits k rules.every (done requests tick) some within in
+    let one : 1 ≤ k * rules.every = product_some k rules.every some first in
+    let all : done requests tick ≤ length requests =
+    omega (arith, count_by-le-length (λ finish. nat_le finish tick) (finishes requests), length-finishes requests) in
+    let place : k * rules.every - 1 < length (finishes requests) = rw (length-finishes requests) (omega arith) in
+    elim (cases_lt tick (slice_index (finishes requests) (k * rules.every - 1))) [
+      | inl later ↦
+          let few : done requests tick ≤ k * rules.every - 1 =
+          upto-before 0 hi tick (k * rules.every - 1) (finishes requests) rising place later in
+          absurd (omega arith)
+      | inr now ↦ now
+    ]
+
+-- any other has it ahead
+ahead : (rules : Rules) (requests : List Served) (hi tick k : ℕ) → 0 < rules.every → IsRising 0 hi (finishes requests)
+    → done requests tick / rules.every < k → k ≤ length requests / rules.every → tick < (control_at rules requests k).instant
+ahead rules requests hi tick k some rising above within =
+    let fit : k * rules.every ≤ length requests = quotient_fits k rules.every (length requests) some within in
+    let one : 1 ≤ k * rules.every = product_some k rules.every some (omega arith) in
+    let place : k * rules.every - 1 < length (finishes requests) = rw (length-finishes requests) (omega arith) in
+    elim (cases_lt tick (slice_index (finishes requests) (k * rules.every - 1))) [
+      | inl later ↦ later
+      | inr now ↦
+          let many : k * rules.every - 1 < done requests tick =
+          upto-at 0 hi tick (k * rules.every - 1) (finishes requests) rising place now in
+          let in_force : k ≤ done requests tick / rules.every = fits_quotient k rules.every (done requests tick) some (omega arith) in
+          absurd (omega arith)
+    ]
+
+pub until_is : (rules : Rules) (requests : List Served) (hi tick : ℕ) → 0 < rules.every → IsRising 0 hi (finishes requests)
+    → controls_until rules requests tick ≡ take (done requests tick / rules.every) (controls_of rules requests)
+until_is rules requests hi tick some rising =
+    filter_first (λ (c : Control). nat_le c.instant tick) (control_at rules requests) 1 (length requests / rules.every)
+    (done requests tick / rules.every)
+    (λ k above below. le-leb _ tick (reached rules requests hi tick k some rising above (omega arith)))
+    (λ k above below. lt-leb _ tick (ahead rules requests hi tick k some rising (omega arith) (omega arith)))
+
+pub until_fits : (offers : List Offer) (c : Standing) → 1 ≤ c.rules.every → Fits offers c
+    → take c.reached c.controls ≡ controls_until c.rules (served (decided c.rules offers)) (tick_from 0 offers)
+until_fits offers c some fits =
+    sym (until_is c.rules (served (decided c.rules offers)) c.free (tick_from 0 offers) some fits.server.rising
+    ∙ rw (fits.server.controls, fits.bucket.stands.in_force, fits.tick) refl)

@@ -1,0 +1,11 @@
+pub mod Percentile
+pub mod Rules
+pub mod Tally
+pub mod Window
+pub mod Controls
+pub mod Decisions
+pub mod Requests
+pub mod Standing
+pub mod Running
+pub mod Fits
+pub mod Laws

@@ -1,0 +1,44 @@
+//! Adaptive admission control on virtual time.
+//!
+//! One virtual server takes the admitted requests one after another. At every so many admitted
+//! requests a control compares the smoothed 90th percentile of their response times with a target,
+//! and raises the rate of a token bucket by addition or lowers it by division. A request is admitted
+//! where the bucket has a token when it is offered. All times are ticks of one microsecond.
+#![tactic(auto)]
+
+mod control;
+mod controller;
+pub mod laws;
+mod policy;
+#[cfg(test)]
+mod tests;
+mod window;
+
+pub use control::{Control, Decision};
+pub use controller::Controller;
+pub use policy::{Policy, PolicyFault};
+pub use token_bucket::{MAX_DEPTH, MAX_RATE, MAX_TICK};
+pub use window::SampleWindow;
+
+/// The most samples that a window holds.
+pub const MAX_WINDOW: u64 = 4096;
+
+/// The most admitted requests from one control to the next.
+pub const MAX_EVERY: u64 = 4096;
+
+/// The greatest step by which a rate is raised.
+pub const MAX_UP: u64 = 1_000_000_000;
+
+/// The least and the greatest divisor by which a rate is lowered, in hundredths.
+pub const MIN_DOWN: u64 = 101;
+
+pub const MAX_DOWN: u64 = 10_000;
+
+/// The greatest target, in ticks.
+pub const MAX_TARGET: u64 = 1_000_000_000_000;
+
+/// The longest service, in ticks.
+pub const MAX_SERVICE: u64 = 20_000_000_000;
+
+/// The most offers that a controller takes.
+pub const MAX_OFFERS: u64 = 1_048_576;

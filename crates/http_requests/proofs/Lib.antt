@@ -1,0 +1,10 @@
+pub mod VerdictLemmas
+pub mod FrontLemmas
+pub mod EndLemmas
+pub mod MessageLemmas
+pub mod FoundLemmas
+pub mod CutLemmas
+pub mod HeadLemmas
+pub mod JudgeLemmas
+pub mod MeaningLemmas
+pub mod PieceLemmas

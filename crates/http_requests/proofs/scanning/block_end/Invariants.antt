@@ -1,0 +1,9 @@
+use Rattle.std.proofs.Common.{◌-◌, ◌≤◌, length}
+use Rattle.http_requests.specs.Scanning.{NoEndIn}
+use Rattle.http_requests.proofs.scanning.block_end.Given as goal
+
+abbrev pub invariant-loop-at : goal.invariant-loop-at
+invariant-loop-at l = record { within : l.at ≤ length l.s; limit : l.at ≤ 8192; none : NoEndIn l.at l.s }
+
+abbrev pub decreases-loop-at : goal.decreases-loop-at
+decreases-loop-at l = length l.s - l.at

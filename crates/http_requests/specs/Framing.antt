@@ -1,0 +1,80 @@
+-- The messages of a whole text (RFC 9112, sections 2 and 6).
+use Rattle.std.specs.Prelude.{◌≡◌, ℕ, suc, ◌+◌, ◌-◌, ◌<◌, ◌≤◌, ◌⊎◌, Bool, true, ◌&&◌, ◌||◌, if◌then◌else◌, ◌==◌, IsTrue, nat_le, false, List, [], ◌∷◌, length, take, drop, slice_index, MatchBool}
+use Rattle.http_requests.specs.declared.messages.Fault.TheVariants.{TooLong}
+use Rattle.http_requests.specs.declared.messages.What.{What}
+use Rattle.http_requests.specs.declared.messages.What.TheVariants.{Request, Bad}
+use Rattle.http_requests.specs.declared.messages.Message.{Message}
+use Rattle.http_requests.specs.declared.heads.Verdict.{Verdict}
+use Rattle.http_requests.specs.Heads.{IsVerdict}
+
+-- the text begins with LF
+abbrev pub begins_lf : List ℕ → Bool
+begins_lf [] = false
+begins_lf (b ∷ bytes) = b == 10
+
+-- the byte belongs to an empty line: it is LF, or CR with LF behind it
+abbrev pub is_blank : ℕ → List ℕ → Bool
+is_blank b bytes = b == 10 || (b == 13 && begins_lf bytes)
+
+-- how many bytes the empty lines in front take (RFC 9112, 2.2)
+abbrev pub blank_len : List ℕ → ℕ
+blank_len [] = 0
+blank_len (b ∷ bytes) = if is_blank b bytes then suc (blank_len bytes) else 0
+
+-- an LF LF or LF CR LF that lies wholly in the text ends before the place e
+unfoldable pub ends_at : List ℕ → ℕ → Bool
+ends_at s e = nat_le 2 e && (nat_le e (length s) && (slice_index s (e - 1) == 10
+    && (slice_index s (e - 2) == 10 || (nat_le 3 e && (slice_index s (e - 2) == 13 && slice_index s (e - 3) == 10)))))
+
+-- the same as a fact
+abbrev pub EndsAt : List ℕ → ℕ → Type 0
+EndsAt s e = IsTrue (ends_at s e)
+
+-- no block of at most 8,192 bytes stands in front
+abbrev pub NoBlock : List ℕ → Type 0
+NoBlock s = (e : ℕ) → e ≤ 8192 → EndsAt s e → ⊥
+
+-- the block in front ends before the place e: its first end, within the limit
+pub record IsBlock (s : List ℕ) (e : ℕ) : Type 0 where
+  pub ends : EndsAt s e
+  pub first : (k : ℕ) → k < e → EndsAt s k → ⊥
+  pub short : e ≤ 8192
+
+-- a message after which nothing is read: a fault, or a request that closes
+abbrev pub closes : What → Bool
+closes (Request method target version closing since) = closing
+closes (Bad fault) = true
+
+-- a block in front whose body lies in the text as well: what it says, and the place after its body
+pub record IsWhole (s : List ℕ) (what : What) (k : ℕ) : Type 0 where
+  pub e : ℕ
+  pub verdict : Verdict
+  pub block : IsBlock s e
+  pub says : IsVerdict (take e s) verdict
+  pub what_is : what ≡ verdict.what
+  pub k_is : k ≡ e + verdict.length
+  pub within : k ≤ length s
+
+-- a block that is too long ends the message at its byte 8,192
+pub record IsOver (s : List ℕ) (what : What) (k : ℕ) : Type 0 where
+  pub none : NoBlock s
+  pub what_is : what ≡ Bad TooLong
+  pub k_is : k ≡ 8192
+  pub within : 8192 ≤ length s
+
+-- the message at the front of the rest of a text, after the empty lines there: what it is, and the
+-- place after it
+pub record IsNext (r : List ℕ) (what : What) (k : ℕ) : Type 0 where
+  pub j : ℕ
+  pub k_is : k ≡ blank_len r + j
+  pub front : IsWhole (drop (blank_len r) r) what j ⊎ IsOver (drop (blank_len r) r) what j
+
+-- the messages of the rest of a text, which begins at place p of it. A closing one is the last
+abbrev pub Messages : ℕ → List ℕ → List Message → Type 0
+Messages p r [] = (what : What) (k : ℕ) → IsNext r what k → ⊥
+Messages p r (m ∷ ms) = (k : ℕ) × IsNext r m.what k × (m.end ≡ p + k)
+    × MatchBool (closes m.what) (ms ≡ []) (Messages (p + k) (drop k r) ms)
+
+-- the messages of a whole text
+abbrev pub MessagesOf : List ℕ → List Message → Type 0
+MessagesOf text ms = Messages 0 text ms

@@ -1,0 +1,7 @@
+pub mod Heads
+pub mod Lines
+pub mod Framing
+pub mod Meaning
+pub mod Scanning
+pub mod Cutting
+pub mod State

@@ -1,0 +1,299 @@
+//! Cutting a text that comes in pieces.
+ghost use Rattle.std.specs.Prelude.{◌≡◌, ◌<◌, ◌≤◌, [], drop, length, IfNone, IfOk, IfSome, OnSome};
+ghost use Rattle.http_requests.specs.Framing.{closes};
+ghost use Rattle.http_requests.specs.Cutting.{Begins, IsFront, Waits};
+
+use crate::heads::{Verdict, bad, read_block};
+use crate::messages::{Fault, Message, What};
+use crate::scanning::{BLOCK_LIMIT, Found, find};
+use std::alloc::{AllocError, Global};
+use std::marker::Model;
+use std::mem;
+
+/// Where a cutter stands in the text.
+#[derive(Drop)]
+pub enum Stage {
+    /// Between two messages, or in a block.
+    Seeking,
+    /// In a body: its message, and how many bytes of it are still to come.
+    Body(What, u64),
+    /// After a message that ends the connection.
+    Closed,
+    /// After want of memory.
+    Failed,
+}
+
+/// Drops the first bytes.
+fn drop_front(bytes: &mut Vec<u8>, n: usize)
+    requires { n ≤ length bytes.old.items }
+    ensures { bytes.new.items ≡ drop n bytes.old.items }
+{
+    if n > 0 {
+        bytes.drain(..n);
+    }
+}
+
+/// Whether nothing is read after this message.
+fn ends_connection(what: &What) -> bool
+    ensures { result ≡ closes what.now }
+{
+    match what {
+        What::Request { closes, .. } => *closes,
+        What::Bad(_) => true,
+    }
+}
+
+/// Takes bytes of a text where nothing is held. A block that is whole is read where it lies.
+fn take_here(
+    alloc: Global,
+    held: &mut Vec<u8>,
+    text: &[u8],
+) -> Result<(usize, Option<Verdict>), AllocError>
+    requires empty { held.old.items ≡ [] }
+    requires some { 0 < length text.now }
+    ensures begins { IfOk result (λ took. IfSome took.1 (Begins held.old.items text.now took.0)) }
+    ensures small { IfOk result (λ took. IfSome took.1 (λ verdict. verdict.length ≤ 65_536)) }
+    ensures waits { IfOk result (λ took. IfNone took.1 (Waits held.old.items text.now took.0 held.new.items)) }
+    ensures empty { IfOk result (λ took. OnSome took.1 (held.new.items ≡ [])) }
+{
+    match find(text, 0) {
+        Found::Wait(start) => {
+            held.extend_from_slice(&text[start..])?;
+            Ok((text.len(), None))
+        }
+        Found::Over(len) => Ok((len, Some(bad(Fault::TooLong)))),
+        Found::Whole(start, len) => {
+            let verdict = read_block(alloc, &text[start..start + len])?;
+            Ok((start + len, Some(verdict)))
+        }
+    }
+}
+
+/// Takes bytes of a text where the front of a block is held. What is held isn't scanned again.
+fn take_joined(
+    alloc: Global,
+    held: &mut Vec<u8>,
+    text: &[u8],
+) -> Result<(usize, Option<Verdict>), AllocError>
+    requires front { IsFront held.old.items }
+    requires some { 0 < length text.now }
+    ensures begins { IfOk result (λ took. IfSome took.1 (Begins held.old.items text.now took.0)) }
+    ensures small { IfOk result (λ took. IfSome took.1 (λ verdict. verdict.length ≤ 65_536)) }
+    ensures waits { IfOk result (λ took. IfNone took.1 (Waits held.old.items text.now took.0 held.new.items)) }
+    ensures empty { IfOk result (λ took. OnSome took.1 (held.new.items ≡ [])) }
+{
+    let had = held.len();
+    let most = text.len().min(BLOCK_LIMIT - had);
+    held.extend_from_slice(&text[..most])?;
+    match find(held, had) {
+        Found::Wait(start) => {
+            drop_front(held, start);
+            Ok((most, None))
+        }
+        Found::Over(len) => {
+            held.clear();
+            Ok((len - had, Some(bad(Fault::TooLong))))
+        }
+        Found::Whole(start, len) => {
+            let verdict = read_block(alloc, &held[start..start + len])?;
+            held.clear();
+            Ok((start + len - had, Some(verdict)))
+        }
+    }
+}
+
+/// Takes some bytes of a text, up to the end of the next block.
+fn take_block(
+    alloc: Global,
+    held: &mut Vec<u8>,
+    text: &[u8],
+) -> Result<(usize, Option<Verdict>), AllocError>
+    requires front { IsFront held.old.items }
+    requires some { 0 < length text.now }
+    ensures begins { IfOk result (λ took. IfSome took.1 (Begins held.old.items text.now took.0)) }
+    ensures small { IfOk result (λ took. IfSome took.1 (λ verdict. verdict.length ≤ 65_536)) }
+    ensures waits { IfOk result (λ took. IfNone took.1 (Waits held.old.items text.now took.0 held.new.items)) }
+    ensures empty { IfOk result (λ took. OnSome took.1 (held.new.items ≡ [])) }
+{
+    if held.is_empty() {
+        take_here(alloc, held, text)
+    } else {
+        take_joined(alloc, held, text)
+    }
+}
+
+/// What a cutter keeps.
+#[derive(Drop)]
+struct State {
+    alloc: Global,
+    stage: Stage,
+    read: u64,
+    held: Vec<u8>,
+}
+
+impl State {
+    ghost use Rattle.std.specs.Prelude.{◌≡◌, ◌+◌, ◌<◌, ◌≤◌, ℕ, List, [], length, IfOk, IsErr, OnErr, OnOk};
+    ghost use Rattle.http_requests.specs.declared.messages.Message.{Message as AMessage};
+    ghost use Rattle.http_requests.specs.Cutting.{IsSound, HasFailed, Enters, Took, Fits, Fed, FedSome};
+    ghost use Rattle.http_requests.specs.State.{progress};
+
+    /// A cutter at the start of a text.
+    fn new(alloc: Global) -> State
+        ensures sound { IsSound (progress result) }
+        ensures fits { Fits [] [] (progress result) }
+    {
+        State {
+            alloc,
+            stage: Stage::Seeking,
+            read: 0,
+            held: Vec::new(alloc),
+        }
+    }
+
+    /// Goes on after a block: with its body, or by adding the message that ends here.
+    fn enter(&mut self, what: What, left: u64, out: &mut Vec<Message>) -> Result<(), AllocError>
+        requires empty { self.old.held.items ≡ [] }
+        requires small { left ≤ 65_536 }
+        ensures sound { OnOk result (IsSound (progress self.new)) }
+        ensures live { OnOk result (¬ (HasFailed (progress self.new))) }
+        ensures enters { OnOk result (Enters what left self.old.read (progress self.new) out.old.items out.new.items) }
+        ensures out { OnErr result (out.new.items ≡ out.old.items) }
+        ensures stage { OnErr result (self.new.stage ≡ self.old.stage) }
+        ensures read { self.new.read ≡ self.old.read }
+    {
+        if left > 0 {
+            self.stage = Stage::Body(what, left);
+            return Ok(());
+        }
+        let stage = if ends_connection(&what) {
+            Stage::Closed
+        } else {
+            Stage::Seeking
+        };
+        out.push(Message {
+            end: self.read,
+            what,
+        })?;
+        self.stage = stage;
+        Ok(())
+    }
+
+    /// Takes some bytes of a text, and adds the message that ends with them, if one does.
+    fn cut(&mut self, text: &[u8], out: &mut Vec<Message>) -> Result<usize, AllocError>
+        requires sound { IsSound (progress self.old) }
+        requires some { 0 < length text.now }
+        requires room { self.old.read + length text.now ≤ 1_073_741_824 }
+        ensures ok { IfOk result (Took (progress self.old) text.now (progress self.new) out.old.items out.new.items) }
+        ensures out { OnErr result (out.new.items ≡ out.old.items) }
+        ensures read { OnErr result (self.new.read ≤ self.old.read + length text.now) }
+        ensures failed { OnErr result (HasFailed (progress self.new)) }
+    {
+        match mem::replace(&mut self.stage, Stage::Failed) {
+            Stage::Failed => Err(AllocError),
+            Stage::Closed => {
+                self.stage = Stage::Closed;
+                self.read += text.len() as u64;
+                Ok(text.len())
+            }
+            Stage::Body(what, left) => {
+                let n = text.len().min(left as usize);
+                self.read += n as u64;
+                self.enter(what, left - n as u64, out)?;
+                Ok(n)
+            }
+            Stage::Seeking => {
+                let (n, begun) = take_block(self.alloc, &mut self.held, text)?;
+                self.read += n as u64;
+                match begun {
+                    None => self.stage = Stage::Seeking,
+                    Some(Verdict { what, length }) => self.enter(what, length, out)?,
+                }
+                Ok(n)
+            }
+        }
+    }
+
+    /// Takes a piece of the text.
+    fn feed(&mut self, piece: &[u8], out: &mut Vec<Message>) -> Result<(), AllocError>
+        requires sound { IsSound (progress self.old) }
+        requires room { self.old.read + length piece.now ≤ 1_073_741_824 }
+        ensures ok { OnOk result ((past : List ℕ) (sofar : List AMessage) → Fits past sofar (progress self.old)
+            → Fed past sofar (progress self.new) piece.now out.old.items out.new.items) }
+        ensures some { OnErr result ((past : List ℕ) (sofar : List AMessage) → Fits past sofar (progress self.old)
+            → FedSome past sofar piece.now out.old.items out.new.items) }
+        ensures failed { HasFailed (progress self.old) → IsErr result }
+        ensures out { HasFailed (progress self.old) → out.new.items ≡ out.old.items }
+        ensures err { OnErr result (HasFailed (progress self.new)) }
+        ensures read { OnOk result (self.new.read ≡ self.old.read + length piece.now) }
+        ensures most { OnErr result (self.new.read ≤ self.old.read + length piece.now) }
+        ensures sound { IsSound (progress self.new) }
+    {
+        if let Stage::Failed = self.stage {
+            return Err(AllocError);
+        }
+        let mut at: usize = 0;
+        while at < piece.len() {
+            at += self.cut(&piece[at..], out)?;
+        }
+        Ok(())
+    }
+}
+
+/// Cuts the text of one connection into its messages, while it comes in pieces. It holds the front
+/// of at most one block, 8,191 bytes, and never the text.
+#[derive(Drop)]
+pub struct Cutter {
+    state: State,
+}
+
+impl Model for Cutter {
+    ghost use Rattle.http_requests.specs.Cutting.{Progress, IsSound};
+
+    ghost Value = { Progress };
+
+    ghost use Rattle.http_requests.specs.State.{progress};
+
+    ghost view = { λ c. progress c.state };
+
+    ghost invariant = { λ c. IsSound (progress c.state) };
+}
+
+impl Cutter {
+    ghost use Rattle.std.specs.Prelude.{◌≡◌, ◌+◌, ◌≤◌, ℕ, List, [], length, IsErr, OnErr, OnOk};
+    ghost use Rattle.http_requests.specs.declared.messages.Message.{Message as AMessage};
+    ghost use Rattle.http_requests.specs.Cutting.{HasFailed, Fits, Fed, FedSome};
+
+    /// A cutter at the start of a text. It takes no memory before the first piece.
+    pub fn new(alloc: Global) -> Cutter
+        ensures { Fits [] [] result }
+    {
+        Cutter {
+            state: State::new(alloc),
+        }
+    }
+
+    /// Takes the next piece of the text, and adds the messages that end in it, in order.
+    ///
+    /// The whole text may have 1,073,741,824 bytes. The only error is want of memory: then `out` has got
+    /// the first of those messages, and each later call is answered by the same error and adds
+    /// nothing.
+    pub fn feed(&mut self, piece: &[u8], out: &mut Vec<Message>) -> Result<(), AllocError>
+        requires { self.old.read + length piece.now ≤ 1_073_741_824 }
+
+        // Whatever the text so far was, its messages and the new ones are those of the longer text.
+        ensures ok { OnOk result ((past : List ℕ) (sofar : List AMessage) → Fits past sofar self.old
+            → Fed past sofar self.new piece.now out.old.items out.new.items) }
+        ensures memory { OnErr result ((past : List ℕ) (sofar : List AMessage) → Fits past sofar self.old
+            → FedSome past sofar piece.now out.old.items out.new.items) }
+
+        // Want of memory is answered for good.
+        ensures fails { OnErr result (HasFailed self.new) }
+        ensures failed { HasFailed self.old → IsErr result }
+        ensures unchanged { HasFailed self.old → out.new.items ≡ out.old.items }
+
+        ensures read { OnOk result (self.new.read ≡ self.old.read + length piece.now) }
+        ensures read_some { OnErr result (self.new.read ≤ self.old.read + length piece.now) }
+    {
+        self.state.feed(piece, out)
+    }
+}

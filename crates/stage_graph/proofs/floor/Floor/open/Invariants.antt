@@ -1,0 +1,9 @@
+use Rattle.std.proofs.Common.{◌≡◌, ◌≤◌, None, false, map, take, replicate, vec_len, vec_capacity}
+use Rattle.stage_graph.specs.Stands.{empty_queue}
+use Rattle.stage_graph.proofs.floor.Floor.open.Given as goal
+
+abbrev pub invariant-loop-stage : goal.invariant-loop-stage
+invariant-loop-stage g l = (l.queues.items ≡ map empty_queue (take l.stage l.plan-inside.capacities.items)) × (l.stages ≤ vec_capacity l.queues) × (vec_len l.queues ≡ l.stage)
+
+abbrev pub invariant-loop-worker : goal.invariant-loop-worker
+invariant-loop-worker g l = (l.hands.items ≡ replicate l._worker None) × (l.left.items ≡ replicate l._worker false) × (l.workers ≤ vec_capacity l.hands) × (l.workers ≤ vec_capacity l.left) × (vec_len l.hands ≡ l._worker) × (vec_len l.left ≡ l._worker)

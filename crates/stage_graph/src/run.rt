@@ -1,0 +1,231 @@
+ghost use Rattle.std.specs.Prelude.{◌≡◌, ℕ, ◌+◌, ◌<◌, ◌≤◌, map, true, OnOk, OnErr, IfOk, IfErr, IfSome, OnSome, IfNone, vec_len, vec_capacity};
+ghost use Rattle.std.specs.List.{range_with_len};
+ghost use Rattle.stage_graph.specs.Layouts.{stages, workers, stage_at, cut_before};
+ghost use Rattle.stage_graph.specs.Floors.{standing, is_legal_from_opening, all_left, all_done};
+ghost use Rattle.stage_graph.specs.Stands.{with_steps, last_cut};
+ghost use Rattle.stage_graph.specs.Stopped.{IsStopped};
+
+mod locked;
+mod shared;
+
+use crate::{Chain, Floor, Named, Plan, Run, RunName, Unrun};
+use locked::new_locked;
+use shared::{Shared, new_shared};
+use std::alloc::Global;
+use std::marker::Brand;
+use std::sync::Wait;
+use std::sync::ledger::{Blank, Ledger, Share};
+use std::thread;
+use std::thread::{JoinHandle, Threads};
+
+/// Is told where items go. Its calls stand outside the floor's lock.
+pub trait Gate {
+    /// An item was taken by a worker of a stage.
+    fn enter(&self, stage: usize, number: usize);
+
+    /// An item was given on, or sent back, by a worker of a stage.
+    fn left(&self, stage: usize, number: usize);
+}
+
+/// A gate that does nothing.
+#[derive(Drop)]
+pub struct NoGate;
+
+impl Gate for NoGate {
+    fn enter(&self, _stage: usize, _number: usize) {}
+
+    fn left(&self, _stage: usize, _number: usize) {}
+}
+
+/// Runs a floor to its end: every item goes through all steps of the chain, by the workers of the plan in threads.
+///
+/// The calling thread feeds. Each worker takes an item, works up to its stage's cut and gives it on, waiting while
+/// the next queue is full. Where the chain refuses a step, or the next queue is full on a stopped floor, it sends
+/// the item back. Where a thread can't be started, the floor is halted, and the calling thread leaves in the place
+/// of each worker that has none; with none started the answer is `Unrun::Memory`. It may wait.
+pub fn run_floor<
+    C: Chain + Sync,
+    N: RunName + Send + Sync,
+    G: Gate + Sync,
+    R: Threads + Wait + Sync,
+>(
+    rt: &R,
+    alloc: Global,
+    plan: Plan,
+    chain: &C,
+    items: Vec<C::Item>,
+    gate: &G,
+) -> Result<Run<C, N>, Unrun>
+where
+    C::Item: Send,
+    requires plan { plan ≡ N.plan }
+    requires fresh { map (λ x. (C.Item.number_of x, C.Item.done_of x)) items.items ≡ map (with_steps 0) (range_with_len 0 N.count) }
+    requires cut { last_cut N.plan ≡ C.steps }
+    ensures legal { IfOk result (λ r. is_legal_from_opening N.plan N.count r ≡ true) }
+    ensures left { IfOk result (λ r. all_left (standing N.plan N.count r) ≡ true) }
+    ensures done { IfOk result (λ r. all_done (standing N.plan N.count r) ≡ true) }
+    ensures stopped { IfErr result (IsStopped N.plan N.count) }
+{
+    let seats = Blank::new(plan.workers() as u64);
+    run_with::<C, N, Brand, G, R>(rt, alloc, seats, plan, chain, items, gate)
+}
+
+// The floor's run, with a ledger of the leavings: one seat for each worker.
+fn run_with<
+    C: Chain + Sync,
+    N: RunName + Send + Sync,
+    L: Ledger + Send + Sync,
+    G: Gate + Sync,
+    R: Threads + Wait + Sync,
+>(
+    rt: &R,
+    alloc: Global,
+    seats: Blank,
+    plan: Plan,
+    chain: &C,
+    items: Vec<C::Item>,
+    gate: &G,
+) -> Result<Run<C, N>, Unrun>
+where
+    C::Item: Send,
+    requires name { seats.name ≡ L.name }
+    requires parts { seats.parts ≡ L.parts }
+    requires one_each { seats.parts ≡ workers N.plan }
+    requires plan { plan ≡ N.plan }
+    requires fresh { map (λ x. (C.Item.number_of x, C.Item.done_of x)) items.items ≡ map (with_steps 0) (range_with_len 0 N.count) }
+    requires cut { last_cut N.plan ≡ C.steps }
+    ensures legal { IfOk result (λ r. is_legal_from_opening N.plan N.count r ≡ true) }
+    ensures left { IfOk result (λ r. all_left (standing N.plan N.count r) ≡ true) }
+    ensures done { IfOk result (λ r. all_done (standing N.plan N.count r) ≡ true) }
+    ensures stopped { IfErr result (IsStopped N.plan N.count) }
+{
+    let stages = plan.stages();
+    let crew = plan.workers();
+    let (book, rest) = seats.open::<L>();
+    let handles = Vec::with_capacity(alloc, crew)?;
+    let floor = Floor::<C, N>::open(alloc, plan, items)?;
+    let shared = new_shared(alloc, new_locked(floor, book), stages)?;
+    let (started, mut all) = run_all(rt, &shared, chain, gate, crew, rest, handles);
+    if !started {
+        return Err(Unrun::Memory);
+    }
+    shared.into_floor(&mut all).close()
+}
+
+// Starts the workers, feeds, and joins them. Tells whether any was started.
+fn run_all<
+    'a,
+    C: Chain + Sync,
+    N: RunName + Send + Sync,
+    L: Ledger + Send + Sync,
+    G: Gate + Sync,
+    R: Threads + Wait + Sync,
+>(
+    rt: &'a R,
+    shared: &'a Shared<C, N, L>,
+    chain: &'a C,
+    gate: &'a G,
+    crew: usize,
+    rest: Share<L>,
+    handles: Vec<JoinHandle<Departed<L>>>,
+) -> (bool, Share<L>)
+where
+    C::Item: Send,
+    requires crew { crew ≡ workers N.plan }
+    requires rest { (rest.parts ≡ workers N.plan) × (rest.amount ≡ 0) }
+    requires cut { last_cut N.plan ≡ C.steps }
+    requires handles { (vec_len handles ≡ 0) × (crew ≤ vec_capacity handles) }
+    ensures { (result.1.parts ≡ workers N.plan) × (result.1.amount ≡ workers N.plan) }
+{
+    thread::scope(
+        thread::scope_env(),
+        rt,
+        move |scope| -> (bool, Share<L>)
+            requires { (crew ≡ workers N.plan) × (rest.parts ≡ workers N.plan) × (rest.amount ≡ 0) × (last_cut N.plan ≡ C.steps) × (vec_len handles ≡ 0) × (crew ≤ vec_capacity handles) }
+            ensures { (result.1.parts ≡ workers N.plan) × (result.1.amount ≡ workers N.plan) }
+        {
+            let mut rest = rest;
+            let mut handles = handles;
+            let mut back = rest.empty();
+            for worker in 0..crew {
+                let seat = rest.split_off(1, 0);
+                let job = move || -> Departed<L>
+                    requires { (worker < workers N.plan) × (seat.parts ≡ 1) × (seat.amount ≡ 0) × (last_cut N.plan ≡ C.steps) }
+                { serve(rt, shared, chain, gate, worker, seat) };
+                match scope.spawn(job) {
+                    Ok(handle) => handles.push_reserved(handle),
+                    Err(refused) => {
+                        shared.halt(rt);
+                        let Departed { seat } = (refused.value)();
+                        back.merge(seat);
+                    }
+                }
+            }
+            let started = !handles.is_empty();
+            shared.feed_all(rt);
+            while let Some(handle) = handles.pop() {
+                let Departed { seat } = handle.join(rt);
+                back.merge(seat);
+            }
+            (started, back)
+        },
+    )
+}
+
+// What a worker hands back: its seat, with one leave.
+#[derive(Drop)]
+struct Departed<L: Ledger> {
+    seat: Share<L>,
+    ghost one_part: { seat.parts ≡ 1 },
+    ghost one_leave: { seat.amount ≡ 1 },
+}
+
+fn hand_back<L: Ledger>(seat: Share<L>) -> Departed<L>
+    requires { (seat.parts ≡ 1) × (seat.amount ≡ 1) }
+{
+    Departed { seat }
+}
+
+// One worker, from its first item until it has left.
+fn serve<C: Chain, N: RunName, L: Ledger, G: Gate, R: Wait>(
+    rt: &R,
+    shared: &Shared<C, N, L>,
+    chain: &C,
+    gate: &G,
+    worker: usize,
+    seat: Share<L>,
+) -> Departed<L>
+    requires worker { worker < workers N.plan }
+    requires seat { (seat.parts ≡ 1) × (seat.amount ≡ 0) }
+    requires cut { last_cut N.plan ≡ C.steps }
+{
+    let (stage, cut) = shared.place(rt, worker);
+    let mut seat = seat;
+    for _ in rt.forever() {
+        let Some(item) = shared.take(rt, worker, stage, &mut seat) else {
+            return hand_back(seat);
+        };
+        let number = item.number();
+        gate.enter(stage, number);
+        match work_up(chain, item, cut) {
+            Ok(item) => shared.give(rt, worker, stage, item),
+            Err(item) => shared.back(rt, worker, stage, item),
+        }
+        gate.left(stage, number);
+    }
+    unreachable!()
+}
+
+// Works on an item from its own steps up to a cut. Refused, it has the steps that were done.
+fn work_up<C: Chain>(chain: &C, item: C::Item, cut: usize) -> Result<C::Item, C::Item>
+    requires { cut ≤ C.steps }
+    ensures ok { C.Item.done_of item ≤ cut → IfOk result (λ x. C.Item.done_of x ≡ cut) }
+    ensures number { IfOk result (λ x. C.Item.number_of x ≡ C.Item.number_of item) }
+    ensures refused { IfErr result (λ x. (C.Item.number_of x ≡ C.Item.number_of item) × (C.Item.done_of item ≤ C.Item.done_of x) × (C.Item.done_of x < cut)) }
+{
+    let mut item = item;
+    for _step in item.done()..cut {
+        item = chain.work(item)?;
+    }
+    Ok(item)
+}

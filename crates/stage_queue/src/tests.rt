@@ -1,0 +1,47 @@
+use crate::{Memory, Placing, Queue, Slots};
+use std::test::*;
+
+#[test]
+fn queue_of_two(rt: HostRuntime) -> Result<(), Fail> {
+    let mut queue = Queue::new(rt.alloc(), 2)?;
+    assert!(rt; queue.is_empty());
+    assert_eq!(rt; queue.capacity(), 2);
+    assert_eq!(rt; queue.push(1u64), Ok(()));
+    assert_eq!(rt; queue.push(2), Ok(()));
+    assert!(rt; queue.is_full());
+    assert_eq!(rt; queue.push(3), Err(3));
+    assert_eq!(rt; queue.len(), 2);
+    assert_eq!(rt; queue.front().copied(), Some(1));
+    assert_eq!(rt; queue.pop(), Some(1));
+    assert_eq!(rt; queue.push(4), Ok(()));
+    assert_eq!(rt; queue.pop(), Some(2));
+    assert_eq!(rt; queue.pop(), Some(4));
+    assert_eq!(rt; queue.pop(), None);
+    Ok(())
+}
+
+#[test]
+fn two_slots(rt: HostRuntime) -> Result<(), Fail> {
+    let mut slots = Slots::new(rt.alloc(), 2)?;
+    assert_eq!(rt; slots.len(), 2);
+    assert_eq!(rt; slots.place(1, 'b'), Ok(()));
+    assert_eq!(rt; slots.place(1, 'c'), Err((Placing::Double, 'c')));
+    assert_eq!(rt; slots.place(2, 'c'), Err((Placing::Stranger, 'c')));
+    assert!(rt; !slots.is_full());
+    assert_eq!(rt; slots.place(0, 'a'), Ok(()));
+    assert!(rt; slots.is_full());
+    if slots.is_full() {
+        assert!(rt; slots.into_list().as_slice() == ['a', 'b'].as_slice());
+    }
+    Ok(())
+}
+
+// A room that no memory can hold is refused, and taken for want of memory.
+#[test]
+fn room_past_all_memory(rt: HostRuntime) -> Result<(), Fail> {
+    let queue: Result<Queue<u64>, Memory> = Queue::new(rt.alloc(), usize::MAX);
+    assert_eq!(rt; queue.err(), Some(Memory));
+    let slots: Result<Slots<u64>, Memory> = Slots::new(rt.alloc(), usize::MAX);
+    assert_eq!(rt; slots.err(), Some(Memory));
+    Ok(())
+}

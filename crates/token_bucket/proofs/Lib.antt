@@ -1,0 +1,3 @@
+pub mod AccrualLemmas
+pub mod CallLemmas
+pub mod FitsLemmas

@@ -1,0 +1,6 @@
+pub mod Accrual
+pub mod Calls
+pub mod Standing
+pub mod Fits
+pub mod Ranges
+pub mod Running
