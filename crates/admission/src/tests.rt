@@ -1,2 +1,4 @@
+mod memory;
+mod plain;
 mod rows;
 mod window;

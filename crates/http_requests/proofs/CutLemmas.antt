@@ -173,17 +173,13 @@ take_then text zero n h = rw (zero-add n) refl
 take_then [] (suc at) n h = absurd (omega (arith, h))
 take_then (b ∷ text) (suc at) n h = let e : suc at + n ≡ suc (at + n) = omega arith in rw e (ap (λ l. b ∷ l) (take_then text at n (omega (arith, h))))
 
-between_wider : (from to high : ℕ) (ms : List Message) → to ≤ high → EndBetween from to ms → EndBetween from high ms
-between_wider from to high [] le h = tt
-between_wider from to high (m ∷ ms) le h = (h.0, (let i = h.1 in omega (arith, i, le)), between_wider from to high ms le h.2)
-
 between_later : (from low to : ℕ) (ms : List Message) → from ≤ low → EndBetween low to ms → EndBetween from to ms
 between_later from low to [] le h = tt
-between_later from low to (m ∷ ms) le h = ((let i = h.0 in omega (arith, i, le)), h.1, between_later from low to ms le h.2)
+between_later from low to (m ∷ ms) le h = ((let i = h.0 in omega (arith, i, le)), h.1, h.2)
 
-between_append : (from to : ℕ) (ms ns : List Message) → EndBetween from to ms → EndBetween from to ns → EndBetween from to (ms ++ ns)
-between_append from to [] ns g h = h
-between_append from to (m ∷ ms) ns g h = (g.0, g.1, between_append from to ms ns g.2 h)
+between_append : (from mid to : ℕ) (ms ns : List Message) → from ≤ mid → mid ≤ to → EndBetween from mid ms → EndBetween mid to ns → EndBetween from to (ms ++ ns)
+between_append from mid to [] ns le wide g h = between_later from mid to ns le h
+between_append from mid to (m ∷ ms) ns le wide g h = (g.0, (let i = g.1 in omega (arith, i, wide)), between_append m.end mid to ms ns g.1 wide g.2 h)
 
 pub cuts_then : (a b c : Progress) (text : List ℕ) (at n : ℕ) (old mid new : List Message) → at ≤ length text → b.read ≡ a.read + at
     → Cuts a (take at text) b old mid → Took b (drop at text) c mid new n → Cuts a (take (at + n) text) c old new
@@ -193,9 +189,7 @@ cuts_then a b c text at n old mid new le read g t =
     record {
       more = g.more ++ h.more;
       appended = rw (h.appended, g.appended) (append_assoc old g.more h.more);
-      ends = between_append a.read c.read g.more h.more
-          (between_wider a.read b.read c.read g.more (omega (arith, later)) g.ends)
-          (between_later a.read b.read c.read h.more (omega (arith, read)) h.ends);
+      ends = between_append a.read b.read c.read g.more h.more (omega (arith, read)) (omega (arith, later)) g.ends h.ends;
       yields = λ y ms e.
           rw (append_assoc g.more h.more ms, take_then text at n le, append_assoc (take at text) (take n (drop at text)) y)
           (g.yields (take n (drop at text) ++ y) (h.more ++ ms) (h.yields y ms e));

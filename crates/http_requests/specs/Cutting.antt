@@ -53,10 +53,10 @@ pub record IsSound (c : Progress) : Type 0 where
 abbrev pub HasFailed : Progress → Type 0
 HasFailed c = c.stage ≡ Failed
 
--- each message ends after the place `from` and by the place `to`
+-- the messages end one after another, behind the place `from` and by the place `to`
 abbrev pub EndBetween : ℕ → ℕ → List Message → Type 0
 EndBetween from to [] = Unit {0}
-EndBetween from to (m ∷ ms) = (from < m.end) × (m.end ≤ to) × EndBetween from to ms
+EndBetween from to (m ∷ ms) = (from < m.end) × (m.end ≤ to) × EndBetween m.end to ms
 
 -- messages came: those of a body's text are these and then what the cutter yields
 pub record Enters (what : What) (left read : ℕ) (c : Progress) (old new : List Message) : Type 0 where

@@ -1,0 +1,32 @@
+//! Want of memory: `rt try --test --fail-alloc 1..` refuses each growth in turn.
+use crate::{Controller, Decision, Policy};
+
+/// An offer whose growth is refused leaves the controller as it was: offered again, the request has the answer that it would
+/// have had.
+#[test]
+fn each_growth_refused(rt: HostRuntime) {
+    let policy = Policy::new(2, 1, 700, 1000, 500, 2000, 10, 120, 1000, 90, 10).expect(
+        &rt, "a policy",
+    );
+    let Ok(mut controller) = Controller::new(rt.alloc(), policy) else {
+        return;
+    };
+    for place in 0..3u64 {
+        let service = if place == 0 { 5000 } else { 100 };
+        let answer = match controller.offer(5000 * place, service) {
+            Ok(decision) => Ok(decision),
+            Err(_) => controller.offer(5000 * place, service),
+        };
+        let Ok(decision) = answer else {
+            return;
+        };
+        assert_eq!(rt;
+            decision,
+            Decision::Admitted {
+                finish: 5000 * place + service
+            }
+        );
+    }
+    let rates = controller.controls().iter().map(|control| control.rate);
+    assert!(rt; rates.eq([833, 694]));
+}

@@ -1,0 +1,225 @@
+//! A slow program that follows the rules word for word: it keeps every request and works each answer out anew. The
+//! controller must agree with it at each of some hundred offers.
+use crate::{Control, Controller, Decision, Policy};
+use std::alloc::{AllocError, AllocGlobal, Global};
+use std::process::Abort;
+use std::test::Fail;
+
+/// Units to a token.
+const TOKEN: u64 = 1_000_000_000;
+
+/// A request that was offered, and when it is finished where it was admitted.
+#[derive(Drop)]
+struct Request {
+    tick: u64,
+    service: u64,
+    finish: Option<u64>,
+}
+
+/// The greatest, over the admitted requests and this one, of an arrival and the services from it on.
+fn finish_of(requests: &[Request], tick: u64, service: u64) -> u64 {
+    let mut services = service;
+    let mut greatest = tick.saturating_add(service);
+    for request in requests.iter().rev() {
+        if request.finish.is_some() {
+            services = services.saturating_add(request.service);
+            greatest = greatest.max(request.tick.saturating_add(services));
+        }
+    }
+    greatest
+}
+
+/// The sample that nine tenths of them, rounded up, do not exceed: by sorting.
+fn percentile_of(alloc: Global, samples: &[u64]) -> Result<u64, AllocError> {
+    let mut sorted = Vec::new(alloc);
+    sorted.extend_from_slice(samples)?;
+    sorted.sort_unstable();
+    let rank = sorted.len().saturating_mul(9).div_ceil(10);
+    Ok(sorted.get(rank.saturating_sub(1)).copied().unwrap_or(0))
+}
+
+/// The rate after a control.
+fn rate_of(policy: Policy, smoothed: u64, rate: u64) -> u64 {
+    if smoothed > policy.target {
+        let lowered = rate.saturating_mul(100).checked_div(policy.down);
+        policy.rate_min.max(lowered.unwrap_or(0))
+    } else if smoothed.saturating_mul(100) < policy.low.saturating_mul(policy.target) {
+        policy.rate_max.min(rate.saturating_add(policy.up))
+    } else {
+        rate
+    }
+}
+
+/// All controls of the admitted requests.
+fn controls_of(
+    alloc: Global,
+    policy: Policy,
+    requests: &[Request],
+) -> Result<Vec<Control>, AllocError> {
+    let mut samples = Vec::new(alloc);
+    let mut controls = Vec::new(alloc);
+    let (mut smoothed, mut rate) = (0u64, policy.rate);
+    for request in requests {
+        let Some(finish) = request.finish else {
+            continue;
+        };
+        samples.push(finish.saturating_sub(request.tick))?;
+        if (samples.len() as u64).checked_rem(policy.every) != Some(0) {
+            continue;
+        }
+        let first = samples.len().saturating_sub(policy.window as usize);
+        let percentile = percentile_of(alloc, samples.get(first..).unwrap_or(&[]))?;
+        let before = policy.smoothing.saturating_mul(smoothed);
+        let own = 1000u64
+            .saturating_sub(policy.smoothing)
+            .saturating_mul(percentile);
+        smoothed = before.saturating_add(own) / 1000;
+        rate = rate_of(policy, smoothed, rate);
+        controls.push(Control {
+            instant: finish,
+            percentile,
+            smoothed,
+            rate,
+        })?;
+    }
+    Ok(controls)
+}
+
+/// The rate in force at a tick: that of the last control before it or at it.
+fn rate_at(policy: Policy, controls: &[Control], tick: u64) -> u64 {
+    let reached = controls
+        .iter()
+        .filter(|control| control.instant <= tick)
+        .count();
+    controls
+        .get(reached.wrapping_sub(1))
+        .map_or(policy.rate, |control| control.rate)
+}
+
+/// What accrues from one tick to another, tick by tick.
+fn accrued(policy: Policy, controls: &[Control], from: u64, to: u64) -> u64 {
+    (from..to).fold(0u64, |sum, tick| {
+        sum.saturating_add(rate_at(policy, controls, tick))
+    })
+}
+
+/// The credit of a request at this tick: the least over the requests so far of a full bucket at each, with what accrued from
+/// it on and without the tokens taken from it on.
+fn credit_of(policy: Policy, controls: &[Control], requests: &[Request], tick: u64) -> u64 {
+    let full = policy.depth.saturating_mul(TOKEN);
+    let (mut least, mut taken, mut gained, mut later) = (full, 0u64, 0u64, tick);
+    for request in requests.iter().rev() {
+        gained = gained.saturating_add(accrued(policy, controls, request.tick, later));
+        later = request.tick;
+        if request.finish.is_some() {
+            taken = taken.saturating_add(TOKEN);
+        }
+        least = least.min(full.saturating_add(gained).saturating_sub(taken));
+    }
+    least
+}
+
+/// What the plain program says of one more offer.
+fn decision_of(
+    policy: Policy,
+    controls: &[Control],
+    requests: &[Request],
+    offer: (u64, u64),
+) -> Decision {
+    let (tick, service) = offer;
+    if credit_of(policy, controls, requests, tick) < TOKEN {
+        return Decision::Rejected;
+    }
+    Decision::Admitted {
+        finish: finish_of(requests, tick, service),
+    }
+}
+
+/// The finish of an admitted request.
+fn finish_in(decision: Decision) -> Option<u64> {
+    match decision {
+        Decision::Admitted { finish } => Some(finish),
+        Decision::Rejected => None,
+    }
+}
+
+/// The next of a row of numbers without a plain pattern.
+fn next_number(number: u64) -> u64 {
+    number
+        .wrapping_mul(6_364_136_223_846_793_005)
+        .wrapping_add(1_442_695_040_888_963_407)
+}
+
+/// Offers 200 requests up to 15 ticks apart, and compares each decision and the controls shown with those of the plain program.
+/// Returns how many were turned away.
+fn compare(rt: &(impl Abort + AllocGlobal), policy: Policy) -> Result<usize, Fail> {
+    let alloc = rt.alloc();
+    let mut controller = Controller::new(alloc, policy)?;
+    let mut requests = Vec::new(alloc);
+    let (mut number, mut tick) = (1u64, 0u64);
+    for _ in 0..200u64 {
+        number = next_number(number);
+        tick += (number >> 33) % 16;
+        let service = 1 + (number >> 40) % 12;
+        let controls = controls_of(alloc, policy, &requests)?;
+        let decision = decision_of(policy, &controls, &requests, (tick, service));
+        assert_eq!(rt; controller.offer(tick, service)?, decision);
+        let shown = controls
+            .iter()
+            .filter(|control| control.instant <= tick)
+            .count();
+        assert_eq!(rt; Some(controller.controls()), controls.get(..shown));
+        requests.push(Request {
+            tick,
+            service,
+            finish: finish_in(decision),
+        })?;
+    }
+    Ok(
+        requests
+            .iter()
+            .filter(|request| request.finish.is_none())
+            .count(),
+    )
+}
+
+/// A bucket that now and then is empty, and rates that rise and fall. (How many are turned away was worked out by a script.)
+#[test]
+fn a_window_longer_than_the_controls_are_apart(rt: HostRuntime) -> Result<(), Fail> {
+    let policy = Policy::new(
+        20,
+        7,
+        700,
+        90_000_000,
+        20_000_000,
+        400_000_000,
+        20_000_000,
+        120,
+        12,
+        90,
+        3,
+    )
+    .expect(&rt, "a policy");
+    assert_eq!(rt; compare(&rt, policy)?, 43);
+    Ok(())
+}
+
+#[test]
+fn a_control_at_each_request(rt: HostRuntime) -> Result<(), Fail> {
+    let policy = Policy::new(
+        3,
+        1,
+        0,
+        90_000_000,
+        20_000_000,
+        400_000_000,
+        5_000_000,
+        105,
+        9,
+        100,
+        1,
+    )
+    .expect(&rt, "a policy");
+    assert_eq!(rt; compare(&rt, policy)?, 112);
+    Ok(())
+}
