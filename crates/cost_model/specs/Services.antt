@@ -1,5 +1,5 @@
 -- How long the virtual server works on a request, in ticks of one microsecond.
-use Rattle.std.specs.Prelude.{◌≡◌, ℕ, ◌+◌, ◌*◌, ◌/◌, ◌≤◌, ◌||◌, ◌&&◌, Bool, nat_le, if◌then◌else◌}
+use Rattle.std.specs.Prelude.{ℕ, ◌+◌, ◌*◌, ◌/◌, ◌||◌, ◌&&◌, Bool, nat_le, if◌then◌else◌}
 use Rattle.cost_model.specs.declared.TheConstants.{MAX_COST}
 use Rattle.paths.specs.declared.outcome.Outcome.{Outcome}
 use Rattle.paths.specs.declared.outcome.Outcome.TheVariants.{File}

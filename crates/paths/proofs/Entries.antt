@@ -101,6 +101,7 @@ front_faults o n nl entry files kind rules is t h = λ k foreseen.
       record {
         whole = t.bytes k;
         rules = rules;
+        size = omega (arith, t.count k);
         entry = is;
         kind = subst (λ (l : ℕ). entry_at files (record { bytes = unwrap_or n []; left = l }) ≡ Err kind) left (h (t.known k) foreseen);
       },
@@ -123,6 +124,7 @@ trailing_faults o n m entry b x files some front byte rules is k foreseen =
       record {
         whole = front.text k ∙ ap (λ v. snapshot_text files ++ v) (consumed n m b took (front.known k));
         rules = rules;
+        size = front.size k;
         entry = is;
         kind = refl;
       },

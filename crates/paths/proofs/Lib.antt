@@ -5,3 +5,4 @@ pub mod Locating
 pub mod Names
 pub mod Segmenting
 pub mod Taking
+pub mod Locations

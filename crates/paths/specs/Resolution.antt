@@ -1,6 +1,6 @@
 -- What a request is answered with, by what it asks for and the names of the files.
-use Rattle.std.specs.Prelude.{ℕ, ◌==◌, ◌||◌, Bool, true, false, List, [], ◌∷◌, ◌++◌, Option, Some, None, codes, flat_map, if◌then◌else◌}
-use Rattle.std.specs.List.{join_with_byte}
+use Rattle.std.specs.Prelude.{◌≡◌, ℕ, ◌<◌, ◌==◌, ◌&&◌, ◌||◌, nat_lt, length, Bool, true, false, List, [], ◌∷◌, ◌++◌, Option, Some, None, codes, flat_map, if◌then◌else◌}
+use Rattle.std.specs.List.{join_with_byte, list_all}
 use Rattle.std.specs.Char.{is_ascii_alphanumeric}
 use Rattle.percent_encoding.specs.Percent.{percent_encode_byte}
 use Rattle.paths.specs.Snapshots.{slash, position_of, has_folder}
@@ -50,3 +50,13 @@ outcome files askeds.Missing = outcomes.Missing
 outcome files askeds.BadTarget = outcomes.BadTarget
 outcome files askeds.NotAllowed = outcomes.NotAllowed
 outcome files askeds.NotKnown = outcomes.NotKnown
+
+-- a character of ASCII that can be seen
+abbrev pub is_visible : ℕ → Bool
+is_visible b = nat_lt 32 b && nat_lt b 127
+
+-- what each outcome keeps: a file is there, and a location is visible characters alone
+abbrev pub IsOutcome : List File → Outcome → Type 0
+IsOutcome files (outcomes.File file) = file < length files
+IsOutcome files (outcomes.Move to) = list_all is_visible to ≡ true
+IsOutcome files other = Unit {0}

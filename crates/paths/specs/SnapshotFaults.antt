@@ -122,6 +122,7 @@ CountsKind old new r = MatchResult r (λ _. new ≡ old) (λ k. new ≡ old + fa
 pub record FaultsBehind (text : List ℕ) (f : SnapshotFault) (files : List File) (rest : List ℕ) : Type 0 where
   pub whole : text ≡ text_before_end files ++ rest
   pub rules : IsSnapshot files
+  pub size : length (text_before_end files) ≤ longest_text
   pub entry : f.entry ≡ length files + 1
   pub kind : entry_at files (record { bytes = rest; left = longest_text - length (text_before_end files) }) ≡ Err f.kind
 
@@ -133,6 +134,7 @@ IsFrontFault text f = ((f.entry ≡ 0) × (header_at (record { bytes = text; lef
 pub record HasTrailing (text : List ℕ) (f : SnapshotFault) (files : List File) (b : ℕ) (rest : List ℕ) : Type 0 where
   pub whole : text ≡ snapshot_text files ++ b ∷ rest
   pub rules : IsSnapshot files
+  pub size : length (snapshot_text files) ≤ longest_text
   pub entry : f.entry ≡ length files + 1
   pub kind : f.kind ≡ Trailing
 

@@ -26,7 +26,7 @@ pub use asked::Asked;
 pub use bytes::Bytes;
 pub use device::{Failed, Input};
 pub use file::File;
-pub use numbers::number;
+pub use numbers::{number, number_and_rest, three_numbers};
 pub use outcome::Outcome;
 pub use output::Output;
 pub use resolution::{locate, resolve};

@@ -30,7 +30,7 @@ fn first_space(text: &[u8]) -> Option<usize>
 }
 
 /// The number in front of the first space, and what follows that space.
-fn number_and_rest(text: &[u8]) -> Option<(u64, &[u8])>
+pub fn number_and_rest(text: &[u8]) -> Option<(u64, &[u8])>
     ensures { option_map (λ found. (found.0, found.1.now)) result ≡ number_and_rest text.now }
 {
     match first_space(text) {
@@ -43,7 +43,7 @@ fn number_and_rest(text: &[u8]) -> Option<(u64, &[u8])>
 }
 
 /// The numbers of three decimals that are parted by single spaces.
-pub(crate) fn three_numbers(text: &[u8]) -> Option<(u64, u64, u64)>
+pub fn three_numbers(text: &[u8]) -> Option<(u64, u64, u64)>
     ensures { result ≡ three_numbers text.now }
 {
     let (first, rest) = number_and_rest(text)?;

@@ -1,7 +1,7 @@
 ghost use Rattle.std.specs.Prelude.{◌≡◌, ◌++◌, [], ◌∷◌, true, false, IfOk, OnOk, string_bytes, codes, flat_map, List, ℕ};
 ghost use Rattle.paths.specs.Snapshots.{slash};
 ghost use Rattle.paths.specs.Targets.{asked};
-ghost use Rattle.paths.specs.Resolution.{outcome, joined, location, location_byte, slash_before};
+ghost use Rattle.paths.specs.Resolution.{IsOutcome, outcome, joined, location, location_byte, slash_before};
 
 use crate::{Asked, Bytes, Outcome, Segments, Snapshot, inspect};
 use percent_encoding::{AsciiSet, NON_ALPHANUMERIC, ascii_set, percent_encode};
@@ -18,7 +18,8 @@ const RESERVED: AsciiSet = ascii_set!(
 
 /// What a request is answered with, by what it asks for and the names of the snapshot.
 pub fn locate(alloc: Global, files: &Snapshot, asked: &Asked) -> Result<Outcome, AllocError>
-    ensures { IfOk result (λ o. o ≡ outcome files.now asked.now) }
+    ensures outcome { IfOk result (λ o. o ≡ outcome files.now asked.now) }
+    ensures is { IfOk result (IsOutcome files.now) }
 {
     match asked {
         Asked::Path {
@@ -43,15 +44,18 @@ pub fn resolve(
     method: &[u8],
     target: &[u8],
 ) -> Result<Outcome, AllocError>
-    ensures { IfOk result (λ o. o ≡ outcome files.now (asked method.now target.now)) }
+    ensures outcome { IfOk result (λ o. o ≡ outcome files.now (asked method.now target.now)) }
+    ensures is { IfOk result (IsOutcome files.now) }
 {
     let asked = inspect(alloc, method, target)?;
     locate(alloc, files, &asked)
 }
 
 /// The `index.html` of the folder at these segments.
+#[tactic(auto, using(crate::proofs::Locations::outcome_is))]
 fn find_index(alloc: Global, files: &Snapshot, segments: &Segments) -> Result<Outcome, AllocError>
-    ensures { IfOk result (λ o. o ≡ outcome files.now (Asked.Path segments.now true)) }
+    ensures outcome { IfOk result (λ o. o ≡ outcome files.now (Asked.Path segments.now true)) }
+    ensures is { IfOk result (IsOutcome files.now) }
 {
     let name = index_name(alloc, segments)?;
     match files.position(&name) {
@@ -70,8 +74,10 @@ fn index_name(alloc: Global, segments: &Segments) -> Result<Vec<u8>, AllocError>
 }
 
 /// The file at these segments, or the location of the folder there.
+#[tactic(auto, using(crate::proofs::Locations::location_visible))]
 fn find_file(alloc: Global, files: &Snapshot, segments: &Segments) -> Result<Outcome, AllocError>
-    ensures { IfOk result (λ o. o ≡ outcome files.now (Asked.Path segments.now false)) }
+    ensures outcome { IfOk result (λ o. o ≡ outcome files.now (Asked.Path segments.now false)) }
+    ensures is { IfOk result (IsOutcome files.now) }
 {
     let mut name = join(alloc, segments.as_slice())?;
     if let Some(file) = files.position(&name) {

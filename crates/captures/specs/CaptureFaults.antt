@@ -1,0 +1,174 @@
+-- How a capture text is read, record by record, and its first fault.
+use Rattle.std.specs.Prelude.{◌≡◌, ℕ, ◌+◌, ◌-◌, ◌≤◌, ◌==◌, ◌||◌, ◌⊎◌, Bool, true, false, List, [], ◌++◌, drop, length, Option, Some, None, Result, Ok, Err, MatchResult, codes, nat_eq, nat_lt, if◌then◌else◌, is_some, unwrap_or}
+use Rattle.std.specs.List.{starts_with}
+use Rattle.paths.specs.Numbers.{number_of, number_and_rest, three_numbers}
+use Rattle.paths.specs.Numbers.{◌>>=◌ as ◌>?=◌}
+use Rattle.paths.specs.Texts.{Ahead, line_at, run_at, byte_at}
+use Rattle.paths.specs.declared.stop.Stop.{Stop}
+use Rattle.paths.specs.declared.stop.Stop.TheVariants as stops
+use Rattle.captures.specs.Captures.{Version, Past, past_of, feed, latest_start, latest_tick, most_bytes, longest_text, text_before_stop, IsCapture}
+use Rattle.captures.specs.declared.record.Record.{Record}
+use Rattle.captures.specs.declared.record.Record.TheVariants.{Piece, End}
+use Rattle.captures.specs.declared.heading.PieceLine.{PieceLine}
+use Rattle.captures.specs.declared.heading.Heading.{Heading}
+use Rattle.captures.specs.declared.heading.Heading.TheVariants as headings
+use Rattle.captures.specs.declared.capture_fault.CaptureFault.{CaptureFault}
+use Rattle.captures.specs.declared.capture_fault.CaptureFaultKind.{CaptureFaultKind}
+use Rattle.captures.specs.declared.capture_fault.CaptureFaultKind.TheVariants.{Cut, Header, Kind, Number, Tick, Connection, Ended, Length, Count, Trailing, TooLarge, Read, Memory}
+
+-- the fault of a record, a part of which could not be read
+abbrev pub kind_of : Stop → CaptureFaultKind
+kind_of stops.TooLong = Kind
+kind_of stops.Cut = Cut
+kind_of stops.TooLarge = TooLarge
+kind_of stops.Read = Read
+kind_of stops.Memory = Memory
+
+-- that of the first line
+abbrev pub header_kind_of : Stop → CaptureFaultKind
+header_kind_of stops.TooLong = Header
+header_kind_of stops.Cut = Cut
+header_kind_of stops.TooLarge = TooLarge
+header_kind_of stops.Read = Read
+header_kind_of stops.Memory = Memory
+
+abbrev pub named : {X : Type 0} → (Stop → CaptureFaultKind) → Result X Stop → Result X CaptureFaultKind
+named name (Ok x) = Ok x
+named name (Err e) = Err (name e)
+
+infixl 10 ◌>>=◌
+abbrev pub ◌>>=◌ : {A B : Type 0} → Result A CaptureFaultKind → (A → Result B CaptureFaultKind) → Result B CaptureFaultKind
+(Ok x) >>= f = f x
+(Err e) >>= f = Err e
+
+-- the start that the first line gives
+abbrev pub start_heading : Option ℕ → Result ℕ CaptureFaultKind
+start_heading (Some start) = if nat_lt latest_start start then Err Header else Ok start
+start_heading None = Err Number
+
+abbrev pub start_of : Version → List ℕ → Result ℕ CaptureFaultKind
+start_of v line =
+    if starts_with nat_eq line v.front then start_heading (number_of (drop (length v.front) line))
+    else Err Header
+
+-- the first line: its start, behind it the records
+abbrev pub header_at : Version → Ahead → Result (ℕ × Ahead) CaptureFaultKind
+header_at v a = do
+  line ← named header_kind_of (line_at a)
+  start ← start_of v line.0
+  Ok (start, line.1)
+
+-- just two numbers
+abbrev pub two_numbers : List ℕ → Option (ℕ × ℕ)
+two_numbers text = number_and_rest text >?= λ first. number_of first.1 >?= λ second. Some (first.0, second)
+
+-- what a line announces: a piece's tick, connection and length, an end's tick and connection, or the number of records
+abbrev pub piece_heading : Option (ℕ × ℕ × ℕ) → Result Heading CaptureFaultKind
+piece_heading (Some n) = Ok (headings.Piece (record { tick = n.0; conn = n.1; len = n.2 }))
+piece_heading None = Err Number
+
+abbrev pub end_heading : Option (ℕ × ℕ) → Result Heading CaptureFaultKind
+end_heading (Some n) = Ok (headings.End (record { tick = n.0; conn = n.1 }))
+end_heading None = Err Number
+
+abbrev pub stop_heading : Option ℕ → Result Heading CaptureFaultKind
+stop_heading (Some n) = Ok (headings.Stop n)
+stop_heading None = Err Number
+
+abbrev pub heading_of : List ℕ → Result Heading CaptureFaultKind
+heading_of line =
+    if starts_with nat_eq line (codes "piece ") then piece_heading (three_numbers (drop 6 line))
+    else if starts_with nat_eq line (codes "end ") then end_heading (two_numbers (drop 4 line))
+    else if starts_with nat_eq line (codes "stop ") then stop_heading (number_of (drop 5 line))
+    else Err Kind
+
+-- the connection of a piece or an end, whose tick and connection may stand behind this past
+abbrev pub allowed : Version → Past → ℕ → ℕ → Result ℕ CaptureFaultKind
+allowed v past tick conn =
+    if nat_lt latest_tick tick || nat_lt tick past.tick then Err Tick
+    else if nat_lt v.last_connection conn then Err Connection
+    else if past.ended conn then Err Ended
+    else Ok conn
+
+-- the bytes of a piece, so many
+abbrev pub body_at : ℕ → Ahead → Result (List ℕ × Ahead) CaptureFaultKind
+body_at n a = do
+  bytes ← named kind_of (run_at n a)
+  end ← named kind_of (byte_at bytes.1)
+  if end.0 == feed then Ok (bytes.0, end.1) else Err Length
+
+-- the piece that a line announces
+abbrev pub piece_at : Version → Past → PieceLine → Ahead → Result (Record × Ahead) CaptureFaultKind
+piece_at v past line a = do
+  conn ← allowed v past line.tick line.conn
+  if line.len == 0 || nat_lt most_bytes line.len then Err Length
+      else (do
+        bytes ← body_at line.len a
+        Ok (Piece line.tick conn bytes.0, bytes.1))
+
+-- the end of the input
+abbrev pub close_at : Ahead → Result (Unit {0} × Ahead) CaptureFaultKind
+close_at a = if length a.bytes == 0 then Ok (tt, a) else Err Trailing
+
+-- what a heading announces: a record, or the end of the capture (None), behind which the input ends
+abbrev pub announced : Version → Past → Heading → Ahead → Result (Option Record × Ahead) CaptureFaultKind
+announced v past (headings.Piece line) a = do
+  piece ← piece_at v past line a
+  Ok (Some piece.0, piece.1)
+announced v past (headings.End line) a = do
+  conn ← allowed v past line.tick line.conn
+  Ok (Some (End line.tick conn), a)
+announced v past (headings.Stop count) a =
+    if count == past.count then (do
+      end ← close_at a
+      Ok (None, end.1))
+    else Err Count
+
+-- the record behind this past, or None where the capture ends
+abbrev pub record_at : Version → Past → Ahead → Result (Option Record × Ahead) CaptureFaultKind
+record_at v past a = do
+  line ← named kind_of (line_at a)
+  heading ← heading_of line.0
+  announced v past heading line.1
+
+-- a failed device and want of memory come where they happen: no definition foresees them
+abbrev pub is_unforeseen_kind : CaptureFaultKind → Bool
+is_unforeseen_kind Read = true
+is_unforeseen_kind Memory = true
+is_unforeseen_kind _ = false
+
+-- The fault of the record behind these, whose texts stand whole in front of it. (The last line is a record here too.)
+pub record FaultsBehind (v : Version) (text : List ℕ) (start : ℕ) (records : List Record) (f : CaptureFault) (rest : List ℕ) : Type 0 where
+  pub whole : text ≡ text_before_stop v start records ++ rest
+  pub rules : IsCapture v start records
+  pub size : length (text_before_stop v start records) ≤ longest_text
+  pub at : f.at ≡ length records + 1
+  pub kind : record_at v (past_of records) (record { bytes = rest; left = longest_text - length (text_before_stop v start records) }) ≡ Err f.kind
+
+-- The first fault of bytes that are no capture text: that of the first line, which is record 0, or of the record behind
+-- those that stand whole.
+abbrev pub IsHeaderFault : Version → List ℕ → CaptureFault → Type 0
+IsHeaderFault v text f = (f.at ≡ 0) × (header_at v (record { bytes = text; left = longest_text }) ≡ Err f.kind)
+
+abbrev pub IsFaultBehind : Version → List ℕ → ℕ → List Record → CaptureFault → Type 0
+IsFaultBehind v text start records f = (rest : List ℕ) × FaultsBehind v text start records f rest
+
+abbrev pub IsFirstFault : Version → List ℕ → CaptureFault → Type 0
+IsFirstFault v text f = IsHeaderFault v text f
+    ⊎ ((start : ℕ) × (records : List Record) × IsFaultBehind v text start records f)
+
+-- where the bytes of the input are known, and the fault is none that comes where it happens, it is the one of the text
+abbrev pub IsForeseen : (List ℕ → CaptureFault → Type 0) → Option (List ℕ) → CaptureFault → Type 0
+IsForeseen IsFault old f = is_some old ≡ true → is_unforeseen_kind f.kind ≡ false → IsFault (unwrap_or old []) f
+
+-- how often the device failed in a call that answered this fault
+abbrev pub failures_of : CaptureFaultKind → ℕ
+failures_of Read = 1
+failures_of _ = 0
+
+-- the count of failures rose by one exactly where the fault is a failed read
+abbrev pub CountsKind : {X : Type 0} → ℕ → ℕ → Result X CaptureFaultKind → Type 0
+CountsKind old new r = MatchResult r (λ _. new ≡ old) (λ k. new ≡ old + failures_of k)
+
+abbrev pub CountsFault : {X : Type 0} → ℕ → ℕ → Result X CaptureFault → Type 0
+CountsFault old new r = MatchResult r (λ _. new ≡ old) (λ f. new ≡ old + failures_of f.kind)

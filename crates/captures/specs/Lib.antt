@@ -1,0 +1,3 @@
+pub mod CaptureFaults
+pub mod Captures
+pub mod Readers

@@ -1,0 +1,67 @@
+-- A reader of a capture, which gives record after record.
+use Rattle.std.specs.Prelude.{◌≡◌, ℕ, ◌+◌, true, false, ◌||◌, ◌==◌, List, [], ◌∷◌, ◌++◌, length, Option, Some, None, Result, Ok, Err, MatchResult, slice_index_or, is_some, unwrap_or}
+use Rattle.captures.specs.Captures.{Version, Past, past_of, longest_text, text_before_stop, IsCapture, IsCaptureText, sizes_of}
+use Rattle.captures.specs.CaptureFaults.{IsFaultBehind, IsForeseen, failures_of}
+use Rattle.captures.specs.declared.record.Record.{Record}
+use Rattle.captures.specs.declared.record.Record.TheVariants.{Piece, End}
+use Rattle.captures.specs.declared.capture_fault.CaptureFault.{CaptureFault}
+use Rattle.captures.specs.declared.capture_fault.CaptureFaultKind.{CaptureFaultKind}
+use Rattle.captures.specs.declared.so_far.SoFar.{SoFar}
+use Rattle.captures.specs.declared.stage.Stage.{Stage}
+use Rattle.captures.specs.declared.stage.Stage.TheVariants.{Reading, Ended, Failed}
+use Rattle.captures.specs.declared.progress.Progress.{Progress}
+
+-- what a reader keeps of the records so far
+abbrev pub seen : SoFar → Past
+seen s = record { count = s.count; tick = s.tick; ended = λ c. slice_index_or s.ended c false }
+
+-- the past behind one more record
+abbrev pub after : Past → Record → Past
+after past (Piece tick conn bytes) = record { count = past.count + 1; tick = tick; ended = past.ended }
+after past (End tick conn) = record { count = past.count + 1; tick = tick; ended = λ c. past.ended c || conn == c }
+
+-- A reader has given these records of a text, and no others: they keep the rules, and where the bytes of the input are
+-- known, the first line and the texts of the records were taken from their front, and the rest is ahead.
+pub record Fits (v : Version) (text : Option (List ℕ)) (start : ℕ) (records : List Record) (p : Progress) (now : Option (List ℕ)) : Type 0 where
+  pub stage : p.stage ≡ Reading
+  pub begun : p.start ≡ start
+  pub rules : IsCapture v start records
+  pub past : seen p.so_far ≡ past_of records
+  pub room : length records + sizes_of records + p.room ≡ longest_text
+  pub front : is_some text ≡ true → unwrap_or text [] ≡ text_before_stop v start records ++ unwrap_or now []
+  pub left : is_some text ≡ true → longest_text ≡ length (text_before_stop v start records) + p.left
+  pub known : is_some text ≡ true → is_some now ≡ true
+
+-- What the next call on such a reader answers: one more record; `None` only where the text is the capture of these records;
+-- or the fault behind these records (unless a read failed, or memory ran out).
+abbrev pub Gave : Version → Option (List ℕ) → ℕ → List Record → Result (Option Record) CaptureFault → Progress → Option (List ℕ) → Type 0
+Gave v text start records (Ok (Some r)) p now = Fits v text start (records ++ r ∷ []) p now
+Gave v text start records (Ok None) p now = is_some text ≡ true → IsCaptureText v (unwrap_or text []) start records
+Gave v text start records (Err f) p now = IsForeseen (λ bytes. IsFaultBehind v bytes start records) text f
+
+-- how far a reader has come by this answer
+abbrev pub stage_after : Result (Option Record) CaptureFault → Stage
+stage_after (Ok (Some r)) = Reading
+stage_after (Ok None) = Ended
+stage_after (Err f) = Failed f
+
+-- behind the end, and from a fault on, the answer is repeated, and nothing changes
+abbrev pub Repeats : Stage → Result (Option Record) CaptureFault → Type 0 → Type 0
+Repeats Reading r Unchanged = Unit {0}
+Repeats Ended r Unchanged = (r ≡ Ok None) × Unchanged
+Repeats (Failed f) r Unchanged = (r ≡ Err f) × Unchanged
+
+-- how often the device fails in a call that answers this fault: a fault that is repeated reads nothing
+abbrev pub failures_next : Stage → CaptureFaultKind → ℕ
+failures_next Reading k = failures_of k
+failures_next Ended k = 0
+failures_next (Failed f) k = 0
+
+-- the count of failures of the reader's device rose by one exactly where a read failed in the call
+abbrev pub CountsNext : Stage → ℕ → ℕ → Result (Option Record) CaptureFault → Type 0
+CountsNext stage old new r = MatchResult r (λ _. new ≡ old) (λ f. new ≡ old + failures_next stage f.kind)
+
+-- the same of a reader that names the kind of a fault alone
+abbrev pub GaveKind : Version → Option (List ℕ) → ℕ → List Record → Result (Option Record) CaptureFaultKind → Progress → Option (List ℕ) → Type 0
+GaveKind v text start records (Ok next) p now = Gave v text start records (Ok next) p now
+GaveKind v text start records (Err kind) p now = Gave v text start records (Err (record { at = length records + 1; kind = kind })) p now

@@ -1,0 +1,58 @@
+ghost use Rattle.std.specs.Prelude.{◌≡◌};
+ghost use Rattle.captures.specs.Captures.{version_one};
+ghost use Rattle.captures.specs.CaptureFaults.{two_numbers, heading_of, start_of};
+
+use crate::CaptureFaultKind;
+use crate::heading::{EndLine, Heading, PieceLine};
+use paths::{number, number_and_rest, three_numbers};
+
+/// The latest start of a capture, in seconds since 1970-01-01.
+const LATEST_START: u64 = 4_102_444_800;
+
+/// The start that the first line gives.
+pub(crate) fn read_start(line: &[u8]) -> Result<u64, CaptureFaultKind>
+    ensures { result ≡ start_of version_one line.now }
+{
+    match line.strip_prefix(b"haboob-capture 1 ") {
+        Some(field) => match number(field) {
+            Some(start) if start <= LATEST_START => Ok(start),
+            Some(_) => Err(CaptureFaultKind::Header),
+            None => Err(CaptureFaultKind::Number),
+        },
+        None => Err(CaptureFaultKind::Header),
+    }
+}
+
+/// The numbers of two decimals that are parted by one space.
+fn two_numbers(text: &[u8]) -> Option<(u64, u64)>
+    ensures { result ≡ two_numbers text.now }
+{
+    let (first, rest) = number_and_rest(text)?;
+    let second = number(rest)?;
+    Some((first, second))
+}
+
+/// What a line of a capture announces.
+pub(crate) fn read_heading(line: &[u8]) -> Result<Heading, CaptureFaultKind>
+    ensures { result ≡ heading_of line.now }
+{
+    if let Some(fields) = line.strip_prefix(b"piece ") {
+        return match three_numbers(fields) {
+            Some((tick, conn, len)) => Ok(Heading::Piece(PieceLine { tick, conn, len })),
+            None => Err(CaptureFaultKind::Number),
+        };
+    }
+    if let Some(fields) = line.strip_prefix(b"end ") {
+        return match two_numbers(fields) {
+            Some((tick, conn)) => Ok(Heading::End(EndLine { tick, conn })),
+            None => Err(CaptureFaultKind::Number),
+        };
+    }
+    match line.strip_prefix(b"stop ") {
+        Some(field) => match number(field) {
+            Some(count) => Ok(Heading::Stop(count)),
+            None => Err(CaptureFaultKind::Number),
+        },
+        None => Err(CaptureFaultKind::Kind),
+    }
+}

@@ -1,0 +1,130 @@
+ghost use Rattle.std.specs.Prelude.{◌≡◌, ◌+◌, ◌<◌, ◌≤◌, ◌-◌, ◌^◌, [], ℕ, List, Option, IfNone, IfOk, IfErr, IfSome};
+ghost use Rattle.captures.specs.Captures.{version_one, size_of};
+ghost use Rattle.captures.specs.CaptureFaults.{IsForeseen, IsHeaderFault, IsFaultBehind, CountsFault, CountsKind};
+ghost use Rattle.captures.specs.Readers.{Fits, Gave, GaveKind, stage_after, Repeats, CountsNext};
+ghost use Rattle.captures.specs.declared.record.Record.{Record as ARecord};
+
+use crate::reading::{read_header, read_record};
+use crate::so_far::SoFar;
+use crate::stage::Stage;
+use crate::{CaptureFault, CaptureFaultKind, Record};
+use paths::Input;
+use std::alloc::Global;
+use std::io::Read;
+
+/// The most bytes of a capture text.
+const LONGEST_TEXT: usize = 1_073_741_824;
+
+/// How far a capture was read.
+#[derive(Drop)]
+pub struct Progress {
+    /// The start of the capture, in seconds since 1970-01-01.
+    pub start: u64,
+    /// How many bytes the text may still take.
+    pub left: usize,
+    /// How many bytes further records may bring, with one for each record. `left` is the sharper bound, but it is known to
+    /// fall only where the bytes of the device are known; this one falls with each record of any device.
+    pub room: usize,
+    pub so_far: SoFar,
+    pub stage: Stage,
+}
+
+/// How many bytes records may bring behind this one, where it may come.
+fn room_behind(room: usize, next: &Record) -> Option<usize>
+    ensures some { IfSome result (λ behind. size_of next.now + 1 + behind ≡ room) }
+    ensures none { IfNone result (room ≤ size_of next.now) }
+{
+    let size = next.size();
+    if size < room {
+        Some(room - size - 1)
+    } else {
+        None
+    }
+}
+
+impl Progress {
+    /// Reads the first line.
+    pub(crate) fn open<R: Read>(input: &mut Input<R>) -> Result<Progress, CaptureFault>
+        requires { input.old.1 < 2 ^ 64 - 1 }
+        ensures ok { IfOk result (λ p. Fits version_one input.old.0 p.start [] p input.new.0) }
+        ensures fault { IfErr result (IsForeseen (IsHeaderFault version_one) input.old.0) }
+        ensures count { CountsFault input.old.1 input.new.1 result }
+    {
+        let mut left = LONGEST_TEXT;
+        match read_header(input, &mut left) {
+            Ok(start) => Ok(Progress {
+                start,
+                left,
+                room: LONGEST_TEXT,
+                so_far: SoFar::new(),
+                stage: Stage::Reading,
+            }),
+            Err(kind) => Err(CaptureFault { at: 0, kind }),
+        }
+    }
+
+    /// Reads the next record, or `None` where the capture ends.
+    fn take_record<R: Read>(
+        &mut self,
+        alloc: Global,
+        input: &mut Input<R>,
+    ) -> Result<Option<Record>, CaptureFaultKind>
+        requires { input.old.1 < 2 ^ 64 - 1 }
+        ensures next { (text : Option (List ℕ)) (start : ℕ) (records : List ARecord)
+            → Fits version_one text start records self.old input.old.0
+            → GaveKind version_one text start records result self.new input.new.0 }
+        ensures room { IfOk result (λ next. IfSome next (λ r. size_of r + 1 + self.new.room ≡ self.old.room)) }
+        ensures start { self.new.start ≡ self.old.start }
+        ensures stage { self.new.stage ≡ self.old.stage }
+        ensures count { CountsKind input.old.1 input.new.1 result }
+    {
+        match read_record(alloc, input, &mut self.left, &self.so_far) {
+            Ok(Some(record)) => match room_behind(self.room, &record) {
+                Some(room) => {
+                    self.room = room;
+                    self.so_far.add(&record);
+                    Ok(Some(record))
+                }
+                None => Err(CaptureFaultKind::TooLarge),
+            },
+            Ok(None) => Ok(None),
+            Err(kind) => Err(kind),
+        }
+    }
+
+    /// Reads the next record, or `None` where the capture ends, or repeats the last answer.
+    pub(crate) fn next_record<R: Read>(
+        &mut self,
+        alloc: Global,
+        input: &mut Input<R>,
+    ) -> Result<Option<Record>, CaptureFault>
+        requires { input.old.1 < 2 ^ 64 - 1 }
+        ensures next { (text : Option (List ℕ)) (start : ℕ) (records : List ARecord)
+            → Fits version_one text start records self.old input.old.0
+            → Gave version_one text start records result self.new input.new.0 }
+        ensures room { IfOk result (λ next. IfSome next (λ r. size_of r + 1 + self.new.room ≡ self.old.room)) }
+        ensures start { self.new.start ≡ self.old.start }
+        ensures stage { self.new.stage ≡ stage_after result }
+        ensures again { Repeats self.old.stage result ((self.new ≡ self.old) × (input.new ≡ input.old)) }
+        ensures count { CountsNext self.old.stage input.old.1 input.new.1 result }
+    {
+        match self.stage {
+            Stage::Reading => {}
+            Stage::Ended => return Ok(None),
+            Stage::Failed(fault) => return Err(fault),
+        }
+        let at = self.so_far.count.saturating_add(1);
+        match self.take_record(alloc, input) {
+            Ok(Some(record)) => Ok(Some(record)),
+            Ok(None) => {
+                self.stage = Stage::Ended;
+                Ok(None)
+            }
+            Err(kind) => {
+                let fault = CaptureFault { at, kind };
+                self.stage = Stage::Failed(fault);
+                Err(fault)
+            }
+        }
+    }
+}

@@ -1,0 +1,59 @@
+ghost use Rattle.std.specs.Prelude.{◌≡◌, ◌+◌, ◌<◌, ◌≤◌, ◌-◌, ◌^◌, [], ℕ, List, Option, IfOk, IfErr, IfSome};
+ghost use Rattle.std.specs.Borrow.{sem, RestsIfErr};
+ghost use Rattle.paths.specs.contracts.device.Input.{the_row};
+ghost use Rattle.captures.specs.Captures.{version_one, size_of};
+ghost use Rattle.captures.specs.CaptureFaults.{IsForeseen, IsHeaderFault, CountsFault};
+ghost use Rattle.captures.specs.Readers.{Fits, Gave, stage_after, Repeats, CountsNext};
+ghost use Rattle.captures.specs.declared.record.Record.{Record as ARecord};
+
+use crate::progress::Progress;
+use crate::{CaptureFault, Record};
+use paths::Input;
+use std::alloc::Global;
+use std::io::Read;
+
+/// Reads a capture record by record. It holds one record at a time, and its device until it is dropped.
+#[derive(Drop)]
+pub struct CaptureReader<'a, R: Read> {
+    input: &'a mut Input<R>,
+    progress: Progress,
+}
+
+impl<'a, R: Read> CaptureReader<'a, R> {
+    /// Reads the first line.
+    pub fn open(input: &'a mut Input<R>) -> Result<CaptureReader<'a, R>, CaptureFault>
+        requires { input.old.1 < 2 ^ 64 - 1 }
+        ensures ok { IfOk result (λ reader. Fits version_one input.old.0 reader.progress.start [] reader.progress reader.input.now.0) }
+        ensures fault { IfErr result (IsForeseen (IsHeaderFault version_one) input.old.0) }
+        ensures count { IfOk result (λ reader. reader.input.now.1 ≡ input.old.1) }
+        ensures same { IfOk result (λ reader. reader.input.ghost_name ≡ input.entry.ghost_name) }
+        ensures* refused { sem 𝓛 (RestsIfErr (the_row R.row R.Read) input.entry (λ reader. reader.input.ghost_name) result (λ last. CountsFault input.old.1 last.1 result)) }
+    {
+        let progress = Progress::open(input)?;
+        Ok(CaptureReader { input, progress })
+    }
+
+    /// When the capture starts, in seconds since 1970-01-01.
+    pub fn start(&self) -> u64
+        ensures { result ≡ self.now.progress.start }
+    {
+        self.progress.start
+    }
+
+    /// Reads the next record, or answers `None` where the last line was read and the input ended behind it. From a fault
+    /// on, that fault is answered, and nothing is read.
+    pub fn next_record(&mut self, alloc: Global) -> Result<Option<Record>, CaptureFault>
+        requires { self.old.input.now.1 < 2 ^ 64 - 1 }
+        ensures next { (text : Option (List ℕ)) (start : ℕ) (records : List ARecord)
+            → Fits version_one text start records self.old.progress self.old.input.now.0
+            → Gave version_one text start records result self.new.progress self.new.input.now.0 }
+        ensures room { IfOk result (λ next. IfSome next (λ r. size_of r + 1 + self.new.progress.room ≡ self.old.progress.room)) }
+        ensures start { self.new.progress.start ≡ self.old.progress.start }
+        ensures stage { self.new.progress.stage ≡ stage_after result }
+        ensures again { Repeats self.old.progress.stage result ((self.new.progress ≡ self.old.progress) × (self.new.input.now ≡ self.old.input.now)) }
+        ensures count { CountsNext self.old.progress.stage self.old.input.now.1 self.new.input.now.1 result }
+        ensures same { self.new.input.ghost_name ≡ self.old.input.ghost_name }
+    {
+        self.progress.next_record(alloc, self.input)
+    }
+}

@@ -1,0 +1,145 @@
+ghost use Rattle.std.specs.Prelude.{◌≡◌, ◌<◌, ◌≤◌, ◌-◌, ◌^◌, length, IfOk, IfSome};
+ghost use Rattle.paths.specs.Texts.{Gives};
+ghost use Rattle.captures.specs.Captures.{version_one, Follows};
+ghost use Rattle.captures.specs.CaptureFaults.{CountsKind, is_unforeseen_kind, header_at, body_at, piece_at, close_at, announced, record_at};
+ghost use Rattle.captures.specs.Readers.{seen};
+
+use crate::heading::{Heading, PieceLine};
+use crate::headings::{read_heading, read_start};
+use crate::so_far::SoFar;
+use crate::{CaptureFaultKind, Record};
+use paths::{Bytes, Input, Stop, read_byte_of, read_line, read_run};
+use std::alloc::Global;
+use std::io::Read;
+
+/// The most bytes of a piece.
+const MOST_BYTES: u64 = 65_536;
+
+/// Reads the first line, and answers the start.
+pub(crate) fn read_header<R: Read>(
+    input: &mut Input<R>,
+    left: &mut usize,
+) -> Result<u64, CaptureFaultKind>
+    requires { input.old.1 < 2 ^ 64 - 1 }
+    ensures line { Gives is_unforeseen_kind (header_at version_one) input.old.0 left.old input.new.0 left.new result }
+    ensures limit { IfOk result (λ start. start ≤ 4102444800) }
+    ensures count { CountsKind input.old.1 input.new.1 result }
+{
+    match read_line(input, left) {
+        Ok(line) => read_start(line.as_slice()),
+        Err(Stop::TooLong) => Err(CaptureFaultKind::Header),
+        Err(stop) => Err(CaptureFaultKind::from(stop)),
+    }
+}
+
+/// Reads the bytes of a piece, so many.
+fn read_body<R: Read>(
+    alloc: Global,
+    input: &mut Input<R>,
+    left: &mut usize,
+    len: usize,
+) -> Result<Bytes, CaptureFaultKind>
+    requires { input.old.1 < 2 ^ 64 - 1 }
+    ensures bytes { Gives is_unforeseen_kind (body_at len) input.old.0 left.old input.new.0 left.new result }
+    ensures length { IfOk result (λ bytes. length bytes ≡ len) }
+    ensures count { CountsKind input.old.1 input.new.1 result }
+{
+    let bytes = read_run(alloc, input, left, len)?;
+    let end = read_byte_of(input, left)?;
+    if end != b'\n' {
+        return Err(CaptureFaultKind::Length);
+    }
+    Ok(bytes)
+}
+
+/// Reads the piece that a line announced.
+fn read_piece<R: Read>(
+    alloc: Global,
+    input: &mut Input<R>,
+    left: &mut usize,
+    so_far: &SoFar,
+    line: PieceLine,
+) -> Result<Record, CaptureFaultKind>
+    requires { input.old.1 < 2 ^ 64 - 1 }
+    ensures piece { Gives is_unforeseen_kind (piece_at version_one (seen so_far.now) line) input.old.0 left.old input.new.0 left.new result }
+    ensures fits { IfOk result (Follows version_one (seen so_far.now)) }
+    ensures count { CountsKind input.old.1 input.new.1 result }
+{
+    let conn = so_far.allow(line.tick, line.conn)?;
+    if line.len == 0 || line.len > MOST_BYTES {
+        return Err(CaptureFaultKind::Length);
+    }
+    let bytes = read_body(alloc, input, left, line.len as usize)?;
+    Ok(Record::Piece {
+        tick: line.tick,
+        conn,
+        bytes,
+    })
+}
+
+/// Looks for the end of the input.
+fn read_close<R: Read>(input: &mut Input<R>, left: usize) -> Result<(), CaptureFaultKind>
+    requires { input.old.1 < 2 ^ 64 - 1 }
+    ensures close { Gives is_unforeseen_kind close_at input.old.0 left input.new.0 left result }
+    ensures count { CountsKind input.old.1 input.new.1 result }
+{
+    match input.read_byte() {
+        Ok(None) => Ok(()),
+        Ok(Some(_)) => Err(CaptureFaultKind::Trailing),
+        Err(_) => Err(CaptureFaultKind::Read),
+    }
+}
+
+/// Reads what a line announced: a record, or `None` where the capture ends.
+fn read_announced<R: Read>(
+    alloc: Global,
+    input: &mut Input<R>,
+    left: &mut usize,
+    so_far: &SoFar,
+    heading: Heading,
+) -> Result<Option<Record>, CaptureFaultKind>
+    requires { input.old.1 < 2 ^ 64 - 1 }
+    ensures record { Gives is_unforeseen_kind (announced version_one (seen so_far.now) heading) input.old.0 left.old input.new.0 left.new result }
+    ensures fits { IfOk result (λ next. IfSome next (Follows version_one (seen so_far.now))) }
+    ensures count { CountsKind input.old.1 input.new.1 result }
+{
+    match heading {
+        Heading::Piece(line) => match read_piece(alloc, input, left, so_far, line) {
+            Ok(piece) => Ok(Some(piece)),
+            Err(kind) => Err(kind),
+        },
+        Heading::End(line) => match so_far.allow(line.tick, line.conn) {
+            Ok(conn) => Ok(Some(Record::End {
+                tick: line.tick,
+                conn,
+            })),
+            Err(kind) => Err(kind),
+        },
+        Heading::Stop(count) => {
+            if count != so_far.count as u64 {
+                return Err(CaptureFaultKind::Count);
+            }
+            match read_close(input, *left) {
+                Ok(()) => Ok(None),
+                Err(kind) => Err(kind),
+            }
+        }
+    }
+}
+
+/// Reads the record behind those so far, or `None` where the capture ends.
+pub(crate) fn read_record<R: Read>(
+    alloc: Global,
+    input: &mut Input<R>,
+    left: &mut usize,
+    so_far: &SoFar,
+) -> Result<Option<Record>, CaptureFaultKind>
+    requires { input.old.1 < 2 ^ 64 - 1 }
+    ensures record { Gives is_unforeseen_kind (record_at version_one (seen so_far.now)) input.old.0 left.old input.new.0 left.new result }
+    ensures fits { IfOk result (λ next. IfSome next (Follows version_one (seen so_far.now))) }
+    ensures count { CountsKind input.old.1 input.new.1 result }
+{
+    let line = read_line(input, left)?;
+    let heading = read_heading(line.as_slice())?;
+    read_announced(alloc, input, left, so_far, heading)
+}

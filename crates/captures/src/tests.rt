@@ -1,0 +1,72 @@
+//! What no clause says: that the definitions mean what the rules say, and that calls succeed.
+use crate::tests::collecting::collect;
+use crate::{CaptureFault, CaptureFaultKind, Record};
+use paths::Input;
+use std::alloc::Global;
+use std::io;
+use std::io::Read;
+
+mod collecting;
+mod faults;
+mod memory;
+mod records;
+
+/// A reader over memory that gives at most so many bytes a read, and fails at one of its reads.
+#[derive(Drop)]
+pub struct Flaky<'a> {
+    bytes: &'a [u8],
+    size: usize,
+    /// How many reads are made before the one that fails.
+    good: usize,
+}
+
+impl<'a> Flaky<'a> {
+    pub fn new(bytes: &'a [u8], size: usize, good: usize) -> Flaky<'a> {
+        Flaky { bytes, size, good }
+    }
+}
+
+impl<'a> Read for Flaky<'a> {
+    fn read(&mut self, room: &mut [u8]) -> io::Result<usize> {
+        if self.good == 0 {
+            return Err(io::Error::other("refused"));
+        }
+        self.good -= 1;
+        let count = room.len().min(self.size).min(self.bytes.len());
+        room[..count].copy_from_slice(&self.bytes[..count]);
+        self.bytes = &self.bytes[count..];
+        Ok(count)
+    }
+}
+
+/// The fault of a text.
+pub fn fault_of(alloc: Global, text: &[u8]) -> Option<CaptureFault> {
+    let mut input = Input::new(text);
+    match collect(alloc, &mut input) {
+        Ok(_) => None,
+        Err(fault) => Some(fault),
+    }
+}
+
+/// A fault.
+pub fn fault(at: usize, kind: CaptureFaultKind) -> Option<CaptureFault> {
+    Some(CaptureFault { at, kind })
+}
+
+/// Whether this is such a piece.
+pub fn is_piece(record: &Record, want_tick: u64, want_conn: u16, want: &[u8]) -> bool {
+    match record {
+        Record::Piece { tick, conn, bytes } => {
+            *tick == want_tick && *conn == want_conn && bytes.as_slice() == want
+        }
+        Record::End { .. } => false,
+    }
+}
+
+/// Whether this is such an end.
+pub fn is_end(record: &Record, want_tick: u64, want_conn: u16) -> bool {
+    match record {
+        Record::Piece { .. } => false,
+        Record::End { tick, conn } => *tick == want_tick && *conn == want_conn,
+    }
+}

@@ -1,0 +1,5 @@
+pub mod CacheLemmas
+pub mod EvictLemmas
+pub mod KeepLemmas
+pub mod LawLemmas
+pub mod MediaLemmas

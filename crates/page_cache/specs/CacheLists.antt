@@ -1,0 +1,56 @@
+-- The pages of a cache as a list, and what each call does to it.
+use Rattle.std.specs.Prelude.{◌≡◌, ℕ, ◌-◌, ◌<◌, ◌≤◌, Bool, List, [], ◌∷◌, Option, Some, None, nat_eq, nat_le, if◌then◌else◌, false}
+use Rattle.std.specs.List.{list_any, sum_by}
+use Rattle.paths.specs.declared.file.File.{File}
+use Rattle.page_cache.specs.Pages.{page_size}
+use Rattle.page_cache.specs.declared.keeping.Keeping.{Keeping}
+use Rattle.page_cache.specs.declared.keeping.Keeping.TheVariants.{TooBig, Kept, NoMemory}
+
+-- the pages that are there, by the numbers of their files and the most recently used first, and how many bytes they may have
+-- together
+pub record CacheList : Type 0 where
+  pub pages : List ℕ
+  pub limit : ℕ
+
+-- whether the page of a file is there
+abbrev pub has : ℕ → List ℕ → Bool
+has file list = list_any (nat_eq file) list
+
+-- the list without a file, which stands in it once
+unfoldable pub without : ℕ → List ℕ → List ℕ
+without file [] = []
+without file (x ∷ list) = if nat_eq file x then list else x ∷ without file list
+
+-- a file that is there, brought to the front
+abbrev pub to_front : ℕ → List ℕ → List ℕ
+to_front file list = if has file list then file ∷ without file list else list
+
+-- how many bytes the pages of a list have together
+abbrev pub sizes : List File → List ℕ → ℕ
+sizes files list = sum_by (page_size files) list
+
+-- the longest front of a list whose pages fit into the room
+unfoldable pub fitting : List File → ℕ → List ℕ → List ℕ
+fitting files room [] = []
+fitting files room (x ∷ list) = if nat_le (page_size files x) room then x ∷ fitting files (room - page_size files x) list else []
+
+-- what a look finds, and what it leaves
+abbrev pub found : ℕ → List ℕ → Option ℕ
+found file list = if has file list then Some file else None
+
+abbrev pub looked : ℕ → CacheList → CacheList
+looked file old = record { pages = to_front file old.pages; limit = old.limit }
+
+-- A page that is there comes to the front. A new one goes in front, and of the others stays the longest front that fits
+-- beside it: the least recently used go.
+abbrev pub kept : List File → ℕ → CacheList → CacheList
+kept files file old = record {
+  pages = if has file old.pages then to_front file old.pages else file ∷ fitting files (old.limit - page_size files file) old.pages;
+  limit = old.limit;
+}
+
+-- what a keep answers, and what it leaves
+abbrev pub KeptAs : List File → ℕ → CacheList → CacheList → Keeping → Type 0
+KeptAs files file old new TooBig = (old.limit < page_size files file) × (new ≡ old)
+KeptAs files file old new Kept = (page_size files file ≤ old.limit) × (new ≡ kept files file old)
+KeptAs files file old new NoMemory = (page_size files file ≤ old.limit) × (has file old.pages ≡ false) × (new ≡ old)

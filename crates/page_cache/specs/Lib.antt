@@ -1,0 +1,5 @@
+pub mod CacheLists
+pub mod Caches
+pub mod Laws
+pub mod Media
+pub mod Pages

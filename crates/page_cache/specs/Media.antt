@@ -1,0 +1,60 @@
+-- The media type of a file, by its name.
+use Rattle.std.specs.Prelude.{ℕ, ◌==◌, ◌||◌, List, [], ◌∷◌, ◌++◌, Option, Some, None, codes, decimal, map, unwrap_or, bytes_eq, if◌then◌else◌}
+use Rattle.std.specs.Option.{option_or, option_map_or}
+use Rattle.std.specs.Char.{to_ascii_lowercase}
+use Rattle.paths.specs.Snapshots.{slash}
+use Rattle.page_cache.specs.declared.media.MediaType.{MediaType}
+use Rattle.page_cache.specs.declared.media.MediaType.TheVariants.{Html, Css, JavaScript, Json, Plain, Svg, Png, Jpeg, Gif, OctetStream}
+
+abbrev pub dot : ℕ
+dot = 46
+
+-- what stands behind the last such byte of a text, where it has one
+unfoldable pub behind_last : ℕ → List ℕ → Option (List ℕ)
+behind_last mark [] = None
+behind_last mark (b ∷ text) = option_or (behind_last mark text) (if b == mark then Some text else None)
+
+-- the last part of a name, and what stands behind its last dot, where it has one
+abbrev pub last_part : List ℕ → List ℕ
+last_part name = unwrap_or (behind_last slash name) name
+
+abbrev pub extension : List ℕ → Option (List ℕ)
+extension name = behind_last dot (last_part name)
+
+-- the media type of an extension in lower case
+abbrev pub media_by_extension : List ℕ → MediaType
+media_by_extension e =
+    if bytes_eq e (codes "html") || bytes_eq e (codes "htm") then Html
+    else if bytes_eq e (codes "css") then Css
+    else if bytes_eq e (codes "js") then JavaScript
+    else if bytes_eq e (codes "json") then Json
+    else if bytes_eq e (codes "txt") then Plain
+    else if bytes_eq e (codes "svg") then Svg
+    else if bytes_eq e (codes "png") then Png
+    else if bytes_eq e (codes "jpg") || bytes_eq e (codes "jpeg") then Jpeg
+    else if bytes_eq e (codes "gif") then Gif
+    else OctetStream
+
+-- the media type of a file of this name; the case of its extension does not matter
+unfoldable pub media_of : List ℕ → MediaType
+media_of name = option_map_or (λ e. media_by_extension (map to_ascii_lowercase e)) (extension name) OctetStream
+
+-- its name (RFC 9110, 8.3.1)
+abbrev pub media_text : MediaType → List ℕ
+media_text Html = codes "text/html"
+media_text Css = codes "text/css"
+media_text JavaScript = codes "text/javascript"
+media_text Json = codes "application/json"
+media_text Plain = codes "text/plain"
+media_text Svg = codes "image/svg+xml"
+media_text Png = codes "image/png"
+media_text Jpeg = codes "image/jpeg"
+media_text Gif = codes "image/gif"
+media_text OctetStream = codes "application/octet-stream"
+
+abbrev pub media_type : List ℕ → List ℕ
+media_type name = media_text (media_of name)
+
+-- the two fields of a content of this type and length (RFC 9110, 8.3 and 8.6)
+unfoldable pub entity_fields : MediaType → ℕ → List ℕ
+entity_fields media len = codes "Content-Type: " ++ media_text media ++ codes "\r\nContent-Length: " ++ decimal len ++ codes "\r\n"

@@ -1,0 +1,26 @@
+-- The page of a file: the fields that tell its content, and the content itself.
+use Rattle.std.specs.Prelude.{◌≡◌, ℕ, ◌<◌, List, ◌++◌, length}
+use Rattle.paths.specs.Snapshots.{file_of}
+use Rattle.paths.specs.declared.file.File.{File}
+use Rattle.page_cache.specs.Media.{media_of, entity_fields}
+
+-- the fields of a file, each with its CR LF
+abbrev pub page_fields : File → List ℕ
+page_fields f = entity_fields (media_of f.name) (length f.bytes)
+
+-- the page of a file
+abbrev pub page_text : File → List ℕ
+page_text f = page_fields f ++ f.bytes
+
+-- the page of the file of a number, and how many bytes it has
+abbrev pub page_of : List File → ℕ → List ℕ
+page_of files file = page_text (file_of files file)
+
+unfoldable pub page_size : List File → ℕ → ℕ
+page_size files file = length (page_of files file)
+
+-- the text is the page of this file, and the file's bytes begin at the split
+pub record HoldsPage (files : List File) (file : ℕ) (text : List ℕ) (split : ℕ) : Type 0 where
+  pub there : file < length files
+  pub whole : text ≡ page_of files file
+  pub cut : split ≡ length (page_fields (file_of files file))

@@ -1,0 +1,16 @@
+//! The page of a file, which is the end of each reply that gives it, and a cache of pages of limited size.
+#![tactic(auto)]
+
+mod cache;
+mod keeping;
+mod laws;
+mod media;
+mod page;
+#[cfg(test)]
+mod tests;
+
+pub use cache::PageCache;
+pub use keeping::Keeping;
+pub use laws::fitting_is_longest;
+pub use media::{MediaType, entity_fields};
+pub use page::Page;

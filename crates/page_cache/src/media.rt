@@ -1,0 +1,111 @@
+ghost use Rattle.std.specs.Prelude.{◌≡◌, IfOk, string_bytes, map, unwrap_or};
+ghost use Rattle.std.specs.Option.{option_map};
+ghost use Rattle.std.specs.Char.{to_ascii_lowercase};
+ghost use Rattle.page_cache.specs.Media.{behind_last, last_part, media_by_extension, media_of, media_text, entity_fields};
+
+use std::alloc::{AllocError, Global};
+
+/// The media type of a file.
+#[derive(Clone, Copy, Debug, PartialEq, Eq)]
+pub enum MediaType {
+    Html,
+    Css,
+    JavaScript,
+    Json,
+    Plain,
+    Svg,
+    Png,
+    Jpeg,
+    Gif,
+    OctetStream,
+}
+
+impl MediaType {
+    /// The media type of a file of this name, by its extension: what stands behind the last dot of the last part, without
+    /// regard to case.
+    #[tactic(auto, unfolding(crate::specs::Media::media_of))]
+    pub fn of(name: &[u8]) -> MediaType
+        ensures { result ≡ media_of name.now }
+    {
+        match behind_last(last_part(name), b'.') {
+            Some(extension) => MediaType::by_extension(extension),
+            None => MediaType::OctetStream,
+        }
+    }
+
+    /// The name of the type (RFC 9110, 8.3.1).
+    pub fn text(self) -> &'static str
+        ensures { result.now ≡ media_text self }
+    {
+        match self {
+            MediaType::Html => "text/html",
+            MediaType::Css => "text/css",
+            MediaType::JavaScript => "text/javascript",
+            MediaType::Json => "application/json",
+            MediaType::Plain => "text/plain",
+            MediaType::Svg => "image/svg+xml",
+            MediaType::Png => "image/png",
+            MediaType::Jpeg => "image/jpeg",
+            MediaType::Gif => "image/gif",
+            MediaType::OctetStream => "application/octet-stream",
+        }
+    }
+
+    fn by_extension(extension: &[u8]) -> MediaType
+        ensures { result ≡ media_by_extension (map to_ascii_lowercase extension.now) }
+    {
+        if extension.eq_ignore_ascii_case(b"html") || extension.eq_ignore_ascii_case(b"htm") {
+            MediaType::Html
+        } else if extension.eq_ignore_ascii_case(b"css") {
+            MediaType::Css
+        } else if extension.eq_ignore_ascii_case(b"js") {
+            MediaType::JavaScript
+        } else if extension.eq_ignore_ascii_case(b"json") {
+            MediaType::Json
+        } else if extension.eq_ignore_ascii_case(b"txt") {
+            MediaType::Plain
+        } else if extension.eq_ignore_ascii_case(b"svg") {
+            MediaType::Svg
+        } else if extension.eq_ignore_ascii_case(b"png") {
+            MediaType::Png
+        } else if extension.eq_ignore_ascii_case(b"jpg")
+            || extension.eq_ignore_ascii_case(b"jpeg")
+        {
+            MediaType::Jpeg
+        } else if extension.eq_ignore_ascii_case(b"gif") {
+            MediaType::Gif
+        } else {
+            MediaType::OctetStream
+        }
+    }
+}
+
+/// What stands behind the last such byte of a text, where it has one.
+fn behind_last(text: &[u8], mark: u8) -> Option<&[u8]>
+    ensures { option_map (λ rest. rest.now) result ≡ behind_last mark text.now }
+{
+    match text.iter().rposition(|byte| *byte == mark) {
+        Some(at) => Some(&text[at + 1..]),
+        None => None,
+    }
+}
+
+/// The last part of a name.
+fn last_part(name: &[u8]) -> &[u8]
+    ensures { result.now ≡ last_part name.now }
+{
+    match behind_last(name, b'/') {
+        Some(part) => part,
+        None => name,
+    }
+}
+
+/// The fields `Content-Type` and `Content-Length` of a content of this type and length, each with CR LF behind it
+/// (RFC 9110, 8.3 and 8.6).
+#[tactic(auto, unfolding(crate::specs::Media::entity_fields))]
+pub fn entity_fields(alloc: Global, media: MediaType, len: usize) -> Result<String, AllocError>
+    ensures { IfOk result (λ text. string_bytes text ≡ entity_fields media len) }
+{
+    let media = media.text();
+    format!(in alloc; "Content-Type: {media}\r\nContent-Length: {len}\r\n")
+}

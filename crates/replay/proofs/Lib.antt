@@ -1,0 +1,6 @@
+pub mod Reading
+pub mod Arriving
+pub mod SameAnswer
+pub mod CountMore
+pub mod Writing
+pub mod Server

@@ -1,0 +1,91 @@
+ghost use Rattle.std.specs.Prelude.{◌≡◌, ◌-◌, ◌+◌, ◌<◌, ◌^◌, ◌++◌, ◌∷◌, [], List, length};
+ghost use Rattle.responses.specs.Replies.{status_of, plain_status};
+ghost use Rattle.replay.specs.Arrivals.{Arrival};
+ghost use Rattle.replay.specs.Counting.{AreBelow, with_status, status_for, breaks_a_rule};
+ghost use Rattle.replay.specs.Tallies.{tally_of};
+ghost use Rattle.paths.specs.declared.file.File.{File as AFile};
+
+use crate::MOST_MESSAGES;
+use crate::summary::{Counts, Summary};
+use crate::tally::Tally;
+use http_requests::What as Meaning;
+use paths::Tree;
+use responses::{Status, What};
+
+/// Nothing was answered yet.
+pub(crate) const NONE: Counts = Counts {
+    ok: 0,
+    moved_permanently: 0,
+    not_modified: 0,
+    bad_request: 0,
+    not_found: 0,
+    method_not_allowed: 0,
+    content_too_large: 0,
+    not_implemented: 0,
+    service_unavailable: 0,
+};
+
+impl Counts {
+    /// Counts one more reply.
+    pub(crate) fn note<F: Tree>(&mut self, what: &What<F>)
+        requires { AreBelow (2 ^ 64 - 1) self.old }
+        ensures { self.new ≡ with_status self.old (status_of what.now) }
+    {
+        match what {
+            What::Page { .. } | What::Known { .. } => self.ok += 1,
+            What::Moved { .. } => self.moved_permanently += 1,
+            What::Unmodified { .. } => self.not_modified += 1,
+            What::Plain { status } => self.note_status(*status),
+        }
+    }
+
+    fn note_status(&mut self, status: Status)
+        requires { AreBelow (2 ^ 64 - 1) self.old }
+        ensures { self.new ≡ with_status self.old (plain_status status) }
+    {
+        match status {
+            Status::BadRequest => self.bad_request += 1,
+            Status::NotFound => self.not_found += 1,
+            Status::MethodNotAllowed => self.method_not_allowed += 1,
+            Status::ContentTooLarge => self.content_too_large += 1,
+            Status::NotImplemented => self.not_implemented += 1,
+            Status::ServiceUnavailable { .. } => self.service_unavailable += 1,
+        }
+    }
+}
+
+/// Whether a message breaks a rule, and so is no request.
+pub(crate) fn breaks_a_rule(what: &Meaning) -> bool
+    ensures { result ≡ breaks_a_rule what.now }
+{
+    matches!(what, Meaning::Bad(_))
+}
+
+impl Tally {
+    /// Nothing was answered yet.
+    pub(crate) fn new() -> Tally
+        ensures { (files : List AFile) → result ≡ tally_of files [] }
+    {
+        Tally {
+            answered: 0,
+            summary: Summary {
+                counts: NONE,
+                bypassed: 0,
+            },
+        }
+    }
+
+    /// Counts one more message, and what it is answered with.
+    pub(crate) fn note<F: Tree>(&mut self, given: &What<F>, what: &Meaning)
+        requires room { (arrivals : List Arrival) × (self.old ≡ tally_of F.files arrivals) × (length arrivals < MOST_MESSAGES) }
+        requires status { status_of given.now ≡ status_for F.files what.now }
+        ensures tally { (arrivals : List Arrival) (a : Arrival) → self.old ≡ tally_of F.files arrivals → a.message.what ≡ what.now → self.new ≡ tally_of F.files (arrivals ++ a ∷ []) }
+        ensures number { self.new.answered ≡ self.old.answered + 1 }
+    {
+        self.answered += 1;
+        self.summary.counts.note(given);
+        if breaks_a_rule(what) {
+            self.summary.bypassed += 1;
+        }
+    }
+}

@@ -1,0 +1,9 @@
+/// What an operator may set. Nothing yet: every request is admitted.
+#[derive(Clone, Copy, Debug)]
+pub struct Settings;
+
+impl Settings {
+    pub fn new() -> Settings {
+        Settings
+    }
+}

@@ -1,0 +1,6 @@
+mod Bytes
+mod DateLemmas
+mod Heads
+mod Joining
+mod Reading
+mod Writing

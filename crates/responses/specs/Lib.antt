@@ -1,0 +1,4 @@
+pub mod Dates
+pub mod Messages
+pub mod Records
+pub mod Replies

@@ -1,0 +1,110 @@
+ghost use Rattle.std.specs.Prelude.{◌≡◌, ◌≤◌, ◌++◌, OnOk, decimal, codes, min};
+ghost use Rattle.std.specs.Option.{option_map};
+ghost use Rattle.responses.specs.Dates.{imf_date};
+ghost use Rattle.responses.specs.Replies.{plain_words, status_words, content_type, content_length, last_modified, location_of, allow_of, retry_after_of, connection_of, field_line};
+
+use crate::head::{push_date, push_field, push_number};
+use crate::{Link, Status, What};
+use paths::Tree;
+use std::alloc::AllocError;
+
+/// A status and its reason.
+fn plain_words(status: Status) -> &'static [u8]
+    ensures { result.now ≡ plain_words status }
+{
+    match status {
+        Status::BadRequest => b"400 Bad Request",
+        Status::NotFound => b"404 Not Found",
+        Status::MethodNotAllowed => b"405 Method Not Allowed",
+        Status::ContentTooLarge => b"413 Content Too Large",
+        Status::NotImplemented => b"501 Not Implemented",
+        Status::ServiceUnavailable { .. } => b"503 Service Unavailable",
+    }
+}
+
+/// The status of an answer and its reason.
+pub(crate) fn status_words<F: Tree>(what: &What<F>) -> &'static [u8]
+    ensures { result.now ≡ status_words what.now }
+{
+    match what {
+        What::Page { .. } => b"200 OK",
+        What::Known { .. } => b"200 OK",
+        What::Unmodified { .. } => b"304 Not Modified",
+        What::Moved { .. } => b"301 Moved Permanently",
+        What::Plain { status } => plain_words(*status),
+    }
+}
+
+/// Adds Content-Type and Content-Length.
+pub(crate) fn push_content<F: Tree>(head: &mut Vec<u8>, what: &What<F>) -> Result<(), AllocError>
+    ensures { OnOk result (head.new.items ≡ head.old.items
+        ++ (field_line (codes "Content-Type") (content_type F.files what.now)
+        ++ field_line (codes "Content-Length") (option_map decimal (content_length F.files what.now)))) }
+{
+    match what {
+        What::Page { page, .. } => Ok(head.extend_from_slice(page.fields())?),
+        What::Known { media, len, .. } => { push_entity(head, media.text().as_bytes(), *len) }
+        What::Unmodified { .. } => Ok(()),
+        _ => {
+            let len = status_words(what).len() as u64 + 1;
+            push_entity(head, b"text/plain", len)
+        }
+    }
+}
+
+/// Adds Content-Type and Content-Length of these values.
+fn push_entity(head: &mut Vec<u8>, media: &[u8], len: u64) -> Result<(), AllocError>
+    ensures { OnOk result (head.new.items ≡ head.old.items
+        ++ (field_line (codes "Content-Type") (Some media.now) ++ field_line (codes "Content-Length") (Some (decimal len)))) }
+{
+    push_field(head, b"Content-Type", media)?;
+    push_number(head, b"Content-Length", len)
+}
+
+/// Adds Last-Modified, where a file is spoken of: it is never later than the date of the reply (RFC 9110, 8.8.2.1).
+pub(crate) fn push_last_modified<F: Tree>(
+    head: &mut Vec<u8>,
+    what: &What<F>,
+    date: u64,
+) -> Result<(), AllocError>
+    requires { date ≤ 253402300799 }
+    ensures { OnOk result (head.new.items ≡ head.old.items
+        ++ field_line (codes "Last-Modified") (option_map (λ mtime. imf_date (min mtime date)) (last_modified what.now))) }
+{
+    match what {
+        What::Page { mtime, .. } | What::Known { mtime, .. } | What::Unmodified { mtime } => {
+            push_date(head, b"Last-Modified", date.min(*mtime))
+        }
+        What::Moved { .. } | What::Plain { .. } => Ok(()),
+    }
+}
+
+/// Adds the field that a status alone has: Location, Allow or Retry-After.
+pub(crate) fn push_own<F: Tree>(head: &mut Vec<u8>, what: &What<F>) -> Result<(), AllocError>
+    ensures { OnOk result (head.new.items ≡ head.old.items
+        ++ (field_line (codes "Location") (location_of what.now)
+        ++ (field_line (codes "Allow") (allow_of what.now)
+        ++ field_line (codes "Retry-After") (option_map decimal (retry_after_of what.now))))) }
+{
+    match what {
+        What::Moved { location } => push_field(head, b"Location", location.as_slice()),
+        What::Plain {
+            status: Status::MethodNotAllowed,
+        } => push_field(head, b"Allow", b"GET, HEAD"),
+        What::Plain {
+            status: Status::ServiceUnavailable { retry_after },
+        } => push_number(head, b"Retry-After", *retry_after),
+        _ => Ok(()),
+    }
+}
+
+/// Adds Connection, where there is something to tell.
+pub(crate) fn push_connection(head: &mut Vec<u8>, link: Link) -> Result<(), AllocError>
+    ensures { OnOk result (head.new.items ≡ head.old.items ++ field_line (codes "Connection") (connection_of link)) }
+{
+    match link {
+        Link::Close => push_field(head, b"Connection", b"close"),
+        Link::KeepAlive => push_field(head, b"Connection", b"keep-alive"),
+        Link::Silent => Ok(()),
+    }
+}

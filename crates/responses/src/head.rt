@@ -1,0 +1,35 @@
+ghost use Rattle.std.specs.Prelude.{◌≡◌, ◌≤◌, ◌++◌, OnOk, Some, codes, decimal};
+ghost use Rattle.responses.specs.Dates.{imf_date};
+ghost use Rattle.responses.specs.Replies.{field_line};
+
+use httpdate::HttpDate;
+use itoa::Buffer;
+use std::alloc::AllocError;
+
+/// Adds a field behind a head.
+pub(crate) fn push_field(head: &mut Vec<u8>, name: &[u8], value: &[u8]) -> Result<(), AllocError>
+    ensures { OnOk result (head.new.items ≡ head.old.items ++ field_line name.now (Some value.now)) }
+{
+    head.extend_from_slice(name)?;
+    head.extend_from_slice(b": ")?;
+    head.extend_from_slice(value)?;
+    head.extend_from_slice(b"\r\n")?;
+    Ok(())
+}
+
+/// Adds a field whose value is a number.
+pub(crate) fn push_number(head: &mut Vec<u8>, name: &[u8], number: u64) -> Result<(), AllocError>
+    ensures { OnOk result (head.new.items ≡ head.old.items ++ field_line name.now (Some (decimal number))) }
+{
+    let mut buffer = Buffer::new();
+    push_field(head, name, buffer.format(number).as_bytes())
+}
+
+/// Adds a field whose value is a date.
+pub(crate) fn push_date(head: &mut Vec<u8>, name: &[u8], second: u64) -> Result<(), AllocError>
+    requires { second ≤ 253402300799 }
+    ensures { OnOk result (head.new.items ≡ head.old.items ++ field_line name.now (Some (imf_date second))) }
+{
+    let date = HttpDate::from_unix_secs(second).unwrap();
+    push_field(head, name, &date.to_bytes())
+}

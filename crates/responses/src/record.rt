@@ -1,0 +1,56 @@
+ghost use Rattle.std.specs.Prelude.{◌≡◌, ◌<◌, ◌≤◌, ◌+◌, ◌-◌, ◌^◌, ◌++◌, [], ◌∷◌, decimal};
+ghost use Rattle.arrayvec.specs.ArrayVec.{array_vec_len};
+ghost use Rattle.responses.specs.Records.{record_line, record_text, WritesFront, CountsWrite};
+
+use crate::device::write_all;
+use crate::{Reply, Write};
+use arrayvec::ArrayVec;
+use itoa::Buffer;
+use paths::{Output, Tree};
+use std::io;
+
+/// Room for `reply ` and three numbers of 64 bits, each with a byte behind it.
+type Line = ArrayVec<u8, 69>;
+
+/// Adds a number and a byte behind it.
+fn push_number(line: &mut Line, number: usize, end: u8)
+    requires { array_vec_len line.old ≤ 48 }
+    ensures text { line.new.items ≡ line.old.items ++ (decimal number ++ end ∷ []) }
+    ensures len { array_vec_len line.new ≤ array_vec_len line.old + 21 }
+{
+    let mut buffer = Buffer::new();
+    line.try_extend_from_slice(buffer.format(number).as_bytes())
+        .unwrap();
+    line.push(end);
+}
+
+/// The line in front of a reply of so many bytes.
+fn record_line(number: usize, conn: usize, len: usize) -> Line
+    ensures { result.items ≡ record_line number conn len }
+{
+    let mut line = Line::new();
+    line.try_extend_from_slice(b"reply ").unwrap();
+    push_number(&mut line, number, b' ');
+    push_number(&mut line, conn, b' ');
+    push_number(&mut line, len, b'\n');
+    line
+}
+
+/// Writes the record of a reply: a line with its number, its connection and its length, then the reply and a line feed.
+/// It takes no memory. At an `Err` the writer failed in this call, and a front of the record stands there.
+pub fn write_reply<F: Tree, W: io::Write>(
+    output: &mut Output<W>,
+    reply: &Reply<F>,
+) -> Result<(), Write>
+    requires { output.old.1 < 2 ^ 64 - 1 }
+    ensures record { WritesFront output.old.0 output.new.0 result (record_text reply.now) }
+    ensures count { CountsWrite output.old.1 output.new.1 result }
+{
+    let (front, body) = reply.parts();
+    let line = record_line(reply.number(), reply.conn(), front.len() + body.len());
+    write_all(output, line.as_slice())?;
+    write_all(output, front)?;
+    write_all(output, body)?;
+    write_all(output, b"\n")?;
+    Ok(())
+}
