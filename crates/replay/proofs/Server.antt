@@ -26,7 +26,11 @@ use Rattle.replay.specs.Replies.{replies_from, first_line, last_line, text_befor
 use Rattle.replay.specs.Counting.{summary_of}
 use Rattle.replay.specs.Tallies.{tally_of}
 use Rattle.replay.specs.Serving.{Serves, Written, ServesMore}
-use Rattle.replay.specs.Outcomes.{Answers}
+use Rattle.captures.specs.declared.capture_fault.CaptureFault.{CaptureFault}
+use Rattle.captures.specs.declared.capture_fault.CaptureFaultKind.{CaptureFaultKind}
+use Rattle.captures.specs.declared.capture_fault.CaptureFaultKind.TheVariants as kinds
+use Rattle.captures.specs.CaptureFaults.{IsForeseen, IsHeaderFault, IsFaultBehind, failures_of}
+use Rattle.replay.specs.Outcomes.{Answers, told_as, capture_fault, IfCapture, Stops, reader_failures, writer_failures}
 use Rattle.replay.proofs.Arriving.{from_piece, reads_none, arrives_none, reads_piece, reads_end, arrives_piece, arrives_end}
 use Rattle.replay.proofs.SameAnswer.{replies_more, replies_count}
 use Rattle.replay.proofs.Writing.{appends_then}
@@ -157,10 +161,9 @@ pub gave_some : (v : Version) (text now : Option (List ℕ)) (start : ℕ) (reco
     → Gave v text start records (Ok x) p now → Fits v text start (records ++ r ∷ []) p now
 gave_some v text now start records p x r is h = subst (λ (o : Option Record). Gave v text start records (Ok o) p now) is h
 
-pub gave_none : (v : Version) (text now : Option (List ℕ)) (start : ℕ) (records : List Record) (p : Progress) (x : Option Record) → ((r : Record) → x ≡ Some r → ⊥)
-    → Gave v text start records (Ok x) p now → is_some text ≡ true → IsCaptureText v (unwrap_or text []) start records
-gave_none v text now start records p (Some r) none h = absurd (none r refl)
-gave_none v text now start records p None none h = h
+pub gave_end : (v : Version) (text now : Option (List ℕ)) (start : ℕ) (records : List Record) (p : Progress) (x : Option Record) → x ≡ None → Gave v text start records (Ok x) p now → is_some text ≡ true
+    → IsCaptureText v (unwrap_or text []) start records
+gave_end v text now start records p x is h = subst (λ (o : Option Record). Gave v text start records (Ok o) p now) is h
 
 -- the whole capture was answered
 pub answers_all : (files : List File) (start count : ℕ) (records : List Record) (arrivals : List Arrival) (connections : List Connection) (tally : Tally) (input : List ℕ)
@@ -178,3 +181,79 @@ answers_all files start count records arrivals connections tally input old mid n
   rejected = none;
   summary = told ∙ ap (λ t. t.summary) serves.counted;
 }
+
+-- ---- faults of the capture
+
+-- what is said of a capture's fault, where the replay tells it
+pub told : (f : CaptureFault) (P : CaptureFault → Type 0) → P f → IfCapture (capture_fault f) P
+told f P h = go f.kind
+  where
+    go : (k : CaptureFaultKind) → IfCapture (told_as k f) P
+    go kinds.Cut = h
+    go kinds.Header = h
+    go kinds.Kind = h
+    go kinds.Number = h
+    go kinds.Tick = h
+    go kinds.Connection = h
+    go kinds.Ended = h
+    go kinds.Length = h
+    go kinds.Count = h
+    go kinds.Trailing = h
+    go kinds.TooLarge = h
+    go kinds.Read = h
+    go kinds.Memory = tt
+
+pub told_reads : (f : CaptureFault) → reader_failures (capture_fault f) ≡ failures_of f.kind
+told_reads f = go f.kind refl
+  where
+    go : (k : CaptureFaultKind) → f.kind ≡ k → reader_failures (told_as k f) ≡ failures_of f.kind
+    go kinds.Cut e = refl
+    go kinds.Header e = refl
+    go kinds.Kind e = refl
+    go kinds.Number e = refl
+    go kinds.Tick e = refl
+    go kinds.Connection e = refl
+    go kinds.Ended e = refl
+    go kinds.Length e = refl
+    go kinds.Count e = refl
+    go kinds.Trailing e = refl
+    go kinds.TooLarge e = refl
+    go kinds.Read e = refl
+    go kinds.Memory e = rw e refl
+
+pub told_writes : (f : CaptureFault) → writer_failures (capture_fault f) ≡ 0
+told_writes f = go f.kind
+  where
+    go : (k : CaptureFaultKind) → writer_failures (told_as k f) ≡ 0
+    go kinds.Cut = refl
+    go kinds.Header = refl
+    go kinds.Kind = refl
+    go kinds.Number = refl
+    go kinds.Tick = refl
+    go kinds.Connection = refl
+    go kinds.Ended = refl
+    go kinds.Length = refl
+    go kinds.Count = refl
+    go kinds.Trailing = refl
+    go kinds.TooLarge = refl
+    go kinds.Read = refl
+    go kinds.Memory = refl
+
+pub stops_first : (files : List File) (text old new : Option (List ℕ)) (f : CaptureFault) → Appends old new first_line → IsForeseen (IsHeaderFault version_one) text f → is_some text ≡ true
+    → Stops files (unwrap_or text []) old new f
+stops_first files text old new f written fault known = inl (record { written = written; fault = λ foreseen. fault known foreseen })
+
+pub stops_behind : (files : List File) (text now old new : Option (List ℕ)) (start : ℕ) (records : List Record) (arrivals : List Arrival) (p : Progress) (connections : List Connection) (tally : Tally)
+    (f : CaptureFault) → Fits version_one text start records p now → Serves files records arrivals connections tally → Appends old new (text_before_stop (replies_from files start 0 arrivals))
+    → IsForeseen (λ bytes. IsFaultBehind version_one bytes start records) text f → is_some text ≡ true → Stops files (unwrap_or text []) old new f
+stops_behind files text now old new start records arrivals p connections tally f fits serves written fault known = inr (record {
+  start = start;
+  records = records;
+  rest = unwrap_or now [];
+  arrivals = arrivals;
+  front = fits.front known;
+  arrived = serves.arrived;
+  few = serves.few;
+  written = written;
+  fault = λ foreseen. fault known foreseen;
+})

@@ -1,18 +1,19 @@
 -- What a replay comes to: its outcome, or a fault, and what it has written.
-use Rattle.std.specs.Prelude.{◌≡◌, ℕ, ◌+◌, ◌≤◌, List, [], ◌∷◌, ◌++◌, length, Option, unwrap_or}
+use Rattle.std.specs.Prelude.{◌≡◌, ℕ, ◌+◌, ◌≤◌, ◌⊎◌, false, List, [], ◌∷◌, ◌++◌, length, Option, unwrap_or, Result, MatchResult}
 use Rattle.std.specs.Io.KnownBytes.{Appends}
 use Rattle.paths.specs.declared.file.File.{File}
 use Rattle.captures.specs.declared.record.Record.{Record}
 use Rattle.captures.specs.declared.capture_fault.CaptureFault.{CaptureFault}
 use Rattle.captures.specs.declared.capture_fault.CaptureFaultKind.{CaptureFaultKind}
 use Rattle.captures.specs.declared.capture_fault.CaptureFaultKind.TheVariants as kinds
-use Rattle.captures.specs.Captures.{version_one, IsCaptureText}
+use Rattle.captures.specs.Captures.{version_one, IsCaptureText, text_before_stop as records_text}
+use Rattle.captures.specs.CaptureFaults.{is_unforeseen_kind, IsHeaderFault, IsFaultBehind, failures_of}
 use Rattle.replay.specs.declared.replay_fault.ReplayFault.{ReplayFault}
-use Rattle.replay.specs.declared.replay_fault.ReplayFault.TheVariants.{Capture, Memory}
+use Rattle.replay.specs.declared.replay_fault.ReplayFault.TheVariants.{Capture, Memory, Write as Unwritten}
 use Rattle.replay.specs.declared.outcome.Outcome.{Outcome}
 use Rattle.replay.specs.Arrivals.{Arrival, AreArrivals}
 use Rattle.replay.specs.Counting.{summary_of}
-use Rattle.replay.specs.Replies.{replies_from, replies_text}
+use Rattle.replay.specs.Replies.{first_line, text_before_stop, replies_from, replies_text}
 
 abbrev pub most_messages : ℕ
 most_messages = 1048576
@@ -20,7 +21,7 @@ most_messages = 1048576
 -- the reader's want of memory is the call's own
 abbrev pub told_as : CaptureFaultKind → CaptureFault → ReplayFault
 told_as kinds.Memory f = Memory
-told_as kind f = Capture f
+told_as other f = Capture f
 
 abbrev pub capture_fault : CaptureFault → ReplayFault
 capture_fault f = told_as f.kind f
@@ -37,3 +38,48 @@ pub record Answers (files : List File) (input : List ℕ) (old new : Option (Lis
   pub written : Appends old new (replies_text (replies_from files start 0 arrivals))
   pub rejected : outcome.rejected ≡ []
   pub summary : outcome.summary ≡ summary_of files arrivals
+
+-- what a capture's fault has to say; the other faults say it of none
+abbrev pub IfCapture : ReplayFault → (CaptureFault → Type 0) → Type 0
+IfCapture (Capture f) P = P f
+IfCapture other P = Unit {0}
+
+-- a fault that isn't the capture's
+abbrev pub IsOwn : ReplayFault → Type 0
+IsOwn (Capture f) = ⊥
+IsOwn other = Unit {0}
+
+-- The replay stopped at the first line: it has written its own.
+pub record StopsFirst (input : List ℕ) (old new : Option (List ℕ)) (f : CaptureFault) : Type 0 where
+  pub written : Appends old new first_line
+  pub fault : is_unforeseen_kind f.kind ≡ false → IsHeaderFault version_one input f
+
+-- The replay stopped behind these records, which stand whole in front of the fault: it has written the replies to the
+-- messages that arrived with them, and no last line.
+pub record StopsBehind (files : List File) (input : List ℕ) (old new : Option (List ℕ)) (f : CaptureFault) : Type 0 where
+  pub start : ℕ
+  pub records : List Record
+  pub rest : List ℕ
+  pub arrivals : List Arrival
+  pub front : input ≡ records_text version_one start records ++ rest
+  pub arrived : AreArrivals records arrivals
+  pub few : length arrivals ≤ most_messages
+  pub written : Appends old new (text_before_stop (replies_from files start 0 arrivals))
+  pub fault : is_unforeseen_kind f.kind ≡ false → IsFaultBehind version_one input start records f
+
+-- a fault of the capture that isn't a failed read or want of memory is its first
+abbrev pub Stops : List File → List ℕ → Option (List ℕ) → Option (List ℕ) → CaptureFault → Type 0
+Stops files input old new f = StopsFirst input old new f ⊎ StopsBehind files input old new f
+
+-- how often the reader and the writer failed in a call that answered this fault
+abbrev pub reader_failures : ReplayFault → ℕ
+reader_failures (Capture f) = failures_of f.kind
+reader_failures other = 0
+
+abbrev pub writer_failures : ReplayFault → ℕ
+writer_failures Unwritten = 1
+writer_failures other = 0
+
+-- a device's count rose by one exactly where the fault is its own
+abbrev pub CountsBy : {X : Type 0} → (ReplayFault → ℕ) → ℕ → ℕ → Result X ReplayFault → Type 0
+CountsBy failures old new r = MatchResult r (λ _. new ≡ old) (λ f. new ≡ old + failures f)

@@ -1,9 +1,10 @@
-ghost use Rattle.std.specs.Prelude.{◌≡◌, ◌+◌, ◌≤◌, ◌<◌, ◌-◌, ◌^◌, ◌++◌, ◌∷◌, [], ℕ, List, length, OnOk};
+ghost use Rattle.std.specs.Prelude.{◌≡◌, ◌+◌, ◌≤◌, ◌<◌, ◌-◌, ◌^◌, ◌++◌, ◌∷◌, [], ℕ, List, length, OnOk, IfErr};
 ghost use Rattle.std.specs.Io.KnownBytes.{Appends};
 ghost use Rattle.responses.specs.Records.{record_text};
 ghost use Rattle.replay.specs.Arrivals.{Arrival};
 ghost use Rattle.replay.specs.Connections.{arrivals_with};
 ghost use Rattle.replay.specs.Replies.{reply_of};
+ghost use Rattle.replay.specs.Outcomes.{CountsBy, writer_failures, IsOwn};
 ghost use Rattle.replay.specs.Serving.{Written};
 ghost use Rattle.replay.specs.Tallies.{tally_of};
 
@@ -37,7 +38,8 @@ fn answer_message<F: Tree, W: Write>(
     ensures tally { OnOk result ((arrivals : List Arrival) (a : Arrival) → tally.old ≡ tally_of F.files arrivals → a.message.what ≡ what.now → tally.new ≡ tally_of F.files (arrivals ++ a ∷ [])) }
     ensures number { OnOk result (tally.new.answered ≡ tally.old.answered + 1) }
     ensures few { OnOk result (tally.new.answered ≤ MOST_MESSAGES) }
-    ensures failures { OnOk result (writer.new.1 ≡ writer.old.1) }
+    ensures failures { CountsBy writer_failures writer.old.1 writer.new.1 result }
+    ensures own { IfErr result IsOwn }
 {
     if tally.answered == MOST_MESSAGES {
         return Err(ReplayFault::TooMany(MOST_MESSAGES));
@@ -67,7 +69,8 @@ pub(crate) fn answer_all<F: Tree, W: Write>(
     ensures written { OnOk result ((place : ℕ) → Written F.files start tally.old.answered (arrivals_with place origin messages.now) writer.old.0 writer.new.0) }
     ensures tally { OnOk result ((arrivals : List Arrival) (place : ℕ) → tally.old ≡ tally_of F.files arrivals → tally.new ≡ tally_of F.files (arrivals ++ arrivals_with place origin messages.now)) }
     ensures few { OnOk result (tally.new.answered ≤ MOST_MESSAGES) }
-    ensures failures { OnOk result (writer.new.1 ≡ writer.old.1) }
+    ensures failures { CountsBy writer_failures writer.old.1 writer.new.1 result }
+    ensures own { IfErr result IsOwn }
 {
     for message in messages {
         answer_message::<F, W>(alloc, snapshot, start, origin, &message.what, tally, writer)?;

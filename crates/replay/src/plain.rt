@@ -1,11 +1,11 @@
-ghost use Rattle.std.specs.Prelude.{◌≡◌, ◌+◌, ◌≤◌, ◌<◌, ◌-◌, ◌^◌, [], ℕ, List, true, is_some, unwrap_or, IfOk, OnOk};
+ghost use Rattle.std.specs.Prelude.{◌≡◌, ◌+◌, ◌≤◌, ◌<◌, ◌-◌, ◌^◌, [], ℕ, List, true, is_some, unwrap_or, IfOk, IfErr, OnOk};
 ghost use Rattle.std.specs.Io.KnownBytes.{Appends};
 ghost use Rattle.captures.specs.Captures.{version_one, IsRecord, size_of, sizes_of};
 ghost use Rattle.captures.specs.declared.record.Record.{Record as ARecord};
 ghost use Rattle.replay.specs.Arrivals.{Arrival};
 ghost use Rattle.replay.specs.Replies.{first_line, last_line};
 ghost use Rattle.replay.specs.Serving.{Serves, ServesMore};
-ghost use Rattle.replay.specs.Outcomes.{Answers};
+ghost use Rattle.replay.specs.Outcomes.{Answers, IfCapture, IsOwn, Stops, CountsBy, reader_failures, writer_failures};
 
 use crate::answering::answer_all;
 use crate::connections::Connections;
@@ -23,7 +23,8 @@ use std::io::{Read, Write};
 fn write_first_line<W: Write>(writer: &mut Output<W>) -> Result<(), ReplayFault>
     requires { writer.old.1 < 2 ^ 64 - 1 }
     ensures written { OnOk result (Appends writer.old.0 writer.new.0 first_line) }
-    ensures failures { OnOk result (writer.new.1 ≡ writer.old.1) }
+    ensures failures { CountsBy writer_failures writer.old.1 writer.new.1 result }
+    ensures own { IfErr result IsOwn }
 {
     write_all(writer, b"haboob-replies 1\n")?;
     Ok(())
@@ -37,6 +38,8 @@ fn write_last_line<W: Write>(
 ) -> Result<(), ReplayFault>
     requires { writer.old.1 < 2 ^ 64 - 1 }
     ensures written { OnOk result (Appends writer.old.0 writer.new.0 (last_line count)) }
+    ensures failures { CountsBy writer_failures writer.old.1 writer.new.1 result }
+    ensures own { IfErr result IsOwn }
 {
     let line = format!(in alloc; "stop {count}\n")?;
     write_all(writer, line.as_bytes())?;
@@ -49,21 +52,22 @@ fn answer_record<F: Tree, W: Write>(
     alloc: Global,
     snapshot: &Snapshot,
     start: u64,
-    record: &Record,
+    next: &Record,
     connections: &mut Connections,
     tally: &mut Tally,
     writer: &mut Output<W>,
 ) -> Result<(), ReplayFault>
     requires snapshot { snapshot.now ≡ F.files }
     requires start { start ≤ 4102444800 }
-    requires record { IsRecord version_one record.now }
-    requires room { (records : List ARecord) × (arrivals : List Arrival) × Serves F.files records arrivals connections.old tally.old × (sizes_of records + size_of record.now ≤ 1073741824) }
+    requires record { IsRecord version_one next.now }
+    requires room { (records : List ARecord) × (arrivals : List Arrival) × Serves F.files records arrivals connections.old tally.old × (sizes_of records + size_of next.now ≤ 1073741824) }
     requires failures { writer.old.1 < 2 ^ 64 - 1 }
     ensures serves { OnOk result ((records : List ARecord) (arrivals : List Arrival) → Serves F.files records arrivals connections.old tally.old
-        → ServesMore F.files start records arrivals record.now connections.new tally.new writer.old.0 writer.new.0) }
-    ensures failures { OnOk result (writer.new.1 ≡ writer.old.1) }
+        → ServesMore F.files start records arrivals next.now connections.new tally.new writer.old.0 writer.new.0) }
+    ensures failures { CountsBy writer_failures writer.old.1 writer.new.1 result }
+    ensures own { IfErr result IsOwn }
 {
-    match record {
+    match next {
         Record::End { .. } => Ok(()),
         Record::Piece { tick, conn, bytes } => {
             let mut messages = Vec::new(alloc);
@@ -89,19 +93,32 @@ pub fn plain_replay<F: Tree, R: Read, W: Write>(
     requires snapshot { snapshot.now ≡ F.files }
     requires reading { reader.old.1 < 2 ^ 64 - 1 }
     requires writing { writer.old.1 < 2 ^ 64 - 1 }
+    // Read, and each other fault of the capture, only with the replies to the messages of the whole records before it.
+    ensures stops { IfErr result (λ f. IfCapture f (λ fault. is_some reader.old.0 ≡ true → Stops F.files (unwrap_or reader.old.0 []) writer.old.0 writer.new.0 fault)) }
+    // A device is blamed only where it failed in this call.
+    ensures reads { CountsBy reader_failures reader.old.1 reader.new.1 result }
+    ensures writes { CountsBy writer_failures writer.old.1 writer.new.1 result }
     ensures ok { IfOk result (λ outcome. is_some reader.old.0 ≡ true → Answers F.files (unwrap_or reader.old.0 []) writer.old.0 writer.new.0 outcome) }
 {
     write_first_line(writer)?;
-    let mut capture = CaptureReader::open(reader)?;
+    let mut capture = match CaptureReader::open(reader) {
+        Ok(capture) => capture,
+        Err(fault) => return Err(ReplayFault::from(fault)),
+    };
     let start = capture.start();
     let mut connections = Connections::new(alloc);
     let mut tally = Tally::new();
-    while let Some(record) = capture.next_record(alloc)? {
+    loop {
+        let next = match capture.next_record(alloc) {
+            Ok(Some(next)) => next,
+            Ok(None) => break,
+            Err(fault) => return Err(ReplayFault::from(fault)),
+        };
         answer_record::<F, W>(
             alloc,
             snapshot,
             start,
-            &record,
+            &next,
             &mut connections,
             &mut tally,
             writer,

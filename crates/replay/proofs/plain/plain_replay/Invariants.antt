@@ -9,12 +9,12 @@ use Rattle.replay.specs.Serving.{Serves}
 use Rattle.replay.proofs.plain.plain_replay.Given as goal
 
 -- some records were read, and the messages that arrived with them are answered
-abbrev pub invariant-loop-connections : goal.invariant-loop-connections
-invariant-loop-connections g l =
+abbrev pub invariant-loop-next : goal.invariant-loop-next
+invariant-loop-next g l =
     ((records : List Record) × (arrivals : List Arrival) × Fits version_one l.fn.reader.0 l.start records l.capture.progress l.capture.input.now.0
     × Serves g.F.Tree.files records arrivals l.connections l.tally
     × Appends l.fn.writer.0 l.writer.0 (text_before_stop (replies_from g.F.Tree.files l.start 0 arrivals)))
     × (l.capture.input.ghost_name ≡ l.initial.capture.input.ghost_name) × (l.capture.input.now.1 ≡ l.fn.reader.1) × (l.writer.1 ≡ l.fn.writer.1)
 
-abbrev pub decreases-loop-connections : goal.decreases-loop-connections
-decreases-loop-connections g l = l.capture.progress.room
+abbrev pub decreases-loop-next : goal.decreases-loop-next
+decreases-loop-next g l = l.capture.progress.room
