@@ -25,6 +25,7 @@ impl Numbers {
         Numbers { numbers }
     }
 
+    /// The numbers as a slice.
     pub fn as_slice(&self) -> &[usize]
         ensures { result.now ≡ self.now }
     {

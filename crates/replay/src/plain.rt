@@ -82,7 +82,12 @@ fn answer_record<F: Tree, W: Write>(
 }
 
 /// Replays a capture on one thread: each message is answered, in the order of their arrival, before the next record is
-/// read.
+/// read. The first line of the replies is written before anything is read, the last one behind the end of the input.
+///
+/// # Errors
+///
+/// `Capture` with the capture's first fault, or where its reader failed; `TooMany` at message 1,048,576, counted from 0;
+/// `Write` where the writer failed; `Memory`. The replies to the messages of earlier records stand.
 pub fn plain_replay<F: Tree, R: Read, W: Write>(
     alloc: Global,
     snapshot: &Snapshot,

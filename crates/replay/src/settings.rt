@@ -3,6 +3,7 @@
 pub struct Settings;
 
 impl Settings {
+    /// Nothing is set.
     pub fn new() -> Settings {
         Settings
     }
