@@ -13,10 +13,10 @@ use Rattle.responses.specs.declared.what.What.{What as Given}
 use Rattle.responses.specs.declared.what.What.TheVariants.{Page, Known, Unmodified, Moved, Plain}
 use Rattle.responses.specs.declared.slip.Slip.{Slip}
 use Rattle.responses.specs.Replies.{reply_text, status_of}
-use Rattle.replay.specs.declared.origin.Origin.{Origin}
-use Rattle.replay.specs.Arrivals.{Arrival}
-use Rattle.replay.specs.Answers.{is_unmodified, is_head, file_answer, outcome_answer, answer, answers_head, link_of, slip_of}
-use Rattle.replay.specs.Replies.{reply_of, replies_from}
+use Rattle.replay.specs.Choices.{Terms}
+use Rattle.replay.specs.Answers.{is_unmodified, is_head, file_answer, outcome_answer, answer, given}
+use Rattle.replay.specs.Offers.{Handled}
+use Rattle.replay.specs.Replies.{slip_of, reply_of}
 
 -- the same answer, at another type of pages
 abbrev pub at_pages : {X Y : Type 0} → Given X → Given Y
@@ -53,15 +53,19 @@ status_kept X Y (Unmodified mtime) = refl
 status_kept X Y (Moved location) = refl
 status_kept X Y (Plain status) = refl
 
-pub status_same : (X Y : Type 0) (files : List File) (what : Meaning) → status_of (answer {X = X} files what) ≡ status_of (answer {X = Y} files what)
-status_same X Y files what = sym (status_kept X Y (answer files what)) ∙ ap status_of (answer_same X Y files what)
+given_same : (X Y : Type 0) (terms : Terms) (away : Bool) (what : Meaning) → at_pages {X = X} {Y = Y} (given terms away what) ≡ given terms away what
+given_same X Y terms true what = refl
+given_same X Y terms false what = answer_same X Y terms.files what
+
+pub status_same : (X Y : Type 0) (terms : Terms) (away : Bool) (what : Meaning) → status_of (given {X = X} terms away what) ≡ status_of (given {X = Y} terms away what)
+status_same X Y terms away what = sym (status_kept X Y (given terms away what)) ∙ ap status_of (given_same X Y terms away what)
 
 -- a slip of these parts
 slip_with : {X : Type 0} → ℕ → ℕ → ℕ → Bool → Link → Given X → Slip X
-slip_with number conn date head link given = record { number = number; conn = conn; date = date; head = head; link = link; what = given }
+slip_with number conn date head link told = record { number = number; conn = conn; date = date; head = head; link = link; what = told }
 
-text_kept : (X Y : Type 0) (files : List File) (number conn date : ℕ) (head : Bool) (link : Link) (given : Given X)
-    → reply_text files (slip_with number conn date head link (at_pages {X = X} {Y = Y} given)) ≡ reply_text files (slip_with number conn date head link given)
+text_kept : (X Y : Type 0) (files : List File) (number conn date : ℕ) (head : Bool) (link : Link) (told : Given X)
+    → reply_text files (slip_with number conn date head link (at_pages {X = X} {Y = Y} told)) ≡ reply_text files (slip_with number conn date head link told)
 unfolding slip_with
 text_kept X Y files number conn date head link (Page file mtime) = refl
 text_kept X Y files number conn date head link (Known media len mtime) = refl
@@ -69,24 +73,16 @@ text_kept X Y files number conn date head link (Unmodified mtime) = refl
 text_kept X Y files number conn date head link (Moved location) = refl
 text_kept X Y files number conn date head link (Plain status) = refl
 
-pub text_same : (X Y : Type 0) (files : List File) (start number : ℕ) (origin : Origin) (what : Meaning) → reply_text files (slip_of {X = X} files start number origin what) ≡ reply_text files (slip_of {X = Y} files start number origin what)
+pub text_same : (X Y : Type 0) (terms : Terms) (start : ℕ) (h : Handled) → reply_text terms.files (slip_of {X = X} terms start h) ≡ reply_text terms.files (slip_of {X = Y} terms start h)
 unfolding slip_with
-text_same X Y files start number origin what =
-    let slip : Slip X = slip_of files start number origin what in
-    sym (text_kept X Y files number slip.conn slip.date slip.head slip.link (answer files what))
-    ∙ ap (λ given. reply_text files (slip_with number slip.conn slip.date slip.head slip.link given)) (answer_same X Y files what)
+text_same X Y terms start h =
+    let slip : Slip X = slip_of terms start h in
+    sym (text_kept X Y terms.files slip.number slip.conn slip.date slip.head slip.link slip.what)
+    ∙ ap (λ told. reply_text terms.files (slip_with slip.number slip.conn slip.date slip.head slip.link told)) (given_same X Y terms h.turned_away h.arrival.message.what)
 
--- ---- the replies to more messages
-
-pub replies_more : (files : List File) (start number : ℕ) (sofar more : List Arrival)
-    → replies_from files start number (sofar ++ more) ≡ replies_from files start number sofar ++ replies_from files start (number + length sofar) more
-unfolding replies_from
-replies_more files start number [] more = let e : number + 0 ≡ number = omega arith in rw e refl
-replies_more files start number (a ∷ sofar) more =
-    let e : number + length (a ∷ sofar) ≡ number + 1 + length sofar = omega arith in
-    rw e (ap (λ l. reply_of files start number a.origin a.message.what ∷ l) (replies_more files start (number + 1) sofar more))
-
-pub replies_count : (files : List File) (start number : ℕ) (arrivals : List Arrival) → length (replies_from files start number arrivals) ≡ length arrivals
-unfolding replies_from
-replies_count files start number [] = refl
-replies_count files start number (a ∷ arrivals) = ap (λ n. suc n) (replies_count files start (number + 1) arrivals)
+-- a rendered slip is the reply
+pub reply_is : {X : Type 0} (terms : Terms) (start : ℕ) (h : Handled) (slip : Slip X) (r : ℕ × ℕ × List ℕ)
+    → slip ≡ slip_of terms start h → r ≡ (slip.number, slip.conn, reply_text terms.files slip) → r ≡ reply_of terms start h
+unfolding reply_of
+reply_is {X = X} terms start h slip r e g =
+    g ∙ ap (λ s. (s.number, s.conn, reply_text terms.files s)) e ∙ ap (λ t. (h.number, h.arrival.origin.conn, t)) (text_same X (Unit {0}) terms start h)

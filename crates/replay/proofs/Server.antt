@@ -1,76 +1,43 @@
--- How the plain engine goes on: by one more record, and by one more message of it.
+-- How the plain engine goes on by one more record, and how it ends.
 use Rattle.std.proofs.Common.{◌≡◌, ◌≢◌, ℕ, suc, zero, ◌+◌, ◌<◌, ◌≤◌, ◌==◌, ◌⊎◌, inl, inr, Bool, true, false, List, [], ◌∷◌, ◌++◌, length, take, map, get_or, flat_map, Option, Some, None, Result, Ok, Err, refl, sym, ap, ◌∙◌, subst, arith, append-nil, All, is_some, unwrap_or}
-use Rattle.std.specs.Prelude.{OnOk}
+use Rattle.std.specs.Prelude.{OnOk, IfErr}
+use Rattle.std.specs.List.{AllPairs}
+use Rattle.std.specs.Prelude.{slice_get, option_map}
+use Rattle.std.proofs.lemmas.Option.{slice_get_within, get_or_from_slice_get}
 use Rattle.std.proofs.lemmas.Grind.{common_steps, flat_map-append}
 use Rattle.std.proofs.lemmas.Bool.Decides.{eqb_tells}
-use Rattle.std.proofs.lemmas.List.{append_assoc, length-append, length-map}
+use Rattle.std.proofs.lemmas.List.{append_assoc, length-append, length-map, get_or_append_left}
 use Rattle.std.proofs.lemmas.List.Sums.{sum_by-cons}
-use Rattle.std.proofs.Math.Seq.{get_or-append_seam}
+use Rattle.std.proofs.Math.Seq.{get_or-append_seam, take-append-add}
 use Rattle.std.specs.Io.KnownBytes.{Appends}
-use Rattle.paths.specs.declared.file.File.{File}
 use Rattle.captures.specs.declared.record.Record.{Record}
 use Rattle.captures.specs.declared.record.Record.TheVariants.{Piece, End}
 use Rattle.captures.specs.declared.progress.Progress.{Progress}
-use Rattle.captures.specs.Captures.{Version, version_one, IsRecord, IsCaptureText, size_of, sizes_of}
-use Rattle.captures.specs.Readers.{Fits, Gave}
-use Rattle.http_requests.specs.declared.messages.Message.{Message}
-use Rattle.responses.specs.Records.{record_text}
-use Rattle.replay.specs.declared.origin.Origin.{Origin}
-use Rattle.replay.specs.declared.tally.Tally.{Tally}
-use Rattle.replay.specs.declared.outcome.Outcome.{Outcome}
-use Rattle.replay.specs.declared.connection.Connection.{Connection}
-use Rattle.replay.specs.declared.connection.Connection.TheVariants.{Silent, Open, Closed}
-use Rattle.replay.specs.Arrivals.{Arrival, AreArrivals, bytes_to, text_of, messages_of}
-use Rattle.replay.specs.Connections.{HasRead, HasRoom, ReadMore, HaveRead, connection_at, arrivals_with}
-use Rattle.replay.specs.Replies.{replies_from, first_line, last_line, text_before_stop, replies_text}
-use Rattle.replay.specs.Counting.{summary_of}
-use Rattle.replay.specs.Tallies.{tally_of}
-use Rattle.replay.specs.Serving.{Serves, Written, ServesMore}
 use Rattle.captures.specs.declared.capture_fault.CaptureFault.{CaptureFault}
 use Rattle.captures.specs.declared.capture_fault.CaptureFaultKind.{CaptureFaultKind}
 use Rattle.captures.specs.declared.capture_fault.CaptureFaultKind.TheVariants as kinds
 use Rattle.captures.specs.CaptureFaults.{IsForeseen, IsHeaderFault, IsFaultBehind, failures_of}
-use Rattle.replay.specs.Outcomes.{Answers, told_as, capture_fault, IfCapture, Stops, reader_failures, writer_failures}
+use Rattle.captures.specs.Captures.{Version, version_one, IsCapture, IsRecord, IsCaptureText, size_of, sizes_of, tick_of, ticks_of}
+use Rattle.captures.specs.Readers.{Fits, Gave}
+use Rattle.http_requests.specs.declared.messages.Message.{Message}
+use Rattle.replay.specs.declared.origin.Origin.{Origin}
+use Rattle.replay.specs.declared.desk.Desk.{Desk}
+use Rattle.replay.specs.declared.outcome.Outcome.{Outcome}
+use Rattle.replay.specs.declared.connection.Connection.{Connection}
+use Rattle.replay.specs.declared.connection.Connection.TheVariants.{Silent, Open, Closed}
+use Rattle.replay.specs.declared.replay_fault.ReplayFault.{ReplayFault}
+use Rattle.replay.specs.declared.replay_fault.ReplayFault.TheVariants as faults
+use Rattle.replay.specs.Choices.{Terms}
+use Rattle.replay.specs.Arrivals.{Arrival, AreArrivals, bytes_to, text_of, messages_of}
+use Rattle.replay.specs.Connections.{HasRead, HasRoom, ReadMore, HaveRead, connection_at, arrivals_with}
+use Rattle.replay.specs.Offers.{handled}
+use Rattle.replay.specs.Replies.{replies_of, first_line, last_line, text_before_stop, replies_text}
+use Rattle.replay.specs.Counting.{rejected_of, summary_of}
+use Rattle.replay.specs.Serving.{Stands, AreBy, IsLater, Serves, Written, WrittenInPart, ServesMore, ServesFull, ServesInPart}
+use Rattle.replay.specs.Outcomes.{Answers, AppendsInPart, told_as, capture_fault, IfCapture, IfTooMany, IfCutShort, IsOwn, IsWriteOrMemory, IsCutShort, StopsFirst, StopsBehind, StopsFull, StopsAmong, StopsAtEnd, Stops, reader_failures, writer_failures}
 use Rattle.replay.proofs.Arriving.{from_piece, reads_none, arrives_none, reads_piece, reads_end, arrives_piece, arrives_end}
-use Rattle.replay.proofs.SameAnswer.{replies_more, replies_count}
-use Rattle.replay.proofs.Writing.{appends_then}
-
--- ---- tallies
-
-pub tally_few : (files : List File) (t : Tally) (arrivals : List Arrival) (n : ℕ) → t ≡ tally_of files arrivals → length arrivals ≤ n → t.answered ≤ n
-tally_few files t arrivals n h few = let e : t.answered ≡ length arrivals = ap (λ t. t.answered) h in omega (arith, e, few)
-
-pub tally_len : (files : List File) (t : Tally) (arrivals : List Arrival) (n : ℕ) → t ≡ tally_of files arrivals → t.answered ≤ n → length arrivals ≤ n
-tally_len files t arrivals n h few = let e : t.answered ≡ length arrivals = ap (λ t. t.answered) h in omega (arith, e, few)
-
--- ---- what is written
-
-pub appends_none : (old : Option (List ℕ)) → Appends old old []
-appends_none None = tt
-appends_none (Some x) = sym (append-nil x)
-
-pub written_none : (files : List File) (start number : ℕ) (old : Option (List ℕ)) → Written files start number [] old old
-unfolding replies_from
-written_none files start number old = appends_none old
-
-pub first_written : (files : List File) (start : ℕ) (old new : Option (List ℕ)) → Appends old new first_line → Appends old new (text_before_stop (replies_from files start 0 []))
-unfolding replies_from
-first_written files start old new h = rw (append-nil first_line) h
-
-pub text_more : (files : List File) (start : ℕ) (arrivals more : List Arrival) (old mid new : Option (List ℕ)) → Appends old mid (text_before_stop (replies_from files start 0 arrivals))
-    → Written files start (length arrivals) more mid new → Appends old new (text_before_stop (replies_from files start 0 (arrivals ++ more)))
-text_more files start arrivals more old mid new before after =
-    let e : 0 + length arrivals ≡ length arrivals = omega arith in
-    let split : text_before_stop (replies_from files start 0 (arrivals ++ more)) ≡ text_before_stop (replies_from files start 0 arrivals) ++ flat_map record_text (replies_from files start (length arrivals) more) =
-    rw (replies_more files start 0 arrivals more, e, flat_map-append record_text (replies_from files start 0 arrivals) (replies_from files start (length arrivals) more))
-    (sym (append_assoc first_line (flat_map record_text (replies_from files start 0 arrivals)) (flat_map record_text (replies_from files start (length arrivals) more)))) in
-    rw split (appends_then old mid new (text_before_stop (replies_from files start 0 arrivals)) (flat_map record_text (replies_from files start (length arrivals) more)) before after)
-
-pub all_written : (files : List File) (start count : ℕ) (arrivals : List Arrival) (old mid new : Option (List ℕ)) → count ≡ length arrivals
-    → Appends old mid (text_before_stop (replies_from files start 0 arrivals)) → Appends mid new (last_line count) → Appends old new (replies_text (replies_from files start 0 arrivals))
-all_written files start count arrivals old mid new e before after =
-    let n : length (replies_from files start 0 arrivals) ≡ count = replies_count files start 0 arrivals ∙ sym e in
-    rw n (appends_then old mid new (text_before_stop (replies_from files start 0 arrivals)) (last_line count) before after)
+use Rattle.replay.proofs.Writing.{appends_then, part_none, part_front, part_all, part_then, written_none, text_none, text_more, replies_count}
+use Rattle.replay.proofs.Judging.{answered_is}
 
 -- ---- the room of a connection
 
@@ -90,59 +57,156 @@ room_of Silent text ms n h room = omega (arith, room)
 room_of (Open cutter) text ms n h room = let e = h.read in omega (arith, room, e)
 room_of Closed text ms n h room = tt
 
-pub has_room : (files : List File) (records : List Record) (arrivals : List Arrival) (connections : List Connection) (tally : Tally) (c n : ℕ)
-    → Serves files records arrivals connections tally → sizes_of records + n ≤ 1073741824 → HasRoom (connection_at connections c) n
-has_room files records arrivals connections tally c n serves room =
+pub has_room : (terms : Terms) (records : List Record) (arrivals : List Arrival) (connections : List Connection) (desk : Desk) (c n : ℕ)
+    → Serves terms records arrivals connections desk → sizes_of records + n ≤ 1073741824 → HasRoom (connection_at connections c) n
+has_room terms records arrivals connections desk c n serves room =
     let below = text_below c records in
     room_of (connection_at connections c) (text_of c records) (messages_of c arrivals) n (serves.reads.each c) (omega (arith, below, room))
 
+-- ---- ticks
+
+abbrev tick_in : Record → ℕ
+tick_in (Piece tick conn bytes) = tick
+tick_in (End tick conn) = tick
+
+ticks_count : (records : List Record) → length (ticks_of records) ≡ length records
+ticks_count [] = refl
+ticks_count (Piece tick conn bytes ∷ records) = ap (λ n. suc n) (ticks_count records)
+ticks_count (End tick conn ∷ records) = ap (λ n. suc n) (ticks_count records)
+
+tick_at : (records : List Record) (i tick conn : ℕ) (bytes : List ℕ) → slice_get records i ≡ Some (Piece tick conn bytes) → slice_get (ticks_of records) i ≡ Some tick
+tick_at [] i tick conn bytes h = absurd (let lt = slice_get_within [] i (Piece tick conn bytes) h in omega (arith, lt))
+tick_at (Piece t c b ∷ records) zero tick conn bytes h = ap (λ o. option_map tick_in o) h
+tick_at (End t c ∷ records) zero tick conn bytes h = ap (λ o. option_map tick_in o) h
+tick_at (Piece t c b ∷ records) (suc i) tick conn bytes h = tick_at records i tick conn bytes h
+tick_at (End t c ∷ records) (suc i) tick conn bytes h = tick_at records i tick conn bytes h
+
+-- the last of ticks that don't fall is no earlier than the others
+last_latest : (ticks : List ℕ) (last i tick : ℕ) → AllPairs (λ s t. s ≤ t) (ticks ++ last ∷ []) → slice_get ticks i ≡ Some tick → tick ≤ last
+last_latest ticks last i tick rising h =
+    let lt = slice_get_within ticks i tick h in
+    let len = length-append ticks (last ∷ []) in
+    let here : get_or (ticks ++ last ∷ []) i 0 ≡ tick = get_or_append_left ticks (last ∷ []) 0 i lt ∙ get_or_from_slice_get ticks i tick 0 h in
+    let there : get_or (ticks ++ last ∷ []) (length ticks) 0 ≡ last = get_or-append_seam ticks last [] 0 in
+    let le = rising i (length ticks) 0 lt (omega (arith, len)) in
+    rw (here, there) at le
+
+by_last : (records : List Record) (arrivals : List Arrival) (last : ℕ) → AllPairs (λ s t. s ≤ t) (ticks_of records ++ last ∷ []) → AreArrivals records arrivals → AreBy last arrivals
+by_last records arrivals last rising arrived = λ k d lt.
+    let a = get_or arrivals k d in
+    let with = arrived.with k d lt in
+    last_latest (ticks_of records) last a.place a.origin.tick rising (tick_at records a.place a.origin.tick a.origin.conn with.bytes with.piece)
+
+-- a record that comes behind others is no earlier than all that arrived with them
+pub is_later : (v : Version) (start : ℕ) (records : List Record) (arrivals : List Arrival) (r : Record) → IsCapture v start (records ++ r ∷ []) → AreArrivals records arrivals → IsLater r arrivals
+is_later v start records arrivals (Piece tick conn bytes) rules arrived =
+    by_last records arrivals tick (subst (λ (ts : List ℕ). AllPairs (λ s t. s ≤ t) ts) (flat_map-append tick_of records (Piece tick conn bytes ∷ [])) rules.rising) arrived
+is_later v start records arrivals (End tick conn) rules arrived = tt
+
 -- ---- one more record
 
-pub serves_none : (files : List File) (connections : List Connection) (tally : Tally) → connections ≡ [] → tally ≡ tally_of files [] → Serves files [] [] connections tally
-serves_none files connections tally none counted = record { reads = rw none reads_none; arrived = arrives_none; counted = counted; few = omega arith }
+pub serves_none : (terms : Terms) (connections : List Connection) (desk : Desk) → connections ≡ [] → Stands terms [] desk → Serves terms [] [] connections desk
+serves_none terms connections desk none stands = record { reads = rw none reads_none; arrived = arrives_none; stands = stands }
 
-pub serves_end : (files : List File) (start tick conn : ℕ) (records : List Record) (arrivals : List Arrival) (r : Record) (connections : List Connection) (tally : Tally) (old : Option (List ℕ))
-    → r ≡ End tick conn → Serves files records arrivals connections tally → ServesMore files start records arrivals r connections tally old old
-serves_end files start tick conn records arrivals r connections tally old is serves =
+pub serves_end : (terms : Terms) (tick conn : ℕ) (records : List Record) (arrivals : List Arrival) (r : Record) (connections : List Connection) (desk : Desk) (old : Option (List ℕ))
+    → r ≡ End tick conn → Serves terms records arrivals connections desk → ServesMore terms records arrivals r connections desk old old
+serves_end terms tick conn records arrivals r connections desk old is serves =
     let reads = reads_end records arrivals connections tick conn serves.reads in
-    let more : Serves files (records ++ End tick conn ∷ []) arrivals connections tally = record {
+    let more : Serves terms (records ++ End tick conn ∷ []) arrivals connections desk = record {
       reads = reads;
       arrived = arrives_end records arrivals connections tick conn serves.arrived reads;
-      counted = serves.counted;
-      few = serves.few;
+      stands = serves.stands;
     } in
-    rw is (record { more = []; serves = rw (append-nil arrivals) more; written = written_none files start (length arrivals) old })
+    rw is (record { more = []; serves = rw (append-nil arrivals) more; written = written_none terms desk.start arrivals old })
 
-pub serves_piece : (files : List File) (start tick conn n : ℕ) (bytes piece : List ℕ) (ms out : List Message) (records : List Record) (arrivals : List Arrival) (r : Record)
-    (before after : List Connection) (t u : Tally) (old new : Option (List ℕ)) → r ≡ Piece tick conn bytes → n ≡ conn → piece ≡ bytes → ms ≡ out
-    → ((text : List ℕ) (sofar : List Message) → HasRead (connection_at before n) text sofar → ReadMore text sofar (connection_at after n) piece out)
-    → ((c : ℕ) → c ≢ n → connection_at after c ≡ connection_at before c)
-    → ((place : ℕ) → Written files start t.answered (arrivals_with place (from_piece tick conn) ms) old new)
-    → ((arrivals : List Arrival) (place : ℕ) → t ≡ tally_of files arrivals → u ≡ tally_of files (arrivals ++ arrivals_with place (from_piece tick conn) ms))
-    → u.answered ≤ 1048576
-    → Serves files records arrivals before t → ServesMore files start records arrivals r after u old new
-serves_piece files start tick conn n bytes piece ms out records arrivals r before after t u old new is named shown same own others written counted few serves =
-    let reading : (text : List ℕ) (sofar : List Message) → HasRead (connection_at before conn) text sofar → ReadMore text sofar (connection_at after conn) bytes ms = rw (named, shown, ← same) at own in
-    let apart : (c : ℕ) → c ≢ conn → connection_at after c ≡ connection_at before c = rw named at others in
+-- what a piece has brought
+pub record Took (n : ℕ) (before after : List Connection) (piece : List ℕ) (out : List Message) : Type 0 where
+  pub own : (text : List ℕ) (sofar : List Message) → HasRead (connection_at before n) text sofar → ReadMore text sofar (connection_at after n) piece out
+  pub others : (c : ℕ) → c ≢ n → connection_at after c ≡ connection_at before c
+
+-- the arrivals of a piece that was taken
+pub record Brought (records : List Record) (arrivals : List Arrival) (r : Record) (connections : List Connection) (more : List Arrival) : Type 0 where
+  pub reads : HaveRead (records ++ r ∷ []) (arrivals ++ more) connections
+  pub arrived : AreArrivals (records ++ r ∷ []) (arrivals ++ more)
+
+pub brought : (terms : Terms) (tick conn n : ℕ) (bytes piece : List ℕ) (ms out : List Message) (records : List Record) (arrivals : List Arrival) (r : Record) (before after : List Connection) (desk : Desk)
+    → r ≡ Piece tick conn bytes → n ≡ conn → piece ≡ bytes → ms ≡ out → Took n before after piece out → Serves terms records arrivals before desk
+    → Brought records arrivals r after (arrivals_with (length records) (from_piece tick conn) ms)
+brought terms tick conn n bytes piece ms out records arrivals r before after desk is named shown same took serves =
+    let reading : (text : List ℕ) (sofar : List Message) → HasRead (connection_at before conn) text sofar → ReadMore text sofar (connection_at after conn) bytes ms = rw (named, shown, ← same) at took.own in
+    let apart : (c : ℕ) → c ≢ conn → connection_at after c ≡ connection_at before c = rw named at took.others in
     let reads = reads_piece records arrivals before after tick conn bytes ms serves.reads reading apart in
     let ends = (reading (text_of conn records) (messages_of conn arrivals) (serves.reads.each conn)).in_piece in
-    let count = counted arrivals (length records) serves.counted in
-    let at : t.answered ≡ length arrivals = ap (λ t. t.answered) serves.counted in
-    let more : ServesMore files start records arrivals (Piece tick conn bytes) after u old new = record {
-      more = arrivals_with (length records) (from_piece tick conn) ms;
-      serves = record {
-        reads = reads;
-        arrived = arrives_piece records arrivals after tick conn bytes ms serves.arrived ends reads;
-        counted = count;
-        few = tally_len files u (arrivals ++ arrivals_with (length records) (from_piece tick conn) ms) 1048576 count few;
-      };
-      written = rw at at (written (length records));
-    } in
-    rw is more
+    rw is (record { reads = reads; arrived = arrives_piece records arrivals after tick conn bytes ms serves.arrived ends reads })
+
+pub serves_piece : (terms : Terms) (tick conn : ℕ) (ms : List Message) (records : List Record) (arrivals : List Arrival) (r : Record) (after : List Connection) (desk now : Desk) (old new : Option (List ℕ))
+    → Brought records arrivals r after (arrivals_with (length records) (from_piece tick conn) ms) → now.start ≡ desk.start
+    → Stands terms (arrivals ++ arrivals_with (length records) (from_piece tick conn) ms) now
+    → Written terms desk.start arrivals (arrivals_with (length records) (from_piece tick conn) ms) old new → ServesMore terms records arrivals r after now old new
+serves_piece terms tick conn ms records arrivals r after desk now old new brings start stands written = record {
+  more = arrivals_with (length records) (from_piece tick conn) ms;
+  serves = record { reads = brings.reads; arrived = brings.arrived; stands = stands };
+  written = rw start written;
+}
+
+map_take : {A B : Type 0} (f : A → B) (i : ℕ) (xs : List A) → map f (take i xs) ≡ take i (map f xs)
+map_take f zero xs = refl
+map_take f (suc i) [] = refl
+map_take f (suc i) (x ∷ xs) = ap (λ ys. f x ∷ ys) (map_take f i xs)
+
+take_with : (place : ℕ) (origin : Origin) (i : ℕ) (ms : List Message) → arrivals_with place origin (take i ms) ≡ take i (arrivals_with place origin ms)
+take_with place origin i ms = map_take (λ m. record { origin = origin; place = place; message = m }) i ms
+
+pub serves_full : (terms : Terms) (tick conn i : ℕ) (ms : List Message) (records : List Record) (arrivals : List Arrival) (r : Record) (after : List Connection) (before : List Connection) (desk : Desk) (old new : Option (List ℕ))
+    → Brought records arrivals r after (arrivals_with (length records) (from_piece tick conn) ms) → Serves terms records arrivals before desk
+    → i < length ms → desk.tally.answered + i ≡ 1048576 → Written terms desk.start arrivals (arrivals_with (length records) (from_piece tick conn) (take i ms)) old new
+    → ServesFull terms desk.start records arrivals r old new
+serves_full terms tick conn i ms records arrivals r after before desk old new brings serves lt full written =
+    let place = length records in
+    let is = answered_is terms arrivals desk serves.stands in
+    let len : length (arrivals_with place (from_piece tick conn) ms) ≡ length ms = length-map ms _ in
+    record {
+      more = arrivals_with place (from_piece tick conn) ms;
+      arrived = brings.arrived;
+      within = i;
+      full = omega (arith, is, full);
+      beyond = omega (arith, len, lt);
+      written = rw (take_with place (from_piece tick conn) i ms) at written;
+    }
+
+pub serves_part : (terms : Terms) (tick conn i : ℕ) (ms : List Message) (records : List Record) (arrivals : List Arrival) (r : Record) (after : List Connection) (before : List Connection) (desk : Desk) (old new : Option (List ℕ))
+    → Brought records arrivals r after (arrivals_with (length records) (from_piece tick conn) ms) → Serves terms records arrivals before desk
+    → desk.tally.answered + i ≤ 1048576 → WrittenInPart terms desk.start arrivals (arrivals_with (length records) (from_piece tick conn) (take i ms)) old new
+    → ServesInPart terms desk.start records arrivals r old new
+serves_part terms tick conn i ms records arrivals r after before desk old new brings serves few written =
+    let place = length records in
+    let is = answered_is terms arrivals desk serves.stands in
+    record {
+      more = arrivals_with place (from_piece tick conn) ms;
+      arrived = brings.arrived;
+      within = i;
+      few = omega (arith, is, few);
+      written = rw (take_with place (from_piece tick conn) i ms) at written;
+    }
 
 pub on_ok : {T E : Type 0} (r : Result T E) (A B C D : Type 0) → OnOk r A → OnOk r B → OnOk r C → (A → B → C → D) → OnOk r D
 on_ok (Ok x) A B C D a b c f = f a b c
 on_ok (Err e) A B C D a b c f = tt
+
+-- a fault's clause is carried over
+pub err_many : {T : Type 0} (r : Result T ReplayFault) (P Q : ℕ → Type 0) → ((n : ℕ) → P n → Q n) → IfErr r (λ f. IfTooMany f P) → IfErr r (λ f. IfTooMany f Q)
+err_many (Ok x) P Q more h = tt
+err_many (Err (faults.Capture f)) P Q more h = tt
+err_many (Err (faults.TooMany n)) P Q more h = more n h
+err_many (Err faults.Write) P Q more h = tt
+err_many (Err faults.Memory) P Q more h = tt
+
+pub err_cut : {T : Type 0} (r : Result T ReplayFault) (P Q : Type 0) → (P → Q) → IfErr r (λ f. IfCutShort f P) → IfErr r (λ f. IfCutShort f Q)
+err_cut (Ok x) P Q more h = tt
+err_cut (Err (faults.Capture f)) P Q more h = tt
+err_cut (Err (faults.TooMany n)) P Q more h = tt
+err_cut (Err faults.Write) P Q more h = more h
+err_cut (Err faults.Memory) P Q more h = more h
 
 -- ---- the capture
 
@@ -152,9 +216,9 @@ record_is v text now start records p r h =
     let lt : length records < length (records ++ r ∷ []) = let l = length-append records (r ∷ []) in omega (arith, l) in
     rw (get_or-append_seam records r [] r) at (h.rules.each (length records) r lt)
 
-pub room_left : (v : Version) (text now : Option (List ℕ)) (start room : ℕ) (records : List Record) (p : Progress) (r : Record) → Fits v text start records p now
+pub sizes_left : (v : Version) (text now : Option (List ℕ)) (start room : ℕ) (records : List Record) (p : Progress) (r : Record) → Fits v text start records p now
     → size_of r + 1 + room ≡ p.room → sizes_of records + size_of r ≤ 1073741824
-room_left v text now start room records p r fits e = let h = fits.room in omega (arith, h, e)
+sizes_left v text now start room records p r fits e = let h = fits.room in omega (arith, h, e)
 
 -- what the reader's answer says
 pub gave_some : (v : Version) (text now : Option (List ℕ)) (start : ℕ) (records : List Record) (p : Progress) (x : Option Record) (r : Record) → x ≡ Some r
@@ -165,24 +229,60 @@ pub gave_end : (v : Version) (text now : Option (List ℕ)) (start : ℕ) (recor
     → IsCaptureText v (unwrap_or text []) start records
 gave_end v text now start records p x is h = subst (λ (o : Option Record). Gave v text start records (Ok o) p now) is h
 
+-- ---- the end
+
+pub first_written : (terms : Terms) (start : ℕ) (old new : Option (List ℕ)) → Appends old new first_line → Appends old new (text_before_stop (replies_of terms start (handled terms [])))
+first_written terms start old new h = rw (text_none terms start) h
+
+pub more_written : (terms : Terms) (start : ℕ) (arrivals more : List Arrival) (old mid new : Option (List ℕ)) → Appends old mid (text_before_stop (replies_of terms start (handled terms arrivals)))
+    → Written terms start arrivals more mid new → Appends old new (text_before_stop (replies_of terms start (handled terms (arrivals ++ more))))
+more_written terms start arrivals more old mid new before after = rw (text_more terms start arrivals more) (appends_then old mid new (text_before_stop (replies_of terms start (handled terms arrivals))) _ before after)
+
+pub part_written : (terms : Terms) (start : ℕ) (arrivals more : List Arrival) (old mid new : Option (List ℕ)) → Appends old mid (text_before_stop (replies_of terms start (handled terms arrivals)))
+    → WrittenInPart terms start arrivals more mid new → AppendsInPart old new (text_before_stop (replies_of terms start (handled terms (arrivals ++ more))))
+part_written terms start arrivals more old mid new before after = rw (text_more terms start arrivals more) (part_then old mid new (text_before_stop (replies_of terms start (handled terms arrivals))) _ before after)
+
+pub all_written : (terms : Terms) (start count : ℕ) (arrivals : List Arrival) (old mid new : Option (List ℕ)) → count ≡ length arrivals
+    → Appends old mid (text_before_stop (replies_of terms start (handled terms arrivals))) → Appends mid new (last_line count) → Appends old new (replies_text (replies_of terms start (handled terms arrivals)))
+all_written terms start count arrivals old mid new e before after =
+    let n : length (replies_of terms start (handled terms arrivals)) ≡ count = replies_count terms start arrivals ∙ sym e in
+    rw n (appends_then old mid new (text_before_stop (replies_of terms start (handled terms arrivals))) (last_line count) before after)
+
 -- the whole capture was answered
-pub answers_all : (files : List File) (start count : ℕ) (records : List Record) (arrivals : List Arrival) (connections : List Connection) (tally : Tally) (input : List ℕ)
-    (old mid new : Option (List ℕ)) (outcome : Outcome) → IsCaptureText version_one input start records → Serves files records arrivals connections tally
-    → Appends old mid (text_before_stop (replies_from files start 0 arrivals)) → Appends mid new (last_line count) → count ≡ tally.answered
-    → outcome.rejected ≡ [] → outcome.summary ≡ tally.summary → Answers files input old new outcome
-answers_all files start count records arrivals connections tally input old mid new outcome capture serves before last counted none told = record {
+pub answers_all : (terms : Terms) (start count : ℕ) (records : List Record) (arrivals : List Arrival) (connections : List Connection) (desk : Desk) (input : List ℕ)
+    (old mid new : Option (List ℕ)) (outcome : Outcome) → IsCaptureText version_one input start records → Serves terms records arrivals connections desk
+    → Appends old mid (text_before_stop (replies_of terms start (handled terms arrivals))) → Appends mid new (last_line count) → count ≡ desk.tally.answered
+    → outcome.rejected ≡ desk.tally.rejected → outcome.summary ≡ summary_of terms arrivals → Answers terms input old new outcome
+answers_all terms start count records arrivals connections desk input old mid new outcome capture serves before last counted rejected told = record {
   start = start;
   records = records;
   arrivals = arrivals;
   capture = capture;
   arrived = serves.arrived;
-  few = serves.few;
-  written = all_written files start count arrivals old mid new (counted ∙ ap (λ t. t.answered) serves.counted) before last;
-  rejected = none;
-  summary = told ∙ ap (λ t. t.summary) serves.counted;
+  few = serves.stands.few;
+  written = all_written terms start count arrivals old mid new (counted ∙ answered_is terms arrivals desk serves.stands) before last;
+  rejected = rejected ∙ ap (λ t. t.rejected) serves.stands.tally;
+  summary = told;
 }
 
--- ---- faults of the capture
+-- the last line was not
+pub ends_in_part : (terms : Terms) (start count : ℕ) (records : List Record) (arrivals : List Arrival) (connections : List Connection) (desk : Desk) (input : List ℕ)
+    (old mid new : Option (List ℕ)) → IsCaptureText version_one input start records → Serves terms records arrivals connections desk
+    → Appends old mid (text_before_stop (replies_of terms start (handled terms arrivals))) → AppendsInPart mid new (last_line count) → count ≡ desk.tally.answered
+    → IsCutShort terms input old new
+ends_in_part terms start count records arrivals connections desk input old mid new capture serves before last counted =
+    let n : length (replies_of terms start (handled terms arrivals)) ≡ count = replies_count terms start arrivals ∙ sym (counted ∙ answered_is terms arrivals desk serves.stands) in
+    inr (inr (record {
+      start = start;
+      records = records;
+      arrivals = arrivals;
+      capture = capture;
+      arrived = serves.arrived;
+      few = serves.stands.few;
+      written = rw n (part_then old mid new (text_before_stop (replies_of terms start (handled terms arrivals))) (last_line count) before last);
+    }))
+
+-- ---- faults
 
 -- what is said of a capture's fault, where the replay tells it
 pub told : (f : CaptureFault) (P : CaptureFault → Type 0) → P f → IfCapture (capture_fault f) P
@@ -202,6 +302,43 @@ told f P h = go f.kind
     go kinds.TooLarge = h
     go kinds.Read = h
     go kinds.Memory = tt
+
+-- it isn't that messages are too many, and want of memory cuts short
+pub told_many : (f : CaptureFault) (P : ℕ → Type 0) → IfTooMany (capture_fault f) P
+told_many f P = go f.kind
+  where
+    go : (k : CaptureFaultKind) → IfTooMany (told_as k f) P
+    go kinds.Cut = tt
+    go kinds.Header = tt
+    go kinds.Kind = tt
+    go kinds.Number = tt
+    go kinds.Tick = tt
+    go kinds.Connection = tt
+    go kinds.Ended = tt
+    go kinds.Length = tt
+    go kinds.Count = tt
+    go kinds.Trailing = tt
+    go kinds.TooLarge = tt
+    go kinds.Read = tt
+    go kinds.Memory = tt
+
+pub told_short : (f : CaptureFault) (P : Type 0) → P → IfCutShort (capture_fault f) P
+told_short f P h = go f.kind
+  where
+    go : (k : CaptureFaultKind) → IfCutShort (told_as k f) P
+    go kinds.Cut = tt
+    go kinds.Header = tt
+    go kinds.Kind = tt
+    go kinds.Number = tt
+    go kinds.Tick = tt
+    go kinds.Connection = tt
+    go kinds.Ended = tt
+    go kinds.Length = tt
+    go kinds.Count = tt
+    go kinds.Trailing = tt
+    go kinds.TooLarge = tt
+    go kinds.Read = tt
+    go kinds.Memory = h
 
 pub told_reads : (f : CaptureFault) → reader_failures (capture_fault f) ≡ failures_of f.kind
 told_reads f = go f.kind refl
@@ -239,21 +376,91 @@ told_writes f = go f.kind
     go kinds.Read = refl
     go kinds.Memory = refl
 
-pub stops_first : (files : List File) (text old new : Option (List ℕ)) (f : CaptureFault) → Appends old new first_line → IsForeseen (IsHeaderFault version_one) text f → is_some text ≡ true
-    → Stops files (unwrap_or text []) old new f
-stops_first files text old new f written fault known = inl (record { written = written; fault = λ foreseen. fault known foreseen })
+-- a failed write or want of memory is neither the capture's nor that of too many messages
+pub short_capture : {T : Type 0} (r : Result T ReplayFault) (P : CaptureFault → Type 0) → IfErr r IsWriteOrMemory → IfErr r (λ f. IfCapture f P)
+short_capture (Ok x) P h = tt
+short_capture (Err (faults.Capture f)) P h = absurd h
+short_capture (Err (faults.TooMany n)) P h = absurd h
+short_capture (Err faults.Write) P h = tt
+short_capture (Err faults.Memory) P h = tt
 
-pub stops_behind : (files : List File) (text now old new : Option (List ℕ)) (start : ℕ) (records : List Record) (arrivals : List Arrival) (p : Progress) (connections : List Connection) (tally : Tally)
-    (f : CaptureFault) → Fits version_one text start records p now → Serves files records arrivals connections tally → Appends old new (text_before_stop (replies_from files start 0 arrivals))
-    → IsForeseen (λ bytes. IsFaultBehind version_one bytes start records) text f → is_some text ≡ true → Stops files (unwrap_or text []) old new f
-stops_behind files text now old new start records arrivals p connections tally f fits serves written fault known = inr (record {
+pub stops_first : (terms : Terms) (text old new : Option (List ℕ)) (f : CaptureFault) → Appends old new first_line → IsForeseen (IsHeaderFault version_one) text f → is_some text ≡ true
+    → Stops terms (unwrap_or text []) old new f
+stops_first terms text old new f written fault known = inl (record { written = written; fault = λ foreseen. fault known foreseen })
+
+pub stops_behind : (terms : Terms) (text now old new : Option (List ℕ)) (start : ℕ) (records : List Record) (arrivals : List Arrival) (p : Progress) (connections : List Connection) (desk : Desk)
+    (f : CaptureFault) → Fits version_one text start records p now → Serves terms records arrivals connections desk → Appends old new (text_before_stop (replies_of terms start (handled terms arrivals)))
+    → IsForeseen (λ bytes. IsFaultBehind version_one bytes start records) text f → is_some text ≡ true → Stops terms (unwrap_or text []) old new f
+stops_behind terms text now old new start records arrivals p connections desk f fits serves written fault known = inr (record {
   start = start;
   records = records;
   rest = unwrap_or now [];
   arrivals = arrivals;
   front = fits.front known;
   arrived = serves.arrived;
-  few = serves.few;
+  few = serves.stands.few;
   written = written;
   fault = λ foreseen. fault known foreseen;
 })
+
+take_all : {A : Type 0} (xs : List A) → take (length xs) xs ≡ xs
+take_all xs = grind (arith, common_steps)
+
+-- all of the messages so far were answered, and nothing of the next
+pub short_among : (terms : Terms) (text now old new : Option (List ℕ)) (start : ℕ) (records : List Record) (arrivals : List Arrival) (p : Progress) (connections : List Connection) (desk : Desk)
+    → Fits version_one text start records p now → Serves terms records arrivals connections desk → Appends old new (text_before_stop (replies_of terms start (handled terms arrivals)))
+    → is_some text ≡ true → IsCutShort terms (unwrap_or text []) old new
+short_among terms text now old new start records arrivals p connections desk fits serves written known = inr (inl (record {
+  start = start;
+  records = records;
+  rest = unwrap_or now [];
+  arrivals = arrivals;
+  within = length arrivals;
+  front = fits.front known;
+  rules = fits.rules;
+  arrived = serves.arrived;
+  few = serves.stands.few;
+  written = rw (take_all arrivals) (part_all old new _ written);
+}))
+
+pub stops_full : (terms : Terms) (text now old mid new : Option (List ℕ)) (start n : ℕ) (records : List Record) (arrivals : List Arrival) (r : Record) (p : Progress)
+    → Fits version_one text start (records ++ r ∷ []) p now → Appends old mid (text_before_stop (replies_of terms start (handled terms arrivals))) → n ≡ 1048576
+    → ServesFull terms start records arrivals r mid new → is_some text ≡ true → StopsFull terms (unwrap_or text []) old new n
+stops_full terms text now old mid new start n records arrivals r p fits written number full known =
+    let here : take 1048576 (arrivals ++ full.more) ≡ arrivals ++ take full.within full.more = rw (← full.full) (take-append-add arrivals full.more full.within) in
+    record {
+      start = start;
+      records = records ++ r ∷ [];
+      rest = unwrap_or now [];
+      arrivals = arrivals ++ full.more;
+      front = fits.front known;
+      rules = fits.rules;
+      arrived = full.arrived;
+      beyond = let all = full.full in let more = full.beyond in let len = length-append arrivals full.more in omega (arith, all, more, len);
+      is_number = number;
+      written = rw here (more_written terms start arrivals (take full.within full.more) old mid new written full.written);
+    }
+
+pub short_part : (terms : Terms) (text now old mid new : Option (List ℕ)) (start : ℕ) (records : List Record) (arrivals : List Arrival) (r : Record) (p : Progress)
+    → Fits version_one text start (records ++ r ∷ []) p now → Appends old mid (text_before_stop (replies_of terms start (handled terms arrivals)))
+    → ServesInPart terms start records arrivals r mid new → is_some text ≡ true → IsCutShort terms (unwrap_or text []) old new
+short_part terms text now old mid new start records arrivals r p fits written part known =
+    let here : take (length arrivals + part.within) (arrivals ++ part.more) ≡ arrivals ++ take part.within part.more = take-append-add arrivals part.more part.within in
+    inr (inl (record {
+      start = start;
+      records = records ++ r ∷ [];
+      rest = unwrap_or now [];
+      arrivals = arrivals ++ part.more;
+      within = length arrivals + part.within;
+      front = fits.front known;
+      rules = fits.rules;
+      arrived = part.arrived;
+      few = part.few;
+      written = rw here (part_written terms start arrivals (take part.within part.more) old mid new written part.written);
+    }))
+
+pub own_capture : (f : ReplayFault) (P : CaptureFault → Type 0) → IsOwn f → IfCapture f P
+own_capture (faults.Capture f) P h = absurd h
+own_capture (faults.TooMany n) P h = tt
+own_capture faults.Write P h = tt
+own_capture faults.Memory P h = tt

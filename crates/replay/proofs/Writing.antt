@@ -1,22 +1,26 @@
 -- What was written of one more message, and of one more record.
 use Rattle.std.proofs.Common.{◌≡◌, ℕ, suc, ◌+◌, ◌<◌, ◌≤◌, List, [], ◌∷◌, ◌++◌, length, take, map, get_or, flat_map, Option, Some, None, refl, sym, ap, ◌∙◌, subst, arith, append-nil}
-use Rattle.std.proofs.lemmas.List.{append_assoc, map-append}
+use Rattle.std.proofs.lemmas.List.{append_assoc, map-append, length-map}
 use Rattle.std.proofs.lemmas.Grind.{flat_map-append}
-use Rattle.std.proofs.Math.Seq.{take-suc}
+use Rattle.std.proofs.Math.Seq.{take-suc, take-append-add}
 use Rattle.std.specs.Io.KnownBytes.{Appends}
-use Rattle.paths.specs.declared.file.File.{File}
 use Rattle.http_requests.specs.declared.messages.Message.{Message}
-use Rattle.http_requests.specs.declared.messages.What.{What as Meaning}
-use Rattle.responses.specs.declared.slip.Slip.{Slip}
-use Rattle.responses.specs.Replies.{reply_text}
 use Rattle.responses.specs.Records.{record_text}
 use Rattle.replay.specs.declared.origin.Origin.{Origin}
+use Rattle.replay.specs.Choices.{Terms}
 use Rattle.replay.specs.Arrivals.{Arrival}
 use Rattle.replay.specs.Connections.{arrivals_with}
-use Rattle.replay.specs.Answers.{slip_of}
-use Rattle.replay.specs.Replies.{reply_of, replies_from}
-use Rattle.replay.specs.Serving.{Written}
-use Rattle.replay.proofs.SameAnswer.{text_same, replies_more}
+use Rattle.replay.specs.Offers.{handled_next, handled_behind, handled}
+use Rattle.replay.specs.Replies.{reply_of, replies_of, first_line, last_line, text_before_stop, replies_text}
+use Rattle.replay.specs.Outcomes.{AppendsInPart}
+use Rattle.replay.specs.Serving.{records_behind, Written, WrittenInPart}
+use Rattle.replay.proofs.Offering.{handled_more, handled_one, handled_count}
+
+-- ---- bytes
+
+pub appends_none : (old : Option (List ℕ)) → Appends old old []
+appends_none None = tt
+appends_none (Some x) = sym (append-nil x)
 
 pub appends_then : (old mid new : Option (List ℕ)) (a b : List ℕ) → Appends old mid a → Appends mid new b → Appends old new (a ++ b)
 appends_then None mid new a b first second = tt
@@ -24,12 +28,22 @@ appends_then (Some x) None new a b first second = absurd first
 appends_then (Some x) (Some y) None a b first second = absurd second
 appends_then (Some x) (Some y) (Some z) a b first second = second ∙ ap (λ v. v ++ b) first ∙ append_assoc x a b
 
--- a rendered slip is the reply
-pub reply_is : {X : Type 0} (files : List File) (start number : ℕ) (origin : Origin) (what : Meaning) (slip : Slip X) (r : ℕ × ℕ × List ℕ)
-    → slip ≡ slip_of files start number origin what → r ≡ (slip.number, slip.conn, reply_text files slip) → r ≡ reply_of files start number origin what
-unfolding reply_of
-reply_is {X = X} files start number origin what slip r h g =
-    g ∙ ap (λ s. (s.number, s.conn, reply_text files s)) h ∙ ap (λ t. (number, origin.conn, t)) (text_same X (Unit {0}) files start number origin what)
+-- nothing of a text was written, all of its front, and a part of what comes behind
+pub part_none : (old : Option (List ℕ)) (text : List ℕ) → AppendsInPart old old text
+part_none old text = (0, appends_none old)
+
+pub part_front : (old new : Option (List ℕ)) (front behind : List ℕ) → Appends old new front → AppendsInPart old new (front ++ behind)
+part_front old new front behind h =
+    let e : take (length front + 0) (front ++ behind) ≡ front = take-append-add front behind 0 ∙ append-nil front in
+    (length front + 0, rw e h)
+
+pub part_all : (old new : Option (List ℕ)) (text : List ℕ) → Appends old new text → AppendsInPart old new text
+part_all old new text h = rw (append-nil text) at (part_front old new text [] h)
+
+pub part_then : (old mid new : Option (List ℕ)) (front behind : List ℕ) → Appends old mid front → AppendsInPart mid new behind → AppendsInPart old new (front ++ behind)
+part_then old mid new front behind before part = (length front + part.0, rw (take-append-add front behind part.0) (appends_then old mid new front (take part.0 behind) before part.1))
+
+-- ---- messages
 
 pub arrivals_step : (place : ℕ) (origin : Origin) (ms : List Message) (i : ℕ) (d : Message) → i < length ms
     → arrivals_with place origin (take (i + 1) ms) ≡ arrivals_with place origin (take i ms) ++ record { origin = origin; place = place; message = get_or ms i d } ∷ []
@@ -37,21 +51,45 @@ arrivals_step place origin ms i d lt =
     let e : i + 1 ≡ suc i = omega arith in
     rw (e, take-suc ms i d lt) (map-append (λ m. record { origin = origin; place = place; message = m }) (take i ms) (get_or ms i d ∷ []))
 
-pub written_step : (files : List File) (start number at : ℕ) (sofar : List Arrival) (a : Arrival) (old mid new : Option (List ℕ)) → at ≡ number + length sofar
-    → Written files start number sofar old mid → Appends mid new (record_text (reply_of files start at a.origin a.message.what)) → Written files start number (sofar ++ a ∷ []) old new
-unfolding replies_from
-written_step files start number at sofar a old mid new e before one =
+pub records_more : (terms : Terms) (start : ℕ) (earlier first more : List Arrival)
+    → records_behind terms start earlier (first ++ more) ≡ records_behind terms start earlier first ++ records_behind terms start (earlier ++ first) more
+records_more terms start earlier first more =
     rw (
-      replies_more files start number sofar (a ∷ []),
-      flat_map-append record_text (replies_from files start number sofar) (replies_from files start (number + length sofar) (a ∷ [])),
-      ← e,
-      append-nil (record_text (reply_of files start at a.origin a.message.what)),
+      handled_more terms earlier first more,
+      map-append (reply_of terms start) (handled_behind terms earlier first) (handled_behind terms (earlier ++ first) more),
     )
-    (appends_then old mid new (flat_map record_text (replies_from files start number sofar)) (record_text (reply_of files start at a.origin a.message.what)) before one)
+    (flat_map-append record_text (replies_of terms start (handled_behind terms earlier first)) (replies_of terms start (handled_behind terms (earlier ++ first) more)))
 
--- what was written of these messages, and then of more
-pub written_more : (files : List File) (start number : ℕ) (sofar more : List Arrival) (old mid new : Option (List ℕ))
-    → Written files start number sofar old mid → Written files start (number + length sofar) more mid new → Written files start number (sofar ++ more) old new
-written_more files start number sofar more old mid new before after =
-    rw (replies_more files start number sofar more, flat_map-append record_text (replies_from files start number sofar) (replies_from files start (number + length sofar) more))
-    (appends_then old mid new _ _ before after)
+pub records_none : (terms : Terms) (start : ℕ) (earlier : List Arrival) → records_behind terms start earlier [] ≡ []
+unfolding handled_behind
+records_none terms start earlier = refl
+
+pub records_one : (terms : Terms) (start : ℕ) (earlier : List Arrival) (a : Arrival) → records_behind terms start earlier (a ∷ []) ≡ record_text (reply_of terms start (handled_next terms earlier a))
+records_one terms start earlier a = rw (handled_one terms earlier a) (append-nil (record_text (reply_of terms start (handled_next terms earlier a))))
+
+pub written_none : (terms : Terms) (start : ℕ) (earlier : List Arrival) (old : Option (List ℕ)) → Written terms start earlier [] old old
+written_none terms start earlier old = rw (records_none terms start earlier) (appends_none old)
+
+pub written_more : (terms : Terms) (start : ℕ) (earlier first more : List Arrival) (old mid new : Option (List ℕ)) → Written terms start earlier first old mid
+    → Written terms start (earlier ++ first) more mid new → Written terms start earlier (first ++ more) old new
+written_more terms start earlier first more old mid new before after =
+    rw (records_more terms start earlier first more) (appends_then old mid new (records_behind terms start earlier first) (records_behind terms start (earlier ++ first) more) before after)
+
+pub part_more : (terms : Terms) (start : ℕ) (earlier first more : List Arrival) (old mid new : Option (List ℕ)) → Written terms start earlier first old mid
+    → WrittenInPart terms start (earlier ++ first) more mid new → WrittenInPart terms start earlier (first ++ more) old new
+part_more terms start earlier first more old mid new before after =
+    rw (records_more terms start earlier first more) (part_then old mid new (records_behind terms start earlier first) (records_behind terms start (earlier ++ first) more) before after)
+
+-- ---- the whole text
+
+pub text_none : (terms : Terms) (start : ℕ) → text_before_stop (replies_of terms start (handled terms [])) ≡ first_line
+unfolding handled_behind
+text_none terms start = append-nil first_line
+
+pub text_more : (terms : Terms) (start : ℕ) (arrivals more : List Arrival)
+    → text_before_stop (replies_of terms start (handled terms (arrivals ++ more))) ≡ text_before_stop (replies_of terms start (handled terms arrivals)) ++ records_behind terms start arrivals more
+text_more terms start arrivals more =
+    rw (records_more terms start [] arrivals more) (sym (append_assoc first_line (records_behind terms start [] arrivals) (records_behind terms start arrivals more)))
+
+pub replies_count : (terms : Terms) (start : ℕ) (arrivals : List Arrival) → length (replies_of terms start (handled terms arrivals)) ≡ length arrivals
+replies_count terms start arrivals = length-map (handled terms arrivals) (reply_of terms start) ∙ handled_count terms [] arrivals

@@ -1,6 +1,6 @@
 -- What each message is answered with: by the reference server, which has one thread, no stages and no cache, and takes the
 -- messages one after another in the order of their arrival.
-use Rattle.std.specs.Prelude.{ℕ, ◌+◌, ◌/◌, Bool, true, false, List, length, codes, bytes_eq, nat_le, Option, Some, None, if◌then◌else◌}
+use Rattle.std.specs.Prelude.{ℕ, Bool, true, false, List, length, codes, bytes_eq, nat_le, Option, Some, None, if◌then◌else◌}
 use Rattle.paths.specs.Snapshots.{file_of}
 use Rattle.paths.specs.Targets.{asked}
 use Rattle.paths.specs.Resolution.{outcome}
@@ -20,8 +20,7 @@ use Rattle.responses.specs.declared.status.Status.{Status}
 use Rattle.responses.specs.declared.status.Status.TheVariants.{BadRequest, NotFound, MethodNotAllowed, ContentTooLarge, NotImplemented, ServiceUnavailable}
 use Rattle.responses.specs.declared.what.What.{What as Given}
 use Rattle.responses.specs.declared.what.What.TheVariants.{Page, Known, Unmodified, Moved, Plain}
-use Rattle.responses.specs.declared.slip.Slip.{Slip}
-use Rattle.replay.specs.declared.origin.Origin.{Origin}
+use Rattle.replay.specs.Choices.{Terms}
 
 -- the status of a message that breaks a rule
 abbrev pub fault_status : Fault → Status
@@ -72,13 +71,7 @@ abbrev pub link_of : Meaning → Link
 link_of (Request method target version closing since) = request_link version closing
 link_of (Bad fault) = Close
 
--- the slip of the message of a number, which came at a tick of one microsecond from the capture's start
-abbrev pub slip_of : {X : Type 0} → List File → ℕ → ℕ → Origin → Meaning → Slip X
-slip_of files start number origin what = record {
-  number = number;
-  conn = origin.conn;
-  date = start + origin.tick / 1000000;
-  head = answers_head what;
-  link = link_of what;
-  what = answer files what;
-}
+-- what a message is told: a request that is turned away may come again in so many seconds; each other message is answered
+abbrev pub given : {X : Type 0} → Terms → Bool → Meaning → Given X
+given terms true what = Plain (ServiceUnavailable terms.retry_after)
+given terms false what = answer terms.files what

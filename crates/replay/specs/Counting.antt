@@ -1,11 +1,18 @@
--- How many messages there were of each kind.
-use Rattle.std.specs.Prelude.{ℕ, ◌+◌, ◌<◌, ◌==◌, Bool, true, false, List, length, count_by, if◌then◌else◌}
-use Rattle.paths.specs.declared.file.File.{File}
+-- How many messages there were of each kind, and how long the admitted requests took.
+use Rattle.std.specs.Prelude.{ℕ, ◌+◌, ◌<◌, ◌==◌, Bool, true, false, List, length, map, filter, count_by, if◌then◌else◌}
 use Rattle.http_requests.specs.declared.messages.What.{What as Meaning}
 use Rattle.http_requests.specs.declared.messages.What.TheVariants.{Request, Bad}
 use Rattle.responses.specs.Replies.{status_of}
+use Rattle.admission.specs.declared.control.Control.{Control}
+use Rattle.admission.specs.Rules.{Rules}
+use Rattle.admission.specs.Requests.{Offer, served, samples}
+use Rattle.admission.specs.Controls.{controls_until}
+use Rattle.admission.specs.Decisions.{decided}
+use Rattle.admission.specs.Fits.{tick_from}
+use Rattle.replay.specs.Choices.{Terms}
 use Rattle.replay.specs.Arrivals.{Arrival}
-use Rattle.replay.specs.Answers.{answer}
+use Rattle.replay.specs.Answers.{given}
+use Rattle.replay.specs.Offers.{Handled, offers_of, handled}
 use Rattle.replay.specs.declared.summary.Counts.{Counts}
 use Rattle.replay.specs.declared.summary.Summary.{Summary}
 
@@ -15,30 +22,48 @@ breaks_a_rule (Bad fault) = true
 breaks_a_rule (Request method target version closing since) = false
 
 -- the status that a message is answered with
-abbrev pub status_for : List File → Meaning → ℕ
-status_for files what = status_of (answer {X = Unit {0}} files what)
+abbrev pub status_for : Terms → Handled → ℕ
+status_for terms h = status_of (given {X = Unit {0}} terms h.turned_away h.arrival.message.what)
 
-abbrev pub count_of : List File → List Arrival → ℕ → ℕ
-count_of files arrivals status = count_by (λ a. status_for files a.message.what == status) arrivals
+abbrev pub count_of : Terms → List Handled → ℕ → ℕ
+count_of terms messages status = count_by (λ h. status_for terms h == status) messages
 
 -- how many messages were answered with each status
-abbrev pub counts_of : List File → List Arrival → Counts
-counts_of files arrivals = record {
-  ok = count_of files arrivals 200;
-  moved_permanently = count_of files arrivals 301;
-  not_modified = count_of files arrivals 304;
-  bad_request = count_of files arrivals 400;
-  not_found = count_of files arrivals 404;
-  method_not_allowed = count_of files arrivals 405;
-  content_too_large = count_of files arrivals 413;
-  not_implemented = count_of files arrivals 501;
-  service_unavailable = count_of files arrivals 503;
+abbrev pub counts_of : Terms → List Handled → Counts
+counts_of terms messages = record {
+  ok = count_of terms messages 200;
+  moved_permanently = count_of terms messages 301;
+  not_modified = count_of terms messages 304;
+  bad_request = count_of terms messages 400;
+  not_found = count_of terms messages 404;
+  method_not_allowed = count_of terms messages 405;
+  content_too_large = count_of terms messages 413;
+  not_implemented = count_of terms messages 501;
+  service_unavailable = count_of terms messages 503;
 }
 
-abbrev pub summary_of : List File → List Arrival → Summary
-summary_of files arrivals = record {
-  counts = counts_of files arrivals;
-  bypassed = count_by (λ a. breaks_a_rule a.message.what) arrivals;
+abbrev pub bypassed_of : List Arrival → ℕ
+bypassed_of arrivals = count_by (λ a. breaks_a_rule a.message.what) arrivals
+
+-- the numbers of the messages that were turned away
+abbrev pub rejected_of : List Handled → List ℕ
+rejected_of messages = map (λ h. h.number) (filter (λ h. h.turned_away) messages)
+
+-- how long each admitted request took
+unfoldable pub samples_of : Rules → List Offer → List ℕ
+samples_of rules offers = samples (served (decided rules offers))
+
+-- the changes of the rate, up to the tick of the last offer
+unfoldable pub controls_shown : Rules → List Offer → List Control
+controls_shown rules offers = controls_until rules (served (decided rules offers)) (tick_from 0 offers)
+
+-- what became of these arrivals
+abbrev pub summary_of : Terms → List Arrival → Summary
+summary_of terms arrivals = record {
+  counts = counts_of terms (handled terms arrivals);
+  bypassed = bypassed_of arrivals;
+  samples = samples_of terms.rules (offers_of terms arrivals);
+  controls = controls_shown terms.rules (offers_of terms arrivals);
 }
 
 -- one more where it is this status

@@ -1,8 +1,11 @@
 pub mod Arrivals
 pub mod Connections
+pub mod Choices
 pub mod Answers
+pub mod Offers
 pub mod Replies
 pub mod Counting
 pub mod Tallies
+pub mod Deciding
 pub mod Serving
 pub mod Outcomes

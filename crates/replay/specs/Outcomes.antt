@@ -1,19 +1,20 @@
 -- What a replay comes to: its outcome, or a fault, and what it has written.
-use Rattle.std.specs.Prelude.{◌≡◌, ℕ, ◌+◌, ◌≤◌, ◌⊎◌, false, List, [], ◌∷◌, ◌++◌, length, Option, unwrap_or, Result, MatchResult}
+use Rattle.std.specs.Prelude.{◌≡◌, ℕ, ◌+◌, ◌<◌, ◌≤◌, ◌⊎◌, false, List, [], ◌∷◌, ◌++◌, length, take, Option, unwrap_or, Result, MatchResult}
 use Rattle.std.specs.Io.KnownBytes.{Appends}
-use Rattle.paths.specs.declared.file.File.{File}
 use Rattle.captures.specs.declared.record.Record.{Record}
 use Rattle.captures.specs.declared.capture_fault.CaptureFault.{CaptureFault}
 use Rattle.captures.specs.declared.capture_fault.CaptureFaultKind.{CaptureFaultKind}
 use Rattle.captures.specs.declared.capture_fault.CaptureFaultKind.TheVariants as kinds
-use Rattle.captures.specs.Captures.{version_one, IsCaptureText, text_before_stop as records_text}
+use Rattle.captures.specs.Captures.{version_one, IsCapture, IsCaptureText, text_before_stop as records_text}
 use Rattle.captures.specs.CaptureFaults.{is_unforeseen_kind, IsHeaderFault, IsFaultBehind, failures_of}
 use Rattle.replay.specs.declared.replay_fault.ReplayFault.{ReplayFault}
-use Rattle.replay.specs.declared.replay_fault.ReplayFault.TheVariants.{Capture, Memory, Write as Unwritten}
+use Rattle.replay.specs.declared.replay_fault.ReplayFault.TheVariants.{Capture, TooMany, Memory, Write as Unwritten}
 use Rattle.replay.specs.declared.outcome.Outcome.{Outcome}
 use Rattle.replay.specs.Arrivals.{Arrival, AreArrivals}
-use Rattle.replay.specs.Counting.{summary_of}
-use Rattle.replay.specs.Replies.{first_line, text_before_stop, replies_from, replies_text}
+use Rattle.replay.specs.Choices.{Terms}
+use Rattle.replay.specs.Offers.{handled}
+use Rattle.replay.specs.Counting.{rejected_of, summary_of}
+use Rattle.replay.specs.Replies.{first_line, text_before_stop, replies_of, replies_text}
 
 abbrev pub most_messages : ℕ
 most_messages = 1048576
@@ -28,21 +29,38 @@ capture_fault f = told_as f.kind f
 
 -- The answer of the reference server to a capture, and that it was written: the input is the text of a capture with this
 -- start and these records, of which these are the arrivals; and each was answered, in their order.
-pub record Answers (files : List File) (input : List ℕ) (old new : Option (List ℕ)) (outcome : Outcome) : Type 0 where
+pub record Answers (terms : Terms) (input : List ℕ) (old new : Option (List ℕ)) (outcome : Outcome) : Type 0 where
   pub start : ℕ
   pub records : List Record
   pub arrivals : List Arrival
   pub capture : IsCaptureText version_one input start records
   pub arrived : AreArrivals records arrivals
   pub few : length arrivals ≤ most_messages
-  pub written : Appends old new (replies_text (replies_from files start 0 arrivals))
-  pub rejected : outcome.rejected ≡ []
-  pub summary : outcome.summary ≡ summary_of files arrivals
+  pub written : Appends old new (replies_text (replies_of terms start (handled terms arrivals)))
+  pub rejected : outcome.rejected ≡ rejected_of (handled terms arrivals)
+  pub summary : outcome.summary ≡ summary_of terms arrivals
 
 -- what a capture's fault has to say; the other faults say it of none
 abbrev pub IfCapture : ReplayFault → (CaptureFault → Type 0) → Type 0
 IfCapture (Capture f) P = P f
 IfCapture other P = Unit {0}
+
+-- what a message too many has to say, by its number
+abbrev pub IfTooMany : ReplayFault → (ℕ → Type 0) → Type 0
+IfTooMany (TooMany number) P = P number
+IfTooMany other P = Unit {0}
+
+-- what a failed write and want of memory have to say
+abbrev pub IfCutShort : ReplayFault → Type 0 → Type 0
+IfCutShort Unwritten P = P
+IfCutShort Memory P = P
+IfCutShort other P = Unit {0}
+
+-- a failed write, or want of memory
+abbrev pub IsWriteOrMemory : ReplayFault → Type 0
+IsWriteOrMemory Unwritten = Unit {0}
+IsWriteOrMemory Memory = Unit {0}
+IsWriteOrMemory other = ⊥
 
 -- a fault that isn't the capture's
 abbrev pub IsOwn : ReplayFault → Type 0
@@ -56,7 +74,7 @@ pub record StopsFirst (input : List ℕ) (old new : Option (List ℕ)) (f : Capt
 
 -- The replay stopped behind these records, which stand whole in front of the fault: it has written the replies to the
 -- messages that arrived with them, and no last line.
-pub record StopsBehind (files : List File) (input : List ℕ) (old new : Option (List ℕ)) (f : CaptureFault) : Type 0 where
+pub record StopsBehind (terms : Terms) (input : List ℕ) (old new : Option (List ℕ)) (f : CaptureFault) : Type 0 where
   pub start : ℕ
   pub records : List Record
   pub rest : List ℕ
@@ -64,12 +82,58 @@ pub record StopsBehind (files : List File) (input : List ℕ) (old new : Option 
   pub front : input ≡ records_text version_one start records ++ rest
   pub arrived : AreArrivals records arrivals
   pub few : length arrivals ≤ most_messages
-  pub written : Appends old new (text_before_stop (replies_from files start 0 arrivals))
+  pub written : Appends old new (text_before_stop (replies_of terms start (handled terms arrivals)))
   pub fault : is_unforeseen_kind f.kind ≡ false → IsFaultBehind version_one input start records f
 
 -- a fault of the capture that isn't a failed read or want of memory is its first
-abbrev pub Stops : List File → List ℕ → Option (List ℕ) → Option (List ℕ) → CaptureFault → Type 0
-Stops files input old new f = StopsFirst input old new f ⊎ StopsBehind files input old new f
+abbrev pub Stops : Terms → List ℕ → Option (List ℕ) → Option (List ℕ) → CaptureFault → Type 0
+Stops terms input old new f = StopsFirst input old new f ⊎ StopsBehind terms input old new f
+
+-- The messages that arrived with these records, which stand whole in front of the input, are more than the limit: the
+-- replies to those within it were written, and no last line. The number is that of the first beyond it.
+pub record StopsFull (terms : Terms) (input : List ℕ) (old new : Option (List ℕ)) (number : ℕ) : Type 0 where
+  pub start : ℕ
+  pub records : List Record
+  pub rest : List ℕ
+  pub arrivals : List Arrival
+  pub front : input ≡ records_text version_one start records ++ rest
+  pub rules : IsCapture version_one start records
+  pub arrived : AreArrivals records arrivals
+  pub beyond : most_messages < length arrivals
+  pub is_number : number ≡ most_messages
+  pub written : Appends old new (text_before_stop (replies_of terms start (handled terms (take most_messages arrivals))))
+
+-- a front of the text was written
+abbrev pub AppendsInPart : Option (List ℕ) → Option (List ℕ) → List ℕ → Type 0
+AppendsInPart old new text = (n : ℕ) × Appends old new (take n text)
+
+-- A front was written of the first line and the replies to the messages, within the limit, that arrived with these
+-- records, which stand whole in front of the input.
+pub record StopsAmong (terms : Terms) (input : List ℕ) (old new : Option (List ℕ)) : Type 0 where
+  pub start : ℕ
+  pub records : List Record
+  pub rest : List ℕ
+  pub arrivals : List Arrival
+  pub within : ℕ
+  pub front : input ≡ records_text version_one start records ++ rest
+  pub rules : IsCapture version_one start records
+  pub arrived : AreArrivals records arrivals
+  pub few : within ≤ most_messages
+  pub written : AppendsInPart old new (text_before_stop (replies_of terms start (handled terms (take within arrivals))))
+
+-- The input is a capture's text, and a front of the whole answer to it was written.
+pub record StopsAtEnd (terms : Terms) (input : List ℕ) (old new : Option (List ℕ)) : Type 0 where
+  pub start : ℕ
+  pub records : List Record
+  pub arrivals : List Arrival
+  pub capture : IsCaptureText version_one input start records
+  pub arrived : AreArrivals records arrivals
+  pub few : length arrivals ≤ most_messages
+  pub written : AppendsInPart old new (replies_text (replies_of terms start (handled terms arrivals)))
+
+-- a replay that was cut short has written a front of what was due
+abbrev pub IsCutShort : Terms → List ℕ → Option (List ℕ) → Option (List ℕ) → Type 0
+IsCutShort terms input old new = AppendsInPart old new first_line ⊎ (StopsAmong terms input old new ⊎ StopsAtEnd terms input old new)
 
 -- how often the reader and the writer failed in a call that answered this fault
 abbrev pub reader_failures : ReplayFault → ℕ

@@ -1,21 +1,29 @@
 -- The replies to the messages of a capture, and their text.
-use Rattle.std.specs.Prelude.{ℕ, ◌+◌, List, [], ◌∷◌, ◌++◌, length, codes, decimal, flat_map}
-use Rattle.paths.specs.declared.file.File.{File}
-use Rattle.http_requests.specs.declared.messages.What.{What as Meaning}
+use Rattle.std.specs.Prelude.{ℕ, ◌+◌, ◌/◌, List, ◌++◌, length, map, codes, decimal, flat_map}
+use Rattle.responses.specs.declared.slip.Slip.{Slip}
 use Rattle.responses.specs.Replies.{reply_text}
 use Rattle.responses.specs.Records.{record_text}
-use Rattle.replay.specs.declared.origin.Origin.{Origin}
-use Rattle.replay.specs.Arrivals.{Arrival}
-use Rattle.replay.specs.Answers.{slip_of}
+use Rattle.replay.specs.Choices.{Terms}
+use Rattle.replay.specs.Answers.{answers_head, link_of, given}
+use Rattle.replay.specs.Offers.{Handled}
 
--- the reply to the message of a number: the number, its connection, and the reply's text
-unfoldable pub reply_of : List File → ℕ → ℕ → Origin → Meaning → ℕ × ℕ × List ℕ
-reply_of files start number origin what = (number, origin.conn, reply_text files (slip_of {X = Unit {0}} files start number origin what))
+-- the slip of a message, of a capture that begins at `start` (seconds since 1970-01-01); a tick is a microsecond
+abbrev pub slip_of : {X : Type 0} → Terms → ℕ → Handled → Slip X
+slip_of terms start h = record {
+  number = h.number;
+  conn = h.arrival.origin.conn;
+  date = start + h.arrival.origin.tick / 1000000;
+  head = answers_head h.arrival.message.what;
+  link = link_of h.arrival.message.what;
+  what = given terms h.turned_away h.arrival.message.what;
+}
 
--- the replies to these messages, of which the first has this number
-unfoldable pub replies_from : List File → ℕ → ℕ → List Arrival → List (ℕ × ℕ × List ℕ)
-replies_from files start number [] = []
-replies_from files start number (a ∷ arrivals) = reply_of files start number a.origin a.message.what ∷ replies_from files start (number + 1) arrivals
+-- the reply to a message: its number, its connection, and the reply's text
+unfoldable pub reply_of : Terms → ℕ → Handled → ℕ × ℕ × List ℕ
+reply_of terms start h = (h.number, h.arrival.origin.conn, reply_text terms.files (slip_of {X = Unit {0}} terms start h))
+
+abbrev pub replies_of : Terms → ℕ → List Handled → List (ℕ × ℕ × List ℕ)
+replies_of terms start messages = map (reply_of terms start) messages
 
 -- the first line, the replies' records, and the last line
 abbrev pub first_line : List ℕ

@@ -1,30 +1,76 @@
--- How the plain engine stands between two records.
-use Rattle.std.specs.Prelude.{◌≡◌, ℕ, ◌+◌, ◌≤◌, List, [], ◌∷◌, ◌++◌, length, Option, flat_map}
+-- How the plain engine stands between two messages, and between two records.
+use Rattle.std.specs.Prelude.{◌≡◌, ℕ, ◌+◌, ◌<◌, ◌≤◌, List, [], ◌∷◌, ◌++◌, length, take, All, Option, flat_map}
 use Rattle.std.specs.Io.KnownBytes.{Appends}
-use Rattle.paths.specs.declared.file.File.{File}
 use Rattle.captures.specs.declared.record.Record.{Record}
+use Rattle.captures.specs.declared.record.Record.TheVariants.{Piece, End}
 use Rattle.responses.specs.Records.{record_text}
+use Rattle.admission.specs.Fits.{Fits}
+use Rattle.replay.specs.Choices.{Terms}
 use Rattle.replay.specs.Arrivals.{Arrival, AreArrivals}
 use Rattle.replay.specs.Connections.{HaveRead}
-use Rattle.replay.specs.Replies.{replies_from}
+use Rattle.replay.specs.Offers.{offers_of, handled_behind}
+use Rattle.replay.specs.Replies.{replies_of}
 use Rattle.replay.specs.Tallies.{tally_of}
 use Rattle.replay.specs.declared.connection.Connection.{Connection}
-use Rattle.replay.specs.declared.tally.Tally.{Tally}
+use Rattle.replay.specs.declared.desk.Desk.{Desk}
 
--- these records were read, and the messages that arrived with them were answered
-pub record Serves (files : List File) (records : List Record) (arrivals : List Arrival) (connections : List Connection) (tally : Tally) : Type 0 where
-  pub reads : HaveRead records arrivals connections
-  pub arrived : AreArrivals records arrivals
-  pub counted : tally ≡ tally_of files arrivals
+-- these messages were decided on and counted
+pub record Stands (terms : Terms) (arrivals : List Arrival) (desk : Desk) : Type 0 where
+  pub rules : desk.controller.rules ≡ terms.rules
+  pub fits : Fits (offers_of terms arrivals) desk.controller
+  pub tally : desk.tally ≡ tally_of terms arrivals
   pub few : length arrivals ≤ 1048576
 
--- the replies to these messages, of which the first has this number, were written
-abbrev pub Written : List File → ℕ → ℕ → List Arrival → Option (List ℕ) → Option (List ℕ) → Type 0
-Written files start number arrivals old new = Appends old new (flat_map record_text (replies_from files start number arrivals))
+-- none of them came later than this tick
+abbrev pub AreBy : ℕ → List Arrival → Type 0
+AreBy tick arrivals = All (λ a. a.origin.tick ≤ tick) arrivals
+
+-- none of them came later than this record
+abbrev pub IsLater : Record → List Arrival → Type 0
+IsLater (Piece tick conn bytes) arrivals = AreBy tick arrivals
+IsLater (End tick conn) arrivals = Unit {0}
+
+-- the records of the replies to these messages, which come behind the earlier ones
+abbrev pub records_behind : Terms → ℕ → List Arrival → List Arrival → List ℕ
+records_behind terms start earlier arrivals = flat_map record_text (replies_of terms start (handled_behind terms earlier arrivals))
+
+-- they were written, and a front of them was
+abbrev pub Written : Terms → ℕ → List Arrival → List Arrival → Option (List ℕ) → Option (List ℕ) → Type 0
+Written terms start earlier arrivals old new = Appends old new (records_behind terms start earlier arrivals)
+
+abbrev pub WrittenInPart : Terms → ℕ → List Arrival → List Arrival → Option (List ℕ) → Option (List ℕ) → Type 0
+WrittenInPart terms start earlier arrivals old new = (n : ℕ) × Appends old new (take n (records_behind terms start earlier arrivals))
+
+-- these records were read, and the messages that arrived with them were answered
+pub record Serves (terms : Terms) (records : List Record) (arrivals : List Arrival) (connections : List Connection) (desk : Desk) : Type 0 where
+  pub reads : HaveRead records arrivals connections
+  pub arrived : AreArrivals records arrivals
+  pub stands : Stands terms arrivals desk
+
+-- these messages arrive with the record that comes next
+abbrev pub ArriveNext : List Record → List Arrival → Record → List Arrival → Type 0
+ArriveNext records arrivals r more = AreArrivals (records ++ r ∷ []) (arrivals ++ more)
 
 -- one more record was read, and the messages that arrived with it were answered
-pub record ServesMore (files : List File) (start : ℕ) (records : List Record) (arrivals : List Arrival) (r : Record) (connections : List Connection) (tally : Tally)
+pub record ServesMore (terms : Terms) (records : List Record) (arrivals : List Arrival) (r : Record) (connections : List Connection) (desk : Desk)
     (old new : Option (List ℕ)) : Type 0 where
   pub more : List Arrival
-  pub serves : Serves files (records ++ r ∷ []) (arrivals ++ more) connections tally
-  pub written : Written files start (length arrivals) more old new
+  pub serves : Serves terms (records ++ r ∷ []) (arrivals ++ more) connections desk
+  pub written : Written terms desk.start arrivals more old new
+
+-- the next record's messages reach beyond the limit: those within it were answered
+pub record ServesFull (terms : Terms) (start : ℕ) (records : List Record) (arrivals : List Arrival) (r : Record) (old new : Option (List ℕ)) : Type 0 where
+  pub more : List Arrival
+  pub arrived : ArriveNext records arrivals r more
+  pub within : ℕ
+  pub full : length arrivals + within ≡ 1048576
+  pub beyond : within < length more
+  pub written : Written terms start arrivals (take within more) old new
+
+-- a front was written of the replies to the next record's messages within the limit
+pub record ServesInPart (terms : Terms) (start : ℕ) (records : List Record) (arrivals : List Arrival) (r : Record) (old new : Option (List ℕ)) : Type 0 where
+  pub more : List Arrival
+  pub arrived : ArriveNext records arrivals r more
+  pub within : ℕ
+  pub few : length arrivals + within ≤ 1048576
+  pub written : WrittenInPart terms start arrivals (take within more) old new

@@ -1,10 +1,41 @@
--- What the plain engine keeps of the messages that it answered.
-use Rattle.std.specs.Prelude.{◌≡◌, ℕ, ◌+◌, List, length}
-use Rattle.paths.specs.declared.file.File.{File}
+-- What the plain engine counts of the messages that it answered.
+use Rattle.std.specs.Prelude.{ℕ, ◌+◌, Bool, List, length, if◌then◌else◌}
+use Rattle.replay.specs.Choices.{Terms}
 use Rattle.replay.specs.Arrivals.{Arrival}
-use Rattle.replay.specs.Counting.{summary_of}
+use Rattle.replay.specs.Offers.{offers_of, handled}
+use Rattle.replay.specs.Counting.{counts_of, bypassed_of, rejected_of, samples_of, with_status}
+use Rattle.replay.specs.declared.summary.Counts.{Counts}
 use Rattle.replay.specs.declared.tally.Tally.{Tally}
 
--- how many they are, and what became of them
-abbrev pub tally_of : List File → List Arrival → Tally
-tally_of files arrivals = record { answered = length arrivals; summary = summary_of files arrivals }
+abbrev pub no_counts : Counts
+no_counts = record {
+  ok = 0;
+  moved_permanently = 0;
+  not_modified = 0;
+  bad_request = 0;
+  not_found = 0;
+  method_not_allowed = 0;
+  content_too_large = 0;
+  not_implemented = 0;
+  service_unavailable = 0;
+}
+
+-- what became of these arrivals
+abbrev pub tally_of : Terms → List Arrival → Tally
+tally_of terms arrivals = record {
+  answered = length arrivals;
+  counts = counts_of terms (handled terms arrivals);
+  bypassed = bypassed_of arrivals;
+  rejected = rejected_of (handled terms arrivals);
+  samples = samples_of terms.rules (offers_of terms arrivals);
+}
+
+-- the tally with one more message, of this status
+abbrev pub noted : Tally → ℕ → Bool → Tally
+noted t status breaks = record {
+  answered = t.answered + 1;
+  counts = with_status t.counts status;
+  bypassed = t.bypassed + (if breaks then 1 else 0);
+  rejected = t.rejected;
+  samples = t.samples;
+}

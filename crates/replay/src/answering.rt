@@ -1,21 +1,17 @@
-ghost use Rattle.std.specs.Prelude.{◌≡◌, ◌+◌, ◌≤◌, ◌<◌, ◌-◌, ◌^◌, ◌++◌, ◌∷◌, [], ℕ, List, length, OnOk, IfErr};
-ghost use Rattle.std.specs.Io.KnownBytes.{Appends};
-ghost use Rattle.responses.specs.Records.{record_text};
+ghost use Rattle.std.specs.Prelude.{◌≡◌, ◌<◌, ◌≤◌, ◌-◌, ◌+◌, ◌^◌, ◌++◌, ◌∷◌, [], ℕ, List, length, take, OnOk, IfErr};
+ghost use Rattle.replay.specs.Choices.{terms_of};
 ghost use Rattle.replay.specs.Arrivals.{Arrival};
 ghost use Rattle.replay.specs.Connections.{arrivals_with};
-ghost use Rattle.replay.specs.Replies.{reply_of};
-ghost use Rattle.replay.specs.Outcomes.{CountsBy, writer_failures, IsOwn};
-ghost use Rattle.replay.specs.Serving.{Written};
-ghost use Rattle.replay.specs.Tallies.{tally_of};
+ghost use Rattle.replay.specs.Outcomes.{CountsBy, writer_failures, IsOwn, IfTooMany, IfCutShort};
+ghost use Rattle.replay.specs.Serving.{Stands, AreBy, Written, WrittenInPart};
 
-use crate::answers::slip_of;
-use crate::counting::breaks_a_rule;
+use crate::answers::{answers_head, link_of};
+use crate::desk::Desk;
 use crate::origin::Origin;
-use crate::tally::Tally;
-use crate::{MOST_MESSAGES, ReplayFault};
+use crate::{MOST_MESSAGES, ReplayFault, Settings};
 use http_requests::{Message, What as Meaning};
 use paths::{Output, Snapshot, Tree};
-use responses::{render, write_reply};
+use responses::{Slip, render, write_reply};
 use std::alloc::Global;
 use std::io::Write;
 
@@ -23,29 +19,42 @@ use std::io::Write;
 fn answer_message<F: Tree, W: Write>(
     alloc: Global,
     snapshot: &Snapshot,
-    start: u64,
+    settings: &Settings,
     origin: Origin,
     what: &Meaning,
-    tally: &mut Tally,
+    desk: &mut Desk,
     writer: &mut Output<W>,
 ) -> Result<(), ReplayFault>
     requires snapshot { snapshot.now ≡ F.files }
-    requires start { start ≤ 4102444800 }
+    requires start { desk.old.start ≤ 4102444800 }
     requires tick { origin.tick ≤ 1000000000000000 }
-    requires tally { (arrivals : List Arrival) × (tally.old ≡ tally_of F.files arrivals) × (length arrivals ≤ MOST_MESSAGES) }
+    requires stands { (arrivals : List Arrival) × Stands (terms_of F.files settings.now) arrivals desk.old × AreBy origin.tick arrivals }
     requires failures { writer.old.1 < 2 ^ 64 - 1 }
-    ensures written { OnOk result (Appends writer.old.0 writer.new.0 (record_text (reply_of F.files start tally.old.answered origin what.now))) }
-    ensures tally { OnOk result ((arrivals : List Arrival) (a : Arrival) → tally.old ≡ tally_of F.files arrivals → a.message.what ≡ what.now → tally.new ≡ tally_of F.files (arrivals ++ a ∷ [])) }
-    ensures number { OnOk result (tally.new.answered ≡ tally.old.answered + 1) }
-    ensures few { OnOk result (tally.new.answered ≤ MOST_MESSAGES) }
+    ensures stands { OnOk result ((arrivals : List Arrival) (a : Arrival) → Stands (terms_of F.files settings.now) arrivals desk.old → a.origin ≡ origin → a.message.what ≡ what.now
+        → Stands (terms_of F.files settings.now) (arrivals ++ a ∷ []) desk.new) }
+    ensures written { OnOk result ((arrivals : List Arrival) (a : Arrival) → Stands (terms_of F.files settings.now) arrivals desk.old → a.origin ≡ origin → a.message.what ≡ what.now
+        → Written (terms_of F.files settings.now) desk.old.start arrivals (a ∷ []) writer.old.0 writer.new.0) }
+    ensures start { OnOk result (desk.new.start ≡ desk.old.start) }
+    ensures number { OnOk result (desk.new.tally.answered ≡ desk.old.tally.answered + 1) }
+    ensures many { IfErr result (λ f. IfTooMany f (λ n. (n ≡ MOST_MESSAGES) × (desk.old.tally.answered ≡ MOST_MESSAGES) × (writer.new ≡ writer.old))) }
+    ensures part { IfErr result (λ f. IfCutShort f ((desk.old.tally.answered < MOST_MESSAGES) × ((arrivals : List Arrival) (a : Arrival) → Stands (terms_of F.files settings.now) arrivals desk.old → a.origin ≡ origin → a.message.what ≡ what.now
+        → WrittenInPart (terms_of F.files settings.now) desk.old.start arrivals (a ∷ []) writer.old.0 writer.new.0))) }
     ensures failures { CountsBy writer_failures writer.old.1 writer.new.1 result }
     ensures own { IfErr result IsOwn }
 {
-    if tally.answered == MOST_MESSAGES {
+    let number = desk.tally.answered;
+    if number == MOST_MESSAGES {
         return Err(ReplayFault::TooMany(MOST_MESSAGES));
     }
-    let slip = slip_of::<F>(alloc, snapshot, start, tally.answered, origin, what)?;
-    tally.note(&slip.what, what);
+    let slip = Slip {
+        number,
+        conn: usize::from(origin.conn),
+        date: desk.start + origin.tick / 1_000_000,
+        head: answers_head(what),
+        link: link_of(what),
+        what: desk.judge::<F>(alloc, snapshot, settings, origin.tick, what)?,
+    };
+    desk.tally.note(&slip.what, what);
     let reply = render(alloc, slip)?;
     write_reply(writer, &reply)?;
     Ok(())
@@ -55,25 +64,40 @@ fn answer_message<F: Tree, W: Write>(
 pub(crate) fn answer_all<F: Tree, W: Write>(
     alloc: Global,
     snapshot: &Snapshot,
-    start: u64,
+    settings: &Settings,
     origin: Origin,
     messages: &[Message],
-    tally: &mut Tally,
+    desk: &mut Desk,
     writer: &mut Output<W>,
 ) -> Result<(), ReplayFault>
     requires snapshot { snapshot.now ≡ F.files }
-    requires start { start ≤ 4102444800 }
+    requires start { desk.old.start ≤ 4102444800 }
     requires tick { origin.tick ≤ 1000000000000000 }
-    requires tally { (arrivals : List Arrival) × (tally.old ≡ tally_of F.files arrivals) × (length arrivals ≤ MOST_MESSAGES) }
+    requires stands { (arrivals : List Arrival) × Stands (terms_of F.files settings.now) arrivals desk.old × AreBy origin.tick arrivals }
     requires failures { writer.old.1 < 2 ^ 64 - 1 }
-    ensures written { OnOk result ((place : ℕ) → Written F.files start tally.old.answered (arrivals_with place origin messages.now) writer.old.0 writer.new.0) }
-    ensures tally { OnOk result ((arrivals : List Arrival) (place : ℕ) → tally.old ≡ tally_of F.files arrivals → tally.new ≡ tally_of F.files (arrivals ++ arrivals_with place origin messages.now)) }
-    ensures few { OnOk result (tally.new.answered ≤ MOST_MESSAGES) }
+    ensures stands { OnOk result ((arrivals : List Arrival) (place : ℕ) → Stands (terms_of F.files settings.now) arrivals desk.old
+        → Stands (terms_of F.files settings.now) (arrivals ++ arrivals_with place origin messages.now) desk.new) }
+    ensures written { OnOk result ((arrivals : List Arrival) (place : ℕ) → Stands (terms_of F.files settings.now) arrivals desk.old
+        → Written (terms_of F.files settings.now) desk.old.start arrivals (arrivals_with place origin messages.now) writer.old.0 writer.new.0) }
+    ensures start { OnOk result (desk.new.start ≡ desk.old.start) }
+    ensures many { IfErr result (λ f. IfTooMany f (λ n. (n ≡ MOST_MESSAGES) × (i : ℕ) × (i < length messages.now) × (desk.old.tally.answered + i ≡ MOST_MESSAGES)
+        × ((arrivals : List Arrival) (place : ℕ) → Stands (terms_of F.files settings.now) arrivals desk.old
+        → Written (terms_of F.files settings.now) desk.old.start arrivals (arrivals_with place origin (take i messages.now)) writer.old.0 writer.new.0))) }
+    ensures part { IfErr result (λ f. IfCutShort f ((i : ℕ) × (i ≤ length messages.now) × (desk.old.tally.answered + i ≤ MOST_MESSAGES) × ((arrivals : List Arrival) (place : ℕ) → Stands (terms_of F.files settings.now) arrivals desk.old
+        → WrittenInPart (terms_of F.files settings.now) desk.old.start arrivals (arrivals_with place origin (take i messages.now)) writer.old.0 writer.new.0))) }
     ensures failures { CountsBy writer_failures writer.old.1 writer.new.1 result }
     ensures own { IfErr result IsOwn }
 {
     for message in messages {
-        answer_message::<F, W>(alloc, snapshot, start, origin, &message.what, tally, writer)?;
+        answer_message::<F, W>(
+            alloc,
+            snapshot,
+            settings,
+            origin,
+            &message.what,
+            desk,
+            writer,
+        )?;
     }
     Ok(())
 }

@@ -1,17 +1,19 @@
 ghost use Rattle.std.specs.Prelude.{◌≡◌, ◌<◌, ◌≤◌, ◌+◌, length, IfOk};
 ghost use Rattle.paths.specs.Resolution.{IsOutcome};
 ghost use Rattle.responses.specs.Replies.{HasLocation, OnlyHead};
-ghost use Rattle.replay.specs.Answers.{fault_status, is_unmodified, file_answer, outcome_answer, is_head, answers_head, answer, request_link, link_of, slip_of};
+ghost use Rattle.cost_model.specs.Services.{service};
+ghost use Rattle.replay.specs.Answers.{fault_status, is_unmodified, file_answer, outcome_answer, is_head, answers_head, request_link, link_of};
+ghost use Rattle.replay.specs.Offers.{is_unmodified_file, length_given};
 
-use crate::origin::Origin;
+use cost_model::{Costs, service};
 use http_requests::{Fault, Version, What as Meaning};
 use page_cache::{MediaType, Page};
-use paths::{Outcome, Snapshot, Tree, resolve};
-use responses::{Link, SharedPage, Slip, Status, What};
+use paths::{Outcome, Snapshot, Tree};
+use responses::{Link, SharedPage, Status, What};
 use std::alloc::{AllocError, Global};
 
 /// The status of a message that breaks a rule.
-fn fault_status(fault: Fault) -> Status
+pub(crate) fn fault_status(fault: Fault) -> Status
     ensures { result ≡ fault_status fault }
 {
     match fault {
@@ -61,7 +63,7 @@ fn file_answer<F: Tree>(
 }
 
 /// What an outcome is answered with.
-fn outcome_answer<F: Tree>(
+pub(crate) fn outcome_answer<F: Tree>(
     alloc: Global,
     snapshot: &Snapshot,
     head: bool,
@@ -86,7 +88,7 @@ fn outcome_answer<F: Tree>(
 }
 
 /// Whether a message asks for a head alone.
-fn answers_head(what: &Meaning) -> bool
+pub(crate) fn answers_head(what: &Meaning) -> bool
     ensures { result ≡ answers_head what.now }
 {
     match what {
@@ -96,7 +98,7 @@ fn answers_head(what: &Meaning) -> bool
 }
 
 /// What the reply tells of its connection.
-fn link_of(what: &Meaning) -> Link
+pub(crate) fn link_of(what: &Meaning) -> Link
     ensures { result ≡ link_of what.now }
 {
     match what {
@@ -109,62 +111,24 @@ fn link_of(what: &Meaning) -> Link
     }
 }
 
-/// What a message is answered with.
-fn answer<F: Tree>(
-    alloc: Global,
+/// How long the virtual server works on a request with this outcome.
+pub(crate) fn service_of(
     snapshot: &Snapshot,
-    what: &Meaning,
-) -> Result<What<F>, AllocError>
-    requires snapshot { snapshot.now ≡ F.files }
-    ensures answer { IfOk result (λ given. given ≡ answer F.files what.now) }
-    ensures location { IfOk result HasLocation }
-    ensures head { IfOk result (OnlyHead (answers_head what.now)) }
+    costs: Costs,
+    head: bool,
+    since: Option<u64>,
+    outcome: &Outcome,
+) -> u64
+    requires { IsOutcome snapshot.now outcome.now }
+    ensures ticks { result ≡ service costs outcome.now head (is_unmodified_file snapshot.now since outcome.now) (length_given snapshot.now outcome.now) }
+    ensures range { (1 ≤ result) × (result ≤ 20000000000) }
 {
-    match what {
-        Meaning::Request {
-            method,
-            target,
-            modified_since,
-            ..
-        } => {
-            let outcome = resolve(alloc, snapshot, method.as_slice(), target.as_slice())?;
-            outcome_answer(
-                alloc,
-                snapshot,
-                answers_head(what),
-                *modified_since,
-                outcome,
-            )
+    match outcome {
+        Outcome::File(file) => {
+            let unmodified = is_unmodified(since, snapshot.mtime(*file));
+            let len = snapshot.bytes(*file).len() as u64;
+            service(costs, outcome, head, unmodified, len)
         }
-        Meaning::Bad(fault) => Ok(What::Plain {
-            status: fault_status(*fault),
-        }),
+        _ => service(costs, outcome, head, false, 0),
     }
-}
-
-/// The slip of the message of a number, which came at this tick of a capture that begins at `start`.
-pub(crate) fn slip_of<F: Tree>(
-    alloc: Global,
-    snapshot: &Snapshot,
-    start: u64,
-    number: usize,
-    origin: Origin,
-    what: &Meaning,
-) -> Result<Slip<F>, AllocError>
-    requires snapshot { snapshot.now ≡ F.files }
-    requires start { start ≤ 4102444800 }
-    requires tick { origin.tick ≤ 1000000000000000 }
-    ensures slip { IfOk result (λ slip. slip ≡ slip_of F.files start number origin what.now) }
-    ensures date { IfOk result (λ slip. slip.date ≤ 253402300799) }
-    ensures location { IfOk result (λ slip. HasLocation slip.what) }
-    ensures head { IfOk result (λ slip. OnlyHead slip.head slip.what) }
-{
-    Ok(Slip {
-        number,
-        conn: usize::from(origin.conn),
-        date: start + origin.tick / 1_000_000,
-        head: answers_head(what),
-        link: link_of(what),
-        what: answer(alloc, snapshot, what)?,
-    })
 }

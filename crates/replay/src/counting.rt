@@ -1,13 +1,8 @@
-ghost use Rattle.std.specs.Prelude.{◌≡◌, ◌-◌, ◌+◌, ◌<◌, ◌^◌, ◌++◌, ◌∷◌, [], List, length};
+ghost use Rattle.std.specs.Prelude.{◌≡◌, ◌-◌, ◌^◌};
 ghost use Rattle.responses.specs.Replies.{status_of, plain_status};
-ghost use Rattle.replay.specs.Arrivals.{Arrival};
-ghost use Rattle.replay.specs.Counting.{AreBelow, with_status, status_for, breaks_a_rule};
-ghost use Rattle.replay.specs.Tallies.{tally_of};
-ghost use Rattle.paths.specs.declared.file.File.{File as AFile};
+ghost use Rattle.replay.specs.Counting.{AreBelow, with_status, breaks_a_rule};
 
-use crate::MOST_MESSAGES;
-use crate::summary::{Counts, Summary};
-use crate::tally::Tally;
+use crate::summary::Counts;
 use http_requests::What as Meaning;
 use paths::Tree;
 use responses::{Status, What};
@@ -59,33 +54,4 @@ pub(crate) fn breaks_a_rule(what: &Meaning) -> bool
     ensures { result ≡ breaks_a_rule what.now }
 {
     matches!(what, Meaning::Bad(_))
-}
-
-impl Tally {
-    /// Nothing was answered yet.
-    pub(crate) fn new() -> Tally
-        ensures { (files : List AFile) → result ≡ tally_of files [] }
-    {
-        Tally {
-            answered: 0,
-            summary: Summary {
-                counts: NONE,
-                bypassed: 0,
-            },
-        }
-    }
-
-    /// Counts one more message, and what it is answered with.
-    pub(crate) fn note<F: Tree>(&mut self, given: &What<F>, what: &Meaning)
-        requires room { (arrivals : List Arrival) × (self.old ≡ tally_of F.files arrivals) × (length arrivals < MOST_MESSAGES) }
-        requires status { status_of given.now ≡ status_for F.files what.now }
-        ensures tally { (arrivals : List Arrival) (a : Arrival) → self.old ≡ tally_of F.files arrivals → a.message.what ≡ what.now → self.new ≡ tally_of F.files (arrivals ++ a ∷ []) }
-        ensures number { self.new.answered ≡ self.old.answered + 1 }
-    {
-        self.answered += 1;
-        self.summary.counts.note(given);
-        if breaks_a_rule(what) {
-            self.summary.bypassed += 1;
-        }
-    }
 }

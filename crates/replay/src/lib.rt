@@ -6,20 +6,23 @@ mod answers;
 mod connection;
 mod connections;
 mod counting;
+mod desk;
 mod origin;
 mod outcome;
 mod plain;
 mod replay_fault;
+mod series;
 mod settings;
 mod summary;
 mod tally;
 #[cfg(test)]
 mod tests;
 
-pub use outcome::{Numbers, Outcome};
+pub use outcome::Outcome;
 pub use plain::plain_replay;
 pub use replay_fault::ReplayFault;
-pub use settings::Settings;
+pub use series::Series;
+pub use settings::{Settings, SettingsFault};
 pub use summary::{Counts, Summary};
 
 /// The most messages that a capture may have.

@@ -1,30 +1,36 @@
-ghost use Rattle.std.specs.Prelude.{◌≡◌, ◌+◌, ◌≤◌, ◌<◌, ◌-◌, ◌^◌, [], ℕ, List, true, is_some, unwrap_or, IfOk, IfErr, OnOk};
+ghost use Rattle.std.specs.Prelude.{◌≡◌, ◌+◌, ◌≤◌, ◌<◌, ◌-◌, ◌^◌, ◌⊎◌, [], ℕ, List, true, is_some, unwrap_or, IfOk, IfErr, OnOk, OnErr};
 ghost use Rattle.std.specs.Io.KnownBytes.{Appends};
-ghost use Rattle.captures.specs.Captures.{version_one, IsRecord, size_of, sizes_of};
+ghost use Rattle.captures.specs.Captures.{version_one, IsRecord, Follows, past_of, size_of, sizes_of};
 ghost use Rattle.captures.specs.declared.record.Record.{Record as ARecord};
+ghost use Rattle.replay.specs.Choices.{Terms, terms_of};
 ghost use Rattle.replay.specs.Arrivals.{Arrival};
 ghost use Rattle.replay.specs.Replies.{first_line, last_line};
-ghost use Rattle.replay.specs.Serving.{Serves, ServesMore};
-ghost use Rattle.replay.specs.Outcomes.{Answers, IfCapture, IsOwn, Stops, CountsBy, reader_failures, writer_failures};
+ghost use Rattle.replay.specs.Serving.{IsLater, Serves, ServesMore, ServesFull, ServesInPart, Stands};
+ghost use Rattle.replay.specs.Counting.{rejected_of, summary_of};
+ghost use Rattle.replay.specs.Offers.{handled};
+ghost use Rattle.replay.specs.Outcomes.{Answers, AppendsInPart, IfCapture, IfTooMany, IfCutShort, IsCutShort, IsOwn, Stops, StopsFull, CountsBy, reader_failures, writer_failures, IsWriteOrMemory};
 
 use crate::answering::answer_all;
 use crate::connections::Connections;
+use crate::desk::Desk;
 use crate::origin::Origin;
-use crate::outcome::{Numbers, Outcome};
+use crate::outcome::Outcome;
 use crate::tally::Tally;
-use crate::{ReplayFault, Settings};
+use crate::{MOST_MESSAGES, ReplayFault, Series, Settings, Summary};
+use admission::Controller;
 use captures::{CaptureReader, Record};
 use paths::{Input, Output, Snapshot, Tree};
 use responses::write_all;
-use std::alloc::Global;
+use std::alloc::{AllocError, Global};
 use std::io::{Read, Write};
 
 /// Writes the line in front of the replies.
 fn write_first_line<W: Write>(writer: &mut Output<W>) -> Result<(), ReplayFault>
     requires { writer.old.1 < 2 ^ 64 - 1 }
     ensures written { OnOk result (Appends writer.old.0 writer.new.0 first_line) }
+    ensures part { OnErr result (AppendsInPart writer.old.0 writer.new.0 first_line) }
     ensures failures { CountsBy writer_failures writer.old.1 writer.new.1 result }
-    ensures own { IfErr result IsOwn }
+    ensures own { IfErr result IsWriteOrMemory }
 {
     write_all(writer, b"haboob-replies 1\n")?;
     Ok(())
@@ -38,32 +44,56 @@ fn write_last_line<W: Write>(
 ) -> Result<(), ReplayFault>
     requires { writer.old.1 < 2 ^ 64 - 1 }
     ensures written { OnOk result (Appends writer.old.0 writer.new.0 (last_line count)) }
+    ensures part { OnErr result (AppendsInPart writer.old.0 writer.new.0 (last_line count)) }
     ensures failures { CountsBy writer_failures writer.old.1 writer.new.1 result }
-    ensures own { IfErr result IsOwn }
+    ensures own { IfErr result IsWriteOrMemory }
 {
     let line = format!(in alloc; "stop {count}\n")?;
     write_all(writer, line.as_bytes())?;
     Ok(())
 }
 
+/// What the replay has come to.
+fn outcome_of(alloc: Global, desk: Desk) -> Result<Outcome, AllocError>
+    ensures rejected { IfOk result (λ outcome. outcome.rejected ≡ desk.tally.rejected) }
+    ensures summary { IfOk result (λ outcome. (terms : Terms) (arrivals : List Arrival) → Stands terms arrivals desk → outcome.summary ≡ summary_of terms arrivals) }
+{
+    let controls = Vec::from_slice(alloc, desk.controller.controls())?;
+    let tally = desk.tally;
+    Ok(Outcome {
+        rejected: tally.rejected,
+        summary: Summary {
+            counts: tally.counts,
+            bypassed: tally.bypassed,
+            samples: tally.samples,
+            controls: Series::from_vec(controls),
+        },
+    })
+}
+
 /// Reads one more record: answers the messages that arrive with it.
-#[allow(clippy::too_many_arguments)]
 fn answer_record<F: Tree, W: Write>(
     alloc: Global,
     snapshot: &Snapshot,
-    start: u64,
+    settings: &Settings,
     next: &Record,
     connections: &mut Connections,
-    tally: &mut Tally,
+    desk: &mut Desk,
     writer: &mut Output<W>,
 ) -> Result<(), ReplayFault>
     requires snapshot { snapshot.now ≡ F.files }
-    requires start { start ≤ 4102444800 }
+    requires start { desk.old.start ≤ 4102444800 }
     requires record { IsRecord version_one next.now }
-    requires room { (records : List ARecord) × (arrivals : List Arrival) × Serves F.files records arrivals connections.old tally.old × (sizes_of records + size_of next.now ≤ 1073741824) }
+    requires room { (records : List ARecord) × (arrivals : List Arrival) × Serves (terms_of F.files settings.now) records arrivals connections.old desk.old
+        × (sizes_of records + size_of next.now ≤ 1073741824) × IsLater next.now arrivals }
     requires failures { writer.old.1 < 2 ^ 64 - 1 }
-    ensures serves { OnOk result ((records : List ARecord) (arrivals : List Arrival) → Serves F.files records arrivals connections.old tally.old
-        → ServesMore F.files start records arrivals next.now connections.new tally.new writer.old.0 writer.new.0) }
+    ensures serves { OnOk result ((records : List ARecord) (arrivals : List Arrival) → Serves (terms_of F.files settings.now) records arrivals connections.old desk.old
+        → ServesMore (terms_of F.files settings.now) records arrivals next.now connections.new desk.new writer.old.0 writer.new.0) }
+    ensures start { OnOk result (desk.new.start ≡ desk.old.start) }
+    ensures many { IfErr result (λ f. IfTooMany f (λ n. (n ≡ MOST_MESSAGES) × ((records : List ARecord) (arrivals : List Arrival) → Serves (terms_of F.files settings.now) records arrivals connections.old desk.old
+        → ServesFull (terms_of F.files settings.now) desk.old.start records arrivals next.now writer.old.0 writer.new.0))) }
+    ensures part { IfErr result (λ f. IfCutShort f ((writer.new.0 ≡ writer.old.0) ⊎ ((records : List ARecord) (arrivals : List Arrival) → Serves (terms_of F.files settings.now) records arrivals connections.old desk.old
+        → ServesInPart (terms_of F.files settings.now) desk.old.start records arrivals next.now writer.old.0 writer.new.0))) }
     ensures failures { CountsBy writer_failures writer.old.1 writer.new.1 result }
     ensures own { IfErr result IsOwn }
 {
@@ -76,7 +106,7 @@ fn answer_record<F: Tree, W: Write>(
                 conn: *conn,
                 tick: *tick,
             };
-            answer_all::<F, W>(alloc, snapshot, start, origin, &messages, tally, writer)
+            answer_all::<F, W>(alloc, snapshot, settings, origin, &messages, desk, writer)
         }
     }
 }
@@ -91,7 +121,7 @@ fn answer_record<F: Tree, W: Write>(
 pub fn plain_replay<F: Tree, R: Read, W: Write>(
     alloc: Global,
     snapshot: &Snapshot,
-    _settings: &Settings,
+    settings: &Settings,
     reader: &mut Input<R>,
     writer: &mut Output<W>,
 ) -> Result<Outcome, ReplayFault>
@@ -99,20 +129,27 @@ pub fn plain_replay<F: Tree, R: Read, W: Write>(
     requires reading { reader.old.1 < 2 ^ 64 - 1 }
     requires writing { writer.old.1 < 2 ^ 64 - 1 }
     // Read, and each other fault of the capture, only with the replies to the messages of the whole records before it.
-    ensures stops { IfErr result (λ f. IfCapture f (λ fault. is_some reader.old.0 ≡ true → Stops F.files (unwrap_or reader.old.0 []) writer.old.0 writer.new.0 fault)) }
+    ensures stops { IfErr result (λ f. IfCapture f (λ fault. is_some reader.old.0 ≡ true → Stops (terms_of F.files settings.now) (unwrap_or reader.old.0 []) writer.old.0 writer.new.0 fault)) }
+    // Too many messages, only with the replies to those within the limit.
+    ensures many { IfErr result (λ f. IfTooMany f (λ number. is_some reader.old.0 ≡ true → StopsFull (terms_of F.files settings.now) (unwrap_or reader.old.0 []) writer.old.0 writer.new.0 number)) }
+    // After a failed write and want of memory, a front of what was due stands.
+    ensures part { IfErr result (λ f. IfCutShort f (is_some reader.old.0 ≡ true → IsCutShort (terms_of F.files settings.now) (unwrap_or reader.old.0 []) writer.old.0 writer.new.0)) }
     // A device is blamed only where it failed in this call.
     ensures reads { CountsBy reader_failures reader.old.1 reader.new.1 result }
     ensures writes { CountsBy writer_failures writer.old.1 writer.new.1 result }
-    ensures ok { IfOk result (λ outcome. is_some reader.old.0 ≡ true → Answers F.files (unwrap_or reader.old.0 []) writer.old.0 writer.new.0 outcome) }
+    ensures ok { IfOk result (λ outcome. is_some reader.old.0 ≡ true → Answers (terms_of F.files settings.now) (unwrap_or reader.old.0 []) writer.old.0 writer.new.0 outcome) }
 {
     write_first_line(writer)?;
     let mut capture = match CaptureReader::open(reader) {
         Ok(capture) => capture,
         Err(fault) => return Err(ReplayFault::from(fault)),
     };
-    let start = capture.start();
     let mut connections = Connections::new(alloc);
-    let mut tally = Tally::new();
+    let mut desk = Desk {
+        start: capture.start(),
+        controller: Controller::new(alloc, settings.policy)?,
+        tally: Tally::new(alloc),
+    };
     loop {
         let next = match capture.next_record(alloc) {
             Ok(Some(next)) => next,
@@ -122,16 +159,15 @@ pub fn plain_replay<F: Tree, R: Read, W: Write>(
         answer_record::<F, W>(
             alloc,
             snapshot,
-            start,
+            settings,
             &next,
             &mut connections,
-            &mut tally,
+            &mut desk,
             writer,
         )?;
     }
-    write_last_line(alloc, writer, tally.answered)?;
-    Ok(Outcome {
-        rejected: Numbers::from_vec(Vec::new(alloc)),
-        summary: tally.summary,
-    })
+    let answered = desk.tally.answered;
+    let outcome = outcome_of(alloc, desk)?;
+    write_last_line(alloc, writer, answered)?;
+    Ok(outcome)
 }

@@ -1,10 +1,110 @@
-/// What an operator may set. Nothing yet: every request is admitted.
-#[derive(Clone, Copy, Debug)]
-pub struct Settings;
+ghost use Rattle.std.specs.Prelude.{◌≡◌, Some, None, IfOk, IfErr};
+ghost use Rattle.replay.specs.Choices.{Choice, settings_fault};
+
+use admission::Policy;
+use cost_model::Costs;
+use stage_graph::Plan;
+use std::marker::Model;
+use thiserror::Error;
+
+/// How many steps a request takes before it is decided on: its target is read, looked up, and its service time computed.
+pub const FRONT_STEPS: usize = 3;
+
+/// How many it takes then: its page is fetched, and its reply rendered.
+pub const BACK_STEPS: usize = 2;
+
+/// The most records of a batch.
+pub const MOST_RECORDS: usize = 65_536;
+
+/// The most bytes of the cache.
+pub const MOST_CACHE: usize = 1_073_741_824;
+
+/// The longest time after which a rejected request may be tried again, in seconds.
+pub const LONGEST_RETRY: u64 = 86_400;
+
+/// Which of the settings is outside its range.
+#[derive(Clone, Copy, Debug, PartialEq, Eq, Error)]
+pub enum SettingsFault {
+    #[error("the front stages do not end with step 3")]
+    Front,
+    #[error("the back stages do not end with step 2")]
+    Back,
+    #[error("a batch has 1 to 65536 records")]
+    Batch,
+    #[error("the cache has at most 1073741824 bytes")]
+    Cache,
+    #[error("a rejected request may be tried again after at most 86400 seconds")]
+    Retry,
+}
+
+/// What an operator may set. Contracts see it as a `Choice`.
+#[derive(Drop)]
+pub struct Settings {
+    pub(crate) front: Plan,
+    pub(crate) back: Plan,
+    pub(crate) batch: usize,
+    pub(crate) cache: usize,
+    pub(crate) costs: Costs,
+    pub(crate) policy: Policy,
+    pub(crate) retry_after: u64,
+}
+
+impl Model for Settings {
+    ghost use Rattle.replay.specs.Choices.{Choice, IsChoice};
+
+    ghost Value = { Choice };
+
+    ghost view = { λ s. record { front = s.front; back = s.back; batch = s.batch; cache = s.cache; costs = s.costs; rules = s.policy; retry_after = s.retry_after } };
+
+    ghost invariant = { λ s. IsChoice (record { front = s.front; back = s.back; batch = s.batch; cache = s.cache; costs = s.costs; rules = s.policy; retry_after = s.retry_after }) };
+}
 
 impl Settings {
-    /// Nothing is set.
-    pub fn new() -> Settings {
-        Settings
+    /// Settings of these values, or the first that is outside its range. `front` and `back` are the floors of the staged
+    /// engine: how a request's steps are cut into stages, with their workers and queues; `batch` is how many pieces it
+    /// reads at a time (1 to 65,536), `cache` the most bytes of pages that it keeps (up to 1,073,741,824). None of these
+    /// changes an answer. `costs` are the service times, `policy` is that of the admission control, and `retry_after` the
+    /// seconds that a rejected request is told to wait (0 to 86,400).
+    ///
+    /// # Errors
+    ///
+    /// `Front` where the last of `front`'s cuts isn't 3, `Back` where that of `back` isn't 2, then `Batch`, `Cache`,
+    /// `Retry`.
+    pub fn new(
+        front: Plan,
+        back: Plan,
+        batch: usize,
+        cache: usize,
+        costs: Costs,
+        policy: Policy,
+        retry_after: u64,
+    ) -> Result<Settings, SettingsFault>
+        ensures ok { IfOk result (λ s. (s ≡ record { front = front; back = back; batch = batch; cache = cache; costs = costs; rules = policy; retry_after = retry_after }) × (settings_fault s ≡ None)) }
+        ensures fault { IfErr result (λ f. settings_fault (record { front = front; back = back; batch = batch; cache = cache; costs = costs; rules = policy; retry_after = retry_after }) ≡ Some f) }
+    {
+        if front.steps() != FRONT_STEPS {
+            return Err(SettingsFault::Front);
+        }
+        if back.steps() != BACK_STEPS {
+            return Err(SettingsFault::Back);
+        }
+        if batch == 0 || batch > MOST_RECORDS {
+            return Err(SettingsFault::Batch);
+        }
+        if cache > MOST_CACHE {
+            return Err(SettingsFault::Cache);
+        }
+        if retry_after > LONGEST_RETRY {
+            return Err(SettingsFault::Retry);
+        }
+        Ok(Settings {
+            front,
+            back,
+            batch,
+            cache,
+            costs,
+            policy,
+            retry_after,
+        })
     }
 }

@@ -1,3 +1,6 @@
+use crate::Series;
+use admission::Control;
+
 /// How many messages were answered with each status.
 #[derive(Clone, Copy, Debug, PartialEq, Eq)]
 pub struct Counts {
@@ -22,9 +25,13 @@ pub struct Counts {
 }
 
 /// What became of a capture's messages.
-#[derive(Clone, Copy, Debug, PartialEq, Eq)]
+#[derive(Debug, Drop)]
 pub struct Summary {
     pub counts: Counts,
     /// How many messages broke a rule, and so were no requests.
     pub bypassed: u64,
+    /// How long each admitted request took from its arrival to its finish, in their order, in ticks of one microsecond.
+    pub samples: Series<u64>,
+    /// The changes of the rate, up to the last offered request's tick.
+    pub controls: Series<Control>,
 }

@@ -1,9 +1,55 @@
-use crate::Summary;
+ghost use Rattle.std.specs.Prelude.{◌≡◌, ◌-◌, ◌<◌, ◌^◌, []};
+ghost use Rattle.responses.specs.Replies.{status_of};
+ghost use Rattle.replay.specs.Counting.{AreBelow, breaks_a_rule};
+ghost use Rattle.replay.specs.Tallies.{no_counts, noted};
+
+use crate::Series;
+use crate::counting::{NONE, breaks_a_rule};
+use crate::summary::Counts;
+use http_requests::What as Meaning;
+use paths::Tree;
+use responses::What;
+use std::alloc::Global;
 
 /// The messages that were answered so far.
-#[derive(Clone, Copy, Debug)]
+#[derive(Drop)]
 pub struct Tally {
     /// How many they are, and so the number of the next.
     pub answered: usize,
-    pub summary: Summary,
+    pub counts: Counts,
+    /// How many of them broke a rule.
+    pub bypassed: u64,
+    /// The numbers of the requests that were turned away.
+    pub rejected: Series<usize>,
+    /// How long the admitted requests took.
+    pub samples: Series<u64>,
+}
+
+impl Tally {
+    /// Nothing was answered yet.
+    pub(crate) fn new(alloc: Global) -> Tally
+        ensures { result ≡ record { answered = 0; counts = no_counts; bypassed = 0; rejected = []; samples = [] } }
+    {
+        Tally {
+            answered: 0,
+            counts: NONE,
+            bypassed: 0,
+            rejected: Series::new(alloc),
+            samples: Series::new(alloc),
+        }
+    }
+
+    /// Counts one more message, and what it is told.
+    pub(crate) fn note<F: Tree>(&mut self, given: &What<F>, what: &Meaning)
+        requires number { self.old.answered < 2 ^ 64 - 1 }
+        requires counts { AreBelow (2 ^ 64 - 1) self.old.counts }
+        requires bypassed { self.old.bypassed < 2 ^ 64 - 1 }
+        ensures { self.new ≡ noted self.old (status_of given.now) (breaks_a_rule what.now) }
+    {
+        self.answered += 1;
+        self.counts.note(given);
+        if breaks_a_rule(what) {
+            self.bypassed += 1;
+        }
+    }
 }

@@ -1,4 +1,7 @@
+mod devices;
 mod faults;
 mod memory;
+mod rejections;
 mod rows;
 mod running;
+mod settings;

@@ -27,9 +27,11 @@ fn first_run(rt: HostRuntime) -> Result<(), Fail> {
     let want =
         "haboob-replies 1\nreply 0 0 150\nHTTP/1.1 200 OK\r\nDate: Sun, 06 Nov 1994 08:49:37 GMT\r\nContent-Type: text/plain\r\nContent-Length: 3\r\nLast-Modified: Sun, 06 Nov 1994 08:49:37 GMT\r\n\r\nhi\n\nstop 1\n";
     assert_eq!(rt; ran.text.as_slice(), want.as_bytes());
-    let summary = ran.answer?;
-    assert_eq!(rt; summary.counts.ok, 1);
-    assert_eq!(rt; summary.bypassed, 0);
+    let outcome = ran.answer?;
+    assert_eq!(rt; outcome.summary.counts.ok, 1);
+    assert_eq!(rt; outcome.summary.bypassed, 0);
+    assert_eq!(rt; outcome.summary.samples.as_slice(), [201].as_slice());
+    assert_eq!(rt; outcome.rejected.as_slice().len(), 0);
     Ok(())
 }
 
@@ -103,7 +105,7 @@ fn missing_host(rt: HostRuntime) -> Result<(), Fail> {
         outline(rt.alloc(), &ran.text)?.as_str(),
         "reply 0 0 146; 400 Bad Request;stop 1;"
     );
-    assert_eq!(rt; ran.answer?.bypassed, 1);
+    assert_eq!(rt; ran.answer?.summary.bypassed, 1);
     Ok(())
 }
 

@@ -3,18 +3,21 @@ use Rattle.captures.specs.Captures.{version_one}
 use Rattle.captures.specs.Readers.{Fits}
 use Rattle.captures.specs.declared.record.Record.{Record}
 use Rattle.std.specs.Io.KnownBytes.{Appends}
+use Rattle.replay.specs.Choices.{terms_of}
 use Rattle.replay.specs.Arrivals.{Arrival}
-use Rattle.replay.specs.Replies.{replies_from, text_before_stop}
+use Rattle.replay.specs.Offers.{handled}
+use Rattle.replay.specs.Replies.{replies_of, text_before_stop}
 use Rattle.replay.specs.Serving.{Serves}
 use Rattle.replay.proofs.plain.plain_replay.Given as goal
 
 -- some records were read, and the messages that arrived with them are answered
 abbrev pub invariant-loop-next : goal.invariant-loop-next
 invariant-loop-next g l =
-    ((records : List Record) × (arrivals : List Arrival) × Fits version_one l.fn.reader.0 l.start records l.capture.progress l.capture.input.now.0
-    × Serves g.F.Tree.files records arrivals l.connections l.tally
-    × Appends l.fn.writer.0 l.writer.0 (text_before_stop (replies_from g.F.Tree.files l.start 0 arrivals)))
+    ((records : List Record) × (arrivals : List Arrival) × Fits version_one l.fn.reader.0 l.desk.start records l.capture.progress l.capture.input.now.0
+    × Serves (terms_of g.F.Tree.files l.settings) records arrivals l.connections l.desk
+    × Appends l.fn.writer.0 l.writer.0 (text_before_stop (replies_of (terms_of g.F.Tree.files l.settings) l.desk.start (handled (terms_of g.F.Tree.files l.settings) arrivals))))
     × (l.capture.input.ghost_name ≡ l.initial.capture.input.ghost_name) × (l.capture.input.now.1 ≡ l.fn.reader.1) × (l.writer.1 ≡ l.fn.writer.1)
+    × (l.desk.start ≤ 4102444800)
 
 abbrev pub decreases-loop-next : goal.decreases-loop-next
 decreases-loop-next g l = l.capture.progress.room

@@ -1,0 +1,125 @@
+-- One more offer, and one more message.
+use Rattle.std.proofs.Common.{◌≡◌, ℕ, suc, zero, ◌+◌, ◌-◌, ◌<◌, ◌≤◌, ◌⊎◌, inl, inr, max, Bool, true, false, cond, List, [], ◌∷◌, ◌++◌, length, map, get_or, flat_map, refl, sym, ap, ◌∙◌, subst, arith, append-nil, append_assoc, All}
+use Rattle.std.proofs.lemmas.Grind.{flat_map-append}
+use Rattle.std.proofs.lemmas.List.{length-append, map-append}
+use Rattle.std.proofs.lemmas.List.Elements.{All-cons}
+use Rattle.std.specs.List.{list_any}
+use Rattle.std.specs.Prelude.{if◌then◌else◌}
+use Rattle.http_requests.specs.declared.messages.What.{What as Meaning}
+use Rattle.http_requests.specs.declared.messages.What.TheVariants.{Request, Bad}
+use Rattle.admission.specs.declared.control.Decision.{Decision}
+use Rattle.admission.specs.declared.control.Decision.TheVariants.{Admitted, Rejected}
+use Rattle.admission.specs.Rules.{Rules}
+use Rattle.admission.specs.Requests.{Offer, Decided, served, samples, as_served, last_finish, finish_behind}
+use Rattle.admission.specs.Decisions.{credit, decide, decided, decided_next, decided_from}
+use Rattle.admission.specs.Fits.{Fits, tick_from}
+use Rattle.admission.proofs.RequestLemmas.{decided_from-push, served-push, last_finish-push}
+use Rattle.replay.specs.Choices.{Terms}
+use Rattle.replay.specs.Arrivals.{Arrival}
+use Rattle.replay.specs.Offers.{offer_at, offers_of, rejects, is_rejection, is_turned_away, Handled, handled_next, handled_behind, handled}
+use Rattle.replay.specs.Counting.{samples_of}
+use Rattle.replay.specs.Serving.{AreBy}
+
+-- ---- offers
+
+pub offers_more : (terms : Terms) (arrivals : List Arrival) (a : Arrival) → offers_of terms (arrivals ++ a ∷ []) ≡ offers_of terms arrivals ++ offer_at terms a.origin.tick a.message.what
+unfolding offers_of
+offers_more terms arrivals a =
+    flat_map-append (λ a. offer_at terms a.origin.tick a.message.what) arrivals (a ∷ []) ∙ ap (λ xs. offers_of terms arrivals ++ xs) (append-nil (offer_at terms a.origin.tick a.message.what))
+
+offer_few : (terms : Terms) (tick : ℕ) (what : Meaning) → length (offer_at terms tick what) ≤ 1
+offer_few terms tick (Request method target version closing since) = omega arith
+offer_few terms tick (Bad fault) = omega arith
+
+pub offers_few : (terms : Terms) (arrivals : List Arrival) → length (offers_of terms arrivals) ≤ length arrivals
+unfolding offers_of
+offers_few terms [] = omega arith
+offers_few terms (a ∷ arrivals) = omega (
+  arith,
+  offers_few terms arrivals,
+  offer_few terms a.origin.tick a.message.what,
+  length-append (offer_at terms a.origin.tick a.message.what) (offers_of terms arrivals),
+)
+
+offers_by : (terms : Terms) (arrivals : List Arrival) (first tick : ℕ) → first ≤ tick → AreBy tick arrivals → tick_from first (offers_of terms arrivals) ≤ tick
+unfolding offers_of tick_from
+offers_by terms [] first tick le by = le
+offers_by terms (a ∷ arrivals) first tick le by =
+    let rest : AreBy tick arrivals = λ i d lt. by (suc i) d (omega (arith, lt)) in
+    go a.message.what refl (offers_by terms arrivals a.origin.tick tick (by zero a (omega arith)) rest) (offers_by terms arrivals first tick le rest)
+  where
+    go : (what : Meaning) → a.message.what ≡ what → tick_from a.origin.tick (offers_of terms arrivals) ≤ tick → tick_from first (offers_of terms arrivals) ≤ tick
+        → tick_from first (offers_of terms (a ∷ arrivals)) ≤ tick
+    go (Request method target version closing since) e offered same = rw e offered
+    go (Bad fault) e offered same = rw e same
+
+pub last_by : (terms : Terms) (arrivals : List Arrival) (tick : ℕ) → AreBy tick arrivals → tick_from 0 (offers_of terms arrivals) ≤ tick
+last_by terms arrivals tick by = offers_by terms arrivals 0 tick (omega arith) by
+
+-- ---- decisions
+
+decided_more : (rules : Rules) (offers : List Offer) (offer : Offer) → decided rules (offers ++ offer ∷ []) ≡ decided rules offers ++ decided_next rules (decided rules offers) offer ∷ []
+decided_more rules offers offer = decided_from-push rules [] offers offer
+
+-- an admitted request has a sample, which is from its arrival to its finish
+pub samples_admitted : (rules : Rules) (offers : List Offer) (offer : Offer) (finish : ℕ) → Admitted finish ≡ decide rules (decided rules offers) offer
+    → samples_of rules (offers ++ offer ∷ []) ≡ samples_of rules offers ++ (finish - offer.tick) ∷ []
+unfolding samples_of
+samples_admitted rules offers offer finish e =
+    let next = decided_next rules (decided rules offers) offer in
+    let own : as_served offer next.decision ≡ record { offer = offer; finish = finish } ∷ [] = rw (← e) refl in
+    rw (decided_more rules offers offer, served-push (decided rules offers) next, own)
+    (map-append (λ r. r.finish - r.offer.tick) (served (decided rules offers)) (record { offer = offer; finish = finish } ∷ []))
+
+-- a rejected one has none
+pub samples_rejected : (rules : Rules) (offers : List Offer) (offer : Offer) → Rejected ≡ decide rules (decided rules offers) offer
+    → samples_of rules (offers ++ offer ∷ []) ≡ samples_of rules offers
+unfolding samples_of
+samples_rejected rules offers offer e =
+    let next = decided_next rules (decided rules offers) offer in
+    let own : as_served offer next.decision ≡ [] = rw (← e) refl in
+    rw (decided_more rules offers offer, served-push (decided rules offers) next, own, append-nil (served (decided rules offers))) refl
+
+pub is_admitted_one : (rules : Rules) (offers : List Offer) (offer : Offer) (finish : ℕ) → Admitted finish ≡ decide rules (decided rules offers) offer → false ≡ list_any (rejects rules offers) (offer ∷ [])
+unfolding rejects
+is_admitted_one rules offers offer finish e = rw (← e) refl
+
+pub is_rejected_one : (rules : Rules) (offers : List Offer) (offer : Offer) → Rejected ≡ decide rules (decided rules offers) offer → true ≡ list_any (rejects rules offers) (offer ∷ [])
+unfolding rejects
+is_rejected_one rules offers offer e = rw (← e) refl
+
+abbrev finish_or : ℕ → Decision → ℕ
+finish_or other (Admitted finish) = finish
+finish_or other Rejected = other
+
+finish_is : (enough : Bool) (own finish : ℕ) → Admitted finish ≡ (if enough then (Admitted own) else Rejected) → finish ≡ own
+finish_is true own finish e = ap (finish_or own) e
+finish_is false own finish e = ap (finish_or own) e
+
+-- a request is finished no earlier than it came
+pub finish_late : (rules : Rules) (past : List Decided) (offer : Offer) (finish : ℕ) → Admitted finish ≡ decide rules past offer → offer.tick ≤ finish
+finish_late rules past offer finish e =
+    let is : finish ≡ finish_behind (served past) offer = finish_is _ _ _ e in
+    let late = last_finish-push (map (λ r. r.offer) (served past)) offer in
+    omega (arith, is, late)
+
+-- ---- messages
+
+pub handled_more : (terms : Terms) (earlier first more : List Arrival) → handled_behind terms earlier (first ++ more) ≡ handled_behind terms earlier first ++ handled_behind terms (earlier ++ first) more
+unfolding handled_behind
+handled_more terms earlier [] more = rw (append-nil earlier) refl
+handled_more terms earlier (a ∷ first) more =
+    let e : (earlier ++ a ∷ []) ++ first ≡ earlier ++ a ∷ first = append_assoc earlier (a ∷ []) first in
+    ap (λ hs. handled_next terms earlier a ∷ hs) (handled_more terms (earlier ++ a ∷ []) first more ∙ ap (λ past. handled_behind terms (earlier ++ a ∷ []) first ++ handled_behind terms past more) e)
+
+pub handled_one : (terms : Terms) (earlier : List Arrival) (a : Arrival) → handled_behind terms earlier (a ∷ []) ≡ handled_next terms earlier a ∷ []
+unfolding handled_behind
+handled_one terms earlier a = refl
+
+pub handled_push : (terms : Terms) (arrivals : List Arrival) (a : Arrival) → handled terms (arrivals ++ a ∷ []) ≡ handled terms arrivals ++ handled_next terms arrivals a ∷ []
+handled_push terms arrivals a = handled_more terms [] arrivals (a ∷ []) ∙ ap (λ hs. handled terms arrivals ++ hs) (handled_one terms arrivals a)
+
+pub handled_count : (terms : Terms) (earlier arrivals : List Arrival) → length (handled_behind terms earlier arrivals) ≡ length arrivals
+unfolding handled_behind
+handled_count terms earlier [] = refl
+handled_count terms earlier (a ∷ arrivals) = ap (λ n. suc n) (handled_count terms (earlier ++ a ∷ []) arrivals)

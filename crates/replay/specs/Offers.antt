@@ -1,0 +1,72 @@
+-- Which messages are offered to the admission control, and which of them it turns away.
+use Rattle.std.specs.Prelude.{ℕ, Bool, true, false, List, [], ◌∷◌, ◌++◌, length, flat_map, Option}
+use Rattle.std.specs.List.{list_any}
+use Rattle.paths.specs.Snapshots.{file_of}
+use Rattle.paths.specs.Targets.{asked}
+use Rattle.paths.specs.Resolution.{outcome}
+use Rattle.paths.specs.declared.file.File.{File}
+use Rattle.paths.specs.declared.outcome.Outcome.{Outcome}
+use Rattle.paths.specs.declared.outcome.Outcome.TheVariants as outcomes
+use Rattle.http_requests.specs.declared.messages.What.{What as Meaning}
+use Rattle.http_requests.specs.declared.messages.What.TheVariants.{Request, Bad}
+use Rattle.cost_model.specs.Services.{service}
+use Rattle.admission.specs.declared.control.Decision.{Decision}
+use Rattle.admission.specs.declared.control.Decision.TheVariants.{Admitted, Rejected}
+use Rattle.admission.specs.Rules.{Rules}
+use Rattle.admission.specs.Requests.{Offer}
+use Rattle.admission.specs.Decisions.{decide, decided}
+use Rattle.replay.specs.Choices.{Terms}
+use Rattle.replay.specs.Arrivals.{Arrival}
+use Rattle.replay.specs.Answers.{is_head, is_unmodified}
+
+-- how many bytes the file has that a request is answered with, and whether they were not modified since the date that it names
+abbrev pub length_given : List File → Outcome → ℕ
+length_given files (outcomes.File file) = length (file_of files file).bytes
+length_given files other = 0
+
+abbrev pub is_unmodified_file : List File → Option ℕ → Outcome → Bool
+is_unmodified_file files since (outcomes.File file) = is_unmodified since (file_of files file).mtime
+is_unmodified_file files since other = false
+
+-- how long the virtual server works on a request with this outcome
+abbrev pub service_of : Terms → Bool → Option ℕ → Outcome → ℕ
+service_of terms head since o = service terms.costs o head (is_unmodified_file terms.files since o) (length_given terms.files o)
+
+-- the offer of a message that came at a tick: none where it breaks a rule, and so is no request
+abbrev pub offer_at : Terms → ℕ → Meaning → List Offer
+offer_at terms tick (Request method target version closing since) =
+    record { tick = tick; service = service_of terms (is_head method) since (outcome terms.files (asked method target)) } ∷ []
+offer_at terms tick (Bad fault) = []
+
+-- the offers of these arrivals, in their order
+unfoldable pub offers_of : Terms → List Arrival → List Offer
+offers_of terms arrivals = flat_map (λ a. offer_at terms a.origin.tick a.message.what) arrivals
+
+abbrev pub is_rejection : Decision → Bool
+is_rejection (Admitted finish) = false
+is_rejection Rejected = true
+
+-- whether an offer that comes behind these is turned away
+unfoldable pub rejects : Rules → List Offer → Offer → Bool
+rejects rules offers offer = is_rejection (decide rules (decided rules offers) offer)
+
+-- a message is turned away where the offer that it makes behind those of the earlier ones is
+abbrev pub is_turned_away : Terms → List Arrival → Arrival → Bool
+is_turned_away terms earlier a = list_any (rejects terms.rules (offers_of terms earlier)) (offer_at terms a.origin.tick a.message.what)
+
+-- a message, its number, and whether it was turned away
+pub record Handled : Type 0 where
+  pub number : ℕ
+  pub arrival : Arrival
+  pub turned_away : Bool
+
+abbrev pub handled_next : Terms → List Arrival → Arrival → Handled
+handled_next terms earlier a = record { number = length earlier; arrival = a; turned_away = is_turned_away terms earlier a }
+
+-- these messages behind the earlier ones, each in turn, as those before it decide
+unfoldable pub handled_behind : Terms → List Arrival → List Arrival → List Handled
+handled_behind terms earlier [] = []
+handled_behind terms earlier (a ∷ arrivals) = handled_next terms earlier a ∷ handled_behind terms (earlier ++ a ∷ []) arrivals
+
+abbrev pub handled : Terms → List Arrival → List Handled
+handled terms arrivals = handled_behind terms [] arrivals
