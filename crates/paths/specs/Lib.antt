@@ -1,3 +1,4 @@
+pub mod Above
 pub mod Devices
 pub mod Numbers
 pub mod Resolution
