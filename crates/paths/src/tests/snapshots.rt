@@ -21,177 +21,107 @@ fn snapshot_of_one_file(rt: HostRuntime) -> Result<(), Fail> {
     Ok(())
 }
 
+/// What follows the first line of a snapshot, and the first fault of the text.
+static FAULTS: [(&str, usize, Kind); 38] = [
+    (
+        "file 0 5 0\nb.txt\n\nfile 0 5 0\na.txt\n\nend 2\n",
+        2,
+        Kind::Order,
+    ),
+    ("file 0 1 0\na\n\nfile 0 1 0\na\n\nend 2\n", 2, Kind::Order),
+    (
+        "file 0 1 0\na\n\nfile 0 3 0\na/b\n\nend 2\n",
+        2,
+        Kind::Conflict,
+    ),
+    (
+        "file 0 1 0\na\n\nfile 0 3 0\na!b\n\nfile 0 3 0\na/b\n\nend 3\n",
+        3,
+        Kind::Conflict,
+    ),
+    ("file 0 4 0\na//b\n\nend 1\n", 1, Kind::Name),
+    ("file 0 2 0\n/b\n\nend 1\n", 1, Kind::Name),
+    ("file 0 2 0\nb/\n\nend 1\n", 1, Kind::Name),
+    ("file 0 1 0\n.\n\nend 1\n", 1, Kind::Name),
+    ("file 0 4 0\na/..\n\nend 1\n", 1, Kind::Name),
+    ("file 0 3 0\na\0b\n\nend 1\n", 1, Kind::Name),
+    ("file 0 0 0\n\n\nend 1\n", 1, Kind::Name),
+    ("file 0 1025 0\n", 1, Kind::Name),
+    ("file 0 1 0\nab\n\nend 1\n", 1, Kind::Name),
+    ("file 0 1 0\n.", 1, Kind::Cut),
+    ("file 784111777 5 3\na.txt\nhi\n\nend 2\n", 2, Kind::Count),
+    ("file 784111777 5 3\na.txt\nhi\n\nend 0\n", 2, Kind::Count),
+    ("file 784111777 5 3\na.txt\nhi\n\n", 2, Kind::Cut),
+    (
+        "file 784111777 5 3\na.txt\nhi\n\nend 1\n ",
+        2,
+        Kind::Trailing,
+    ),
+    ("file 784111777 5 2\na.txt\nhi\n\nend 1\n", 2, Kind::Kind),
+    ("file 784111777 5 1\na.txt\nhi\n\nend 1\n", 1, Kind::Length),
+    ("file 784111777 5 1\na.txt\nh", 1, Kind::Cut),
+    ("file 253402300800 5 1\na.txt\nh\nend 1\n", 1, Kind::Number),
+    (
+        "file 99999999999999999999999999 1 0\na\n\nend 1\n",
+        1,
+        Kind::Number,
+    ),
+    ("file 0 1 16777217\na\n", 1, Kind::TooLarge),
+    (
+        "file 0 1 99999999999999999999999999\na\n",
+        1,
+        Kind::TooLarge,
+    ),
+    ("file 0 99999999999999999999999999 1\na\n", 1, Kind::Name),
+    ("file 00 1 0\na\n\nend 1\n", 1, Kind::Number),
+    ("file 0  1 0\na\n\nend 1\n", 1, Kind::Number),
+    ("file 0 1\na\n\nend 1\n", 1, Kind::Number),
+    ("file 0 1 0 0\na\n\nend 1\n", 1, Kind::Number),
+    ("file +0 1 0\na\n\nend 1\n", 1, Kind::Number),
+    ("end 00\n", 1, Kind::Number),
+    ("end \n", 1, Kind::Number),
+    ("end\n", 1, Kind::Kind),
+    ("files\n", 1, Kind::Kind),
+    ("\nend 0\n", 1, Kind::Kind),
+    ("file 0\nfile 0 1 0\na\n\nend 1\n", 1, Kind::Number),
+    (
+        "end 0000000000000000000000000000000000000000000000000000000000000\n",
+        1,
+        Kind::Kind,
+    ),
+];
+
 #[test]
-fn snapshot_faults(rt: HostRuntime) {
-    let table: [(&[u8], usize, Kind); 40] = [
-        (
-            b"haboob-snapshot 1\nfile 0 5 0\nb.txt\n\nfile 0 5 0\na.txt\n\nend 2\n",
-            2,
-            Kind::Order,
-        ),
-        (
-            b"haboob-snapshot 1\nfile 0 1 0\na\n\nfile 0 1 0\na\n\nend 2\n",
-            2,
-            Kind::Order,
-        ),
-        (
-            b"haboob-snapshot 1\nfile 0 1 0\na\n\nfile 0 3 0\na/b\n\nend 2\n",
-            2,
-            Kind::Conflict,
-        ),
-        (
-            b"haboob-snapshot 1\nfile 0 1 0\na\n\nfile 0 3 0\na!b\n\nfile 0 3 0\na/b\n\nend 3\n",
-            3,
-            Kind::Conflict,
-        ),
-        (
-            b"haboob-snapshot 1\nfile 0 4 0\na//b\n\nend 1\n",
-            1,
-            Kind::Name,
-        ),
-        (
-            b"haboob-snapshot 1\nfile 0 2 0\n/b\n\nend 1\n",
-            1,
-            Kind::Name,
-        ),
-        (
-            b"haboob-snapshot 1\nfile 0 2 0\nb/\n\nend 1\n",
-            1,
-            Kind::Name,
-        ),
-        (
-            b"haboob-snapshot 1\nfile 0 1 0\n.\n\nend 1\n",
-            1,
-            Kind::Name,
-        ),
-        (
-            b"haboob-snapshot 1\nfile 0 4 0\na/..\n\nend 1\n",
-            1,
-            Kind::Name,
-        ),
-        (
-            b"haboob-snapshot 1\nfile 0 3 0\na\0b\n\nend 1\n",
-            1,
-            Kind::Name,
-        ),
-        (
-            b"haboob-snapshot 1\nfile 0 2 0\n\xc3\x28\n\nend 1\n",
-            1,
-            Kind::Name,
-        ),
-        (b"haboob-snapshot 1\nfile 0 0 0\n\n\nend 1\n", 1, Kind::Name),
-        (b"haboob-snapshot 1\nfile 0 1025 0\n", 1, Kind::Name),
-        (
-            b"haboob-snapshot 1\nfile 0 1 0\nab\n\nend 1\n",
-            1,
-            Kind::Name,
-        ),
-        (b"haboob-snapshot 1\nfile 0 1 0\n.", 1, Kind::Cut),
-        (
-            b"haboob-snapshot 1\nfile 784111777 5 3\na.txt\nhi\n\nend 2\n",
-            2,
-            Kind::Count,
-        ),
-        (
-            b"haboob-snapshot 1\nfile 784111777 5 3\na.txt\nhi\n\nend 0\n",
-            2,
-            Kind::Count,
-        ),
-        (
-            b"haboob-snapshot 1\nfile 784111777 5 3\na.txt\nhi\n\n",
-            2,
-            Kind::Cut,
-        ),
-        (
-            b"haboob-snapshot 1\nfile 784111777 5 3\na.txt\nhi\n\nend 1\n ",
-            2,
-            Kind::Trailing,
-        ),
-        (
-            b"haboob-snapshot 1\nfile 784111777 5 2\na.txt\nhi\n\nend 1\n",
-            2,
-            Kind::Kind,
-        ),
-        (
-            b"haboob-snapshot 1\nfile 784111777 5 1\na.txt\nhi\n\nend 1\n",
-            1,
-            Kind::Length,
-        ),
-        (
-            b"haboob-snapshot 1\nfile 784111777 5 1\na.txt\nh",
-            1,
-            Kind::Cut,
-        ),
-        (
-            b"haboob-snapshot 1\nfile 253402300800 5 1\na.txt\nh\nend 1\n",
-            1,
-            Kind::Number,
-        ),
-        (
-            b"haboob-snapshot 1\nfile 99999999999999999999999999 1 0\na\n\nend 1\n",
-            1,
-            Kind::Number,
-        ),
-        (
-            b"haboob-snapshot 1\nfile 0 1 16777217\na\n",
-            1,
-            Kind::TooLarge,
-        ),
-        (
-            b"haboob-snapshot 1\nfile 0 1 99999999999999999999999999\na\n",
-            1,
-            Kind::TooLarge,
-        ),
-        (
-            b"haboob-snapshot 1\nfile 0 99999999999999999999999999 1\na\n",
-            1,
-            Kind::Name,
-        ),
-        (
-            b"haboob-snapshot 1\nfile 00 1 0\na\n\nend 1\n",
-            1,
-            Kind::Number,
-        ),
-        (
-            b"haboob-snapshot 1\nfile 0  1 0\na\n\nend 1\n",
-            1,
-            Kind::Number,
-        ),
-        (
-            b"haboob-snapshot 1\nfile 0 1\na\n\nend 1\n",
-            1,
-            Kind::Number,
-        ),
-        (
-            b"haboob-snapshot 1\nfile 0 1 0 0\na\n\nend 1\n",
-            1,
-            Kind::Number,
-        ),
-        (
-            b"haboob-snapshot 1\nfile +0 1 0\na\n\nend 1\n",
-            1,
-            Kind::Number,
-        ),
-        (b"haboob-snapshot 1\nend 00\n", 1, Kind::Number),
-        (b"haboob-snapshot 1\nend \n", 1, Kind::Number),
-        (b"haboob-snapshot 1\nend\n", 1, Kind::Kind),
-        (b"haboob-snapshot 1\nfiles\n", 1, Kind::Kind),
-        (
-            b"haboob-snapshot 1\nend 0000000000000000000000000000000000000000000000000000000000000\n",
-            1,
-            Kind::Kind,
-        ),
-        (b"haboob-snapshot 2\nend 0\n", 0, Kind::Header),
-        (
-            b"haboob-snapshot 1 with so much behind it that the line can hold no more\n",
-            0,
-            Kind::Header,
-        ),
-        (b"haboob-snapshot", 0, Kind::Cut),
-    ];
-    for (text, entry, kind) in table {
-        assert_eq!(rt; fault_of(rt.alloc(), text), fault(entry, kind));
+fn snapshot_faults(rt: HostRuntime) -> Result<(), Fail> {
+    for (entries, entry, kind) in &FAULTS {
+        let text = format!(in rt.alloc(); "haboob-snapshot 1\n{entries}")?;
+        assert_eq!(rt; fault_of(rt.alloc(), text.as_bytes()), fault(*entry, *kind));
     }
+    Ok(())
+}
+
+/// Texts whose first line isn't that of a snapshot.
+static HEADERS: [(&str, Kind); 3] = [
+    ("haboob-snapshot 2\nend 0\n", Kind::Header),
+    (
+        "haboob-snapshot 1 with so much behind it that the line can hold no more\n",
+        Kind::Header,
+    ),
+    ("haboob-snapshot", Kind::Cut),
+];
+
+#[test]
+fn snapshot_headers(rt: HostRuntime) {
+    for (text, kind) in &HEADERS {
+        assert_eq!(rt; fault_of(rt.alloc(), text.as_bytes()), fault(0, *kind));
+    }
+}
+
+/// A name that is no UTF-8.
+#[test]
+fn name_that_is_no_text(rt: HostRuntime) {
+    let text = b"haboob-snapshot 1\nfile 0 2 0\n\xc3\x28\n\nend 1\n";
+    assert_eq!(rt; fault_of(rt.alloc(), text), fault(1, Kind::Name));
 }
 
 /// Cut after each of its bytes, the text is cut at the first entry that isn't whole.
