@@ -9,10 +9,9 @@ use crate::text::read_some_of;
 use crate::{Input, Line, SnapshotFaultKind, Stop};
 use std::io::Read;
 
-/// The fewest bytes of a line that announces something, as `end 0`, and of a file's line, as `file 0 1 0`, each with its
-/// line feed.
+/// The fewest bytes of a line that announces something, as `end 0`, with its line feed.
 const SHORTEST_LINE: usize = 6;
-
+/// The fewest bytes of a file's line, as `file 0 1 0`, with its line feed.
 const SHORTEST_FILE_LINE: usize = 11;
 
 /// How many bytes a line that begins so has ahead at least, its line feed among them, if it announces something.
@@ -31,8 +30,8 @@ fn owed(front: &[u8]) -> usize
     }
 }
 
-/// Reads the line of an entry of a text that may take `left` more bytes. What the line owes is read at once, so behind a
-/// line that announces nothing more may have been taken.
+/// Reads the line of an entry of a text that may take `left` more bytes. What the line owes is read at once: bytes behind
+/// a line that announces nothing may have been read too.
 pub(crate) fn read_entry_line<R: Read>(input: &mut Input<R>, left: &mut usize) -> Result<Line, Stop>
     requires { input.old.1 < 2 ^ 64 - 1 }
     ensures line { GivesLine input.old.0 left.old input.new.0 left.new result }

@@ -14,6 +14,7 @@ static THREE: &str =
     "haboob-snapshot 1\nfile 0 5 3\na.txt\nhi\n\nfile 0 5 3\nb.txt\nhi\n\nfile 0 5 3\nc.txt\nhi\n\nend 3\n";
 
 /// What is done to a cache, and what it must answer.
+#[derive(Clone, Copy)]
 enum Step {
     /// The page of this file is built and kept.
     Keep(usize, Keeping),
