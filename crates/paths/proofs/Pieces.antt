@@ -1,6 +1,5 @@
 -- A line that is read piece by piece, as far as it owes bytes.
-use Rattle.std.proofs.Common.{◌≡◌, ℕ, ◌+◌, ◌-◌, ◌<◌, ◌≤◌, ◌==◌, not, cond, nat_lt, Bool, true, false, List, [], ◌∷◌, ◌++◌, length, take, drop, get_or, Option, eq-eqb, Some, None, Result, Ok, Err, refl, sym, ap, ◌∙◌, arith, codes, nat_eq, is_some, unwrap_or}
-use mathlib.Core.Bool.{true≢false}
+use Rattle.std.proofs.Common.{◌≡◌, ℕ, ◌+◌, ◌-◌, ◌<◌, ◌≤◌, ◌==◌, not, nat_lt, Bool, true, false, List, [], ◌∷◌, ◌++◌, length, take, drop, get_or, Option, eq-eqb, Some, None, Result, Ok, Err, refl, sym, ap, ◌∙◌, arith, codes, nat_eq, is_some, unwrap_or}
 use Rattle.std.specs.List.{position, position_or_len, before_first, prefix_len, starts_with}
 use Rattle.std.proofs.lemmas.Bool.Decides.{nat_tests, Decides-eqb}
 use Rattle.std.proofs.lemmas.Option.{cond_some}

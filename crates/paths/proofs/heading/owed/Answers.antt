@@ -1,5 +1,5 @@
 use Rattle.paths.proofs.Pieces.{owes_five}
-use Rattle.std.proofs.Common.{sym, ◌∙◌, arith}
+use Rattle.std.proofs.Common.{sym, ◌∙◌}
 use Rattle.paths.proofs.heading.owed.Goals as goal
 
 pub returns-then-starts_with-clause-owed : goal.returns-then-starts_with-clause-owed
