@@ -3,6 +3,7 @@ pub mod Entries
 pub mod Inverse
 pub mod Locating
 pub mod Names
+pub mod Pieces
 pub mod Segmenting
 pub mod Taking
 pub mod Locations

@@ -1,5 +1,5 @@
 -- The order of names, and what a search among names that rise finds.
-use Rattle.std.proofs.Common.{◌≡◌, ◌≢◌, ℕ, ◌+◌, ◌-◌, ◌<◌, ◌≤◌, inl, inr, Bool, true, false, List, [], ◌∷◌, ◌++◌, length, take, drop, get_or, Some, None, Result, Ok, Err, refl, sym, ap, ◌∙◌, subst, nat_eq, arith, bytes_eq}
+use Rattle.std.proofs.Common.{◌≡◌, ℕ, ◌+◌, ◌-◌, ◌<◌, ◌≤◌, inl, inr, Bool, true, false, List, [], ◌∷◌, ◌++◌, length, take, drop, get_or, Some, None, Result, Ok, Err, refl, sym, ap, ◌∙◌, subst, nat_eq, arith, bytes_eq}
 use mathlib.Core.Bool.{true≢false}
 use Rattle.std.specs.List.{list_all, list_any, AllPairs, starts_with, position_or_len}
 use Rattle.std.specs.List.Sorted.{IsSearchInRange, IsBinarySearchResult, IsNonDecreasingBy}
@@ -15,9 +15,10 @@ use Rattle.std.proofs.lemmas.Cmp.{nat_list_cmp_total}
 use Rattle.std.proofs.lemmas.List.Sorted.{IsNonDecreasingBy-from_default}
 use Rattle.std.proofs.lemmas.List.Sums.{position_or_len_is, list_all-from_AllPass}
 use Rattle.std.proofs.lemmas.List.Folds.{list_any_at, list_any_none, list_all_at, Any-from_list_any}
-use Rattle.std.proofs.lemmas.List.{get_or_default, append-nil, append_assoc, take_at, take-append-drop, drop_more, length-append, get_or_at}
+use Rattle.std.proofs.lemmas.List.{get_or_default, append-nil, append_assoc, take_at, take-append-drop, drop_more, length-append, length-take, take-take, get_or-take, get_or_at}
 use Rattle.std.proofs.lemmas.Slice.Eq.{starts_is, bytes_eq-Decides}
 use Rattle.paths.specs.declared.file.File.{File}
+use Rattle.paths.specs.Above.{HasNoFile, HasNoFileAbove}
 use Rattle.paths.specs.Snapshots.{file_of, no_file, comes_before, lies_in, slash, IsPlace, position_of, has_folder}
 
 abbrev pub AreRising : List File → Type 0
@@ -129,10 +130,6 @@ lies folder name rest h = (starts_is Decides-eqb name (folder ++ slash ∷ []) (
 lies_rest : (folder name : List ℕ) → lies_in folder name ≡ true → name ≡ (folder ++ slash ∷ []) ++ drop (length (folder ++ slash ∷ [])) name
 lies_rest folder name h = (starts_is Decides-eqb name (folder ++ slash ∷ []) (lies_in folder name) refl).0 h
 
--- no file has the name of the front of the name, so many bytes long
-abbrev pub HasNoFile : List File → List ℕ → Type 0
-HasNoFile files name = (j : ℕ) → j < length files → (file_of files j).name ≢ name
-
 pub above_found : (files : List File) (name : List ℕ) (k i : ℕ) → k < length name → get_or name k 0 ≡ slash → IsPlace files (take k name) (Ok i)
     → list_any (λ f. lies_in f.name name) files ≡ true
 above_found files name k i lt is place = list_any_at (λ f. lies_in f.name name) files i no_file place.0
@@ -140,7 +137,7 @@ above_found files name k i lt is place = list_any_at (λ f. lies_in f.name name)
     (sym (take-append-drop k name) ∙ ap (λ v. take k name ++ v) (drop_more name k 0 lt ∙ ap (λ b. b ∷ drop (k + 1) name) is)
     ∙ sym (append_assoc (take k name) (slash ∷ []) (drop (k + 1) name)) ∙ ap (λ v. (v ++ slash ∷ []) ++ drop (k + 1) name) (sym place.1)))
 
-pub above_none : (files : List File) (name : List ℕ) → ((k : ℕ) → k < length name → get_or name k 0 ≡ slash → HasNoFile files (take k name))
+pub above_none : (files : List File) (name : List ℕ) → HasNoFileAbove files name (length name)
     → list_any (λ f. lies_in f.name name) files ≡ false
 above_none files name none = list_any_none (λ f. lies_in f.name name) files (λ j d lt.
     let is : get_or files j d ≡ file_of files j = get_or_default files j d no_file lt in
@@ -227,3 +224,20 @@ folder_tested files rising folder key i m r place lt is name tested =
 
 pub folder_missing : (files : List File) (folder key : List ℕ) (i : ℕ) → IsPlace files key (Err i) → length files ≤ i → key ≡ folder ++ slash ∷ [] → has_folder files folder ≡ false
 folder_missing files folder key i place past is = no_folder files folder i (subst (λ (v : List ℕ). IsPlace files v (Err i)) is place) past
+
+-- the folders that a name shares with the last one are no files
+pub above_shared : (files : List File) (last name : List ℕ) (n : ℕ) → AllPairs (λ f g. lies_in f.name g.name ≡ false) files → 0 < length files
+    → last ≡ (file_of files (length files - 1)).name → take n last ≡ take n name → n ≤ length last → n ≤ length name → HasNoFileAbove files name n
+above_shared files last name n apart some is_last same in_last in_name k lt is j in_range named =
+    let here : get_or last k 0 ≡ slash = sym (get_or-take n last k 0 lt) ∙ (ap (λ v. get_or v k 0) same ∙ (get_or-take n name k 0 lt ∙ is)) in
+    let fronts : take k last ≡ take k name = sym (take-take k n last (omega arith)) ∙ (ap (take k) same ∙ take-take k n name (omega arith)) in
+    let inside : lies_in (file_of files j).name last ≡ true = lies _ last (drop (k + 1) last)
+    (sym (take-append-drop k last) ∙ ap (λ v. take k last ++ v) (drop_more last k 0 (omega arith) ∙ ap (λ b. b ∷ drop (k + 1) last) here)
+    ∙ sym (append_assoc (take k last) (slash ∷ []) (drop (k + 1) last)) ∙ ap (λ v. (v ++ slash ∷ []) ++ drop (k + 1) last) (fronts ∙ sym named)) in
+    elim (cases_lt j (length files - 1)) [
+      | inl below ↦ true≢false (sym inside ∙ (ap (lies_in (file_of files j).name) is_last ∙ apart j (length files - 1) no_file below (omega arith)))
+      | inr ge ↦
+          let j_is : j ≡ length files - 1 = omega arith in
+          let whole : last ≡ take k name = is_last ∙ (ap (λ (i : ℕ). (file_of files i).name) (sym j_is) ∙ named) in
+          omega (arith, ap length whole, length-take k name)
+    ]

@@ -1,5 +1,7 @@
+pub mod Above
 pub mod Devices
 pub mod Numbers
+pub mod Owed
 pub mod Resolution
 pub mod SnapshotFaults
 pub mod Snapshots

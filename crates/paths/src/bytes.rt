@@ -1,4 +1,4 @@
-ghost use Rattle.std.specs.Prelude.{◌≡◌, length, vec_items};
+ghost use Rattle.std.specs.Prelude.{◌≡◌, ◌≤◌, length, take, vec_items};
 ghost use Rattle.std.specs.Str.{is_utf8};
 
 use std::marker::Model;
@@ -47,4 +47,19 @@ pub(crate) fn is_text(bytes: &[u8]) -> bool
         Ok(_) => true,
         Err(_) => false,
     }
+}
+
+/// How many bytes of their fronts both share.
+pub(crate) fn shared_front(one: &[u8], other: &[u8]) -> usize
+    ensures same { take result one.now ≡ take result other.now }
+    ensures in_one { result ≤ length one.now }
+    ensures in_other { result ≤ length other.now }
+{
+    let end = one.len().min(other.len());
+    for at in 0..end {
+        if one[at] != other[at] {
+            return at;
+        }
+    }
+    end
 }

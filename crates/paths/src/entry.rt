@@ -6,7 +6,7 @@ ghost use Rattle.paths.specs.SnapshotFaults.{CountsKind, is_unforeseen_kind, hea
 
 use crate::bytes::is_text;
 use crate::file::{FileLine, Heading};
-use crate::heading::read_heading;
+use crate::heading::{read_entry_line, read_heading};
 use crate::{
     Bytes, File, Input, Snapshot, SnapshotFaultKind, Stop, read_byte_of, read_line, read_run,
 };
@@ -190,7 +190,7 @@ pub(crate) fn read_entry<R: Read>(
     ensures fits { IfOk result (λ entry. IfSome entry (λ file. Follows files.now file)) }
     ensures count { CountsKind input.old.1 input.new.1 result }
 {
-    let line = read_line(input, left)?;
+    let line = read_entry_line(input, left)?;
     let heading = read_heading(line.as_slice())?;
     read_announced(alloc, input, left, files, heading)
 }

@@ -1,9 +1,57 @@
-ghost use Rattle.std.specs.Prelude.{◌≡◌};
+ghost use Rattle.std.specs.Prelude.{◌≡◌, ◌+◌, ◌-◌, ◌<◌, ◌≤◌, ◌^◌, length};
 ghost use Rattle.paths.specs.SnapshotFaults.{heading_of};
+ghost use Rattle.paths.specs.Texts.{Counts};
+ghost use Rattle.paths.specs.Owed.{IsOwed, GivesLine};
 
-use crate::SnapshotFaultKind;
 use crate::file::{FileLine, Heading};
 use crate::numbers::{number, three_numbers};
+use crate::text::read_some_of;
+use crate::{Input, Line, SnapshotFaultKind, Stop};
+use std::io::Read;
+
+/// The fewest bytes of a line that announces something, as `end 0`, with its line feed.
+const SHORTEST_LINE: usize = 6;
+/// The fewest bytes of a file's line, as `file 0 1 0`, with its line feed.
+const SHORTEST_FILE_LINE: usize = 11;
+
+/// How many bytes a line that begins so has ahead at least, its line feed among them, if it announces something.
+fn owed(front: &[u8]) -> usize
+    ensures owed { IsOwed front.now result }
+    ensures some { 0 < result }
+    ensures limit { result ≤ 6 }
+    ensures room { length front.now < 65 → length front.now + result ≤ 65 }
+{
+    if front.is_empty() {
+        SHORTEST_LINE
+    } else if front.len() == SHORTEST_LINE && front.starts_with(b"file ") {
+        SHORTEST_FILE_LINE - SHORTEST_LINE
+    } else {
+        1
+    }
+}
+
+/// Reads the line of an entry of a text that may take `left` more bytes. What the line owes is read at once: bytes behind
+/// a line that announces nothing may have been read too.
+pub(crate) fn read_entry_line<R: Read>(input: &mut Input<R>, left: &mut usize) -> Result<Line, Stop>
+    requires { input.old.1 < 2 ^ 64 - 1 }
+    ensures line { GivesLine input.old.0 left.old input.new.0 left.new result }
+    ensures count { Counts input.old.1 input.new.1 result }
+{
+    let mut line = Line::new();
+    while line.as_slice().len() < 65 {
+        let mut room = [0; SHORTEST_LINE];
+        let owed = owed(line.as_slice());
+        match read_some_of(input, left, &mut room[..owed]) {
+            Ok(count) => {
+                if line.push_to_feed(&room[..count]) {
+                    return Ok(line);
+                }
+            }
+            Err(stop) => return Err(stop),
+        }
+    }
+    Err(Stop::TooLong)
+}
 
 /// What a line of a snapshot announces.
 pub(crate) fn read_heading(line: &[u8]) -> Result<Heading, SnapshotFaultKind>

@@ -1,8 +1,10 @@
 ghost use Rattle.std.specs.Prelude.{◌≡◌, ◌<◌, ◌≤◌, ◌++◌, [], ◌∷◌, length, OnOk, OnErr, Option, List, ℕ};
 ghost use Rattle.std.specs.List.{list_all, list_any};
 ghost use Rattle.paths.specs.Snapshots.{file_of, Follows, position_of, has_folder, comes_before, lies_in, slash, IsPlace, IsSnapshot};
+ghost use Rattle.paths.specs.Above.{HasNoFileAbove};
 
 use crate::File;
+use crate::bytes::shared_front;
 use std::alloc::{AllocError, Global};
 use std::marker::{Brand, Model};
 
@@ -129,12 +131,24 @@ impl Snapshot {
         count == 0 || self.name(count - 1).cmp(name).is_lt()
     }
 
-    /// Whether a file has the name of a folder in which this name lies.
+    /// How many bytes the name shares with that of the last file. No file is a folder in which the last one lies.
+    fn shared_with_last(&self, name: &[u8]) -> usize
+        ensures bound { result ≤ length name.now }
+        ensures above { HasNoFileAbove self.now name.now result }
+    {
+        match self.files.last() {
+            Some(last) => shared_front(last.name.as_slice(), name),
+            None => 0,
+        }
+    }
+
+    /// Whether a file has the name of a folder in which this name lies. The folders that the last file lies in too aren't
+    /// looked up.
     pub(crate) fn has_file_above(&self, name: &[u8]) -> bool
         ensures { result ≡ list_any (λ f. lies_in f.name name.now) self.now }
     {
-        for (at, byte) in name.iter().enumerate() {
-            if *byte == b'/' {
+        for at in self.shared_with_last(name)..name.len() {
+            if name[at] == b'/' {
                 match self.search(&name[..at]) {
                     Ok(_) => return true,
                     Err(_) => continue,

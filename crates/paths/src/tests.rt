@@ -11,6 +11,9 @@ mod resolution;
 mod snapshots;
 mod texts;
 
+/// The snapshot without files.
+pub static EMPTY: &str = "haboob-snapshot 1\nend 0\n";
+
 /// A reader over memory that gives at most so many bytes a read, and fails at one of its reads.
 #[derive(Drop)]
 pub struct Flaky<'a> {

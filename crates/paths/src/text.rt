@@ -1,4 +1,5 @@
-ghost use Rattle.std.specs.Prelude.{◌≡◌, ℕ, ◌+◌, ◌-◌, ◌<◌, ◌≤◌, ◌^◌, ◌++◌, [], ◌∷◌, length, IfOk};
+ghost use Rattle.std.specs.Prelude.{◌≡◌, ℕ, ◌+◌, ◌-◌, ◌<◌, ◌≤◌, ◌==◌, ◌^◌, ◌++◌, [], ◌∷◌, length, nat_lt, IfOk};
+ghost use Rattle.std.specs.List.{before_first};
 ghost use Rattle.paths.specs.Texts.{Gives, Counts, TakesSome, Fills, is_unforeseen, byte_at, line_at, run_at};
 
 use crate::{Bytes, Failed, Input, Stop};
@@ -46,11 +47,26 @@ impl Line {
         self.bytes[self.len] = byte;
         self.len += 1;
     }
+
+    /// Takes the bytes up to a line feed, and tells whether one was there.
+    pub(crate) fn push_to_feed(&mut self, bytes: &[u8]) -> bool
+        requires { length self.old + length bytes.now ≤ 65 }
+        ensures line { self.new ≡ self.old ++ before_first (λ b. b == 10) bytes.now }
+        ensures feed { result ≡ nat_lt (length (before_first (λ b. b == 10) bytes.now)) (length bytes.now) }
+    {
+        for byte in bytes {
+            if *byte == b'\n' {
+                return true;
+            }
+            self.push(*byte);
+        }
+        false
+    }
 }
 
 /// Makes one read of a text that may take `left` more bytes, and answers how many came, at least one. Where the text may
 /// take none, one byte further is looked for: the text is too large if it is there, and cut if it is not.
-fn read_some_of<R: Read>(
+pub(crate) fn read_some_of<R: Read>(
     input: &mut Input<R>,
     left: &mut usize,
     room: &mut [u8],

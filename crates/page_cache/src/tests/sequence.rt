@@ -7,6 +7,7 @@ use paths::{Snapshot, Tree};
 use std::alloc::{AllocError, Global};
 use std::marker::Brand;
 use std::process::Abort;
+use std::sync::Arc;
 use std::test::Fail;
 
 /// Six files, of 0, 10, 20, 30, 50 and 100 bytes.
@@ -78,6 +79,41 @@ fn total(list: &[usize]) -> usize {
         .fold(0usize, |sum, file| sum.wrapping_add(size_of(*file)))
 }
 
+/// A look finds a page where the list has the file.
+fn check_look<F: Tree, R: Abort>(
+    rt: &R,
+    cache: &mut PageCache<F>,
+    list: &mut Vec<usize>,
+    file: usize,
+) -> Result<(), Fail> {
+    let there = bring(list, file)?;
+    assert_eq!(rt; cache.look(file)?.is_some(), there);
+    Ok(())
+}
+
+/// A page is kept, and stands in the list.
+fn check_keep<F: Tree, R: Abort>(
+    rt: &R,
+    alloc: Global,
+    cache: &mut PageCache<F>,
+    list: &mut Vec<usize>,
+    page: Arc<Page<F>>,
+    limit: usize,
+) -> Result<(), Fail> {
+    let file = page.file();
+    assert_eq!(rt; page.size(), size_of(file));
+    let answer = cache.keep(page);
+    if size_of(file) > limit {
+        assert_eq!(rt; answer, Keeping::TooBig);
+        return Ok(());
+    }
+    assert_eq!(rt; answer, Keeping::Kept);
+    if !bring(list, file)? {
+        *list = put(alloc, list, file, limit)?;
+    }
+    Ok(())
+}
+
 /// Makes looks and keeps of files by turns that a generator picks, and compares.
 fn check_sequence<F: Tree, R: Abort>(
     rt: &R,
@@ -95,23 +131,12 @@ fn check_sequence<F: Tree, R: Abort>(
         seed = seed.wrapping_mul(1_664_525).wrapping_add(1_013_904_223);
         let file = (seed >> 16) as usize % 6;
         if seed >> 31 == 0 {
-            let there = bring(&mut list, file)?;
-            assert_eq!(rt; cache.look(file)?.is_some(), there);
+            check_look(rt, &mut cache, &mut list, file)?;
         } else {
-            let page = Page::<F>::build(alloc, files, file)?;
-            assert_eq!(rt; page.size(), size_of(file));
-            let answer = cache.keep(page);
-            if size_of(file) > limit {
-                assert_eq!(rt; answer, Keeping::TooBig);
-            } else {
-                assert_eq!(rt; answer, Keeping::Kept);
-                if !bring(&mut list, file)? {
-                    list = put(alloc, &list, file, limit)?;
-                }
-            }
+            let page = Page::build(alloc, files, file)?;
+            check_keep(rt, alloc, &mut cache, &mut list, page, limit)?;
         }
-        assert_eq!(rt; cache.len(), list.len());
-        assert_eq!(rt; cache.bytes(), total(&list));
+        assert_eq!(rt; (cache.len(), cache.bytes()), (list.len(), total(&list)));
     }
     Ok(())
 }

@@ -3,7 +3,6 @@ use crate::tests::{Flaky, Stumbling};
 use crate::{Failed, Input, Output};
 use std::io;
 use std::io::Write;
-use std::test::Fail;
 
 /// A writer that takes so many bytes at once.
 #[derive(Drop)]
@@ -22,17 +21,16 @@ impl Write for Narrow {
 }
 
 #[test]
-fn reads_are_counted(rt: HostRuntime) -> Result<(), Fail> {
+fn reads_are_counted(rt: HostRuntime) {
     let mut input = Input::new(Flaky::new(b"abc", 2, 1));
     let mut room = [0; 4];
-    assert_eq!(rt; input.failures(), 0);
-    assert_eq!(rt; input.read_some(&mut room), Ok(2));
-    assert_eq!(rt; &room[..2], b"ab".as_slice());
-    assert_eq!(rt; input.read_some(&mut room), Err(Failed));
-    assert_eq!(rt; input.failures(), 1);
-    assert_eq!(rt; input.read_byte(), Err(Failed));
-    assert_eq!(rt; input.failures(), 2);
-    Ok(())
+    let first = (input.read_some(&mut room), input.failures());
+    assert_eq!(rt; first, (Ok(2), 0));
+    assert_eq!(rt; room, *b"ab\0\0");
+    let second = (input.read_some(&mut room), input.failures());
+    assert_eq!(rt; second, (Err(Failed), 1));
+    let third = (input.read_byte(), input.failures());
+    assert_eq!(rt; third, (Err(Failed), 2));
 }
 
 /// A read that failed is not tried again in the same call.
@@ -40,21 +38,18 @@ fn reads_are_counted(rt: HostRuntime) -> Result<(), Fail> {
 fn no_failure_is_tried_again(rt: HostRuntime) {
     let mut input = Input::new(Stumbling::new(b"ab"));
     let mut room = [0; 2];
-    assert_eq!(rt; input.read_some(&mut room), Err(Failed));
-    assert_eq!(rt; input.failures(), 1);
-    assert_eq!(rt; input.read_some(&mut room), Ok(2));
-    assert_eq!(rt; input.failures(), 1);
+    let first = (input.read_some(&mut room), input.failures());
+    assert_eq!(rt; first, (Err(Failed), 1));
+    let second = (input.read_some(&mut room), input.failures());
+    assert_eq!(rt; second, (Ok(2), 1));
 }
 
 #[test]
-fn writes_are_counted(rt: HostRuntime) -> Result<(), Fail> {
+fn writes_are_counted(rt: HostRuntime) {
     let mut output = Output::new(Narrow { size: 2 });
-    assert_eq!(rt; output.write_some(b"abc"), Ok(2));
-    assert_eq!(rt; output.write_some(b""), Ok(0));
-    assert_eq!(rt; output.failures(), 0);
+    let counts = (output.write_some(b"abc"), output.write_some(b""));
+    assert_eq!(rt; (counts, output.failures()), ((Ok(2), Ok(0)), 0));
     let mut output = Output::new(Narrow { size: 0 });
-    assert_eq!(rt; output.write_some(b""), Ok(0));
-    assert_eq!(rt; output.write_some(b"abc"), Err(Failed));
-    assert_eq!(rt; output.failures(), 1);
-    Ok(())
+    let counts = (output.write_some(b""), output.write_some(b"abc"));
+    assert_eq!(rt; (counts, output.failures()), ((Ok(0), Err(Failed)), 1));
 }

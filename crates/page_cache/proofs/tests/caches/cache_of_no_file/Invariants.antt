@@ -1,4 +1,4 @@
 use Rattle.page_cache.proofs.tests.caches.cache_of_no_file.Given as goal
 
-abbrev pub ghosts-check_empty : goal.ghosts-check_empty
-ghosts-check_empty g a = record { files = a.files.now }
+abbrev pub ghosts-check_steps : goal.ghosts-check_steps
+ghosts-check_steps g a = record { files = a.files.now }
