@@ -99,15 +99,27 @@ fn each_read_and_write_failing(rt: HostRuntime) -> Result<(), Fail> {
     let policy = default_policy().expect(&rt, "a policy");
     let settings = settings(alloc, costs, policy).expect(&rt, "settings");
     let capture = capture_of(alloc, &[(0, 0, A)])?;
-    let mut reads = 0usize;
-    while reads < 200 && !ends(&rt, &settings, &capture, reads, usize::MAX) {
-        reads += 1;
+    for good in 0..200usize {
+        if ends(&rt, &settings, &capture, good, usize::MAX) {
+            assert!(rt; good > 10);
+            return writes_failing(&rt, &settings, &capture);
+        }
     }
-    assert!(rt; reads > 10 && reads < 200);
-    let mut writes = 0usize;
-    while writes < 100 && !ends(&rt, &settings, &capture, usize::MAX, writes) {
-        writes += 1;
+    assert!(rt; false, "the replay comes to no end");
+    Ok(())
+}
+
+fn writes_failing(
+    rt: &(impl Abort + AllocGlobal),
+    settings: &Settings,
+    capture: &str,
+) -> Result<(), Fail> {
+    for good in 0..100usize {
+        if ends(rt, settings, capture, usize::MAX, good) {
+            assert!(rt; good > 10);
+            return Ok(());
+        }
     }
-    assert!(rt; writes > 10 && writes < 100);
+    assert!(rt; false, "the replay comes to no end");
     Ok(())
 }
