@@ -1,0 +1,2 @@
+pub mod Bundling
+pub mod Programs

@@ -1,0 +1,7 @@
+//! What no clause says: that the runs succeed, the worked examples, and what becomes of devices that fail.
+mod devices;
+mod faults;
+mod lines;
+mod memory;
+mod rows;
+mod running;

@@ -1,0 +1,113 @@
+//! Runs over texts in memory.
+ghost use Rattle.std.specs.Prelude.{◌≤◌};
+
+use crate::bundle::run_bundle;
+use crate::fault::Fault;
+use paths::{Input, Output};
+use std::alloc::Global;
+use std::io;
+use std::io::{Read, Write};
+
+/// `a.txt` with `hi` and a line feed, of 1994-11-06 08:49:37.
+pub static SNAPSHOT: &str = "haboob-snapshot 1\nfile 784111777 5 3\na.txt\nhi\n\nend 1\n";
+
+/// That snapshot, and behind it a capture of one request for the file.
+pub static FIRST_RUN: &str =
+    "haboob-snapshot 1\nfile 784111777 5 3\na.txt\nhi\n\nend 1\nhaboob-capture 1 784111777\npiece 0 0 32\nGET /a.txt HTTP/1.1\r\nHost: a\r\n\r\n\nstop 1\n";
+
+/// The replies to it.
+pub static REPLIES: &str =
+    "haboob-replies 1\nreply 0 0 150\nHTTP/1.1 200 OK\r\nDate: Sun, 06 Nov 1994 08:49:37 GMT\r\nContent-Type: text/plain\r\nContent-Length: 3\r\nLast-Modified: Sun, 06 Nov 1994 08:49:37 GMT\r\n\r\nhi\n\nstop 1\n";
+
+/// A reader over memory that gives at most so many bytes a read, and fails at one of its reads.
+#[derive(Drop)]
+pub struct Flaky<'a> {
+    bytes: &'a [u8],
+    size: usize,
+    /// How many reads are made before the one that fails.
+    good: usize,
+}
+
+impl<'a> Flaky<'a> {
+    pub fn new(bytes: &'a [u8], size: usize, good: usize) -> Flaky<'a> {
+        Flaky { bytes, size, good }
+    }
+
+    /// How many bytes it has left.
+    pub fn left(&self) -> usize {
+        self.bytes.len()
+    }
+}
+
+impl<'a> Read for Flaky<'a> {
+    fn read(&mut self, room: &mut [u8]) -> io::Result<usize> {
+        if self.good == 0 {
+            return Err(io::Error::other("refused"));
+        }
+        self.good -= 1;
+        let count = room.len().min(self.size).min(self.bytes.len());
+        room[..count].copy_from_slice(&self.bytes[..count]);
+        self.bytes = &self.bytes[count..];
+        Ok(count)
+    }
+}
+
+/// A writer into a room of its own that takes at most so many bytes a write, and fails at one of its writes or where the
+/// room is full. It takes no memory.
+#[derive(Drop)]
+pub struct Narrow {
+    room: [u8; 512],
+    len: usize,
+    size: usize,
+    /// How many writes are made before the one that fails.
+    good: usize,
+    ghost in_room: { len ≤ 512 },
+}
+
+impl Narrow {
+    pub fn new(size: usize, good: usize) -> Narrow {
+        Narrow {
+            room: [0; 512],
+            len: 0,
+            size,
+            good,
+        }
+    }
+
+    /// A writer that doesn't fail.
+    pub fn ample() -> Narrow {
+        Narrow::new(512, usize::MAX)
+    }
+
+    /// What was written.
+    pub fn text(&self) -> &[u8] {
+        &self.room[..self.len]
+    }
+}
+
+impl Write for Narrow {
+    fn write(&mut self, bytes: &[u8]) -> io::Result<usize> {
+        if self.good == 0 {
+            return Err(io::Error::other("refused"));
+        }
+        self.good -= 1;
+        let start = self.len;
+        let count = bytes.len().min(self.size).min(512 - start);
+        self.room[start..start + count].copy_from_slice(&bytes[..count]);
+        self.len = start + count;
+        Ok(count)
+    }
+
+    fn flush(&mut self) -> io::Result<()> {
+        Ok(())
+    }
+}
+
+/// Runs over an input in memory.
+pub fn run(alloc: Global, input: &str, replies: &mut Narrow) -> Result<(), Fault> {
+    run_bundle(
+        alloc,
+        &mut Input::new(input.as_bytes()),
+        &mut Output::new(replies),
+    )
+}

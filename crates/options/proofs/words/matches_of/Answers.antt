@@ -1,0 +1,19 @@
+use Rattle.std.proofs.Common.{◌≡◌, ◌∙◌, ap, true, map}
+use Rattle.clap.specs.Words.{App, is_simple, kind_of, subcommand_of, takes}
+use Rattle.clap.specs.declared.error.ErrorKind.TheVariants.{OutOfMemory}
+use Rattle.options.specs.CommandLine.{command_line}
+use Rattle.options.proofs.Commands.{refused, simple}
+use Rattle.options.proofs.words.matches_of.Goals as goal
+
+pub returns-in-Ok-clause-ok : goal.returns-in-Ok-clause-ok
+returns-in-Ok-clause-ok g c =
+    let words = map g.S.AsStr.text c.args.words.now in
+    (c.in-Ok.ensures.matches (ap is_simple c.in_ok-command.ensures ∙ simple)).1
+    ∙ ap (λ (a : App). subcommand_of a words) c.in_ok-command.ensures
+
+pub returns-in-Err-clause-fault : goal.returns-in-Err-clause-fault
+returns-in-Err-clause-fault g c =
+    let words = map g.S.AsStr.text c.args.words.now in
+    let passes : takes command_line words ≡ true → kind_of c.in-Err.error ≡ OutOfMemory =
+    λ taken. c.in-Err.ensures.passes (ap (λ (a : App). takes a words) c.in_ok-command.ensures ∙ taken) in
+    refused words (kind_of c.in-Err.error) c.refusal.result passes c.refusal.ensures

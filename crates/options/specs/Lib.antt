@@ -1,0 +1,6 @@
+pub mod ConfigFaults
+pub mod Keys
+pub mod Documents
+pub mod Numbers
+pub mod SettingsTable
+pub mod CommandLine

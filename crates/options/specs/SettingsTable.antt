@@ -1,0 +1,127 @@
+-- The settings of a document: each key's default and range, and what must hold between them.
+use Rattle.std.specs.Prelude.{ℕ, ◌&&◌, List, [], ◌∷◌, length, Option, Some, None, Result, Ok, Err, nat_eq, nat_le, is_none, if◌then◌else◌}
+use Rattle.std.specs.Str.{is_utf8}
+use Rattle.toml.specs.Data.{Members}
+use Rattle.toml.specs.Parse.{parse_document}
+use Rattle.stage_graph.specs.Layouts.{Layout, layout_of}
+use Rattle.stage_graph.specs.PlanFaults.{plan_fault}
+use Rattle.stage_graph.specs.Stands.{last_cut}
+use Rattle.cost_model.specs.Services.{CostTable}
+use Rattle.admission.specs.Rules.{Rules}
+use Rattle.replay.specs.Choices.{Choice}
+use Rattle.options.specs.declared.config_fault.Key.{Key}
+use Rattle.options.specs.declared.config_fault.Key.TheVariants as keys
+use Rattle.options.specs.declared.config_fault.ConfigFault.{ConfigFault}
+use Rattle.options.specs.ConfigFaults.{no_text, not_known, range}
+use Rattle.options.specs.Numbers.{FloorLists, Choices}
+use Rattle.options.specs.Documents.{◌>>=◌, members_known, number, numbers}
+
+-- the lists of the front floor, and those of the back floor
+abbrev pub front_of : Members → Result FloorLists ConfigFault
+front_of document = do
+  cuts ← numbers document keys.FrontCuts (1 ∷ 2 ∷ 3 ∷ [])
+  workers ← numbers document keys.FrontWorkers (2 ∷ 2 ∷ 2 ∷ [])
+  capacities ← numbers document keys.FrontCapacities (64 ∷ 64 ∷ 64 ∷ [])
+  Ok (record { cuts = cuts; workers = workers; capacities = capacities })
+
+abbrev pub back_of : Members → Result FloorLists ConfigFault
+back_of document = do
+  cuts ← numbers document keys.BackCuts (1 ∷ 2 ∷ [])
+  workers ← numbers document keys.BackWorkers (2 ∷ 2 ∷ [])
+  capacities ← numbers document keys.BackCapacities (64 ∷ 64 ∷ [])
+  Ok (record { cuts = cuts; workers = workers; capacities = capacities })
+
+-- each key with its default, its least and its greatest value
+abbrev pub costs_of : Members → Result CostTable ConfigFault
+costs_of document = do
+  file ← number document keys.File 200 1 1000000
+  kib ← number document keys.Kib 10 0 1000000
+  error ← number document keys.Error 50 1 1000000
+  Ok (record { file = file; kib = kib; error = error })
+
+abbrev pub rules_of : Members → Result Rules ConfigFault
+rules_of document = do
+  window ← number document keys.Window 100 1 4096
+  every ← number document keys.Every 100 1 4096
+  smoothing ← number document keys.Smoothing 700 0 999
+  rate ← number document keys.Rate 1000000 1 1000000000
+  rate_min ← number document keys.RateMin 50000 1 1000000000
+  rate_max ← number document keys.RateMax 5000000 1 1000000000
+  up ← number document keys.Up 2000 0 1000000000
+  down ← number document keys.Down 120 101 10000
+  target ← number document keys.Target 100000 1 1000000000000
+  low ← number document keys.Low 90 0 100
+  depth ← number document keys.Depth 100 1 1000000
+  Ok (record { window = window; every = every; smoothing = smoothing; rate = rate; rate_min = rate_min; rate_max = rate_max; up = up; down = down; target = target; low = low; depth = depth })
+
+-- the keys in their order
+abbrev pub written_in : Members → Result Choices ConfigFault
+written_in document = do
+  front ← front_of document
+  back ← back_of document
+  batch ← number document keys.Batch 1024 1 65536
+  cache ← number document keys.Cache 67108864 0 1073741824
+  costs ← costs_of document
+  rules ← rules_of document
+  retry_after ← number document keys.RetryAfter 1 0 86400
+  Ok (record { front = front; back = back; batch = batch; cache = cache; costs = costs; rules = rules; retry_after = retry_after })
+
+-- the lists as the plan of a floor, whose last stage ends with this step
+abbrev pub plan_of : Key → ℕ → FloorLists → Result Layout ConfigFault
+plan_of floor steps lists =
+    let plan = layout_of lists.cuts lists.workers lists.capacities in
+    if is_none (plan_fault lists.cuts lists.workers lists.capacities) && nat_eq (last_cut plan) steps then Ok plan
+    else Err (range floor)
+
+-- the rate lies between its two ends
+abbrev pub in_order : Rules → Result Rules ConfigFault
+in_order p = if nat_le p.rate_min p.rate && nat_le p.rate p.rate_max then Ok p else Err (range keys.Rate)
+
+abbrev pub chosen : Choices → Result Choice ConfigFault
+chosen w = do
+  front ← plan_of keys.Front 3 w.front
+  back ← plan_of keys.Back 2 w.back
+  rules ← in_order w.rules
+  Ok (record { front = front; back = back; batch = w.batch; cache = w.cache; costs = w.costs; rules = rules; retry_after = w.retry_after })
+
+-- the settings of a document, or its first fault
+abbrev pub settings_of : Members → Result Choice ConfigFault
+settings_of document =
+    if members_known document None then written_in document >>= chosen
+    else Err not_known
+
+-- the settings of a document without keys, written out
+abbrev pub default_choice : Choice
+default_choice = record {
+  front = layout_of (1 ∷ 2 ∷ 3 ∷ []) (2 ∷ 2 ∷ 2 ∷ []) (64 ∷ 64 ∷ 64 ∷ []);
+  back = layout_of (1 ∷ 2 ∷ []) (2 ∷ 2 ∷ []) (64 ∷ 64 ∷ []);
+  batch = 1024;
+  cache = 67108864;
+  costs = record { file = 200; kib = 10; error = 50 };
+  rules = record {
+    window = 100;
+    every = 100;
+    smoothing = 700;
+    rate = 1000000;
+    rate_min = 50000;
+    rate_max = 5000000;
+    up = 2000;
+    down = 120;
+    target = 100000;
+    low = 90;
+    depth = 100;
+  };
+  retry_after = 1;
+}
+
+-- the document that a text of at most 65,536 bytes writes
+abbrev pub document_of : List ℕ → Option Members
+document_of bytes = if nat_le (length bytes) 65536 && is_utf8 bytes then parse_document bytes else None
+
+abbrev pub settings_or_no_text : Option Members → Result Choice ConfigFault
+settings_or_no_text None = Err no_text
+settings_or_no_text (Some document) = settings_of document
+
+-- the settings of a text, or its first fault
+abbrev pub settings_read : List ℕ → Result Choice ConfigFault
+settings_read bytes = settings_or_no_text (document_of bytes)

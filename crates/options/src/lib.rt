@@ -1,0 +1,16 @@
+//! The settings and the command line of Haboob.
+#![tactic(auto)]
+
+mod config;
+mod config_fault;
+mod defaults;
+mod document;
+mod numbers;
+#[cfg(test)]
+mod tests;
+mod words;
+
+pub use config::{LONGEST_SETTINGS, read_settings};
+pub use config_fault::{ConfigFault, ConfigFaultKind, Key};
+pub use defaults::default_settings;
+pub use words::{Engine, Job, WordFault, read_words};

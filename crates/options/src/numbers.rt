@@ -1,0 +1,71 @@
+use cost_model::Costs;
+use std::marker::Model;
+
+/// The lists of a floor, as a document gives them: where its stages end, how many workers each has, and how much each
+/// queue holds. Nothing is known of them yet.
+#[derive(Drop)]
+pub(crate) struct FloorLists {
+    pub(crate) cuts: Vec<usize>,
+    pub(crate) workers: Vec<usize>,
+    pub(crate) capacities: Vec<usize>,
+}
+
+impl Model for FloorLists {
+    ghost use Rattle.options.specs.Numbers.{FloorLists};
+
+    ghost Value = { FloorLists };
+
+    ghost view = { λ l. record { cuts = l.cuts.items; workers = l.workers.items; capacities = l.capacities.items } };
+}
+
+/// The numbers of a policy, each within its own range. The rate need not lie between its two ends.
+#[derive(Clone, Copy)]
+pub(crate) struct PolicyNumbers {
+    pub(crate) window: u64,
+    pub(crate) every: u64,
+    pub(crate) smoothing: u64,
+    pub(crate) rate: u64,
+    pub(crate) rate_min: u64,
+    pub(crate) rate_max: u64,
+    pub(crate) up: u64,
+    pub(crate) down: u64,
+    pub(crate) target: u64,
+    pub(crate) low: u64,
+    pub(crate) depth: u64,
+}
+
+impl Model for PolicyNumbers {
+    ghost use Rattle.admission.specs.Rules.{Rules};
+    ghost use Rattle.options.specs.Numbers.{AreWithin};
+
+    ghost Value = { Rules };
+
+    ghost view = { λ p. record { window = p.window; every = p.every; smoothing = p.smoothing; rate = p.rate; rate_min = p.rate_min; rate_max = p.rate_max; up = p.up; down = p.down; target = p.target; low = p.low; depth = p.depth } };
+
+    ghost invariant = { λ p. AreWithin (record { window = p.window; every = p.every; smoothing = p.smoothing; rate = p.rate; rate_min = p.rate_min; rate_max = p.rate_max; up = p.up; down = p.down; target = p.target; low = p.low; depth = p.depth }) };
+
+    ghost inverse = { λ p. record { window = p.window; every = p.every; smoothing = p.smoothing; rate = p.rate; rate_min = p.rate_min; rate_max = p.rate_max; up = p.up; down = p.down; target = p.target; low = p.low; depth = p.depth } };
+}
+
+/// What a document says, or leaves to the defaults: each number is within its range, and nothing is known yet of how the
+/// numbers and lists fit together.
+#[derive(Drop)]
+pub(crate) struct Choices {
+    pub(crate) front: FloorLists,
+    pub(crate) back: FloorLists,
+    pub(crate) batch: u64,
+    pub(crate) cache: u64,
+    pub(crate) costs: Costs,
+    pub(crate) policy: PolicyNumbers,
+    pub(crate) retry_after: u64,
+}
+
+impl Model for Choices {
+    ghost use Rattle.options.specs.Numbers.{Choices, AreChoices};
+
+    ghost Value = { Choices };
+
+    ghost view = { λ c. record { front = c.front; back = c.back; batch = c.batch; cache = c.cache; costs = c.costs; rules = c.policy; retry_after = c.retry_after } };
+
+    ghost invariant = { λ c. AreChoices (record { front = c.front; back = c.back; batch = c.batch; cache = c.cache; costs = c.costs; rules = c.policy; retry_after = c.retry_after }) };
+}

@@ -1,0 +1,164 @@
+use crate::{Engine, Job, WordFault, read_words};
+use std::test::Fail;
+
+static NONE: [&str; 0] = [];
+
+static PLAINEST: [&str; 7] = [
+    "replay",
+    "--snapshot",
+    "s",
+    "--capture",
+    "c",
+    "--replies",
+    "o",
+];
+
+static WHOLE: [&str; 9] = [
+    "replay",
+    "--engine=plain",
+    "--replies",
+    "o",
+    "--settings",
+    "t",
+    "--capture=c",
+    "--snapshot",
+    "s",
+];
+
+static FAST: [&str; 8] = [
+    "replay",
+    "--snapshot",
+    "s",
+    "--capture",
+    "c",
+    "--replies",
+    "o",
+    "--engine=fast",
+];
+
+static SHORT: [&str; 5] = ["replay", "--snapshot", "s", "--capture", "c"];
+
+static HELP: [&str; 1] = ["--help"];
+
+static REPLAY_HELP: [&str; 2] = ["replay", "--help"];
+
+#[test]
+fn no_words(rt: HostRuntime) {
+    assert!(rt; matches!(read_words(rt.alloc(), NONE.as_slice()), Ok(Job::Bundle)));
+}
+
+#[test]
+fn replays(rt: HostRuntime) {
+    match read_words(rt.alloc(), PLAINEST.as_slice()) {
+        Ok(
+            Job::Replay {
+                snapshot,
+                capture,
+                replies,
+                settings,
+                engine,
+            },
+        ) => {
+            assert!(rt; snapshot == "s" && capture == "c" && replies == "o");
+            assert!(rt; settings.is_none());
+            assert_eq!(rt; engine, Engine::Staged);
+        }
+        _ => assert!(rt; false, "the plainest words"),
+    }
+    match read_words(rt.alloc(), WHOLE.as_slice()) {
+        Ok(
+            Job::Replay {
+                snapshot,
+                capture,
+                replies,
+                settings,
+                engine,
+            },
+        ) => {
+            assert!(rt; snapshot == "s" && capture == "c" && replies == "o");
+            assert!(rt; settings.unwrap_or("") == "t");
+            assert_eq!(rt; engine, Engine::Plain);
+        }
+        _ => assert!(rt; false, "all words"),
+    }
+}
+
+#[test]
+fn another_engine(rt: HostRuntime) {
+    assert!(rt;
+        matches!(
+            read_words(rt.alloc(), FAST.as_slice()),
+            Err(WordFault::Engine)
+        )
+    );
+}
+
+static HELP_TEXT: &str = "Answers recorded requests for the files of a site, and reports the load.
+
+Usage: haboob <COMMAND>
+
+Commands:
+  replay  Answers a capture's requests, and writes a report to standard output.
+  help    Print this message or the help of the given subcommand(s)
+
+Options:
+  -h, --help  Print help
+
+Without a command, a snapshot directly followed by a capture is read from standard
+input, and the replies are written to standard output, with default settings.
+
+Example:
+  haboob replay --snapshot site.snapshot --capture day.capture --replies day.replies
+";
+
+static REPLAY_HELP_TEXT: &str =
+    "Answers a capture's requests, and writes a report to standard output.
+
+Usage: haboob replay [OPTIONS] --snapshot <FILE> --capture <FILE> --replies <FILE>
+
+Options:
+      --snapshot <FILE>  The files of the site
+      --capture <FILE>   The recorded requests
+      --replies <FILE>   Where the replies go; a file that is there is overwritten
+      --settings <FILE>  Settings, as TOML; a key that is left out has its default
+      --engine <ENGINE>  plain or staged; staged runs the plain engine until the staged one stands [default: staged]
+  -h, --help             Print help
+
+Example:
+  haboob replay --snapshot site.snapshot --capture day.capture --replies day.replies \\
+    --settings tight.toml
+";
+
+static SHORT_TEXT: &str = "error: the following required arguments were not provided:
+  --replies <FILE>
+
+Usage: haboob replay --snapshot <FILE> --capture <FILE> --replies <FILE>
+
+For more information, try '--help'.
+";
+
+/// Words that are refused, with the text for the user.
+#[test]
+fn texts(rt: HostRuntime) -> Result<(), Fail> {
+    let cases = [
+        (HELP.as_slice(), HELP_TEXT),
+        (REPLAY_HELP.as_slice(), REPLAY_HELP_TEXT),
+        (SHORT.as_slice(), SHORT_TEXT),
+    ];
+    for (words, text) in cases {
+        let Err(WordFault::Words(told)) = read_words(rt.alloc(), words) else {
+            return Err(Fail::from("no text"));
+        };
+        assert_eq!(rt; told.as_str(), text);
+    }
+    Ok(())
+}
+
+/// `rt try --test --fail-alloc 1..` refuses each growth in turn: the answer is `Memory` then.
+#[test]
+fn each_growth_refused(rt: HostRuntime) {
+    let answer = read_words(rt.alloc(), WHOLE.as_slice());
+    assert!(rt; matches!(answer, Ok(Job::Replay { .. }) | Err(WordFault::Memory)));
+    let refused = read_words(rt.alloc(), SHORT.as_slice());
+    assert!(rt; matches!(refused, Err(WordFault::Words(_)) | Err(WordFault::Memory)));
+}
