@@ -1,6 +1,6 @@
 -- The counts of one more message.
-use Rattle.std.proofs.Common.{◌≡◌, ℕ, ◌+◌, ◌<◌, ◌≤◌, ◌==◌, Bool, true, false, cond, List, [], ◌∷◌, ◌++◌, length, refl, sym, ap, ◌∙◌, arith, map, append-nil}
-use Rattle.std.specs.List.{count_by, filter}
+use Rattle.std.proofs.Common.{◌≡◌, ℕ, ◌+◌, ◌<◌, ◌≤◌, ◌==◌, Bool, true, false, cond, List, [], ◌∷◌, ◌++◌, length, refl, ap, arith, map}
+use Rattle.std.specs.List.{filter}
 use Rattle.std.specs.Prelude.{if◌then◌else◌}
 use Rattle.std.proofs.lemmas.List.Sums.{sum_by_push, count_by-le-length}
 use Rattle.std.proofs.lemmas.List.{map-append}
@@ -9,7 +9,6 @@ use Rattle.replay.specs.Choices.{Terms}
 use Rattle.replay.specs.Arrivals.{Arrival}
 use Rattle.replay.specs.Offers.{Handled}
 use Rattle.replay.specs.Counting.{status_for, count_of, counts_of, bypassed_of, rejected_of, breaks_a_rule, one_if, with_status, AreBelow}
-use Rattle.replay.specs.declared.summary.Counts.{Counts}
 
 count_more : (terms : Terms) (messages : List Handled) (h : Handled) (status : ℕ) → count_of terms (messages ++ h ∷ []) status ≡ count_of terms messages status + one_if (status_for terms h) status
 count_more terms messages h status = sum_by_push (λ h. cond (status_for terms h == status) 1 0) messages h

@@ -1,13 +1,11 @@
 -- What the desk makes of one more message.
-use Rattle.std.proofs.Common.{◌≡◌, ℕ, suc, zero, ◌+◌, ◌-◌, ◌<◌, ◌≤◌, ◌≢◌, ◌/◌, Bool, true, false, cond, List, [], ◌∷◌, ◌++◌, length, map, refl, sym, ap, ◌∙◌, subst, arith, append-nil, Option, Result, Ok, Err}
-use Rattle.std.specs.Prelude.{IfOk, IfErr, if◌then◌else◌}
+use Rattle.std.proofs.Common.{◌≡◌, ℕ, ◌+◌, ◌-◌, ◌<◌, ◌≤◌, ◌≢◌, ◌/◌, Bool, true, false, List, [], ◌∷◌, ◌++◌, length, refl, sym, ap, ◌∙◌, arith, append-nil, Option, Result, Ok, Err}
+use Rattle.std.specs.Prelude.{IfOk, IfErr}
 use Rattle.std.specs.Result.{IsErrAnd}
-use Rattle.std.specs.List.{list_any}
 use Rattle.std.proofs.lemmas.List.{length-append}
 use Rattle.http_requests.specs.declared.messages.What.{What as Meaning}
 use Rattle.admission.specs.declared.control.Decision.{Decision}
 use Rattle.admission.specs.declared.control.Decision.TheVariants.{Admitted, Rejected}
-use Rattle.admission.specs.Rules.{Rules}
 use Rattle.admission.specs.Requests.{Offer, served}
 use Rattle.admission.specs.Decisions.{decide, decided, decided_from}
 use Rattle.admission.specs.Standing.{Standing}
@@ -25,7 +23,7 @@ use Rattle.paths.specs.Resolution.{outcome}
 use Rattle.paths.specs.declared.file.File.{File}
 use Rattle.paths.specs.declared.outcome.Outcome.{Outcome}
 use Rattle.http_requests.specs.declared.messages.Version.{Version}
-use Rattle.http_requests.specs.declared.messages.What.TheVariants.{Request, Bad}
+use Rattle.http_requests.specs.declared.messages.What.TheVariants.{Request}
 use Rattle.cost_model.specs.Services.{CostTable, service}
 use Rattle.responses.specs.declared.what.What.{What as Given}
 use Rattle.responses.specs.declared.what.What.TheVariants.{Plain}
@@ -36,8 +34,8 @@ use Rattle.replay.specs.Outcomes.{IfCutShort, IfTooMany}
 use Rattle.replay.specs.declared.origin.Origin.{Origin}
 use Rattle.replay.specs.declared.replay_fault.ReplayFault.{ReplayFault}
 use Rattle.replay.specs.declared.replay_fault.ReplayFault.TheVariants.{Capture, TooMany, Memory, Write as Unwritten}
-use Rattle.replay.specs.Offers.{is_unmodified_file, length_given, offer_at, offers_of, rejects, is_turned_away, Handled, handled_next, handled_behind, handled}
-use Rattle.replay.specs.Counting.{status_for, counts_of, bypassed_of, rejected_of, samples_of, controls_shown, breaks_a_rule, AreBelow}
+use Rattle.replay.specs.Offers.{is_unmodified_file, length_given, offer_at, offers_of, is_turned_away, handled_next, handled_behind, handled}
+use Rattle.replay.specs.Counting.{bypassed_of, samples_of, controls_shown, breaks_a_rule, AreBelow}
 use Rattle.replay.specs.Tallies.{no_counts, tally_of, noted}
 use Rattle.replay.specs.Deciding.{decided_tally, Decides}
 use Rattle.replay.specs.Serving.{Stands, AreBy, records_behind}
@@ -46,7 +44,7 @@ use Rattle.replay.specs.Connections.{arrivals_with}
 use Rattle.std.proofs.lemmas.List.Elements.{All-nil, All-cons, All-append}
 use Rattle.replay.specs.declared.tally.Tally.{Tally}
 use Rattle.replay.specs.declared.desk.Desk.{Desk}
-use Rattle.replay.proofs.Offering.{offers_more, offers_few, handled_push, handled_count, samples_admitted, samples_rejected, is_admitted_one, is_rejected_one}
+use Rattle.replay.proofs.Offering.{offers_more, handled_push, handled_count, samples_admitted, samples_rejected, is_admitted_one, is_rejected_one}
 use Rattle.replay.proofs.SameAnswer.{status_same, reply_is}
 use Rattle.replay.proofs.Writing.{records_one}
 use Rattle.replay.proofs.CountMore.{counts_more, bypassed_more, bypassed_few, rejected_more, counts_below}
@@ -147,8 +145,15 @@ tally_more : (terms : Terms) (arrivals : List Arrival) (a : Arrival) (away : Boo
     ≡ tally_of terms (arrivals ++ a ∷ [])
 tally_more terms arrivals a away e =
     let len : length (arrivals ++ a ∷ []) ≡ length arrivals + 1 = length-append arrivals (a ∷ []) in
-    rw (e, len, handled_push terms arrivals a, counts_more terms (handled terms arrivals) (handled_next terms arrivals a), bypassed_more arrivals a,
-    rejected_more (handled terms arrivals) (handled_next terms arrivals a), offers_more terms arrivals a) refl
+    rw (
+      e,
+      len,
+      handled_push terms arrivals a,
+      counts_more terms (handled terms arrivals) (handled_next terms arrivals a),
+      bypassed_more arrivals a,
+      rejected_more (handled terms arrivals) (handled_next terms arrivals a),
+      offers_more terms arrivals a,
+    ) refl
 
 pub stands_more : (terms : Terms) (arrivals : List Arrival) (a : Arrival) (away : Bool) (old mid new : Desk) (status : ℕ) → Stands terms arrivals old
     → Decides (offers_of terms arrivals) (offer_at terms a.origin.tick a.message.what) old mid away

@@ -6,3 +6,4 @@ pub mod Offering
 pub mod Judging
 pub mod Writing
 pub mod Server
+pub mod ArrivalLaws

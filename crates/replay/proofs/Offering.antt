@@ -1,8 +1,7 @@
 -- One more offer, and one more message.
-use Rattle.std.proofs.Common.{◌≡◌, ℕ, suc, zero, ◌+◌, ◌-◌, ◌<◌, ◌≤◌, ◌⊎◌, inl, inr, max, Bool, true, false, cond, List, [], ◌∷◌, ◌++◌, length, map, get_or, flat_map, refl, sym, ap, ◌∙◌, subst, arith, append-nil, append_assoc, All}
+use Rattle.std.proofs.Common.{◌≡◌, ℕ, suc, zero, ◌-◌, ◌≤◌, Bool, true, false, List, [], ◌∷◌, ◌++◌, length, map, refl, ap, ◌∙◌, arith, append-nil, append_assoc}
 use Rattle.std.proofs.lemmas.Grind.{flat_map-append}
 use Rattle.std.proofs.lemmas.List.{length-append, map-append}
-use Rattle.std.proofs.lemmas.List.Elements.{All-cons}
 use Rattle.std.specs.List.{list_any}
 use Rattle.std.specs.Prelude.{if◌then◌else◌}
 use Rattle.http_requests.specs.declared.messages.What.{What as Meaning}
@@ -10,13 +9,13 @@ use Rattle.http_requests.specs.declared.messages.What.TheVariants.{Request, Bad}
 use Rattle.admission.specs.declared.control.Decision.{Decision}
 use Rattle.admission.specs.declared.control.Decision.TheVariants.{Admitted, Rejected}
 use Rattle.admission.specs.Rules.{Rules}
-use Rattle.admission.specs.Requests.{Offer, Decided, served, samples, as_served, last_finish, finish_behind}
-use Rattle.admission.specs.Decisions.{credit, decide, decided, decided_next, decided_from}
-use Rattle.admission.specs.Fits.{Fits, tick_from}
+use Rattle.admission.specs.Requests.{Offer, Decided, served, as_served, finish_behind}
+use Rattle.admission.specs.Decisions.{decide, decided, decided_next}
+use Rattle.admission.specs.Fits.{tick_from}
 use Rattle.admission.proofs.RequestLemmas.{decided_from-push, served-push, last_finish-push}
 use Rattle.replay.specs.Choices.{Terms}
 use Rattle.replay.specs.Arrivals.{Arrival}
-use Rattle.replay.specs.Offers.{offer_at, offers_of, rejects, is_rejection, is_turned_away, Handled, handled_next, handled_behind, handled}
+use Rattle.replay.specs.Offers.{offer_at, offers_of, rejects, handled_next, handled_behind, handled}
 use Rattle.replay.specs.Counting.{samples_of}
 use Rattle.replay.specs.Serving.{AreBy}
 

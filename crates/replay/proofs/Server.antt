@@ -1,12 +1,12 @@
 -- How the plain engine goes on by one more record, and how it ends.
-use Rattle.std.proofs.Common.{◌≡◌, ◌≢◌, ℕ, suc, zero, ◌+◌, ◌<◌, ◌≤◌, ◌==◌, ◌⊎◌, inl, inr, Bool, true, false, List, [], ◌∷◌, ◌++◌, length, take, map, get_or, flat_map, Option, Some, None, Result, Ok, Err, refl, sym, ap, ◌∙◌, subst, arith, append-nil, All, is_some, unwrap_or}
+use Rattle.std.proofs.Common.{◌≡◌, ◌≢◌, ℕ, suc, zero, ◌+◌, ◌<◌, ◌≤◌, inl, inr, true, List, [], ◌∷◌, ◌++◌, length, take, map, get_or, Option, Some, None, Result, Ok, Err, refl, sym, ap, ◌∙◌, subst, arith, append-nil, is_some, unwrap_or}
 use Rattle.std.specs.Prelude.{OnOk, IfErr}
 use Rattle.std.specs.List.{AllPairs}
 use Rattle.std.specs.Prelude.{slice_get, option_map}
 use Rattle.std.proofs.lemmas.Option.{slice_get_within, get_or_from_slice_get}
 use Rattle.std.proofs.lemmas.Grind.{common_steps, flat_map-append}
 use Rattle.std.proofs.lemmas.Bool.Decides.{eqb_tells}
-use Rattle.std.proofs.lemmas.List.{append_assoc, length-append, length-map, get_or_append_left}
+use Rattle.std.proofs.lemmas.List.{length-append, length-map, get_or_append_left}
 use Rattle.std.proofs.lemmas.List.Sums.{sum_by-cons}
 use Rattle.std.proofs.Math.Seq.{get_or-append_seam, take-append-add}
 use Rattle.std.specs.Io.KnownBytes.{Appends}
@@ -32,11 +32,11 @@ use Rattle.replay.specs.Arrivals.{Arrival, AreArrivals, bytes_to, text_of, messa
 use Rattle.replay.specs.Connections.{HasRead, HasRoom, ReadMore, HaveRead, connection_at, arrivals_with}
 use Rattle.replay.specs.Offers.{handled}
 use Rattle.replay.specs.Replies.{replies_of, first_line, last_line, text_before_stop, replies_text}
-use Rattle.replay.specs.Counting.{rejected_of, summary_of}
+use Rattle.replay.specs.Counting.{summary_of}
 use Rattle.replay.specs.Serving.{Stands, AreBy, IsLater, Serves, Written, WrittenInPart, ServesMore, ServesFull, ServesInPart}
-use Rattle.replay.specs.Outcomes.{Answers, AppendsInPart, told_as, capture_fault, IfCapture, IfTooMany, IfCutShort, IsOwn, IsWriteOrMemory, IsCutShort, StopsFirst, StopsBehind, StopsFull, StopsAmong, StopsAtEnd, Stops, reader_failures, writer_failures}
+use Rattle.replay.specs.Outcomes.{Answers, AppendsInPart, told_as, capture_fault, IfCapture, IfTooMany, IfCutShort, IsOwn, IsWriteOrMemory, IsCutShort, StopsFull, Stops, reader_failures, writer_failures}
 use Rattle.replay.proofs.Arriving.{from_piece, reads_none, arrives_none, reads_piece, reads_end, arrives_piece, arrives_end}
-use Rattle.replay.proofs.Writing.{appends_then, part_none, part_front, part_all, part_then, written_none, text_none, text_more, replies_count}
+use Rattle.replay.proofs.Writing.{appends_then, part_all, part_then, written_none, text_none, text_more, replies_count}
 use Rattle.replay.proofs.Judging.{answered_is}
 
 -- ---- the room of a connection

@@ -1,5 +1,5 @@
 -- What was written of one more message, and of one more record.
-use Rattle.std.proofs.Common.{◌≡◌, ℕ, suc, ◌+◌, ◌<◌, ◌≤◌, List, [], ◌∷◌, ◌++◌, length, take, map, get_or, flat_map, Option, Some, None, refl, sym, ap, ◌∙◌, subst, arith, append-nil}
+use Rattle.std.proofs.Common.{◌≡◌, ℕ, suc, ◌+◌, ◌<◌, List, [], ◌∷◌, ◌++◌, length, take, get_or, Option, Some, None, refl, sym, ap, ◌∙◌, arith, append-nil}
 use Rattle.std.proofs.lemmas.List.{append_assoc, map-append, length-map}
 use Rattle.std.proofs.lemmas.Grind.{flat_map-append}
 use Rattle.std.proofs.Math.Seq.{take-suc, take-append-add}
@@ -11,7 +11,7 @@ use Rattle.replay.specs.Choices.{Terms}
 use Rattle.replay.specs.Arrivals.{Arrival}
 use Rattle.replay.specs.Connections.{arrivals_with}
 use Rattle.replay.specs.Offers.{handled_next, handled_behind, handled}
-use Rattle.replay.specs.Replies.{reply_of, replies_of, first_line, last_line, text_before_stop, replies_text}
+use Rattle.replay.specs.Replies.{reply_of, replies_of, first_line, text_before_stop}
 use Rattle.replay.specs.Outcomes.{AppendsInPart}
 use Rattle.replay.specs.Serving.{records_behind, Written, WrittenInPart}
 use Rattle.replay.proofs.Offering.{handled_more, handled_one, handled_count}

@@ -10,7 +10,7 @@ use Rattle.paths.specs.declared.outcome.Outcome.TheVariants as outcomes
 use Rattle.http_requests.specs.declared.messages.Version.{Version}
 use Rattle.http_requests.specs.declared.messages.Version.TheVariants.{Http10, Http11}
 use Rattle.http_requests.specs.declared.messages.Fault.{Fault}
-use Rattle.http_requests.specs.declared.messages.Fault.TheVariants.{TooLong, Block, Host, Coding, Length, BodySize}
+use Rattle.http_requests.specs.declared.messages.Fault.TheVariants.{Coding, BodySize}
 use Rattle.http_requests.specs.declared.messages.What.{What as Meaning}
 use Rattle.http_requests.specs.declared.messages.What.TheVariants.{Request, Bad}
 use Rattle.page_cache.specs.Media.{media_of}

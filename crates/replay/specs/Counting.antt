@@ -1,5 +1,5 @@
 -- How many messages there were of each kind, and how long the admitted requests took.
-use Rattle.std.specs.Prelude.{ℕ, ◌+◌, ◌<◌, ◌==◌, Bool, true, false, List, length, map, filter, count_by, if◌then◌else◌}
+use Rattle.std.specs.Prelude.{ℕ, ◌+◌, ◌<◌, ◌==◌, Bool, true, false, List, map, filter, count_by, if◌then◌else◌}
 use Rattle.http_requests.specs.declared.messages.What.{What as Meaning}
 use Rattle.http_requests.specs.declared.messages.What.TheVariants.{Request, Bad}
 use Rattle.responses.specs.Replies.{status_of}

@@ -8,7 +8,6 @@ use Rattle.replay.specs.Counting.{samples_of}
 use Rattle.replay.specs.declared.tally.Tally.{Tally}
 use Rattle.replay.specs.declared.desk.Desk.{Desk}
 
-
 -- the tally once these samples are taken, and its next message was turned away or not
 abbrev pub decided_tally : Tally → List ℕ → Bool → Tally
 decided_tally t samples away = record {

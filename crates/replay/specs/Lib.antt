@@ -9,3 +9,4 @@ pub mod Tallies
 pub mod Deciding
 pub mod Serving
 pub mod Outcomes
+pub mod Laws

@@ -1,5 +1,5 @@
 -- What a replay comes to: its outcome, or a fault, and what it has written.
-use Rattle.std.specs.Prelude.{◌≡◌, ℕ, ◌+◌, ◌<◌, ◌≤◌, ◌⊎◌, false, List, [], ◌∷◌, ◌++◌, length, take, Option, unwrap_or, Result, MatchResult}
+use Rattle.std.specs.Prelude.{◌≡◌, ℕ, ◌+◌, ◌<◌, ◌≤◌, ◌⊎◌, false, List, ◌++◌, length, take, Option, Result, MatchResult}
 use Rattle.std.specs.Io.KnownBytes.{Appends}
 use Rattle.captures.specs.declared.record.Record.{Record}
 use Rattle.captures.specs.declared.capture_fault.CaptureFault.{CaptureFault}

@@ -7,6 +7,7 @@ mod connection;
 mod connections;
 mod counting;
 mod desk;
+pub mod laws;
 mod origin;
 mod outcome;
 mod plain;

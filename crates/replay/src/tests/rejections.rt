@@ -1,7 +1,5 @@
 //! Requests that are turned away, their samples and the controls.
-use super::running::{
-    A, FILES, Ran, capture_of, default_costs, outline, run_settings, settings,
-};
+use super::running::{A, FILES, Ran, capture_of, default_costs, outline, run_settings, settings};
 use admission::{Control, Policy};
 use cost_model::Costs;
 use std::alloc::{AllocError, AllocGlobal, Global};
@@ -109,11 +107,11 @@ fn bypassed_and_closing(rt: HostRuntime) -> Result<(), Fail> {
 fn finishes_and_percentile(rt: HostRuntime) -> Result<(), Fail> {
     let policy = Policy::new(
         10, 10, 700, 1_000_000, 50_000, 5_000_000, 2000, 120, 100_000, 90, 100,
-    ).ok();
+    )
+    .ok();
     let pieces = [(0, 0, A), (0, 1, A), (10, 2, A)];
     let ran = run_policy(rt.alloc(), Costs::new(5, 0, 50).ok(), policy, &pieces)?.expect(
-        &rt,
-        "a replay",
+        &rt, "a replay",
     );
     let want = "reply 0 0 150; 200 OK;reply 1 1 150; 200 OK;reply 2 2 150; 200 OK;stop 3;";
     check(&rt, &ran, want, &[], &[5, 10, 5])

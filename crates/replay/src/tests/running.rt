@@ -27,7 +27,8 @@ pub struct Ran {
 pub fn default_policy() -> Option<Policy> {
     Policy::new(
         100, 100, 700, 1_000_000, 50_000, 5_000_000, 2_000, 120, 100_000, 90, 100,
-    ).ok()
+    )
+    .ok()
 }
 
 /// The service times that it gives.
@@ -69,9 +70,7 @@ pub fn run_devices<R: Read, W: Write>(
 {
     let mut input = Input::new(snapshot.as_bytes());
     match Snapshot::read(alloc, &mut input) {
-        Ok(files) => Some(run_named::<Brand, R, W>(
-            alloc, &files, settings, reader, writer,
-        )),
+        Ok(files) => Some(run_named::<Brand, R, W>(alloc, &files, settings, reader, writer)),
         Err(_) => None,
     }
 }

@@ -15,8 +15,20 @@ fn fault_of(
     retry_after: u64,
 ) -> Option<SettingsFault> {
     let ones = [1, 1, 1];
-    let front = Plan::new(alloc, front, &ones[..front.len().min(3)], &ones[..front.len().min(3)]).ok()?;
-    let back = Plan::new(alloc, back, &ones[..back.len().min(3)], &ones[..back.len().min(3)]).ok()?;
+    let front = Plan::new(
+        alloc,
+        front,
+        &ones[..front.len().min(3)],
+        &ones[..front.len().min(3)],
+    )
+    .ok()?;
+    let back = Plan::new(
+        alloc,
+        back,
+        &ones[..back.len().min(3)],
+        &ones[..back.len().min(3)],
+    )
+    .ok()?;
     let made = Settings::new(
         front,
         back,
@@ -56,8 +68,5 @@ fn faults_in_order(rt: HostRuntime) {
         fault_of(alloc, &[3], &[2], 1, 1_073_741_824, 86_401),
         Some(SettingsFault::Retry)
     );
-    assert_eq!(rt;
-        fault_of(alloc, &[1, 2, 3], &[1, 2], 1, 0, 86_400),
-        None
-    );
+    assert_eq!(rt; fault_of(alloc, &[1, 2, 3], &[1, 2], 1, 0, 86_400), None);
 }

@@ -1,12 +1,12 @@
-use Rattle.std.proofs.Common.{◌≡◌, ℕ, ◌+◌, List, [], ◌∷◌, ◌++◌, length, refl, sym, ap, ◌∙◌, subst, arith, append-nil, take, get_or, Option}
+use Rattle.std.proofs.Common.{◌≡◌, ℕ, ◌+◌, List, [], ◌∷◌, ◌++◌, refl, sym, ap, ◌∙◌, subst, arith, append-nil, take, get_or, Option}
 use Rattle.std.proofs.lemmas.Grind.{common_steps}
-use Rattle.std.proofs.lemmas.List.{append_assoc, length-map, length-take-le}
+use Rattle.std.proofs.lemmas.List.{append_assoc}
 use Rattle.replay.specs.Choices.{terms_of}
 use Rattle.replay.specs.Arrivals.{Arrival}
 use Rattle.replay.specs.Connections.{arrivals_with}
-use Rattle.replay.specs.Serving.{Stands, Written}
+use Rattle.replay.specs.Serving.{Written}
 use Rattle.replay.proofs.Writing.{arrivals_step, written_none, written_more, part_more}
-use Rattle.replay.proofs.Judging.{by_more, answered_is, passed_on, on_many, on_cut}
+use Rattle.replay.proofs.Judging.{by_more, passed_on, on_many, on_cut}
 use Rattle.replay.proofs.answering.answer_all.Goals as goal
 
 pub loop-message-init : goal.loop-message-init
@@ -32,9 +32,15 @@ returns-in_err-answer_message-clause-many g c =
     let at = inv.3 in
     passed_on c.from_residual.result _ _
     (λ f same. rw same (on_many c.in_err-answer_message.field-0.0 _ _
-        (λ n full. (full.0, c.loop-message.message-index, lt, (let e = full.1 in omega (arith, at, e)), λ arrivals place stands.
-        subst (λ (w : Option (List ℕ) × ℕ). Written (terms_of g.F.Tree.files c.args.settings.now) c.args.desk.now.start arrivals (arrivals_with place c.args.origin (take c.loop-message.message-index c.args.messages.now)) c.args.writer.now.0 w.0) (sym full.2) (inv.1 arrivals place stands)))
-        c.in_err-answer_message.ensures.many))
+    (λ n full. (
+      full.0,
+      c.loop-message.message-index,
+      lt,
+      (let e = full.1 in omega (arith, at, e)),
+      λ arrivals place stands.
+          subst (λ (w : Option (List ℕ) × ℕ). Written (terms_of g.F.Tree.files c.args.settings.now) c.args.desk.now.start arrivals (arrivals_with place c.args.origin (take c.loop-message.message-index c.args.messages.now)) c.args.writer.now.0 w.0) (sym full.2) (inv.1 arrivals place stands),
+    ))
+    c.in_err-answer_message.ensures.many))
     c.from_residual.ensures.1
 
 pub returns-in_err-answer_message-clause-part : goal.returns-in_err-answer_message-clause-part
@@ -47,16 +53,16 @@ returns-in_err-answer_message-clause-part g c =
     let at = inv.3 in
     passed_on c.from_residual.result _ _
     (λ f same. rw same (on_cut c.in_err-answer_message.field-0.0 _ _
-        (λ short. (
-          i + 1,
-          omega (arith, lt),
-          (let e = short.0 in omega (arith, at, e)),
-          λ arrivals place stands.
+    (λ short. (
+      i + 1,
+      omega (arith, lt),
+      (let e = short.0 in omega (arith, at, e)),
+      λ arrivals place stands.
           (let sofar = arrivals_with place c.args.origin (take i messages) in
           let part = short.1 (arrivals ++ sofar) (record { origin = c.args.origin; place = place; message = get_or messages i m }) (inv.0 arrivals place stands) refl (ap (λ x. x.what) (sym c.message-item.is)) in
           rw (arrivals_step place c.args.origin messages i m lt) (part_more _ c.args.desk.now.start arrivals sofar _ _ _ _ (inv.1 arrivals place stands) (rw inv.2 at part))),
-        ))
-        c.in_err-answer_message.ensures.part))
+    ))
+    c.in_err-answer_message.ensures.part))
     c.from_residual.ensures.1
 
 pub loop-message-preserved : goal.loop-message-preserved

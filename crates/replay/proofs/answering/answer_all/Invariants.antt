@@ -1,4 +1,4 @@
-use Rattle.std.proofs.Common.{◌≡◌, ℕ, ◌+◌, ◌≤◌, ◌++◌, List, take}
+use Rattle.std.proofs.Common.{◌≡◌, ℕ, ◌+◌, ◌++◌, List, take}
 use Rattle.replay.specs.Choices.{terms_of}
 use Rattle.replay.specs.Arrivals.{Arrival}
 use Rattle.replay.specs.Connections.{arrivals_with}

@@ -1,4 +1,4 @@
-use Rattle.std.proofs.Common.{◌≡◌, ◌∙◌, sym, ap, refl, arith, ◌<◌, length, subst, take, ℕ}
+use Rattle.std.proofs.Common.{refl, arith, subst, take}
 use Rattle.std.specs.Io.KnownBytes.{Appends}
 use Rattle.replay.specs.Choices.{terms_of}
 use Rattle.replay.specs.Offers.{offers_of}
@@ -42,11 +42,11 @@ returns-in_err-write_reply-clause-part g c =
     cut_short c.from_residual-in_err-write_reply.result _ (
       room_left _ given.0 c.args.desk.now given.1 c.if-number-eq-MOST_MESSAGES.false,
       λ arrivals a stands from meaning.
-      (let judged = c.in_ok-judge.ensures.told (offers_of terms arrivals) stands.fits (samples_are terms arrivals c.args.desk.now stands) in
-      let slips = slip_is _ terms c.args.desk.now.start arrivals a c.args.origin c.args.what.now c.args.desk.now c.judge.new.self c.in_ok-judge.field-0 _ _ _ _ stands from meaning judged c.from.ensures c.answers_head.ensures c.link_of.ensures refl in
-      let all = reply_written _ terms c.args.desk.now.start arrivals a _ _ slips c.in_ok-reply.ensures.text in
-      let part = c.in_err-write_reply.ensures.record in
-      (part.0, subst (λ text. Appends c.args.writer.now.0 c.write_reply.new.output.0 (take part.0 text)) all part.2)),
+          (let judged = c.in_ok-judge.ensures.told (offers_of terms arrivals) stands.fits (samples_are terms arrivals c.args.desk.now stands) in
+          let slips = slip_is _ terms c.args.desk.now.start arrivals a c.args.origin c.args.what.now c.args.desk.now c.judge.new.self c.in_ok-judge.field-0 _ _ _ _ stands from meaning judged c.from.ensures c.answers_head.ensures c.link_of.ensures refl in
+          let all = reply_written _ terms c.args.desk.now.start arrivals a _ _ slips c.in_ok-reply.ensures.text in
+          let part = c.in_err-write_reply.ensures.record in
+          (part.0, subst (λ text. Appends c.args.writer.now.0 c.write_reply.new.output.0 (take part.0 text)) all part.2)),
     )
 
 pub returns-clause-stands : goal.returns-clause-stands

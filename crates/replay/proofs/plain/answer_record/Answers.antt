@@ -1,8 +1,7 @@
-use Rattle.std.proofs.Common.{◌≡◌, ◌∙◌, ap, sym, length, arith, ◌≤◌, ◌+◌, inl, inr, refl, List}
+use Rattle.std.proofs.Common.{◌≡◌, ◌∙◌, ap, sym, length, arith, ◌≤◌, ◌+◌, inr}
 use Rattle.captures.specs.Captures.{size_of, sizes_of}
 use Rattle.replay.specs.Choices.{terms_of}
 use Rattle.replay.proofs.Server.{has_room, serves_end, serves_piece, serves_full, serves_part, brought, on_ok, err_many, err_cut}
-use Rattle.replay.proofs.Judging.{cut_short}
 use Rattle.replay.proofs.plain.answer_record.Goals as goal
 
 pub take-requires-clause-room : goal.take-requires-clause-room
@@ -22,7 +21,7 @@ returns-in_ok-take-in-Piece-clause-serves g c =
     on_ok c.answer_all.result _ _ _ _ c.answer_all.ensures.stands c.answer_all.ensures.written c.answer_all.ensures.start
     (λ stands written start records arrivals serves.
     (let brings = brought terms c.in-Piece.tick c.in-Piece.conn c.from.result c.in-Piece.bytes c.as_slice.result.now c.deref.result.now c.take.new.out.items records arrivals c.args.next.now c.args.connections.now c.take.new.self c.args.desk.now
-      c.in-Piece.is c.from.ensures c.as_slice.ensures c.deref.ensures.value (record { own = c.in_ok-take-in-Piece.ensures.own; others = c.in_ok-take-in-Piece.ensures.others }) serves in
+    c.in-Piece.is c.from.ensures c.as_slice.ensures c.deref.ensures.value (record { own = c.in_ok-take-in-Piece.ensures.own; others = c.in_ok-take-in-Piece.ensures.others }) serves in
     serves_piece terms c.in-Piece.tick c.in-Piece.conn c.deref.result.now records arrivals c.args.next.now c.take.new.self c.args.desk.now c.answer_all.new.desk c.args.writer.now.0 c.answer_all.new.writer.0
     brings start (stands arrivals (length records) serves.stands) (written arrivals (length records) serves.stands)))
 
@@ -33,10 +32,10 @@ returns-in_ok-take-in-Piece-clause-many g c =
     (λ n full. (
       full.0,
       λ records arrivals serves.
-      (let brings = brought terms c.in-Piece.tick c.in-Piece.conn c.from.result c.in-Piece.bytes c.as_slice.result.now c.deref.result.now c.take.new.out.items records arrivals c.args.next.now c.args.connections.now c.take.new.self c.args.desk.now
-        c.in-Piece.is c.from.ensures c.as_slice.ensures c.deref.ensures.value (record { own = c.in_ok-take-in-Piece.ensures.own; others = c.in_ok-take-in-Piece.ensures.others }) serves in
-      serves_full terms c.in-Piece.tick c.in-Piece.conn full.1 c.deref.result.now records arrivals c.args.next.now c.take.new.self c.args.connections.now c.args.desk.now c.args.writer.now.0 c.answer_all.new.writer.0
-      brings serves full.2 full.3 (full.4 arrivals (length records) serves.stands)),
+          (let brings = brought terms c.in-Piece.tick c.in-Piece.conn c.from.result c.in-Piece.bytes c.as_slice.result.now c.deref.result.now c.take.new.out.items records arrivals c.args.next.now c.args.connections.now c.take.new.self c.args.desk.now
+          c.in-Piece.is c.from.ensures c.as_slice.ensures c.deref.ensures.value (record { own = c.in_ok-take-in-Piece.ensures.own; others = c.in_ok-take-in-Piece.ensures.others }) serves in
+          serves_full terms c.in-Piece.tick c.in-Piece.conn full.1 c.deref.result.now records arrivals c.args.next.now c.take.new.self c.args.connections.now c.args.desk.now c.args.writer.now.0 c.answer_all.new.writer.0
+          brings serves full.2 full.3 (full.4 arrivals (length records) serves.stands)),
     ))
     c.answer_all.ensures.many
 
@@ -46,7 +45,7 @@ returns-in_ok-take-in-Piece-clause-part g c =
     err_cut c.answer_all.result _ _
     (λ short. inr (λ records arrivals serves.
     (let brings = brought terms c.in-Piece.tick c.in-Piece.conn c.from.result c.in-Piece.bytes c.as_slice.result.now c.deref.result.now c.take.new.out.items records arrivals c.args.next.now c.args.connections.now c.take.new.self c.args.desk.now
-      c.in-Piece.is c.from.ensures c.as_slice.ensures c.deref.ensures.value (record { own = c.in_ok-take-in-Piece.ensures.own; others = c.in_ok-take-in-Piece.ensures.others }) serves in
+    c.in-Piece.is c.from.ensures c.as_slice.ensures c.deref.ensures.value (record { own = c.in_ok-take-in-Piece.ensures.own; others = c.in_ok-take-in-Piece.ensures.others }) serves in
     serves_part terms c.in-Piece.tick c.in-Piece.conn short.0 c.deref.result.now records arrivals c.args.next.now c.take.new.self c.args.connections.now c.args.desk.now c.args.writer.now.0 c.answer_all.new.writer.0
     brings serves short.2 (short.3 arrivals (length records) serves.stands))))
     c.answer_all.ensures.part

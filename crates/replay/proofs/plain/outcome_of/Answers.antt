@@ -1,5 +1,4 @@
-use Rattle.std.proofs.Common.{◌≡◌, ◌∙◌, List, refl}
-use Rattle.admission.specs.declared.control.Control.{Control}
+use Rattle.std.proofs.Common.{◌≡◌, ◌∙◌, refl}
 use Rattle.replay.specs.Offers.{offers_of}
 use Rattle.replay.specs.Counting.{controls_shown}
 use Rattle.replay.proofs.Judging.{controls_are}

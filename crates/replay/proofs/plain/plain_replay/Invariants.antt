@@ -1,4 +1,4 @@
-use Rattle.std.proofs.Common.{◌≡◌, ℕ, ◌+◌, ◌≤◌, ◌++◌, List}
+use Rattle.std.proofs.Common.{◌≡◌, ◌≤◌, List}
 use Rattle.captures.specs.Captures.{version_one}
 use Rattle.captures.specs.Readers.{Fits}
 use Rattle.captures.specs.declared.record.Record.{Record}

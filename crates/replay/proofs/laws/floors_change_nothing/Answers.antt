@@ -1,0 +1,5 @@
+use Rattle.replay.proofs.ArrivalLaws as lemmas
+use Rattle.replay.proofs.laws.floors_change_nothing.Goals as goal
+
+pub returns : goal.returns
+returns c = lemmas.floors_change_nothing

@@ -1,0 +1,5 @@
+use Rattle.replay.proofs.ArrivalLaws as lemmas
+use Rattle.replay.proofs.laws.handled_begin.Goals as goal
+
+pub returns : goal.returns
+returns c = lemmas.handled_begin
