@@ -1,0 +1,32 @@
+ghost use Rattle.std.specs.Prelude.{◌≡◌, ◌≤◌, IfOk};
+ghost use Rattle.admission.specs.Percentile.{sorted};
+ghost use Rattle.report.specs.Reports.{percentile, rank};
+
+use std::alloc::{AllocError, Global};
+
+/// The samples from the least to the greatest.
+pub(crate) fn sorted(alloc: Global, samples: &[u64]) -> Result<Vec<u64>, AllocError>
+    ensures { IfOk result (λ ordered. ordered.items ≡ sorted samples.now) }
+{
+    let mut ordered = Vec::from_slice(alloc, samples)?;
+    ordered.sort_unstable();
+    Ok(ordered)
+}
+
+/// The rank of a percentile of so many samples, counted from 1: `ceil(percent * count / 100)`.
+fn rank(percent: u8, count: usize) -> usize
+    requires { percent ≤ 100 }
+    ensures nearest { result ≡ rank percent count }
+    ensures within { result ≤ count }
+{
+    (u128::from(percent) * count as u128).div_ceil(100) as usize
+}
+
+/// A percentile of samples that are sorted, by the nearest rank; `None` of no samples.
+pub(crate) fn percentile(ordered: &[u64], percent: u8) -> Option<u64>
+    requires { percent ≤ 100 }
+    ensures { result ≡ percentile percent ordered.now }
+{
+    let place = rank(percent, ordered.len()).saturating_sub(1);
+    ordered.get(place).copied()
+}

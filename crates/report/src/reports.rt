@@ -1,0 +1,131 @@
+ghost use Rattle.std.specs.Prelude.{◌≡◌, ◌++◌, ◌≤◌, ◌+◌, OnOk, IfOk};
+ghost use Rattle.std.specs.String.{string_bytes};
+ghost use Rattle.report.specs.Reports.{total_lines, status_line, status_lines, percentile_line, percentile_lines, control_line, control_lines, reject_lines, report_text};
+
+use crate::percentiles::{percentile, sorted};
+use admission::Control;
+use replay::{Counts, Outcome};
+use std::alloc::{AllocError, Global};
+
+/// How many messages there were: 64 bits may not hold the sum.
+fn messages(admitted: usize, rejected: usize, bypassed: u64) -> u128
+    ensures { result ≡ admitted + rejected + bypassed }
+{
+    admitted as u128 + rejected as u128 + u128::from(bypassed)
+}
+
+/// Writes how many messages there were, and what became of them.
+fn write_totals(text: &mut String, outcome: &Outcome) -> Result<(), AllocError>
+    ensures { OnOk result (string_bytes text.new ≡ string_bytes text.old ++ total_lines outcome.now) }
+{
+    let admitted = outcome.summary.samples.as_slice().len();
+    let rejected = outcome.rejected.as_slice().len();
+    let bypassed = outcome.summary.bypassed;
+    let messages = messages(admitted, rejected, bypassed);
+    writeln!(text, "messages {messages}")?;
+    writeln!(text, "bypassed {bypassed}")?;
+    writeln!(text, "admitted {admitted}")?;
+    writeln!(text, "rejected {rejected}")
+}
+
+/// Writes how many messages were answered with a status.
+fn write_status(text: &mut String, status: u16, count: u64) -> Result<(), AllocError>
+    ensures { OnOk result (string_bytes text.new ≡ string_bytes text.old ++ status_line status count) }
+{
+    writeln!(text, "status {status} {count}")
+}
+
+/// Writes how many messages were answered with each status.
+fn write_statuses(text: &mut String, counts: Counts) -> Result<(), AllocError>
+    ensures { OnOk result (string_bytes text.new ≡ string_bytes text.old ++ status_lines counts) }
+{
+    let statuses = [
+        (200, counts.ok),
+        (301, counts.moved_permanently),
+        (304, counts.not_modified),
+        (400, counts.bad_request),
+        (404, counts.not_found),
+        (405, counts.method_not_allowed),
+        (413, counts.content_too_large),
+        (501, counts.not_implemented),
+        (503, counts.service_unavailable),
+    ];
+    for (status, count) in &statuses {
+        write_status(text, *status, *count)?;
+    }
+    Ok(())
+}
+
+/// Writes a percentile of samples that are sorted.
+fn write_percentile(text: &mut String, percent: u8, ordered: &[u64]) -> Result<(), AllocError>
+    requires { percent ≤ 100 }
+    ensures { OnOk result (string_bytes text.new ≡ string_bytes text.old ++ percentile_line percent ordered.now) }
+{
+    match percentile(ordered, percent) {
+        Some(ticks) => writeln!(text, "p{percent} {ticks}"),
+        None => writeln!(text, "p{percent} -"),
+    }
+}
+
+/// Writes the percentiles of the samples.
+fn write_percentiles(alloc: Global, text: &mut String, samples: &[u64]) -> Result<(), AllocError>
+    ensures { OnOk result (string_bytes text.new ≡ string_bytes text.old ++ percentile_lines samples.now) }
+{
+    let ordered = sorted(alloc, samples)?;
+    write_percentile(text, 50, &ordered)?;
+    write_percentile(text, 90, &ordered)?;
+    write_percentile(text, 99, &ordered)
+}
+
+/// Writes the line of a control, by its number.
+fn write_control(text: &mut String, number: usize, control: Control) -> Result<(), AllocError>
+    ensures { OnOk result (string_bytes text.new ≡ string_bytes text.old ++ control_line number control) }
+{
+    writeln!(
+        text,
+        "control {number} {} {} {} {}",
+        control.instant, control.percentile, control.smoothed, control.rate
+    )
+}
+
+/// Writes how many controls there are, and each of them, numbered from 1.
+fn write_controls(text: &mut String, controls: &[Control]) -> Result<(), AllocError>
+    ensures { OnOk result (string_bytes text.new ≡ string_bytes text.old ++ control_lines controls.now) }
+{
+    writeln!(text, "controls {}", controls.len())?;
+    for (index, control) in controls.iter().enumerate() {
+        write_control(text, index + 1, *control)?;
+    }
+    Ok(())
+}
+
+/// Writes the numbers of the requests that were turned away.
+fn write_rejects(text: &mut String, rejected: &[usize]) -> Result<(), AllocError>
+    ensures { OnOk result (string_bytes text.new ≡ string_bytes text.old ++ reject_lines rejected.now) }
+{
+    for number in rejected {
+        writeln!(text, "reject {number}")?;
+    }
+    Ok(())
+}
+
+/// The report of a replay: how many messages there were and what became of them, how many were answered with each
+/// status, the percentiles of the admitted requests' times (in ticks of one microsecond), the changes of the rate, and
+/// the numbers of the rejected requests. docs/FORMATS.md has its format.
+///
+/// # Errors
+///
+/// There was no memory for it.
+#[tactic(auto, unfolding(crate::specs::Reports::report_text))]
+pub fn report(alloc: Global, outcome: &Outcome) -> Result<String, AllocError>
+    ensures { IfOk result (λ text. string_bytes text ≡ report_text outcome.now) }
+{
+    let mut text = String::from_str(alloc, "haboob-report 1\n")?;
+    write_totals(&mut text, outcome)?;
+    write_statuses(&mut text, outcome.summary.counts)?;
+    write_percentiles(alloc, &mut text, outcome.summary.samples.as_slice())?;
+    write_controls(&mut text, outcome.summary.controls.as_slice())?;
+    write_rejects(&mut text, outcome.rejected.as_slice())?;
+    text.push_str("end\n")?;
+    Ok(text)
+}

@@ -1,0 +1,3 @@
+mod memory;
+mod outcomes;
+mod rows;
