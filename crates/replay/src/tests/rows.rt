@@ -1,6 +1,6 @@
 //! Whole captures, with the replies that the rules give.
 use super::running::{A, FILES, capture_of, outline, run};
-use std::alloc::AllocGlobal;
+use std::alloc::{AllocError, AllocGlobal, Global};
 use std::process::Abort;
 use std::test::Fail;
 
@@ -106,6 +106,38 @@ fn missing_host(rt: HostRuntime) -> Result<(), Fail> {
         "reply 0 0 146; 400 Bad Request;stop 1;"
     );
     assert_eq!(rt; ran.answer?.summary.bypassed, 1);
+    Ok(())
+}
+
+/// A request with a field of so many letters, and this end.
+fn request_of(alloc: Global, letters: usize, end: &str) -> Result<String, AllocError> {
+    let mut text = format!(in alloc; "GET /a.txt HTTP/1.1\r\nHost: a\r\nX: ")?;
+    for _ in 0..letters {
+        text.push('a')?;
+    }
+    text.push_str(end)?;
+    Ok(text)
+}
+
+/// A block may have 8,192 bytes; a longer one is a fault, which comes with the last of these bytes.
+#[test]
+fn block_limit(rt: HostRuntime) -> Result<(), Fail> {
+    let longest = request_of(rt.alloc(), 8155, "\r\n\r\n")?;
+    check(
+        &rt,
+        FILES,
+        &[(0, 0, &longest)],
+        "reply 0 0 150; 200 OK;stop 1;",
+    )?;
+    let longer = request_of(rt.alloc(), 8156, "\r\n\r")?;
+    let pieces = [(0, 0, longer.as_str()), (1_000_000, 0, "\n")];
+    let ran = run(rt.alloc(), FILES, &capture_of(rt.alloc(), &pieces)?).expect(&rt, "a snapshot");
+    assert_eq!(rt;
+        outline(rt.alloc(), &ran.text)?.as_str(),
+        "reply 0 0 146; 400 Bad Request;stop 1;"
+    );
+    let text = String::from_utf8_lossy(rt.alloc(), &ran.text)?;
+    assert!(rt; text.contains("Date: Sun, 06 Nov 1994 08:49:37 GMT"));
     Ok(())
 }
 
