@@ -78,6 +78,71 @@ TABLE = [
     ("no output", "pipe", FIRST_RUN, "closed", 6, b"haboob: write: replies\n", None),
 ]
 
+# A run over files, with one token that comes back after a second.
+CAPTURE = HEADER + b"".join(b"piece %d 0 32\n" % tick + REQUEST + b"\n" for tick in (0, 0, 999999, 1000000)) + b"stop 4\n"
+TIGHT = b"[policy]\ndepth = 1\nrate = 1000\nrate_min = 1000\nrate_max = 1000\n"
+REJECTED = (
+    b"reply %d 0 159\nHTTP/1.1 503 Service Unavailable\r\nDate: Sun, 06 Nov 1994 08:49:37 GMT\r\nContent-Type: text/plain\r\n"
+    b"Content-Length: 24\r\nRetry-After: 1\r\n\r\n503 Service Unavailable\n\n"
+)
+TIGHT_REPLIES = (
+    FIRST_LINE + REPLY % 0 + REJECTED % 1 + REJECTED % 2 + (REPLY % 3).replace(b"Date: Sun, 06 Nov 1994 08:49:37", b"Date: Sun, 06 Nov 1994 08:49:38")
+    + b"stop 4\n"
+)
+STATUSES = b"status 200 %d\nstatus 301 0\nstatus 304 0\nstatus 400 0\nstatus 404 0\nstatus 405 0\nstatus 413 0\nstatus 501 0\nstatus 503 %d\n"
+TIGHT_REPORT = (
+    b"haboob-report 1\nmessages 4\nbypassed 0\nadmitted 2\nrejected 2\n" + STATUSES % (2, 2)
+    + b"p50 201\np90 201\np99 201\ncontrols 0\nreject 1\nreject 2\nend\n"
+)
+# With default settings each request finds a token, and waits for the ones before it.
+OPEN_REPLIES = TIGHT_REPLIES.replace(REJECTED % 1, REPLY % 1).replace(REJECTED % 2, REPLY % 2)
+OPEN_REPORT = (
+    b"haboob-report 1\nmessages 4\nbypassed 0\nadmitted 4\nrejected 0\n" + STATUSES % (4, 0)
+    + b"p50 201\np90 402\np99 402\ncontrols 0\nend\n"
+)
+
+FILES = {"snapshot": SNAPSHOT, "capture": CAPTURE, "settings": TIGHT, "empty": b"", "behind": SNAPSHOT + b"."}
+GOOD = ["--snapshot", "snapshot", "--capture", "capture", "--replies", "replies"]
+
+# The words behind `replay`, in a folder with those files and a folder. Then the status, the line on standard error
+# (None: a longer text), the file of the replies (OLD: as it was) and the report.
+OLD = b"old replies\n"
+RUNS = [
+    # name, words, status, line, replies, report
+    ("a bucket of one token", GOOD + ["--settings", "settings"], 0, b"", TIGHT_REPLIES, TIGHT_REPORT),
+    ("the same, the plain engine", GOOD + ["--settings", "settings", "--engine", "plain"], 0, b"", TIGHT_REPLIES, TIGHT_REPORT),
+    ("default settings", GOOD, 0, b"", OPEN_REPLIES, OPEN_REPORT),
+    ("settings without keys", GOOD + ["--settings", "empty"], 0, b"", OPEN_REPLIES, OPEN_REPORT),
+    ("no options", [], 2, None, OLD, b""),
+    ("no capture", GOOD[:2] + GOOD[4:], 2, None, OLD, b""),
+    ("help", ["--help"], 2, None, OLD, b""),
+    ("another engine", GOOD + ["--engine", "fast"], 2, b"haboob: engine\n", OLD, b""),
+    ("another engine, and no settings", GOOD + ["--engine", "fast", "--settings", "absent"], 2, b"haboob: engine\n", OLD, b""),
+    ("no settings file", GOOD + ["--settings", "absent"], 6, b"haboob: open: settings\n", OLD, b""),
+    ("a folder as settings", GOOD + ["--settings", "folder"], 6, b"haboob: read: settings\n", OLD, b""),
+    ("depth 0", GOOD + ["--settings", "depth"], 3, b"haboob: settings: Range policy.depth\n", OLD, b""),
+    ("an unknown key", GOOD + ["--settings", "unknown"], 3, b"haboob: settings: Unknown\n", OLD, b""),
+    ("settings of 65536 bytes", GOOD + ["--settings", "longest"], 0, b"", TIGHT_REPLIES, TIGHT_REPORT),
+    ("settings of 65537 bytes", GOOD + ["--settings", "too_long"], 3, b"haboob: settings: Text\n", OLD, b""),
+    ("settings without an end", GOOD + ["--settings", "/dev/zero"], 3, b"haboob: settings: Text\n", OLD, b""),
+    ("depth 0, and no snapshot", ["--snapshot", "absent"] + GOOD[2:] + ["--settings", "depth"], 3, b"haboob: settings: Range policy.depth\n", OLD, b""),
+    ("no snapshot", ["--snapshot", "absent"] + GOOD[2:], 6, b"haboob: open: snapshot\n", OLD, b""),
+    ("an empty name", ["--snapshot", ""] + GOOD[2:], 6, b"haboob: open: snapshot\n", OLD, b""),
+    ("no capture file", GOOD[:2] + ["--capture", "absent"] + GOOD[4:], 6, b"haboob: open: capture\n", OLD, b""),
+    ("replies into no folder", GOOD[:4] + ["--replies", "absent/replies"], 6, b"haboob: open: replies\n", OLD, b""),
+    ("a folder as snapshot", ["--snapshot", "folder"] + GOOD[2:], 6, b"haboob: read: snapshot\n", b"", b""),
+    ("a folder as capture", GOOD[:2] + ["--capture", "folder"] + GOOD[4:], 6, b"haboob: read: capture\n", FIRST_LINE, b""),
+    ("a byte behind the snapshot", ["--snapshot", "behind"] + GOOD[2:], 4, b"haboob: snapshot: entry 2: Trailing\n", b"", b""),
+    ("an empty capture", GOOD[:2] + ["--capture", "empty"] + GOOD[4:], 5, b"haboob: capture: record 0: Cut\n", FIRST_LINE, b""),
+    ("replies into a full device", GOOD[:4] + ["--replies", "/dev/full"], 6, b"haboob: write: replies\n", OLD, b""),
+]
+FILES.update({
+    "depth": b"[policy]\ndepth = 0\n",
+    "unknown": b"[policy]\ndeep = 1\n",
+    "longest": TIGHT + b"#" * (65536 - len(TIGHT)),
+    "too_long": TIGHT + b"#" * (65537 - len(TIGHT)),
+})
+
 
 def feed(pipe, data, slowly):
     """Writes the input; the program may end before it has read all of it."""
@@ -178,6 +243,30 @@ def little_memory(program):
     return child.returncode, child.stderr, child.stdout
 
 
+def replay(program, words, folder, out):
+    """The status, the text on standard error, the replies and the report of one run over files."""
+    os.mkdir(os.path.join(folder, "folder"))
+    for name, data in [("replies", OLD), *FILES.items()]:
+        with open(os.path.join(folder, name), "wb") as file:
+            file.write(data)
+    child = subprocess.run(
+        [os.path.abspath(program), "replay", *words], cwd=folder, stdin=subprocess.DEVNULL, stdout=out, stderr=subprocess.PIPE, timeout=SECONDS,
+    )
+    with open(os.path.join(folder, "replies"), "rb") as file:
+        return child.returncode, child.stderr, file.read(), child.stdout
+
+
+def unwritten_report(program):
+    """The status, the line and the replies where standard output can't be written."""
+    with tempfile.TemporaryDirectory() as folder, open("/dev/full", "wb") as full:
+        return replay(program, GOOD + ["--settings", "settings"], folder, full)[:3]
+
+
+def word_without_text(program):
+    """The status where a word on the command line is not UTF-8."""
+    return subprocess.run([program, b"replay\xff"], stdin=subprocess.DEVNULL, capture_output=True, timeout=SECONDS).returncode
+
+
 def report(name, good, got):
     print("%-45s %s" % (name, got if good else "WRONG: " + got))
     return not good
@@ -200,7 +289,17 @@ def main():
     got = little_memory(program)
     good = got == (7, b"haboob: memory\n", b"")
     wrong += report("little memory", good, "7 haboob: memory" if good else repr(got))
-    print("%d runs, %d wrong" % (len(TABLE) + 2, wrong))
+    for name, words, status, line, replies, text in RUNS:
+        with tempfile.TemporaryDirectory() as folder:
+            got = replay(program, words, folder, subprocess.PIPE)
+        good = (got[0], got[2], got[3]) == (status, replies, text) and (got[1] == line if line is not None else len(got[1]) > 20)
+        wrong += report("replay: " + name, good, "%d %s" % (got[0], got[1].decode().partition("\n")[0]) if good else repr(got))
+    got = unwritten_report(program)
+    good = got == (6, b"haboob: write: report\n", TIGHT_REPLIES)
+    wrong += report("replay: a report into a full device", good, "6 haboob: write: report" if good else repr(got))
+    status = word_without_text(program)
+    wrong += report("a word that is no text", status == 2, str(status))
+    print("%d runs, %d wrong" % (len(TABLE) + len(RUNS) + 4, wrong))
     sys.exit(wrong != 0)
 
 

@@ -6,7 +6,7 @@ use Rattle.paths.specs.SnapshotFaults.{ReadsFront}
 use Rattle.captures.specs.declared.capture_fault.CaptureFault.{CaptureFault}
 use Rattle.replay.specs.declared.replay_fault.ReplayFault.{ReplayFault}
 use Rattle.replay.specs.declared.replay_fault.ReplayFault.TheVariants.{Capture, TooMany, Write, Memory}
-use Rattle.replay.specs.Choices.{Choice, terms_of}
+use Rattle.replay.specs.Choices.{Choice, Terms, terms_of}
 use Rattle.replay.specs.Outcomes.{IfCapture, IfTooMany, IfCutShort, Stops, StopsFull, IsCutShort}
 use Rattle.options.specs.SettingsTable.{default_choice}
 use Rattle.haboob.specs.Bundles.{BehindSnapshot, default_terms, StopsAs}
@@ -42,13 +42,20 @@ part_known (TooMany number) K P holds known = tt
 part_known Write K P holds known = holds known
 part_known Memory K P holds known = holds known
 
+pub stops_of : (terms : Terms) (old new : Option (List ℕ)) (input : Option (List ℕ)) (f : ReplayFault)
+    → IfCapture f (λ x. is_some input ≡ true → Stops terms (unwrap_or input []) old new x)
+    → IfTooMany f (λ n. is_some input ≡ true → StopsFull terms (unwrap_or input []) old new n)
+    → IfCutShort f (is_some input ≡ true → IsCutShort terms (unwrap_or input []) old new)
+    → is_some input ≡ true → StopsAs terms (unwrap_or input []) old new f
+stops_of terms old new input f is_stop is_many is_part known = record {
+  stops = capture_known f _ _ is_stop known;
+  many = many_known f _ _ is_many known;
+  part = part_known f _ _ is_part known;
+}
+
 pub stops_known : (files : List File) (choice : Choice) (old new : Option (List ℕ)) (input : Option (List ℕ)) (f : ReplayFault) → choice ≡ default_choice
     → IfCapture f (λ x. is_some input ≡ true → Stops (terms_of files choice) (unwrap_or input []) old new x)
     → IfTooMany f (λ n. is_some input ≡ true → StopsFull (terms_of files choice) (unwrap_or input []) old new n)
     → IfCutShort f (is_some input ≡ true → IsCutShort (terms_of files choice) (unwrap_or input []) old new)
     → is_some input ≡ true → StopsAs (default_terms files) (unwrap_or input []) old new f
-stops_known files choice old new input f is stops many part known = record {
-  stops = rw is at (capture_known f _ _ stops known);
-  many = rw is at (many_known f _ _ many known);
-  part = rw is at (part_known f _ _ part known);
-}
+stops_known files choice old new input f is stops many part known = rw is at (stops_of (terms_of files choice) old new input f stops many part known)

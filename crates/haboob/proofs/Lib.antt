@@ -1,2 +1,3 @@
 pub mod Bundling
 pub mod Programs
+pub mod Reporting

@@ -12,10 +12,10 @@ use std::alloc::Global;
 use std::io::{BufReader, BufWriter, Read, Write};
 
 /// The room of the buffer in front of a device, in bytes.
-const ROOM: usize = 65_536;
+pub(crate) const ROOM: usize = 65_536;
 
 /// Writes what the buffer of the replies still holds. Behind a failed write it does nothing, as no failure is tried again.
-fn write_rest<W: Write + Drop>(
+pub(crate) fn write_rest<W: Write + Drop>(
     mut replies: BufWriter<W>,
     ran: Result<(), Fault>,
 ) -> Result<(), Fault>

@@ -3,5 +3,6 @@ mod devices;
 mod faults;
 mod lines;
 mod memory;
+mod reports;
 mod rows;
 mod running;

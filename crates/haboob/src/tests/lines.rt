@@ -3,10 +3,12 @@ use super::running::Narrow;
 use crate::fault::Fault;
 use crate::place::Place;
 use captures::{CaptureFault, CaptureFaultKind};
+use options::{ConfigFault, ConfigFaultKind, Key, WordFault};
 use paths::{Output, SnapshotFault, SnapshotFaultKind};
 use replay::ReplayFault;
 use responses::Write;
 use std::process::Abort;
+use std::test::Fail;
 
 fn check(rt: &impl Abort, fault: Fault, status: u8, line: &str) {
     let mut text = Narrow::ample();
@@ -56,6 +58,44 @@ fn replay_lines(rt: HostRuntime) {
         7,
         "haboob: memory\n",
     );
+}
+
+fn setting(kind: ConfigFaultKind, key: Option<Key>) -> Fault {
+    Fault::Settings(ConfigFault { kind, key })
+}
+
+#[test]
+fn settings_lines(rt: HostRuntime) {
+    use ConfigFaultKind::{Memory, Range, Shape, Unknown};
+    check(
+        &rt,
+        setting(Range, Some(Key::Depth)),
+        3,
+        "haboob: settings: Range policy.depth\n",
+    );
+    check(
+        &rt,
+        setting(Shape, Some(Key::Policy)),
+        3,
+        "haboob: settings: Shape policy\n",
+    );
+    check(
+        &rt,
+        setting(Unknown, None),
+        3,
+        "haboob: settings: Unknown\n",
+    );
+    check(&rt, setting(Memory, None), 7, "haboob: memory\n");
+}
+
+#[test]
+fn lines_of_words(rt: HostRuntime) -> Result<(), Fail> {
+    let text = String::from_str(rt.alloc(), "error: no such word\n\nUsage: haboob\n")?;
+    let words = Fault::Words(WordFault::Words(text));
+    check(&rt, words, 2, "error: no such word\n\nUsage: haboob\n");
+    check(&rt, Fault::Words(WordFault::Engine), 2, "haboob: engine\n");
+    check(&rt, Fault::Words(WordFault::Memory), 7, "haboob: memory\n");
+    Ok(())
 }
 
 #[test]

@@ -1,5 +1,7 @@
 //! Want of memory: `rt try --test --fail-alloc 1..` refuses each growth in turn.
-use super::running::{FIRST_RUN, Narrow, REPLIES};
+use super::reports;
+use super::reports::{CAPTURE, REPORT};
+use super::running::{FIRST_RUN, Narrow, REPLIES, SNAPSHOT, run_tight};
 use crate::program::run_program;
 use crate::told::Told;
 
@@ -12,6 +14,24 @@ fn each_growth_refused(rt: HostRuntime) {
         Err(fault) => {
             assert!(rt; matches!(fault.told(), Told::Memory));
             assert!(rt; REPLIES.as_bytes().starts_with(replies.text()));
+        }
+    }
+}
+
+/// The same of a run with a report: of that the whole is written, or nothing.
+#[test]
+fn each_growth_refused_with_a_report(rt: HostRuntime) {
+    let mut replies = Narrow::ample();
+    let mut report = Narrow::ample();
+    match run_tight(rt.alloc(), SNAPSHOT, CAPTURE, &mut replies, &mut report) {
+        Ok(()) => {
+            assert_eq!(rt; replies.text(), reports::REPLIES.as_bytes());
+            assert_eq!(rt; report.text(), REPORT.as_bytes());
+        }
+        Err(fault) => {
+            assert!(rt; matches!(fault.told(), Told::Memory));
+            assert!(rt; reports::REPLIES.as_bytes().starts_with(replies.text()));
+            assert!(rt; report.text().is_empty());
         }
     }
 }

@@ -3,6 +3,8 @@ ghost use Rattle.std.specs.Prelude.{◌≤◌};
 
 use crate::bundle::run_bundle;
 use crate::fault::Fault;
+use crate::replaying::run_replay;
+use options::{Engine, read_settings};
 use paths::{Input, Output};
 use std::alloc::Global;
 use std::io;
@@ -56,18 +58,18 @@ impl<'a> Read for Flaky<'a> {
 /// room is full. It takes no memory.
 #[derive(Drop)]
 pub struct Narrow {
-    room: [u8; 512],
+    room: [u8; 1024],
     len: usize,
     size: usize,
     /// How many writes are made before the one that fails.
     good: usize,
-    ghost in_room: { len ≤ 512 },
+    ghost in_room: { len ≤ 1024 },
 }
 
 impl Narrow {
     pub fn new(size: usize, good: usize) -> Narrow {
         Narrow {
-            room: [0; 512],
+            room: [0; 1024],
             len: 0,
             size,
             good,
@@ -76,7 +78,7 @@ impl Narrow {
 
     /// A writer that doesn't fail.
     pub fn ample() -> Narrow {
-        Narrow::new(512, usize::MAX)
+        Narrow::new(1024, usize::MAX)
     }
 
     /// What was written.
@@ -92,7 +94,7 @@ impl Write for Narrow {
         }
         self.good -= 1;
         let start = self.len;
-        let count = bytes.len().min(self.size).min(512 - start);
+        let count = bytes.len().min(self.size).min(1024 - start);
         self.room[start..start + count].copy_from_slice(&bytes[..count]);
         self.len = start + count;
         Ok(count)
@@ -109,5 +111,28 @@ pub fn run(alloc: Global, input: &str, replies: &mut Narrow) -> Result<(), Fault
         alloc,
         &mut Input::new(input.as_bytes()),
         &mut Output::new(replies),
+    )
+}
+
+/// Settings with one token, and one more each second.
+pub static TIGHT: &str = "[policy]\ndepth = 1\nrate = 1000\nrate_min = 1000\nrate_max = 1000\n";
+
+/// Runs over inputs in memory with these settings, and writes a report.
+pub fn run_tight(
+    alloc: Global,
+    snapshot: &str,
+    capture: &str,
+    replies: &mut Narrow,
+    report: &mut Narrow,
+) -> Result<(), Fault> {
+    let settings = read_settings(alloc, TIGHT.as_bytes())?;
+    run_replay(
+        alloc,
+        &settings,
+        Engine::Plain,
+        &mut Input::new(snapshot.as_bytes()),
+        &mut Input::new(capture.as_bytes()),
+        &mut Output::new(replies),
+        &mut Output::new(report),
     )
 }
