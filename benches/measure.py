@@ -3,11 +3,13 @@
 
 usage: measure.py PROGRAM [RUNS]
 
-For each input it prints requests a second, bytes a second (read and written), and the peak of memory beside the size of the
-snapshot. Of RUNS runs (3 if left out) it takes the fastest. The inputs stand in a folder of their own while it runs, and need
-about 300 MB.
+Each input is run twice: as the program's one input, with default settings; and by `replay` from files, with settings that
+admit each request, and with a report. For each run it prints requests a second, bytes a second (read and written), and the
+peak of memory beside the size of the snapshot. Of RUNS runs (3 if left out) it takes the fastest. The inputs stand in a
+folder of their own while it runs, and need about 600 MB.
 """
 import os
+import shutil
 import sys
 import tempfile
 import time
@@ -56,32 +58,55 @@ INPUTS = [
 ]
 
 
-def start(program, name, output):
-    """Starts the program on one core, with a file for its input."""
-    child = os.fork()
-    if child == 0:
-        os.sched_setaffinity(0, {min(os.sched_getaffinity(0))})
-        os.dup2(os.open(name, os.O_RDONLY), 0)
-        os.dup2(output, 1)
-        os.execv(program, [program])
-    return child
+# Settings that admit each request, so that all are answered and each has a sample.
+SETTINGS = b"[policy]\ndepth = 1000000\nrate = 1000000000\nrate_max = 1000000000\n"
 
 
-def run(program, name):
-    """The seconds and the processor times of one run whose replies go to the null device."""
-    with open(os.devnull, "wb") as null:
-        started = time.monotonic()
-        child = start(program, name, null.fileno())
-        _, status, usage = os.wait4(child, 0)
-    if status != 0:
-        sys.exit("the program failed")
-    return time.monotonic() - started, usage
+class Run:
+    """One way to run the program on an input: its words, and the files that it reads and writes."""
+
+    def __init__(self, title, words, given):
+        self.title = title
+        self.words = words
+        self.given = given
+
+    def start(self, output):
+        """Starts the program on one core, with its standard output into a device."""
+        child = os.fork()
+        if child == 0:
+            os.sched_setaffinity(0, {min(os.sched_getaffinity(0))})
+            os.dup2(os.open(self.given, os.O_RDONLY), 0)
+            os.dup2(output, 1)
+            os.execv(self.words[0], self.words)
+        return child
+
+    def time(self):
+        """The seconds and the processor times of a run whose output goes to the null device."""
+        with open(os.devnull, "wb") as null:
+            started = time.monotonic()
+            child = self.start(null.fileno())
+            _, status, usage = os.wait4(child, 0)
+        if status != 0:
+            sys.exit("the program failed")
+        return time.monotonic() - started, usage
+
+    def peak_of_memory(self):
+        """The most memory that a run had, in bytes. (The usage that wait4 tells also counts what this script had.)"""
+        peak = 0
+        with open(os.devnull, "wb") as null:
+            child = self.start(null.fileno())
+            while os.waitpid(child, os.WNOHANG) == (0, 0):
+                with open("/proc/%d/comm" % child) as comm, open("/proc/%d/status" % child) as status:
+                    if comm.read().strip() == os.path.basename(self.words[0])[:15]:
+                        peak = max([peak] + [int(line.split()[1]) * 1024 for line in status if line.startswith("VmHWM")])
+                time.sleep(0.002)
+        return peak
 
 
-def count_replies(program, name):
-    """How many bytes the replies are."""
+def count_replies(run):
+    """How many bytes the replies are, which the run writes to its standard output."""
     reader, writer = os.pipe()
-    child = start(program, name, writer)
+    child = run.start(writer)
     os.close(writer)
     total = 0
     while piece := os.read(reader, 1 << 20):
@@ -91,35 +116,40 @@ def count_replies(program, name):
     return total
 
 
-def peak_of_memory(program, name):
-    """The most memory that a run of its own had, in bytes. (The usage that wait4 tells also counts what this script had.)"""
-    peak = 0
-    with open(os.devnull, "wb") as null:
-        child = start(program, name, null.fileno())
-        while os.waitpid(child, os.WNOHANG) == (0, 0):
-            with open("/proc/%d/comm" % child) as comm, open("/proc/%d/status" % child) as status:
-                if comm.read().strip() == os.path.basename(program)[:15]:
-                    peak = max([peak] + [int(line.split()[1]) * 1024 for line in status if line.startswith("VmHWM")])
-            time.sleep(0.002)
-    return peak
+def write_inputs(folder, text, requests):
+    """Writes the snapshot, the capture and the settings, and the first two together; answers the names of the files."""
+    names = {name: os.path.join(folder, name) for name in ("input", "snapshot", "capture", "settings")}
+    with open(names["snapshot"], "wb") as file:
+        file.write(text)
+    with open(names["capture"], "wb") as file:
+        write_capture(file, requests)
+    with open(names["settings"], "wb") as file:
+        file.write(SETTINGS)
+    with open(names["input"], "wb") as file:
+        file.write(text)
+        with open(names["capture"], "rb") as capture:
+            shutil.copyfileobj(capture, file)
+    return names
 
 
 def measure(program, runs, title, count, make, folder):
     files, requests = make(count)
     text = snapshot(files)
-    name = os.path.join(folder, "input")
-    with open(name, "wb") as file:
-        file.write(text)
-        write_capture(file, requests)
-    size = os.path.getsize(name)
-    written = count_replies(program, name)
-    memory = peak_of_memory(program, name)
-    seconds, best = min((run(program, name) for _ in range(runs)), key=lambda result: result[0])
-    os.unlink(name)
-    print(
-        "%-26s %5.2f s (user %.2f, system %.2f)  %9.0f requests/s  %7.0f MB/s read  %7.0f MB/s written  peak %.1f MiB, snapshot %.1f MiB"
-        % (title, seconds, best.ru_utime, best.ru_stime, count / seconds, size / seconds / 1e6, written / seconds / 1e6, memory / 2**20, len(text) / 2**20)
-    )
+    names = write_inputs(folder, text, requests)
+    size = os.path.getsize(names["input"])
+    bundle = Run(title, [program], names["input"])
+    words = ["replay", "--snapshot", names["snapshot"], "--capture", names["capture"], "--settings", names["settings"]]
+    report = Run(title + ", report", [program, *words, "--replies", os.devnull], os.devnull)
+    to_output = Run(title, [program, *words, "--replies", "/dev/stdout"], os.devnull)
+    for run, written in [(bundle, count_replies(bundle)), (report, count_replies(to_output))]:
+        memory = run.peak_of_memory()
+        seconds, best = min((run.time() for _ in range(runs)), key=lambda result: result[0])
+        print(
+            "%-34s %5.2f s (user %.2f, system %.2f)  %9.0f requests/s  %7.0f MB/s read  %7.0f MB/s written  peak %.1f MiB, snapshot %.1f MiB"
+            % (run.title, seconds, best.ru_utime, best.ru_stime, count / seconds, size / seconds / 1e6, written / seconds / 1e6, memory / 2**20, len(text) / 2**20)
+        )
+    for name in names.values():
+        os.unlink(name)
 
 
 def main():

@@ -33,11 +33,11 @@ pub record Fits (v : Version) (text : Option (List ℕ)) (start : ℕ) (records 
   pub known : is_some text ≡ true → is_some now ≡ true
 
 -- What the next call on such a reader answers: one more record; `None` only where the text is the capture of these records;
--- or the fault behind these records (unless a read failed, or memory ran out).
+-- or a fault of the record behind these, which is the text's (unless a read failed, or memory ran out).
 abbrev pub Gave : Version → Option (List ℕ) → ℕ → List Record → Result (Option Record) CaptureFault → Progress → Option (List ℕ) → Type 0
 Gave v text start records (Ok (Some r)) p now = Fits v text start (records ++ r ∷ []) p now
 Gave v text start records (Ok None) p now = is_some text ≡ true → IsCaptureText v (unwrap_or text []) start records
-Gave v text start records (Err f) p now = IsForeseen (λ bytes. IsFaultBehind v bytes start records) text f
+Gave v text start records (Err f) p now = (f.at ≡ length records + 1) × IsForeseen (λ bytes. IsFaultBehind v bytes start records) text f
 
 -- how far a reader has come by this answer
 abbrev pub stage_after : Result (Option Record) CaptureFault → Stage

@@ -47,6 +47,7 @@ impl Progress {
     pub(crate) fn open<R: Read>(input: &mut Input<R>) -> Result<Progress, CaptureFault>
         requires { input.old.1 < 2 ^ 64 - 1 }
         ensures ok { IfOk result (λ p. Fits version_one input.old.0 p.start [] p input.new.0) }
+        ensures at { IfErr result (λ f. f.at ≡ 0) }
         ensures fault { IfErr result (IsForeseen (IsHeaderFault version_one) input.old.0) }
         ensures count { CountsFault input.old.1 input.new.1 result }
     {

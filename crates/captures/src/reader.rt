@@ -24,6 +24,7 @@ impl<'a, R: Read> CaptureReader<'a, R> {
     pub fn open(input: &'a mut Input<R>) -> Result<CaptureReader<'a, R>, CaptureFault>
         requires { input.old.1 < 2 ^ 64 - 1 }
         ensures ok { IfOk result (λ reader. Fits version_one input.old.0 reader.progress.start [] reader.progress reader.input.now.0) }
+        ensures at { IfErr result (λ f. f.at ≡ 0) }
         ensures fault { IfErr result (IsForeseen (IsHeaderFault version_one) input.old.0) }
         ensures count { IfOk result (λ reader. reader.input.now.1 ≡ input.old.1) }
         ensures same { IfOk result (λ reader. reader.input.ghost_name ≡ input.entry.ghost_name) }

@@ -9,18 +9,13 @@ use crate::numbers::{Choices, FloorLists, PolicyNumbers};
 use crate::{ConfigFault, Key};
 use admission::Policy;
 use cost_model::Costs;
-use replay::Settings;
+use replay::{BACK_STEPS, FRONT_STEPS, Settings};
 use stage_graph::{Plan, PlanFault};
 use std::alloc::Global;
 use toml::Table;
 
 /// The most bytes of a settings document.
 pub const LONGEST_SETTINGS: usize = 65_536;
-
-/// The step with which the last stage of the front floor ends, and that of the back floor.
-const FRONT_STEPS: usize = 3;
-
-const BACK_STEPS: usize = 2;
 
 /// The settings of a document (docs/FORMATS.md, "Settings"): each key as it stands there, or its default.
 ///

@@ -3,6 +3,7 @@ ghost use Rattle.std.specs.Option.{option_map};
 ghost use Rattle.std.specs.Char.{to_ascii_lowercase};
 ghost use Rattle.page_cache.specs.Media.{behind_last, last_part, media_by_extension, media_of, media_text, entity_fields};
 
+use itoa::Buffer;
 use std::alloc::{AllocError, Global};
 
 /// The media type of a file.
@@ -100,12 +101,20 @@ fn last_part(name: &[u8]) -> &[u8]
     }
 }
 
+/// Room for the fields of any content, in bytes.
+const FIELDS_ROOM: usize = 96;
+
 /// The fields `Content-Type` and `Content-Length` of a content of this type and length, each with CR LF behind it
 /// (RFC 9110, 8.3 and 8.6).
 #[tactic(auto, unfolding(crate::specs::Media::entity_fields))]
 pub fn entity_fields(alloc: Global, media: MediaType, len: usize) -> Result<String, AllocError>
     ensures { IfOk result (λ text. string_bytes text ≡ entity_fields media len) }
 {
-    let media = media.text();
-    format!(in alloc; "Content-Type: {media}\r\nContent-Length: {len}\r\n")
+    let mut text = String::with_capacity(alloc, FIELDS_ROOM)?;
+    text.push_str("Content-Type: ")?;
+    text.push_str(media.text())?;
+    text.push_str("\r\nContent-Length: ")?;
+    text.push_str(Buffer::new().format(len))?;
+    text.push_str("\r\n")?;
+    Ok(text)
 }

@@ -7,3 +7,4 @@ pub mod Judging
 pub mod Writing
 pub mod Server
 pub mod ArrivalLaws
+pub mod OneAnswer

@@ -384,23 +384,25 @@ short_capture (Err (faults.TooMany n)) P h = absurd h
 short_capture (Err faults.Write) P h = tt
 short_capture (Err faults.Memory) P h = tt
 
-pub stops_first : (terms : Terms) (text old new : Option (List ℕ)) (f : CaptureFault) → Appends old new first_line → IsForeseen (IsHeaderFault version_one) text f → is_some text ≡ true
+pub stops_first : (terms : Terms) (text old new : Option (List ℕ)) (f : CaptureFault) → Appends old new first_line → f.at ≡ 0 → IsForeseen (IsHeaderFault version_one) text f → is_some text ≡ true
     → Stops terms (unwrap_or text []) old new f
-stops_first terms text old new f written fault known = inl (record { written = written; fault = λ foreseen. fault known foreseen })
+stops_first terms text old new f written at fault known = inl (record { at = at; written = written; fault = λ foreseen. fault known foreseen })
 
 pub stops_behind : (terms : Terms) (text now old new : Option (List ℕ)) (start : ℕ) (records : List Record) (arrivals : List Arrival) (p : Progress) (connections : List Connection) (desk : Desk)
     (f : CaptureFault) → Fits version_one text start records p now → Serves terms records arrivals connections desk → Appends old new (text_before_stop (replies_of terms start (handled terms arrivals)))
-    → IsForeseen (λ bytes. IsFaultBehind version_one bytes start records) text f → is_some text ≡ true → Stops terms (unwrap_or text []) old new f
+    → (f.at ≡ length records + 1) × IsForeseen (λ bytes. IsFaultBehind version_one bytes start records) text f → is_some text ≡ true → Stops terms (unwrap_or text []) old new f
 stops_behind terms text now old new start records arrivals p connections desk f fits serves written fault known = inr (record {
   start = start;
   records = records;
   rest = unwrap_or now [];
   arrivals = arrivals;
   front = fits.front known;
+  rules = fits.rules;
+  at = fault.0;
   arrived = serves.arrived;
   few = serves.stands.few;
   written = written;
-  fault = λ foreseen. fault known foreseen;
+  fault = λ foreseen. fault.1 known foreseen;
 })
 
 take_all : {A : Type 0} (xs : List A) → take (length xs) xs ≡ xs

@@ -1,5 +1,5 @@
 -- What follows from the definitions.
-use Rattle.std.specs.Prelude.{◌≡◌, ℕ, List, ◌++◌, Option}
+use Rattle.std.specs.Prelude.{◌≡◌, ℕ, List, ◌++◌, Option, true, is_some}
 use Rattle.captures.specs.declared.record.Record.{Record}
 use Rattle.paths.specs.declared.file.File.{File}
 use Rattle.replay.specs.declared.outcome.Outcome.{Outcome}
@@ -13,6 +13,11 @@ abbrev pub FloorsChangeNothing : Type 0
 FloorsChangeNothing = (files : List File) (c d : Choice) (input : List ℕ) (old new : Option (List ℕ)) (outcome : Outcome)
     → c.costs ≡ d.costs → c.rules ≡ d.rules → c.retry_after ≡ d.retry_after
     → Answers (terms_of files c) input old new outcome → Answers (terms_of files d) input old new outcome
+
+-- a capture has one answer: what is written to a device of known bytes, and the outcome
+abbrev pub OneAnswer : Type 0
+OneAnswer = (terms : Terms) (input : List ℕ) (old new other : Option (List ℕ)) (outcome another : Outcome) → is_some old ≡ true
+    → Answers terms input old new outcome → Answers terms input old other another → (new ≡ other) × (outcome ≡ another)
 
 -- two lists of the arrivals of the same records are one
 abbrev pub OneListOfArrivals : Type 0

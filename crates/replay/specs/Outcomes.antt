@@ -69,17 +69,20 @@ IsOwn other = Unit {0}
 
 -- The replay stopped at the first line: it has written its own.
 pub record StopsFirst (input : List ℕ) (old new : Option (List ℕ)) (f : CaptureFault) : Type 0 where
+  pub at : f.at ≡ 0
   pub written : Appends old new first_line
   pub fault : is_unforeseen_kind f.kind ≡ false → IsHeaderFault version_one input f
 
--- The replay stopped behind these records, which stand whole in front of the fault: it has written the replies to the
--- messages that arrived with them, and no last line.
+-- The replay stopped behind these records, which stand whole in front of the fault, at the record that comes next: it has
+-- written the replies to the messages that arrived with them, and no last line.
 pub record StopsBehind (terms : Terms) (input : List ℕ) (old new : Option (List ℕ)) (f : CaptureFault) : Type 0 where
   pub start : ℕ
   pub records : List Record
   pub rest : List ℕ
   pub arrivals : List Arrival
   pub front : input ≡ records_text version_one start records ++ rest
+  pub rules : IsCapture version_one start records
+  pub at : f.at ≡ length records + 1
   pub arrived : AreArrivals records arrivals
   pub few : length arrivals ≤ most_messages
   pub written : Appends old new (text_before_stop (replies_of terms start (handled terms arrivals)))

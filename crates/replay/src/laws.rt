@@ -1,10 +1,15 @@
 //! Laws of the definitions that the engines' contracts cite. Each function is there for its clause alone.
 
-ghost use Rattle.replay.specs.Laws.{ArrivalsBegin, FloorsChangeNothing, HandledBegin, OneListOfArrivals};
+ghost use Rattle.replay.specs.Laws.{ArrivalsBegin, FloorsChangeNothing, HandledBegin, OneAnswer, OneListOfArrivals};
 
 /// The graphs of the floors, the records of a batch and the bytes of the cache change no answer.
 pub fn floors_change_nothing()
     ensures { FloorsChangeNothing }
+{}
+
+/// A capture has one answer.
+pub fn one_answer()
+    ensures { OneAnswer }
 {}
 
 /// The records of a capture have one list of arrivals.

@@ -23,7 +23,7 @@ pub use outcome::Outcome;
 pub use plain::plain_replay;
 pub use replay_fault::ReplayFault;
 pub use series::Series;
-pub use settings::{Settings, SettingsFault};
+pub use settings::{BACK_STEPS, FRONT_STEPS, Settings, SettingsFault};
 pub use summary::{Counts, Summary};
 
 /// The most messages that a capture may have.

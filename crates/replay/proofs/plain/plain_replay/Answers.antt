@@ -12,7 +12,7 @@ use Rattle.replay.proofs.plain.plain_replay.Goals as goal
 
 pub returns-in-Err-clause-stops : goal.returns-in-Err-clause-stops
 returns-in-Err-clause-stops g c = rw c.from.ensures (told _ (λ fault. is_some c.args.reader.now.0 ≡ true → Stops (terms_of g.F.Tree.files c.args.settings.now) (unwrap_or c.args.reader.now.0 []) c.args.writer.now.0 c.write_first_line.new.writer.0 fault)
-    (λ known. stops_first (terms_of g.F.Tree.files c.args.settings.now) c.args.reader.now.0 c.args.writer.now.0 c.write_first_line.new.writer.0 _ c.in_ok-write_first_line.ensures.written c.in-Err.ensures.fault known))
+    (λ known. stops_first (terms_of g.F.Tree.files c.args.settings.now) c.args.reader.now.0 c.args.writer.now.0 c.write_first_line.new.writer.0 _ c.in_ok-write_first_line.ensures.written c.in-Err.ensures.at c.in-Err.ensures.fault known))
 
 pub returns-in-Err-clause-part : goal.returns-in-Err-clause-part
 returns-in-Err-clause-part g c = rw c.from.ensures (told_short _ (is_some c.args.reader.now.0 ≡ true → IsCutShort (terms_of g.F.Tree.files c.args.settings.now) (unwrap_or c.args.reader.now.0 []) c.args.writer.now.0 c.write_first_line.new.writer.0) (λ known. inl (part_all c.args.writer.now.0 c.write_first_line.new.writer.0 _ c.in_ok-write_first_line.ensures.written)))

@@ -18,4 +18,4 @@ pub returns-in-Err-clause-next : goal.returns-in-Err-clause-next
 returns-in-Err-clause-next g c = λ text start records f.
     let here = fits_at version_one text _ start records c.args.self.now f in
     let at : length records + 1 ≡ c.saturating_add-at.result = let sum = c.saturating_add-at.ensures in let count = here.0 in let most = here.1 in omega arith in
-    subst (λ (n : ℕ). IsForeseen (λ bytes. IsFaultBehind version_one bytes start records) text (record { at = n; kind = c.in-Err.kind })) at (c.in-Err.ensures.next text start records f)
+    subst (λ (n : ℕ). (n ≡ length records + 1) × IsForeseen (λ bytes. IsFaultBehind version_one bytes start records) text (record { at = n; kind = c.in-Err.kind })) at (c.in-Err.ensures.next text start records f)

@@ -11,8 +11,8 @@ returns-in-Some-clause-next g c = λ text start records f.
     fits_goes_on version_one text _ _ start records c.args.self.now _ _ _ (omega arith) c.in-Ok-Some.field-0-is f follows c.in-Some.ensures.some c.add.ensures refl refl c.in-Ok-Some.ensures.record
 
 pub returns-in-None-clause-next : goal.returns-in-None-clause-next
-returns-in-None-clause-next g c = λ text start records f k _.
-    absurd (fits_has_room version_one text _ _ start _ records c.args.self.now _ _ (omega arith) c.in-Ok-Some.field-0-is f c.in-None.ensures.none c.in-Ok-Some.ensures.record k)
+returns-in-None-clause-next g c = λ text start records f.
+    (refl, λ k _. absurd (fits_has_room version_one text _ _ start _ records c.args.self.now _ _ (omega arith) c.in-Ok-Some.field-0-is f c.in-None.ensures.none c.in-Ok-Some.ensures.record k))
 
 pub returns-in-Ok-None-clause-next : goal.returns-in-Ok-None-clause-next
 returns-in-Ok-None-clause-next g c = λ text start records f k.
@@ -20,4 +20,4 @@ returns-in-Ok-None-clause-next g c = λ text start records f k.
 
 pub returns-in-Err-clause-next : goal.returns-in-Err-clause-next
 returns-in-Err-clause-next g c = λ text start records f.
-    fits_faults version_one text _ start _ records c.args.self.now _ refl f c.in-Err.ensures.record
+    (refl, fits_faults version_one text _ start _ records c.args.self.now _ refl f c.in-Err.ensures.record)

@@ -17,4 +17,4 @@ pub returns-in-Ok-None-clause-ok : goal.returns-in-Ok-None-clause-ok
 returns-in-Ok-None-clause-ok g c = gave_all version_one _ _ _ _ _ _ c.in-Ok-None.field-0-is (c.in-Ok-None.ensures.next _ _ _ c.loop-record.invariant.0)
 
 pub returns-in-Err-next_record-clause-fault : goal.returns-in-Err-next_record-clause-fault
-returns-in-Err-next_record-clause-fault g c = first_behind version_one _ _ _ _ (c.in-Err-next_record.ensures.next _ _ _ c.loop-record.invariant.0)
+returns-in-Err-next_record-clause-fault g c = first_behind version_one _ _ _ _ (c.in-Err-next_record.ensures.next _ _ _ c.loop-record.invariant.0).1

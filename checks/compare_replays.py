@@ -1,0 +1,486 @@
+#!/usr/bin/env python3
+"""Compares the program's replays with those of reference.py: status, line on standard error, replies and report.
+
+    checks/compare_replays.py PROGRAM [COUNT [FIRST]]
+
+Two runs of 100,000 requests come first, then replays at the limits and just past them, then COUNT random ones (40
+without it), made from the seeds FIRST (0 without it), FIRST + 1 and so on: the same seed gives the same replay. About
+a third of these have a fault. Each is run with both engines, and compared byte for byte. Exits with 1 where anything
+differs.
+"""
+import datetime
+import os
+import random
+import re
+import subprocess
+import sys
+import tempfile
+import urllib.parse
+
+# The folder stays as it is.
+sys.dont_write_bytecode = True
+import reference
+
+SECONDS = 120
+ENGINES = [["--engine", "plain"], []]
+OLD_REPLIES = b"old replies\n"
+START = 784111777
+
+FILES = [(b"a.txt", START, b"hi\n")]
+SNAPSHOT = b"haboob-snapshot 1\nfile 784111777 5 3\na.txt\nhi\n\nend 1\n"
+REQUEST = b"GET /a.txt HTTP/1.1\r\nHost: a\r\n\r\n"
+
+# A request takes 201 ticks and comes each 100: the rate moves up and down, and many are turned away.
+TIGHT = b"""[policy]
+window = 20
+every = 10
+rate = 3000000
+rate_min = 1000000
+rate_max = 9000000
+up = 100000
+down = 115
+target = 2000
+low = 80
+depth = 3
+"""
+
+FOLDERS = ["a", "b", "docs", "a b", "\u00e9", "%41", "a!b", "A", "~x", "..."]
+LAST_PARTS = [
+    "index.html", "index.html", "a.txt", "b.HTM", "c.css", "d.js", "e.json", "f.svg", "g.png", "h.jpg", "i.jPeG", "j.gif",
+    "k.", ".txt", "l", "m.tar.gz", "a", "docs", "n\nm.txt", "o?.txt", "p#", "q%2f.css", "\x01", "index.html.", "\U0001f42a.html",
+]
+METHODS = [b"GET"] * 30 + [b"HEAD"] * 8 + [b"POST", b"PUT", b"DELETE", b"CONNECT", b"OPTIONS", b"TRACE", b"PATCH", b"get", b"GET!", b"G@T"]
+VERSIONS = [b"HTTP/1.1"] * 100 + [b"HTTP/1.0"] * 20 + [b"HTTP/1.2", b"HTTP/2.0", b"http/1.1", b"HTTP/1.1 ", b""]
+ODD_TARGETS = [
+    b"/", b"*", b"//", b"/.", b"/..", b"/../x", b"/a/../../b", b"/a/%2e%2E/b", b"/%zz", b"/%", b"/%4", b"/%c3%28", b"/%c3%28/%zz",
+    b"/%00", b"/%00/../..", b"/../%00", b"/a%2fa.txt", b"http://h", b"HTTP://h/a", b"http:///a", b"http://?", b"http://h?x/y",
+    b"http://h%zz/a.txt", b"https://h/a", b"http:/a", b"/a#b", b"/a?b#c", b"/a?%zz", b"/\xc3\xa9", b"/\xff", b"a", b"", b"/a b",
+    b"/index.html", b"/%69ndex.html", b"/docs/", b"/docs", b"/docs/.", b"/%e2%82", b"/%ed%a0%80", b"/\x7f", b"?", b"/?/..",
+]
+HOST_LINES = [[b"Host: a"]] * 150 + [
+    [], [b"Host: a", b"Host: a"], [b"hOST:\t[::1]:80 "], [b"HOST:"], [b"Host: a b"], [b"Host: a/b"], [b"Host: \xc3\xa9"],
+    [b"Host: a@b"], [b"Host: %zz"],
+]
+CONNECTION_LINES = [[]] * 24 + [
+    [b"Connection: close"], [b"Connection: Keep-Alive"], [b"Connection: Keep-Alive"], [b"connection: x ,\tCLOSE\t ,"],
+    [b"Connection: keep-alive", b"Connection: x"], [b"Connection: keep-alive", b"Connection: close"], [b"Connection: closed"], [b"Connection:"],
+]
+LENGTH_LINES = [
+    [b"Content-Length: 65537"], [b"Content-Length: 065536"], [b"Content-Length: " + b"9" * 30], [b"Content-Length: 1", b"Content-Length: 1"],
+    [b"Content-Length: +1"], [b"Content-Length:"], [b"Content-Length: 1, 1"], [b"Content-Length: " + b"0" * 5000 + b"1"],
+    [b"Content-Length: 0x1"], [b"Content-Length: 1", b"content-length: x"], [b"Content-Length: " + b"9" * 5000],
+]
+ODD_LINES = [
+    b"X: \xff\x80\t!", b"X : a", b" folded", b"\tfolded: a", b"X: a\rb", b"X: a\r", b": a", b"X", b"X: \x00", b"X: \x7f", b"X:\x0b", b"X(Y: a",
+    b"!#$%&'*+-.^_`|~: ok", b"Range: bytes=0-1", b"Expect: 100-continue", b"if-none-match:", b"Transfer-Encoding: chunked",
+    b"transfer-encoding:", b"Content-Type: x", b"\xe9: a", b"X:: a",
+    b"If-Modified-Since: x", b"If-Modified-Since: Wednesday, 06-Nov-69 08:49:37 GMT", b"If-Modified-Since: Friday, 06-Nov-70 08:49:37 GMT",
+]
+EMPTY_LINES = [b""] * 20 + [b"\r\n", b"\n", b"\r\n\n", b"\n\n\r\n", b"\r", b" "]
+ODD_NUMBERS = [
+    b"0", b"00", b"01", b"1", b"-1", b"+1", b"", b"x", b"4095", b"4096", b"65536", b"65537", b"1025", b"16777217", b"253402300800",
+    b"4102444801", b"1000000000000000", b"1000000000000001", b"18446744073709551616", b"9" * 40, b"9" * 70, b"1 1", b"1 ", b" 1", b"1\r",
+]
+ODD_VALUES = [
+    "true", "1.0", '"1"', "[]", "[1]", "[[1]]", "[true]", "{}", "{x = 1}", "1979-05-27", "-1", "0", "1", "2", "01", "1__0",
+    "0x7fffffffffffffff", "9223372036854775807", "9223372036854775808", "-9223372036854775808", "-9223372036854775809", "",
+    "[1, 2, 3, 4]", "[0, 1, 3]", "[1, 2, 2]", "[16, 17, 1]", "[4096, 4097]", "[1, 9223372036854775807, 1]", "[-1, 1, 3]",
+]
+ODD_DOCUMENTS = [
+    "x = 1\n", "[tier9]\n", "policy = 1\n", "[[policy]]\ndepth = 1\n", "[policy.depth]\n", "[policy]\ndepth.x = 1\n", "floor = []\n",
+    "[floor\n", "[policy]\ndepth = 1\ndepth = 1\n", "\"policy.depth\" = 1\n", "[floor]\nfront_cuts = [{x = 1}]\n", "\u00e9 = 1\n",
+    "[costs]\nfile = 1 kib = 2\n",
+]
+
+
+def random_files(chance, start):
+    """Name, time and bytes of each file of a small snapshot."""
+    names = set()
+    for _ in range(chance.choice((0, 1, 3, 8, 8, 14, 14))):
+        parts = [chance.choice(FOLDERS) for _ in range(chance.choice((0, 0, 1, 1, 2, 3)))]
+        names.add("/".join(parts + [chance.choice(LAST_PARTS)]).encode())
+    names = sorted(name for name in names if not any(other.startswith(name + b"/") for other in names))
+    times = [start + shift for shift in (-3600, -2, -1, 0, 0, 1, 2)] + [0, reference.TIME_LIMIT]
+    sizes = (1023, 1024, 1025, 5000)
+    bodies = [b"", b"hi\n", b"\r\n\r\n", b"\nend 1\n", b"x" * chance.choice(sizes), chance.randbytes(chance.randrange(300))]
+    return [(name, max(0, chance.choice(times)), chance.choice(bodies)) for name in names]
+
+
+def escaped(chance, path):
+    """A path as it may stand in a target: what can't stand there is percent-encoded, and now and then another byte."""
+    def may_stand(byte):
+        return byte == ord("/") or (0x20 < byte < 0x7f and byte not in b"%?#" and chance.random() < 0.95)
+    return b"".join(bytes([byte]) if may_stand(byte) else chance.choice((b"%%%02x", b"%%%02X")) % byte for byte in path)
+
+
+def random_target(chance, names):
+    """A target, most often one of a file or a folder."""
+    if not names or chance.random() < 0.15:
+        return chance.choice(ODD_TARGETS)
+    path = chance.choice(names)
+    if chance.random() < 0.25:
+        path = path.rpartition(b"/")[0]
+    before = chance.choice([b"/"] * 20 + [b"//", b"/./", b"/x/../", b"http://h/", b"HTTP://h:80/", b"/x/%2e%2e/", b"/../", b""])
+    behind = chance.choice([b""] * 20 + [b"?q", b"?a/b?%", b"/", b"/", b"/.", b"/..", b"/x/..", b"#x", b"x", b"%2f", b"%00"])
+    return before + escaped(chance, path) + behind
+
+
+def random_date(chance, seconds):
+    """A date in one of the three formats, now and then with another byte."""
+    date = datetime.datetime(1970, 1, 1) + datetime.timedelta(seconds=seconds)
+    day, month = reference.DAYS[date.weekday()], reference.MONTHS[date.month - 1]
+    text = chance.choice((
+        f"{day[:3]}, {date:%d} {month} {date:%Y %H:%M:%S} GMT",
+        f"{day}, {date:%d}-{month}-{date:%y %H:%M:%S} GMT",
+        f"{day[:3]} {month} {date.day:2} {date:%H:%M:%S %Y}",
+        f"{day[:3]} {month} {date:%d %H:%M:%S %Y}",
+    )).encode()
+    return changed(chance, text) if chance.random() < 0.2 else text
+
+
+def changed(chance, text):
+    """A text with one byte changed, left out, doubled or put in, or cut."""
+    at = chance.randrange(len(text) + 1)
+    byte = chance.choice((text[at:at + 1], bytes([chance.randrange(256)]), chance.choice((b" ", b"\n", b"\r", b"0", b"9", b"1"))))
+    return chance.choice((text[:at] + byte + text[at + 1:], text[:at] + byte + text[at:], text[:at] + text[at + 1:], text[:at]))
+
+
+def random_lines(chance, times):
+    """The field lines of a head, in any order."""
+    lines = chance.choice(HOST_LINES) + chance.choice(CONNECTION_LINES)
+    if chance.random() < 0.04:
+        lines = lines + chance.choice(LENGTH_LINES)
+    if chance.random() < 0.3:
+        date = b"If-Modified-Since: " + random_date(chance, chance.choice(times))
+        lines = lines + chance.choice([[date]] * 8 + [[date, date], [date, b"If-None-Match: *"]])
+    if chance.random() < 0.1:
+        lines = lines + [chance.choice(ODD_LINES)]
+    if chance.random() < 0.02:
+        lines = lines + [b"X: 1"] * chance.randint(60, 64)
+    return chance.sample(lines, len(lines))
+
+
+def plain_request(chance, names):
+    """A request for a file, with nothing odd in it."""
+    target = b"/" + urllib.parse.quote(chance.choice(names or [b"a.txt"])).encode()
+    return b"%s %s HTTP/1.1\r\nHost: a\r\n\r\n" % (chance.choice((b"GET", b"GET", b"GET", b"HEAD")), target)
+
+
+def random_request(chance, names, times):
+    """A request, most often a good one."""
+    lines, body = random_lines(chance, times), b""
+    if chance.random() < 0.15:
+        body = bytes(chance.choices(b"ab\r\n", k=chance.choice((0, 1, 3, 20))))
+        length = len(body) + chance.choice((0, 0, 0, 0, 1, -1))
+        lines.append(b"Content-Length: %s%d" % (chance.choice((b"", b"", b"00")), max(0, length)))
+    target, version = random_target(chance, names), chance.choice(VERSIONS)
+    lines = [chance.choice(METHODS) + b" " + target + b" " + version] + lines
+    if chance.random() < 0.03:
+        size = sum(len(line) + 2 for line in lines) + 2
+        lines.append(b"X:" + b"x" * (chance.randint(8186, 8190) - size))
+    ends = chance.choice([[b"\r\n"]] * 20 + [[b"\n"], [b"\r\n", b"\n"]])
+    text = b"".join(line + chance.choice(ends) for line in lines + [b""])
+    return (changed(chance, text) if chance.random() < 0.03 else text) + body
+
+
+def random_text(chance, names, times, count):
+    """The text of a connection."""
+    parts = []
+    for _ in range(count):
+        parts.append(chance.choice(EMPTY_LINES))
+        kind = chance.random()
+        if kind < 0.015:
+            parts.append(bytes(chance.choices(b"\r\nGE /:\x00\xff", k=chance.choice((3, 30, 300)))))
+        elif kind < 0.025:
+            parts.append(b"GET /" + b"y" * chance.choice((8100, 8187, 8192, 20000)))
+        else:
+            parts.append(random_request(chance, names, times))
+    return b"".join(parts)
+
+
+def random_cut(chance, text):
+    """The pieces of a text."""
+    count = chance.choice((0, 1, 1, 2, 5, 20, len(text)))
+    places = {chance.randrange(len(text)) for _ in range(min(count, len(text), 200))}
+    places = sorted(places | {len(text), *range(0, len(text), reference.PIECE_LIMIT)})
+    return [text[begin:end] for begin, end in zip(places, places[1:])]
+
+
+def random_records(chance, names, times):
+    """The pieces and ends of a capture: tick, connection, and the bytes of a piece."""
+    busy = chance.random() < 0.3
+    waiting = {}
+    for conn in chance.sample([0, 1, 2, 3, 7, 100, 4094, 4095], chance.choice((1, 1, 2, 3, 4))):
+        texts = random_cut(chance, random_text(chance, names, times, chance.choice((1, 2, 3, 6, 12))))
+        plain = [plain_request(chance, names) for _ in range(chance.randrange(150))] if busy else []
+        waiting[conn] = plain + texts
+    order = [conn for conn, pieces in waiting.items() for _ in pieces]
+    chance.shuffle(order)
+    steps = chance.choice(([0, 1], [0, 0, 0, 50, 250], [100, 200, 300], [100, 200, 300], [0, 1000, 5000], [0, 999_999, 10**6, 10**7]))
+    tick, records = chance.choice((0, 0, 1, 10**6, 10**15 - 1000)), []
+    for conn in order:
+        tick = min(tick + chance.choice(steps), reference.TICK_LIMIT)
+        records.append((tick, conn, waiting[conn].pop(0)))
+        if not waiting[conn] and chance.random() < 0.3:
+            records.append((tick, conn))
+    if chance.random() < 0.2:
+        records.insert(0, (0, 5))
+    return records
+
+
+def odd_line(chance, line):
+    """A line with another number, or another byte."""
+    found = list(re.finditer(rb"[0-9]+", line))
+    if not found or chance.random() < 0.3:
+        return changed(chance, line)
+    number = chance.choice(found)
+    near = b"%d" % max(0, int(number[0]) + chance.choice((-1, 1)))
+    odd = near if chance.random() < 0.25 else chance.choice(ODD_NUMBERS)
+    return line[:number.start()] + odd + line[number.end():]
+
+
+def join(chance, parts, faulty):
+    """The text of all parts, of which every other one is a line; a faulty text is changed at one place."""
+    text = b"".join(parts)
+    if not faulty:
+        return text
+    kind = chance.random()
+    if kind < 0.2:
+        return text[:chance.randrange(len(text))]
+    if kind < 0.3:
+        return text + chance.choice((b"\n", b"x", b"stop 1\n"))
+    if kind < 0.45:
+        return changed(chance, text)
+    at = chance.randrange(0, len(parts), 2)
+    odd = odd_line(chance, parts[at]) if chance.random() < 0.6 else chance.choice((b"", parts[at] * 2, parts[at - 2]))
+    return b"".join(parts[:at] + [odd] + parts[at + 1:])
+
+
+def odd_files(chance, files):
+    """The files with one of them at another place or with another name."""
+    place = chance.randrange(len(files))
+    name, time, body = files[place]
+    names = (b"/" + name, name + b"/", b"a//b", b"../x", b"\xff" + name, name + b"\0", b"x" * 1025, b"", name[:-1], name + b"/x/y", b"\n")
+    inside, odd = (name + b"/x", time, body), (chance.choice(names), time, body)
+    instead = chance.choice(([odd], [odd, files[place]], [files[place], odd], [files[place], inside], [files[place], files[place]], files[:place]))
+    return files[:place] + instead + files[place + 1:]
+
+
+def snapshot_text(chance, files, faulty):
+    """The text of a snapshot."""
+    if faulty and files and chance.random() < 0.4:
+        files, faulty = odd_files(chance, files), False
+    parts = [b"haboob-snapshot 1\n", b""]
+    for name, time, body in files:
+        parts += [b"file %d %d %d\n" % (time, len(name), len(body)), name, b"\n", body, b"\n", b""]
+    return join(chance, parts + [b"end %d\n" % len(files)], faulty)
+
+
+def capture_text(chance, start, records, faulty):
+    """The text of a capture; in a faulty one a record may stand where it doesn't belong."""
+    parts = [b"haboob-capture 1 %d\n" % start, b""]
+    if faulty and records and chance.random() < 0.3:
+        records, faulty = records[:], False
+        place = chance.randrange(len(records))
+        tick, conn, *_ = records[place]
+        records.insert(place + 1, chance.choice(((tick, conn), (tick, *chance.choice(records)[1:]))))
+    for tick, conn, *body in records:
+        line = b"piece %d %d %d\n" % (tick, conn, len(body[0])) if body else b"end %d %d\n" % (tick, conn)
+        parts += [line, body[0] + b"\n" if body else b""]
+    return join(chance, parts + [b"stop %d\n" % len(records)], faulty)
+
+
+def random_rates(chance):
+    """The three rates, in their order."""
+    least, rate, most = sorted(chance.choice((1, 1000, 10**6, 3 * 10**6, 5 * 10**6, 10**7, 10**9)) for _ in range(3))
+    return {"rate": rate, "rate_min": least, "rate_max": most}
+
+
+def random_values(chance):
+    """A value for each key, in its range, small enough that much happens."""
+    policy = {
+        "window": chance.randint(1, 12), "every": chance.randint(1, 8), "smoothing": chance.choice((0, 500, 700, 999)), **random_rates(chance),
+        "up": chance.choice((0, 1, 1000, 10**6)), "down": chance.choice((101, 120, 200, 10_000)), "target": chance.choice((1, 300, 1000, 20_000)),
+        "low": chance.choice((0, 50, 90, 100)), "depth": chance.choice((1, 2, 5, 30)),
+    }
+    costs = {key: chance.choice((1, 50, 100, 200, chance.randint(1, 400))) for key in ("file", "error")} | {"kib": chance.choice((0, 0, 1, 10, 1000))}
+    floor = {"batch": chance.choice((1, 2, 3, 7, 1024, 65_536)), "cache": chance.choice((0, 47, 96, 1000, 10**6, 2**30))}
+    for side, steps in (("front", 3), ("back", 2)):
+        floor[side + "_cuts"] = [cut for cut in range(1, steps) if chance.random() < 0.7] + [steps]
+        floor[side + "_workers"] = [chance.choice((1, 2, 3, 16)) for _ in floor[side + "_cuts"]]
+        floor[side + "_capacities"] = [chance.choice((1, 2, 64, 4096)) for _ in floor[side + "_cuts"]]
+    page = {"retry_after": chance.choice((0, 1, 86_400))}
+    return {"floor": floor, "costs": costs, "policy": policy, "page": page}
+
+
+def bounds_of(table, key):
+    """The least and greatest value of a key; nothing where it is a list."""
+    return next(bounds for name, _, *bounds in reference.SETTINGS[table] if name == key)
+
+
+def random_settings(chance, faulty):
+    """A document of settings; a faulty one may have a value out of its shape or range, or another byte."""
+    tables = random_values(chance)
+    table = chance.choice(list(tables))
+    key = chance.choice(list(tables[table]))
+    bounds = bounds_of(table, key)
+    if bounds and not key.startswith("rate") and chance.random() < 0.3:
+        tables[table][key] = chance.choice(bounds)
+    if faulty and chance.random() < 0.7:
+        near = [str(bound + shift) for bound in bounds for shift in (-1, 0, 1)]
+        tables[table][key] = chance.choice(near or ODD_VALUES) if chance.random() < 0.6 else chance.choice(ODD_VALUES)
+    text = document_text(chance, tables)
+    if faulty and chance.random() < 0.2:
+        text = chance.choice(ODD_DOCUMENTS) + chance.choice(("", text))
+    # The program takes a little more than TOML 1.0 in inline tables, so those aren't changed.
+    if faulty and "{" not in text and chance.random() < 0.3:
+        return changed(chance, text.encode())
+    return text.encode()
+
+
+def document_text(chance, tables):
+    """A document of tables, in the ways in which TOML writes them; some keys are left out."""
+    front, back = "", ""
+    for table in chance.sample(list(tables), len(tables)):
+        keys = [key for key in tables[table] if chance.random() < 0.9 or key.startswith(("rate", "front", "back"))]
+        lines = ["%s = %s" % (key, value_text(chance, tables[table][key])) for key in keys]
+        if chance.random() < 0.7:
+            back += "[%s]\n%s\n" % (table, "\n".join(lines))
+        elif chance.random() < 0.5:
+            front += "".join("%s . %s # x\r\n" % (table, line) for line in lines)
+        else:
+            front += "%s = { %s }\n" % (table, ", ".join(lines))
+    return front + back
+
+
+def value_text(chance, value):
+    """An integer in one of the ways in which TOML writes it; another value as it is."""
+    if not isinstance(value, int) or chance.random() < 0.5:
+        return str(value)
+    return chance.choice(("+%d" % value, format(value, "#x"), format(value, "#o"), format(value, "#b"), format(value, "_")))
+
+
+def random_replay(seed):
+    """Snapshot, capture and settings that a seed gives."""
+    chance = random.Random(seed)
+    start = chance.choice((START, START, 0, reference.START_LIMIT, chance.randrange(reference.START_LIMIT)))
+    files = random_files(chance, start)
+    fault = chance.choice(("", "", "", "", "", "snapshot", "capture", "settings"))
+    times = [start, start + 1, chance.randrange(reference.START_LIMIT)] + [time for _, time, _ in files]
+    records = random_records(chance, [name for name, _, _ in files], times)
+    snapshot = snapshot_text(chance, files, fault == "snapshot")
+    return snapshot, capture_text(chance, start, records, fault == "capture"), random_settings(chance, fault == "settings")
+
+
+def limit_replays():
+    """Name, files, start, records and settings of replays at a limit, and just past it."""
+    records = [(0, 0, REQUEST)]
+    head = b"POST / HTTP/1.1\r\nHost: a\r\nContent-Length: %d\r\n\r\n"
+    costly = b"[costs]\nfile = 1000000\nkib = 1000000\n[policy]\nevery = 1\ntarget = 1000000000000\nlow = 100\nup = 1000000000\n"
+    for past in (0, 1):
+        yield "start", FILES, reference.START_LIMIT + past, records, None
+        yield "tick", FILES, START, [(reference.TICK_LIMIT + past, 0, REQUEST)], None
+        yield "connection", FILES, START, [(0, reference.CONNECTION_LIMIT + past, REQUEST)], None
+        yield "piece", FILES, START, [(0, 0, REQUEST * 2048 + b"G" * past)], None
+        yield "body", FILES, START, [(0, 0, head % (65_536 + past)), (1, 0, b"x" * 65_536), (2, 0, b"x" * past + REQUEST)], None
+        yield "time", [(b"a.txt", reference.TIME_LIMIT + past, b"")], START, records, None
+        yield "name", [(b"a.txt/" + b"x" * (reference.NAME_LIMIT - 6 + past), 0, b"")], START, records, None
+        yield "length", [(b"a.txt", 0, bytes(reference.FILE_LIMIT + past))], START, records * 2 + [(10**11, 0, REQUEST)], costly
+        yield "files", [(b"%05d" % number, 0, b"") for number in range(reference.FILES_LIMIT + past)], START, records, None
+        yield "settings", FILES, START, records, b"#" * (reference.SETTINGS_LIMIT + past)
+
+
+def hundred_thousand():
+    """A capture of 100,000 requests on 100 connections."""
+    pieces = b"".join(b"piece %d %d 32\n%s\n" % (100 * number, number % 100, REQUEST) for number in range(100_000))
+    return b"haboob-capture 1 %d\n%sstop 100000\n" % (START, pieces)
+
+
+def run_program(program, engine, snapshot, capture, settings):
+    """Status, line on standard error, replies and report of the program."""
+    with tempfile.TemporaryDirectory() as folder:
+        files = {"snapshot": snapshot, "capture": capture, "settings": settings, "replies": OLD_REPLIES}
+        words = [program, "replay"] + engine
+        for name, data in files.items():
+            with open(os.path.join(folder, name), "wb") as file:
+                file.write(data or b"")
+            if data is not None:
+                words += ["--" + name, name]
+        try:
+            child = subprocess.run(words, cwd=folder, stdin=subprocess.DEVNULL, capture_output=True, timeout=SECONDS)
+        except subprocess.TimeoutExpired:
+            return -1, b"it hangs", b"", b""
+        with open(os.path.join(folder, "replies"), "rb") as file:
+            return child.returncode, child.stderr, file.read(), child.stdout
+
+
+def difference(wanted, got):
+    """The first place where two texts differ, with what stands there, or None."""
+    for part, one, other in zip(("status", "line", "replies", "report"), wanted, got):
+        one, other = (text if isinstance(text, bytes) else b"%d" % text for text in (one, other))
+        if one != other:
+            at = len(os.path.commonprefix((one, other)))
+            around = slice(max(0, at - 40), at + 40)
+            return "%s, byte %d: wanted %r, got %r" % (part, at, one[around], other[around])
+    return None
+
+
+def compare(program, name, snapshot, capture, settings):
+    """What the reference answers, and how many engines answer otherwise, which is printed."""
+    status, line, replies, report = reference.replay(snapshot, capture, settings or b"")
+    wanted = status, line, OLD_REPLIES if replies is None else replies, report
+    wrong = 0
+    for engine in ENGINES:
+        found = difference(wanted, run_program(program, engine, snapshot, capture, settings))
+        if found:
+            wrong += 1
+            print("%s %s: WRONG: %s" % (name, " ".join(engine), found), flush=True)
+    return wanted, wrong
+
+
+def compare_large(program, name, settings):
+    """Compares a run of 100,000 requests, and prints what happens in it."""
+    (_, _, _, report), wrong = compare(program, name, SNAPSHOT, hundred_thousand(), settings)
+    if not wrong:
+        print("%-30s %s" % (name, ", ".join(re.findall(r"(?m)^(?:admitted|rejected|controls) \d+", report.decode()))), flush=True)
+    return wrong
+
+
+def compare_limits(program):
+    """Compares replays at and past the limits."""
+    count, wrong = 0, 0
+    for name, files, start, records, settings in limit_replays():
+        texts = snapshot_text(None, files, False), capture_text(None, start, records, False)
+        wrong += compare(program, "limit of " + name, *texts, settings)[1]
+        count += 1
+    print("%-30s %d replays" % ("limits", count), flush=True)
+    return count, wrong
+
+
+def compare_random(program, count, first):
+    """Compares random replays, and prints how many of them end with which status."""
+    ends, wrong = {}, 0
+    for seed in range(first, first + count):
+        wanted, differing = compare(program, "seed %d" % seed, *random_replay(seed))
+        ends[wanted[0]] = ends.get(wanted[0], 0) + 1
+        wrong += differing
+    text = ", ".join("%d with status %d" % (number, status) for status, number in sorted(ends.items()))
+    print("%-30s %s" % ("seeds %d to %d" % (first, first + count - 1), text))
+    return wrong
+
+
+def main():
+    if not 2 <= len(sys.argv) <= 4:
+        sys.exit(__doc__)
+    program = os.path.abspath(sys.argv[1])
+    count, first = (int(word) for word in (sys.argv[2:] + ["40", "0"][len(sys.argv) - 2:]))
+    wrong = compare_large(program, "hundred thousand requests", None)
+    wrong += compare_large(program, "hundred thousand, tight bucket", TIGHT)
+    limits, limits_wrong = compare_limits(program)
+    wrong += limits_wrong + compare_random(program, count, first)
+    print("%d replays, %d wrong" % ((2 + limits + count) * len(ENGINES), wrong))
+    return wrong != 0
+
+
+if __name__ == "__main__":
+    sys.exit(main())

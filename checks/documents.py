@@ -1,0 +1,89 @@
+#!/usr/bin/env python3
+"""Runs the commands that README.md and docs/FORMATS.md show, and compares what they print with what stands below them.
+
+usage: documents.py PROGRAM
+
+A command stands in an indented block behind `$ `, on one or more lines; the lines up to the next command are its output. A
+line `..` in it stands for any lines. The commands of a document run one after another in one folder, which has the folder
+`examples` and the program as `haboob`.
+"""
+import os
+import re
+import subprocess
+import sys
+import tempfile
+
+DOCUMENTS = ["README.md", os.path.join("docs", "FORMATS.md")]
+INDENT = "    "
+PROMPT = INDENT + "$ "
+SECONDS = 60
+
+
+def commands_of(text):
+    """The commands of a document, each with its output."""
+    commands = []
+    within = False
+    for line in text.split("\n"):
+        if line.startswith(PROMPT):
+            commands.append((line[len(PROMPT):], []))
+            within = True
+        elif within and line.startswith(INDENT):
+            command, output = commands[-1]
+            if command.endswith("\\"):
+                commands[-1] = (command + "\n" + line, output)
+            else:
+                output.append(line[len(INDENT):])
+        elif line:
+            within = False
+        elif within:
+            commands[-1][1].append("")
+    return [(command, "\n".join(output).strip("\n")) for command, output in commands]
+
+
+def is_shown(output, shown):
+    """Whether an output is the one that is shown."""
+    pattern = "\n".join(".*" if line == ".." else re.escape(line) for line in shown.split("\n"))
+    return re.fullmatch(pattern, output.replace("\r", "").strip("\n"), re.DOTALL) is not None
+
+
+def run(command, folder):
+    """What a command prints."""
+    words = dict(os.environ, PATH=folder + os.pathsep + os.environ["PATH"])
+    ran = subprocess.run(
+        ["bash", "-o", "pipefail", "-c", command], cwd=folder, env=words, timeout=SECONDS,
+        stdin=subprocess.DEVNULL, stdout=subprocess.PIPE, stderr=subprocess.STDOUT,
+    )
+    return ran.stdout.decode()
+
+
+def check(top, program, document):
+    """How many commands of a document there are, and how many print something else than it shows."""
+    with open(os.path.join(top, document)) as file:
+        commands = commands_of(file.read())
+    wrong = 0
+    with tempfile.TemporaryDirectory() as folder:
+        os.symlink(os.path.join(top, "examples"), os.path.join(folder, "examples"))
+        os.symlink(program, os.path.join(folder, "haboob"))
+        for command, shown in commands:
+            output = run(command, folder)
+            if not is_shown(output, shown):
+                wrong += 1
+                print("%s: WRONG: %s\n%s" % (document, command, output))
+    return len(commands), wrong
+
+
+def main():
+    if len(sys.argv) != 2:
+        sys.exit(__doc__)
+    top = os.path.dirname(os.path.dirname(os.path.abspath(__file__)))
+    program = os.path.abspath(sys.argv[1])
+    all_wrong = 0
+    for document in DOCUMENTS:
+        count, wrong = check(top, program, document)
+        print("%s: %d commands, %d wrong" % (document, count, wrong))
+        all_wrong += wrong + (count == 0)
+    sys.exit(all_wrong != 0)
+
+
+if __name__ == "__main__":
+    main()

@@ -1,0 +1,691 @@
+#!/usr/bin/env python3
+"""Replays a capture as docs/RULES.md and docs/FORMATS.md say, slowly and plainly, to compare the program with.
+
+    checks/reference.py [--replies FILE] SNAPSHOT CAPTURE [SETTINGS]
+
+It was written from the rules alone, and works on whole texts, without stages, threads, batches or a cache. Prints the
+report, and writes the replies to FILE. At a fault it prints the program's line on standard error, and exits with the
+program's status. Settings are read by Python's tomllib, which takes a little less than the program (TOML 1.0).
+"""
+import argparse
+import bisect
+import calendar
+import collections
+import datetime
+import email.utils
+import functools
+import itertools
+import re
+import sys
+import tomllib
+import urllib.parse
+
+# A Content-Length may have more digits than Python reads without being asked to.
+sys.set_int_max_str_digits(0)
+
+TEXT_LIMIT = 1_073_741_824
+LINE_LIMIT = 64
+TIME_LIMIT = 253_402_300_799
+START_LIMIT = 4_102_444_800
+TICK_LIMIT = 10**15
+CONNECTION_LIMIT = 4095
+PIECE_LIMIT = 65_536
+FILE_LIMIT = 16_777_216
+FILES_LIMIT = 65_536
+NAME_LIMIT = 1024
+MESSAGES_LIMIT = 1_048_576
+BLOCK_LIMIT = 8192
+FIELDS_LIMIT = 64
+BODY_LIMIT = 65_536
+SETTINGS_LIMIT = 65_536
+TICKS_IN_SECOND = 10**6
+UNITS_IN_TOKEN = 10**9
+
+REASONS = {
+    200: b"OK", 301: b"Moved Permanently", 304: b"Not Modified", 400: b"Bad Request", 404: b"Not Found",
+    405: b"Method Not Allowed", 413: b"Content Too Large", 501: b"Not Implemented", 503: b"Service Unavailable",
+}
+
+MEDIA_TYPES = {
+    b"html": b"text/html", b"htm": b"text/html", b"css": b"text/css", b"js": b"text/javascript", b"txt": b"text/plain",
+    b"json": b"application/json", b"svg": b"image/svg+xml", b"png": b"image/png", b"jpg": b"image/jpeg",
+    b"jpeg": b"image/jpeg", b"gif": b"image/gif",
+}
+
+# Each key with its default, and its least and greatest value where it is a single integer.
+SETTINGS = {
+    "floor": [
+        ("front_cuts", [1, 2, 3]), ("front_workers", [2, 2, 2]), ("front_capacities", [64, 64, 64]),
+        ("back_cuts", [1, 2]), ("back_workers", [2, 2]), ("back_capacities", [64, 64]),
+        ("batch", 1024, 1, 65_536), ("cache", 67_108_864, 0, 1_073_741_824),
+    ],
+    "costs": [("file", 200, 1, 10**6), ("kib", 10, 0, 10**6), ("error", 50, 1, 10**6)],
+    "policy": [
+        ("window", 100, 1, 4096), ("every", 100, 1, 4096), ("smoothing", 700, 0, 999),
+        ("rate", 1_000_000, 1, 10**9), ("rate_min", 50_000, 1, 10**9), ("rate_max", 5_000_000, 1, 10**9),
+        ("up", 2000, 0, 10**9), ("down", 120, 101, 10_000), ("target", 100_000, 1, 10**12),
+        ("low", 90, 0, 100), ("depth", 100, 1, 10**6),
+    ],
+    "page": [("retry_after", 1, 0, 86_400)],
+}
+
+TOKEN = rb"[!#$%&'*+\-.^_`|~0-9A-Za-z]+"
+REQUEST_LINE = re.compile(rb"(" + TOKEN + rb") ([^\x00-\x20\x7f]+) HTTP/1\.([01])\r?\n")
+FIELD_LINE = re.compile(rb"(" + TOKEN + rb"):([^\x00-\x08\x0a-\x1f\x7f]*)\r?\n")
+EMPTY_LINES = re.compile(rb"(?:\r?\n)*")
+BLOCK_END = re.compile(rb"\n\r?\n")
+OTHER_METHODS = (b"POST", b"PUT", b"DELETE", b"CONNECT", b"OPTIONS", b"TRACE")
+HOST = re.compile(rb"[A-Za-z0-9\-._~!$&'()*+,;=:\[\]%]*")
+DECIMAL = re.compile(rb"0|[1-9][0-9]*")
+BAD_ESCAPE = re.compile(rb"%(?![0-9A-Fa-f]{2})")
+
+DAYS = ["Monday", "Tuesday", "Wednesday", "Thursday", "Friday", "Saturday", "Sunday"]
+MONTHS = ["Jan", "Feb", "Mar", "Apr", "May", "Jun", "Jul", "Aug", "Sep", "Oct", "Nov", "Dec"]
+DATE_PARTS = {
+    "short": "(?P<day_name>%s)" % "|".join(name[:3] for name in DAYS),
+    "long": "(?P<day_name>%s)" % "|".join(DAYS),
+    "month": "(?P<month>%s)" % "|".join(MONTHS),
+    "time": r"(?P<hour>\d\d):(?P<minute>\d\d):(?P<second>\d\d)",
+}
+DATE_FORMATS = [
+    re.compile((text % DATE_PARTS).encode())
+    for text in (
+        r"%(short)s, (?P<day>\d\d) %(month)s (?P<year>\d{4}) %(time)s GMT",
+        r"%(long)s, (?P<day>\d\d)-%(month)s-(?P<year>\d\d) %(time)s GMT",
+        r"%(short)s %(month)s (?P<day>\d\d| \d) %(time)s (?P<year>\d{4})",
+    )
+]
+
+
+class Fault(Exception):
+    """What the program says on standard error, and its status (docs/FORMATS.md, Faults of the program)."""
+
+    def __init__(self, status, line):
+        super().__init__(line)
+        self.status = status
+        self.line = b"haboob: %s\n" % line.encode()
+
+
+class Refused(Exception):
+    """The first fault of a text, by its kind (docs/FORMATS.md)."""
+
+
+File = collections.namedtuple("File", "name time body")
+Piece = collections.namedtuple("Piece", "tick conn body")
+Bad = collections.namedtuple("Bad", "status")
+Request = collections.namedtuple("Request", "method target link modified_since length")
+Control = collections.namedtuple("Control", "instant percentile smoothed rate")
+
+
+class Text:
+    """A snapshot's or a capture's text, read from the front (docs/FORMATS.md, Formats)."""
+
+    def __init__(self, data):
+        self.data = data
+        self.at = 0
+        self.end = min(len(data), TEXT_LIMIT)
+        self.entry = 0
+
+    def need(self, condition):
+        """Refuses a text that ends too early (docs/FORMATS.md, Formats)."""
+        refuse_unless(condition, "TooLarge" if len(self.data) > self.end else "Cut")
+
+    def line(self, too_long):
+        """The bytes before the next LF (docs/FORMATS.md, Formats)."""
+        found = self.data.find(b"\n", self.at, min(self.at + LINE_LIMIT + 1, self.end))
+        refuse_unless(found >= 0 or self.end - self.at <= LINE_LIMIT, too_long)
+        self.need(found >= 0)
+        line, self.at = self.data[self.at:found], found + 1
+        return line
+
+    def owed(self, count):
+        """The bytes that a line tells of, and whether an LF stands behind them (docs/FORMATS.md, Formats)."""
+        self.need(self.at + count < self.end)
+        body, self.at = self.data[self.at:self.at + count], self.at + count + 1
+        return body, self.data[self.at - 1:self.at] == b"\n"
+
+    def finish(self, counts):
+        """The faults of a last line (docs/FORMATS.md, Snapshot and Capture)."""
+        refuse_unless(counts == [self.entry - 1], "Count")
+        refuse_unless(self.at == len(self.data), "Trailing")
+
+
+def refuse_unless(condition, kind):
+    """A rule of a text, and the fault where it is broken (docs/FORMATS.md, Formats)."""
+    if not condition:
+        raise Refused(kind)
+
+
+def numbers(line, count):
+    """The decimals behind a line's first word (docs/FORMATS.md, Formats)."""
+    fields = line.split(b" ")[1:]
+    refuse_unless(len(fields) == count and all(DECIMAL.fullmatch(field) for field in fields), "Number")
+    return [int(field) for field in fields]
+
+
+def is_utf8(data):
+    """Whether bytes are UTF-8 (RFC 3629)."""
+    try:
+        data.decode("utf-8")
+    except UnicodeDecodeError:
+        return False
+    return True
+
+
+def is_name(name):
+    """Whether a file may have the name (docs/FORMATS.md, Snapshot)."""
+    return is_utf8(name) and b"\0" not in name and not {b"", b".", b".."} & set(name.split(b"/"))
+
+
+def folders_of(name):
+    """The folders that a file lies in, without the root (docs/FORMATS.md, Snapshot)."""
+    return [name[:slash.start()] for slash in re.finditer(b"/", name)]
+
+
+def read_file(text, line, files):
+    """One file of a snapshot (docs/FORMATS.md, Snapshot)."""
+    time, name_length, length = numbers(line, 3)
+    refuse_unless(time <= TIME_LIMIT, "Number")
+    refuse_unless(length <= FILE_LIMIT and len(files) < FILES_LIMIT, "TooLarge")
+    refuse_unless(1 <= name_length <= NAME_LIMIT, "Name")
+    name, ended = text.owed(name_length)
+    refuse_unless(ended and is_name(name), "Name")
+    refuse_unless(next(reversed(files), b"") < name, "Order")
+    refuse_unless(not any(folder in files for folder in folders_of(name)), "Conflict")
+    body, ended = text.owed(length)
+    refuse_unless(ended, "Length")
+    files[name] = File(name, time, body)
+
+
+def read_files(text, files):
+    """The files of a snapshot, up to its end or first fault (docs/FORMATS.md, Snapshot)."""
+    refuse_unless(text.line("Header") == b"haboob-snapshot 1", "Header")
+    while True:
+        text.entry += 1
+        line = text.line("Kind")
+        if line.startswith(b"end "):
+            return text.finish(numbers(line, 1))
+        refuse_unless(line.startswith(b"file "), "Kind")
+        read_file(text, line, files)
+
+
+def read_snapshot(data):
+    """The files of a snapshot by their names (docs/FORMATS.md, Snapshot)."""
+    text, files = Text(data), {}
+    try:
+        read_files(text, files)
+    except Refused as kind:
+        raise Fault(4, "snapshot: entry %d: %s" % (text.entry, kind)) from None
+    return files
+
+
+def read_start(text):
+    """The first line of a capture (docs/FORMATS.md, Capture)."""
+    line = text.line("Header")
+    refuse_unless(line.startswith(b"haboob-capture 1 "), "Header")
+    _, start = numbers(line, 2)
+    refuse_unless(start <= START_LIMIT, "Header")
+    return start
+
+
+def read_record(text, line, last_tick, ended):
+    """A piece, or an end, of a capture: its tick, connection and bytes (docs/FORMATS.md, Capture)."""
+    tick, conn, *lengths = numbers(line, 3 if line.startswith(b"piece ") else 2)
+    refuse_unless(last_tick <= tick <= TICK_LIMIT, "Tick")
+    refuse_unless(conn <= CONNECTION_LIMIT, "Connection")
+    refuse_unless(conn not in ended, "Ended")
+    if not lengths:
+        ended.add(conn)
+        return tick, conn, b""
+    refuse_unless(1 <= lengths[0] <= PIECE_LIMIT, "Length")
+    body, whole = text.owed(lengths[0])
+    refuse_unless(whole, "Length")
+    return tick, conn, body
+
+
+def read_pieces(text, pieces):
+    """The pieces of a capture, up to its end or first fault (docs/FORMATS.md, Capture)."""
+    tick, ended = 0, set()
+    while True:
+        text.entry += 1
+        line = text.line("Kind")
+        if line.startswith(b"stop "):
+            return text.finish(numbers(line, 1))
+        refuse_unless(line.startswith((b"piece ", b"end ")), "Kind")
+        tick, conn, body = read_record(text, line, tick, ended)
+        pieces.append(Piece(tick, conn, body))
+
+
+def read_capture(data):
+    """The start of a capture, the pieces before its first fault, and that fault (docs/FORMATS.md, Capture)."""
+    text, start, pieces = Text(data), 0, []
+    try:
+        start = read_start(text)
+        read_pieces(text, pieces)
+    except Refused as kind:
+        return start, pieces, Fault(5, "capture: record %d: %s" % (text.entry, kind))
+    return start, pieces, None
+
+
+def date_seconds(text):
+    """The seconds since 1970 of a date in one of three formats, or None (RFC 9110, 5.6.7)."""
+    found = next(filter(None, (form.fullmatch(text) for form in DATE_FORMATS)), None)
+    if not found:
+        return None
+    part = {name: value.decode() for name, value in found.groupdict().items()}
+    year, day, hour, minute, second = (int(part[name]) for name in ("year", "day", "hour", "minute", "second"))
+    if len(part["year"]) == 2:
+        year += 2000 if year < 70 else 1900
+    try:
+        date = datetime.datetime(year, MONTHS.index(part["month"]) + 1, day, hour, minute, second)
+    except ValueError:
+        return None
+    right_day = DAYS[date.weekday()][:3] == part["day_name"][:3]
+    return calendar.timegm(date.timetuple()) if right_day and year >= 1970 else None
+
+
+def read_head(block):
+    """Method, target, minor version and fields of a head, or None (RFC 9112, 3 and 5; docs/RULES.md, Framing)."""
+    line = REQUEST_LINE.match(block)
+    if not line or not is_utf8(line[2]):
+        return None
+    fields, at = [], line.end()
+    while field := FIELD_LINE.match(block, at):
+        fields.append((field[1].lower(), field[2].strip(b" \t")))
+        at = field.end()
+    if block[at:] not in (b"\n", b"\r\n") or len(fields) > FIELDS_LIMIT:
+        return None
+    return line[1], line[2], int(line[3]), fields
+
+
+def values(fields, name):
+    """The values of all lines of a name (RFC 9110, 5.2)."""
+    return [value for field, value in fields if field == name]
+
+
+def head_fault(minor, fields):
+    """The status of the first fault of a head, or None (docs/RULES.md, Framing)."""
+    hosts = values(fields, b"host")
+    if len(hosts) > 1 or (minor == 1 and not hosts) or not all(HOST.fullmatch(host) for host in hosts):
+        return 400
+    if values(fields, b"transfer-encoding"):
+        return 501
+    lengths = values(fields, b"content-length")
+    if len(lengths) > 1 or not all(length.isdigit() for length in lengths):
+        return 400
+    return 413 if any(int(length) > BODY_LIMIT for length in lengths) else None
+
+
+def link_of(minor, fields):
+    """What the Connection field of the reply says: close, keep-alive or nothing (RFC 9112, 9.3)."""
+    options = b",".join(values(fields, b"connection")).split(b",")
+    options = [option.strip(b" \t").lower() for option in options]
+    if b"close" in options:
+        return b"close"
+    if minor == 1:
+        return None
+    return b"keep-alive" if b"keep-alive" in options else b"close"
+
+
+def modified_since_of(method, fields):
+    """The date that If-Modified-Since gives, where it counts (RFC 9110, 13.1.3)."""
+    dates = values(fields, b"if-modified-since")
+    if method not in (b"GET", b"HEAD") or len(dates) != 1 or values(fields, b"if-none-match"):
+        return None
+    return date_seconds(dates[0])
+
+
+def verdict(block):
+    """What a block asks for, or its fault (docs/RULES.md, Framing)."""
+    head = read_head(block)
+    if head is None:
+        return Bad(400)
+    method, target, minor, fields = head
+    status = head_fault(minor, fields)
+    if status:
+        return Bad(status)
+    length = sum(int(length) for length in values(fields, b"content-length"))
+    return Request(method, target, link_of(minor, fields), modified_since_of(method, fields), length)
+
+
+def messages_of(text):
+    """The messages of a connection's text, each with the place of its end (docs/RULES.md, Framing)."""
+    at, messages = 0, []
+    while True:
+        begin = EMPTY_LINES.match(text, at).end()
+        found = BLOCK_END.search(text, begin, begin + BLOCK_LIMIT)
+        if found:
+            message = verdict(text[begin:found.end()])
+            at = found.end() + (message.length if isinstance(message, Request) else 0)
+        else:
+            message = Bad(400)
+            at = begin + BLOCK_LIMIT
+        if at > len(text):
+            return messages
+        messages.append((at, message))
+        if isinstance(message, Bad) or message.link == b"close":
+            return messages
+
+
+def arrivals(pieces):
+    """Tick, connection and message of all messages in the order of their numbers (docs/RULES.md, Arrival)."""
+    of_connection = {}
+    for record, piece in enumerate(pieces):
+        of_connection.setdefault(piece.conn, []).append(record)
+    found = []
+    for records in of_connection.values():
+        ends = list(itertools.accumulate(len(pieces[record].body) for record in records))
+        for end, message in messages_of(b"".join(pieces[record].body for record in records)):
+            found.append((records[bisect.bisect_left(ends, end)], end, message))
+    found.sort(key=lambda arrival: arrival[:2])
+    return [(pieces[record].tick, pieces[record].conn, message) for record, _, message in found]
+
+
+def path_of(target):
+    """The path of a target, or None where it isn't allowed (docs/RULES.md, Methods and targets)."""
+    if b"#" in target:
+        return None
+    if target[:7].lower() == b"http://":
+        authority = re.match(rb"[^/?]*", target[7:])[0]
+        if not authority:
+            return None
+        target = target[7 + len(authority):]
+    elif not target.startswith(b"/"):
+        return None
+    path = target.partition(b"?")[0] or b"/"
+    return None if BAD_ESCAPE.search(path) else path
+
+
+def walk(segments):
+    """The segments that are left of a path, or the status of the first fault (RFC 3986, 5.2.4)."""
+    left = []
+    for segment in segments:
+        if not is_utf8(segment) or b"\0" in segment or b"/" in segment:
+            return 404
+        if segment == b".." and not left:
+            return 400
+        if segment == b"..":
+            left.pop()
+        elif segment not in (b"", b"."):
+            left.append(segment)
+    return left
+
+
+def resolve(files, folders, method, target):
+    """A status, with the file of a 200 or the location of a 301 (docs/RULES.md, Resolution)."""
+    if method not in (b"GET", b"HEAD"):
+        return (405 if method in OTHER_METHODS else 501), None
+    path = path_of(target)
+    if path is None:
+        return 400, None
+    segments = [urllib.parse.unquote_to_bytes(segment) for segment in path[1:].split(b"/")]
+    left = walk(segments)
+    if isinstance(left, int):
+        return left, None
+    name = b"/".join(left)
+    if segments[-1] in (b"", b".", b".."):
+        name = b"/".join(left + [b"index.html"])
+    elif name in folders:
+        return 301, b"".join(b"/" + urllib.parse.quote(segment, safe="").encode() for segment in left) + b"/"
+    return (200, files[name]) if name in files else (404, None)
+
+
+def answer_of(files, folders, request):
+    """What is answered to a request that is admitted (docs/RULES.md, Resolution; RFC 9110, 13.1.3)."""
+    status, what = resolve(files, folders, request.method, request.target)
+    if status == 200 and request.modified_since is not None and what.time <= request.modified_since:
+        return 304, what
+    return status, what
+
+
+def service(settings, method, status, what):
+    """The service time of a request in ticks (docs/RULES.md, Service times and admission)."""
+    if status not in (200, 304):
+        return settings["costs.error"]
+    if status == 304 or method == b"HEAD":
+        return settings["costs.file"]
+    return settings["costs.file"] + -(-len(what.body) * settings["costs.kib"] // 1024)
+
+
+def ranked(samples, percent):
+    """The sample at the nearest rank of some percent of the samples (docs/RULES.md, Service times and admission)."""
+    return sorted(samples)[-(-percent * len(samples) // 100) - 1]
+
+
+class Admission:
+    """Who is turned away, and when the rate changes (docs/RULES.md, Service times and admission)."""
+
+    def __init__(self, settings):
+        self.policy = {key: settings["policy." + key] for key, *_ in SETTINGS["policy"]}
+        self.credit = self.full = self.policy["depth"] * UNITS_IN_TOKEN
+        self.tick = 0
+        self.finish = 0
+        self.samples = []
+        self.controls = []
+
+    def accrued(self, begin, end):
+        """The units that the ticks from one to another add (docs/RULES.md, Service times and admission)."""
+        passed = bisect.bisect_right(self.controls, begin, key=lambda control: control.instant)
+        rate = self.controls[passed - 1].rate if passed else self.policy["rate"]
+        units = 0
+        while passed < len(self.controls) and self.controls[passed].instant < end:
+            units += (self.controls[passed].instant - begin) * rate
+            begin, rate = self.controls[passed].instant, self.controls[passed].rate
+            passed += 1
+        return units + (end - begin) * rate
+
+    def offer(self, tick, service_time):
+        """Whether a request is admitted (docs/RULES.md, Service times and admission)."""
+        self.credit = min(self.full, self.credit + self.accrued(self.tick, tick))
+        self.tick = tick
+        if self.credit < UNITS_IN_TOKEN:
+            return False
+        self.credit -= UNITS_IN_TOKEN
+        self.finish = max(tick, self.finish) + service_time
+        self.samples.append(self.finish - tick)
+        if len(self.samples) % self.policy["every"] == 0:
+            self.controls.append(self.next_control())
+        return True
+
+    def next_control(self):
+        """The control at the last finish (docs/RULES.md, Service times and admission)."""
+        policy = self.policy
+        before = self.controls[-1] if self.controls else Control(0, 0, 0, policy["rate"])
+        percentile = ranked(self.samples[-policy["window"]:], 90)
+        smoothed = (policy["smoothing"] * before.smoothed + (1000 - policy["smoothing"]) * percentile) // 1000
+        rate = before.rate
+        if smoothed > policy["target"]:
+            rate = max(policy["rate_min"], 100 * rate // policy["down"])
+        elif 100 * smoothed < policy["low"] * policy["target"]:
+            rate = min(policy["rate_max"], rate + policy["up"])
+        return Control(self.finish, percentile, smoothed, rate)
+
+    def shown_controls(self):
+        """The controls up to the last offered tick (docs/DECISIONS.md, Controls)."""
+        return [control for control in self.controls if control.instant <= self.tick]
+
+
+@functools.lru_cache
+def date_text(seconds):
+    """A date as IMF-fixdate (RFC 9110, 5.6.7)."""
+    return email.utils.formatdate(seconds, usegmt=True).encode()
+
+
+def media_type(name):
+    """The media type of a file (docs/FORMATS.md, Replies)."""
+    _, dot, extension = name.rpartition(b"/")[2].rpartition(b".")
+    return MEDIA_TYPES.get(extension.lower() if dot else b"", b"application/octet-stream")
+
+
+def reply_text(status, what, head, date, link, retry_after):
+    """A reply (docs/FORMATS.md, Replies)."""
+    media, body = b"text/plain", b"%d %s\n" % (status, REASONS[status])
+    if status == 200:
+        media, body = media_type(what.name), what.body
+    lines = [b"HTTP/1.1 %d %s" % (status, REASONS[status]), b"Date: " + date_text(date)]
+    if status != 304:
+        lines += [b"Content-Type: " + media, b"Content-Length: %d" % len(body)]
+    if status in (200, 304):
+        lines.append(b"Last-Modified: " + date_text(min(what.time, date)))
+    if status == 301:
+        lines.append(b"Location: " + what)
+    if status == 405:
+        lines.append(b"Allow: GET, HEAD")
+    if status == 503:
+        lines.append(b"Retry-After: %d" % retry_after)
+    if link:
+        lines.append(b"Connection: " + link)
+    text = b"\r\n".join(lines) + b"\r\n\r\n"
+    return text if head or status == 304 else text + body
+
+
+def answers(files, settings, start, arrived, admission):
+    """Status and reply of each message, in the order of their numbers (docs/RULES.md, Arrival and Replies)."""
+    folders = {folder for name in files for folder in folders_of(name)}
+    for tick, _, message in arrived:
+        if isinstance(message, Bad):
+            status, what, head, link = message.status, None, False, b"close"
+        else:
+            status, what = answer_of(files, folders, message)
+            head, link = message.method == b"HEAD", message.link
+            if not admission.offer(tick, service(settings, message.method, status, what)):
+                status = 503
+        date = start + tick // TICKS_IN_SECOND
+        yield status, reply_text(status, what, head, date, link, settings["page.retry_after"])
+
+
+def report_text(arrived, statuses, admission):
+    """The report of a run (docs/FORMATS.md, Report)."""
+    offered = [not isinstance(message, Bad) for _, _, message in arrived]
+    rejected = [number for number, status in enumerate(statuses) if status == 503]
+    samples, controls = admission.samples, admission.shown_controls()
+    lines = ["haboob-report 1", "messages %d" % len(arrived), "bypassed %d" % offered.count(False)]
+    lines += ["admitted %d" % len(samples), "rejected %d" % len(rejected)]
+    lines += ["status %d %d" % (status, statuses.count(status)) for status in REASONS]
+    lines += ["p%d %s" % (percent, ranked(samples, percent) if samples else "-") for percent in (50, 90, 99)]
+    lines += ["controls %d" % len(controls)]
+    lines += ["control %d %d %d %d %d" % (number, *control) for number, control in enumerate(controls, 1)]
+    lines += ["reject %d" % number for number in rejected]
+    return "".join(line + "\n" for line in lines + ["end"]).encode()
+
+
+def values_in(value, path=()):
+    """All values in a document with their paths, which hold no places of lists (docs/DECISIONS.md, Settings)."""
+    yield path, value
+    if isinstance(value, dict):
+        for key, item in value.items():
+            yield from values_in(item, path + (key,))
+    elif isinstance(value, list):
+        for item in value:
+            yield from values_in(item, path)
+
+
+def read_document(data):
+    """The tables of a document with known keys alone (docs/FORMATS.md, Settings; TOML 1.0)."""
+    refuse_unless(len(data) <= SETTINGS_LIMIT, "Text")
+    try:
+        document = tomllib.loads(data.decode())
+    except ValueError:
+        raise Refused("Text") from None
+    found = list(values_in(document))
+    refuse_unless(all(-2**63 <= value < 2**63 for _, value in found if type(value) is int), "Text")
+    known = {(), *((table,) for table in SETTINGS), *((table, key[0]) for table in SETTINGS for key in SETTINGS[table])}
+    refuse_unless(all(path in known for path, _ in found), "Unknown")
+    return document
+
+
+def checked_value(name, value, default, bounds):
+    """The value of a key that is of its shape and in its range (docs/FORMATS.md, Settings)."""
+    items = value if isinstance(value, list) else [value]
+    refuse_unless(type(value) is type(default) and all(type(item) is int for item in items), "Shape " + name)
+    refuse_unless(not bounds or bounds[0] <= value <= bounds[1], "Range " + name)
+    return value
+
+
+def is_floor(cuts, workers, capacities, steps):
+    """Whether the lists of a floor belong together (docs/FORMATS.md, Settings)."""
+    rising = all(before < after for before, after in zip([0] + cuts, cuts))
+    within = all(1 <= number <= 16 for number in workers) and all(1 <= number <= 4096 for number in capacities)
+    return rising and cuts[-1:] == [steps] and len(cuts) == len(workers) == len(capacities) and within
+
+
+def read_values(document):
+    """The value of each key that a document gives or leaves out (docs/FORMATS.md, Settings)."""
+    settings = {}
+    for table, keys in SETTINGS.items():
+        given = document.get(table, {})
+        refuse_unless(isinstance(given, dict), "Shape " + table)
+        for key, default, *bounds in keys:
+            name = table + "." + key
+            settings[name] = checked_value(name, given.get(key, default), default, bounds)
+    return settings
+
+
+def read_settings(data):
+    """The settings of a document (docs/FORMATS.md, Settings)."""
+    try:
+        settings = read_values(read_document(data))
+        for side, steps in (("front", 3), ("back", 2)):
+            lists = [settings["floor.%s_%s" % (side, part)] for part in ("cuts", "workers", "capacities")]
+            refuse_unless(is_floor(*lists, steps), "Range floor." + side)
+        in_order = settings["policy.rate_min"] <= settings["policy.rate"] <= settings["policy.rate_max"]
+        refuse_unless(in_order, "Range policy.rate")
+    except Refused as kind:
+        raise Fault(3, "settings: %s" % kind) from None
+    return settings
+
+
+def replies_text(arrived, replies, fault):
+    """The replies, with the last line where there is no fault (docs/FORMATS.md, Replies)."""
+    parts = [b"haboob-replies 1\n"]
+    for number, ((_, conn, _), reply) in enumerate(zip(arrived, replies)):
+        parts.append(b"reply %d %d %d\n%s\n" % (number, conn, len(reply), reply))
+    return b"".join(parts) + (b"" if fault else b"stop %d\n" % len(replies))
+
+
+def replay(snapshot, capture, settings=b""):
+    """Status, line of a fault, replies (None where they aren't opened) and report (docs/FORMATS.md)."""
+    replies = None
+    try:
+        settings = read_settings(settings)
+        replies = b""
+        files = read_snapshot(snapshot)
+        start, pieces, fault = read_capture(capture)
+        arrived = arrivals(pieces)
+        if len(arrived) > MESSAGES_LIMIT:
+            arrived, fault = arrived[:MESSAGES_LIMIT], Fault(5, "capture: message %d: TooMany" % MESSAGES_LIMIT)
+        admission = Admission(settings)
+        answered = list(answers(files, settings, start, arrived, admission))
+        replies = replies_text(arrived, [reply for _, reply in answered], fault)
+        if fault:
+            raise fault
+        return 0, b"", replies, report_text(arrived, [status for status, _ in answered], admission)
+    except Fault as fault:
+        return fault.status, fault.line, replies, b""
+
+
+def contents(name):
+    """The bytes of a file."""
+    with open(name, "rb") as file:
+        return file.read()
+
+
+def main():
+    parser = argparse.ArgumentParser(description=__doc__.split("\n", 1)[0])
+    parser.add_argument("--replies", help="the file that the replies are written to")
+    parser.add_argument("snapshot")
+    parser.add_argument("capture")
+    parser.add_argument("settings", nargs="?")
+    words = parser.parse_args()
+    settings = contents(words.settings) if words.settings is not None else b""
+    status, line, replies, report = replay(contents(words.snapshot), contents(words.capture), settings)
+    if words.replies is not None and replies is not None:
+        with open(words.replies, "wb") as file:
+            file.write(replies)
+    sys.stdout.buffer.write(report)
+    sys.stderr.buffer.write(line)
+    return status
+
+
+if __name__ == "__main__":
+    sys.exit(main())

@@ -1,0 +1,30 @@
+-- A capture has one answer.
+use Rattle.std.proofs.Common.{◌≡◌, ◌∙◌, ℕ, List, ◌++◌, Option, Some, None, true, false, is_some, refl, sym, ap}
+use Rattle.std.specs.Io.KnownBytes.{Appends}
+use Rattle.captures.specs.Captures.{version_one}
+use Rattle.captures.proofs.Agree.{one_list, plain_one}
+use Rattle.replay.specs.Counting.{rejected_of, summary_of}
+use Rattle.replay.specs.Laws.{OneAnswer}
+use Rattle.replay.specs.Offers.{handled}
+use Rattle.replay.specs.Replies.{replies_of, replies_text}
+use Rattle.replay.specs.declared.outcome.Outcome.{Outcome}
+use Rattle.replay.proofs.ArrivalLaws.{one_list_of_arrivals}
+
+-- known bytes grow by the same text in one way
+grows_once : (old new other : Option (List ℕ)) (xs ys : List ℕ) → is_some old ≡ true → xs ≡ ys → Appends old new xs → Appends old other ys → new ≡ other
+grows_once None new other xs ys known same h g = absurd (let never : false ≡ true = known in cc)
+grows_once (Some before) None other xs ys known same h g = absurd h
+grows_once (Some before) (Some x) None xs ys known same h g = absurd g
+grows_once (Some before) (Some x) (Some y) xs ys known same h g = ap Some (h ∙ (ap (λ w. before ++ w) same ∙ sym g))
+
+same_outcome : (a b : Outcome) → a.rejected ≡ b.rejected → a.summary ≡ b.summary → a ≡ b
+same_outcome a b rejected summary = rw (rejected, summary) refl
+
+pub one_answer : OneAnswer
+one_answer terms input old new other outcome another known a b =
+    let capture = one_list version_one input a.start b.start a.records b.records plain_one a.capture b.capture in
+    let arrivals : a.arrivals ≡ b.arrivals = one_list_of_arrivals b.records a.arrivals b.arrivals (rw (← capture.1) a.arrived) b.arrived in
+    let text = ap (λ start. replies_text (replies_of terms start (handled terms a.arrivals))) capture.0 ∙ ap (λ xs. replies_text (replies_of terms b.start (handled terms xs))) arrivals in (
+      grows_once old new other _ _ known text a.written b.written,
+      same_outcome outcome another (a.rejected ∙ (ap (λ xs. rejected_of (handled terms xs)) arrivals ∙ sym b.rejected)) (a.summary ∙ (ap (λ xs. summary_of terms xs) arrivals ∙ sym b.summary)),
+    )
