@@ -1,0 +1,98 @@
+#!/usr/bin/env python3
+"""Refuses each request of the program for memory in turn, and looks at what it says and writes then.
+
+usage: refuse_memory.py PROGRAM
+
+For N = 1, 2, .. the Nth request is refused, until a run makes fewer. Each such run says `haboob: memory`, with status 7, a
+front of the replies that the run has with ample memory, and no report; or it ends as with ample memory, where the program
+can do without. It needs a C compiler (CC, or cc) and the C library of GNU; without a compiler nothing is tried.
+"""
+import os
+import shutil
+import subprocess
+import sys
+import tempfile
+
+SECONDS = 20
+TOP = os.path.dirname(os.path.dirname(os.path.abspath(__file__)))
+SITE = os.path.join(TOP, "examples", "site.snapshot")
+BURST = os.path.join(TOP, "examples", "burst.capture")
+TIGHT = os.path.join(TOP, "examples", "tight.toml")
+FIRST_RUN = os.path.join(TOP, "crates", "haboob", "stdin")
+REPLAY = ["replay", "--snapshot", SITE, "--capture", BURST, "--replies", "replies"]
+
+# The words of each run, and its standard input.
+RUNS = [
+    ("the first run", [], FIRST_RUN),
+    ("a replay with a report", REPLAY + ["--settings", TIGHT], os.devnull),
+    ("a fault of the settings", REPLAY + ["--settings", SITE], os.devnull),
+    ("a fault of the capture", ["replay", "--snapshot", SITE, "--capture", SITE, "--replies", "replies"], os.devnull),
+    ("too few words", ["replay", "--snapshot", SITE], os.devnull),
+]
+
+
+class Ending:
+    """How a run ended: its status, its line, what it wrote to standard output and into the replies file."""
+
+    def __init__(self, ran, replies):
+        self.status, self.line, self.output, self.replies = ran.returncode, ran.stderr, ran.stdout, replies
+
+    def is_same(self, other):
+        return vars(self) == vars(other)
+
+    def is_want_of_memory(self, ample, has_words):
+        """Whether it says that memory was wanting, with a front of what was due."""
+        said = (self.status, self.line) == (7, b"haboob: memory\n")
+        whole = self.output == b"" if has_words else ample.output.startswith(self.output)
+        return said and whole and ample.replies.startswith(self.replies)
+
+
+def run(program, words, given, folder, refuser, number):
+    """How a run ends, and whether the request of this number was refused in it."""
+    replies = os.path.join(folder, "replies")
+    with open(replies, "wb"):
+        pass
+    reader, writer = os.pipe()
+    shim = dict(os.environ, LD_PRELOAD=refuser, REFUSE_AT=str(number), REFUSED=str(writer))
+    with open(given, "rb") as stdin:
+        ran = subprocess.run([program, *words], cwd=folder, stdin=stdin, capture_output=True, env=shim, pass_fds=[writer], timeout=SECONDS)
+    os.close(writer)
+    was_refused = os.read(reader, 1) == b"x"
+    os.close(reader)
+    with open(replies, "rb") as file:
+        return Ending(ran, file.read()), was_refused
+
+
+def sweep(program, title, words, given, folder, refuser):
+    """Refuses each request of a run in turn; how many of these runs ended otherwise than they may."""
+    ample, _ = run(program, words, given, folder, refuser, 0)
+    number, wrong = 0, 0
+    while True:
+        ending, was_refused = run(program, words, given, folder, refuser, number + 1)
+        if not was_refused:
+            break
+        number += 1
+        if not ending.is_same(ample) and not ending.is_want_of_memory(ample, bool(words)):
+            wrong += 1
+            print("WRONG: %s, request %d: %d %r" % (title, number, ending.status, ending.line))
+    print("%-26s status %d, %d requests refused, %d wrong" % (title, ample.status, number, wrong))
+    return wrong
+
+
+def main():
+    if len(sys.argv) != 2:
+        sys.exit(__doc__)
+    program = os.path.abspath(sys.argv[1])
+    compiler = shutil.which(os.environ.get("CC", "cc"))
+    if compiler is None:
+        print("no C compiler: nothing was tried")
+        return 0
+    with tempfile.TemporaryDirectory() as folder:
+        refuser = os.path.join(folder, "refuse_memory.so")
+        source = os.path.join(TOP, "checks", "refuse_memory.c")
+        subprocess.run([compiler, "-shared", "-fPIC", "-O1", "-o", refuser, source], check=True)
+        return int(sum(sweep(program, *it, folder, refuser) for it in RUNS) != 0)
+
+
+if __name__ == "__main__":
+    sys.exit(main())
