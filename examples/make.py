@@ -1,5 +1,5 @@
 #!/usr/bin/env python3
-"""Writes the example of README.md beside itself: a small site as a snapshot, and an afternoon's burst on it as a capture.
+"""Writes the example of README.md beside itself: a small site as a snapshot, and a burst of requests for it as a capture.
 
 Change the site or the traffic here to try something else, or write the two files from records of your own: their formats
 stand in docs/FORMATS.md.
@@ -35,7 +35,7 @@ def snapshot():
     return b"".join(parts) + b"end %d\n" % len(SITE)
 
 
-def quiet_minute():
+def quiet_visitor():
     """One visitor who looks around: each request, with the tick at which it comes."""
     return [
         (0, request("/")),
@@ -59,7 +59,7 @@ def burst():
 
 def capture():
     """The text of the capture: the quiet visitor on connection 0, whose last request names no host, then the burst."""
-    pieces = [(tick, 0, data) for tick, data in quiet_minute()] + list(burst())
+    pieces = [(tick, 0, data) for tick, data in quiet_visitor()] + list(burst())
     records = [b"piece %d %d %d\n%b\n" % (tick, connection, len(data), data) for tick, connection, data in pieces]
     records += [b"end %d %d\n" % (4000 * MILLISECOND, connection) for connection in range(1 + VISITORS)]
     return b"haboob-capture 1 %d\n" % START + b"".join(records) + b"stop %d\n" % len(records)
