@@ -1,8 +1,12 @@
 pub mod Decimals
 pub mod Entries
+pub mod FilesOrFault
 pub mod Inverse
 pub mod Locating
 pub mod Names
+pub mod NoFault
+pub mod OneList
+pub mod PartLemmas
 pub mod Pieces
 pub mod Segmenting
 pub mod Taking

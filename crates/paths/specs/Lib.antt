@@ -2,6 +2,7 @@ pub mod Above
 pub mod Devices
 pub mod Numbers
 pub mod Owed
+pub mod Parts
 pub mod Resolution
 pub mod SnapshotFaults
 pub mod Snapshots

@@ -90,6 +90,12 @@ pub record IsSnapshotText (bytes : List ℕ) (files : List File) : Type 0 where
   pub rules : IsSnapshot files
   pub size : length bytes ≤ longest_text
 
+-- a prefix of the bytes is the text of a snapshot of these files, and this rest is behind it
+pub record BeginsWithSnapshot (bytes : List ℕ) (files : List File) (rest : List ℕ) : Type 0 where
+  pub text : bytes ≡ snapshot_text files ++ rest
+  pub rules : IsSnapshot files
+  pub size : length (snapshot_text files) ≤ longest_text
+
 abbrev pub no_file : File
 no_file = record { name = []; mtime = 0; bytes = [] }
 

@@ -1,6 +1,7 @@
-ghost use Rattle.std.specs.Prelude.{◌≡◌, ◌<◌, ◌≤◌, ◌-◌, ◌^◌, ◌&&◌, ◌==◌, not, length, IfOk, IfSome, ◌≢◌};
+ghost use Rattle.std.specs.Prelude.{◌≡◌, ◌<◌, ◌≤◌, ◌-◌, ◌^◌, ◌&&◌, ◌==◌, not, length, IfOk, IfErr, IfSome, ◌≢◌};
 ghost use Rattle.std.specs.List.{list_all, list_any, slice_split};
 ghost use Rattle.paths.specs.Texts.{Gives};
+ghost use Rattle.paths.specs.Parts.{FailsWithin};
 ghost use Rattle.paths.specs.Snapshots.{slash, is_name, is_part, FitsName, Follows};
 ghost use Rattle.paths.specs.SnapshotFaults.{CountsKind, is_unforeseen_kind, header_at, name_at, body_at, file_at, announced, entry_at};
 
@@ -57,7 +58,12 @@ pub(crate) fn read_header<R: Read>(
 ) -> Result<(), SnapshotFaultKind>
     requires { input.old.1 < 2 ^ 64 - 1 }
     ensures line { Gives is_unforeseen_kind header_at input.old.0 left.old input.new.0 left.new result }
+    // Where a read failed, no whole line had been taken.
+    ensures part { FailsWithin SnapshotFaultKind.Read SnapshotFaultKind.Cut header_at
+        input.old.0 left.old input.new.0 left.new result }
     ensures count { CountsKind input.old.1 input.new.1 result }
+    // It takes no memory.
+    ensures memory { IfErr result (λ kind. kind ≢ SnapshotFaultKind.Memory) }
 {
     match read_line(input, left) {
         Ok(line) => {
@@ -82,6 +88,9 @@ fn read_name<R: Read>(
 ) -> Result<Bytes, SnapshotFaultKind>
     requires { input.old.1 < 2 ^ 64 - 1 }
     ensures name { Gives is_unforeseen_kind (name_at files.now len) input.old.0 left.old input.new.0 left.new result }
+    // Where a read failed, no whole name had been taken.
+    ensures part { FailsWithin SnapshotFaultKind.Read SnapshotFaultKind.Cut (name_at files.now len)
+        input.old.0 left.old input.new.0 left.new result }
     ensures fits { IfOk result (λ name. FitsName files.now len name) }
     ensures count { CountsKind input.old.1 input.new.1 result }
 {
@@ -108,6 +117,9 @@ fn read_body<R: Read>(
 ) -> Result<Bytes, SnapshotFaultKind>
     requires { input.old.1 < 2 ^ 64 - 1 }
     ensures bytes { Gives is_unforeseen_kind (body_at len) input.old.0 left.old input.new.0 left.new result }
+    // Where a read failed, no whole run had been taken.
+    ensures part { FailsWithin SnapshotFaultKind.Read SnapshotFaultKind.Cut (body_at len)
+        input.old.0 left.old input.new.0 left.new result }
     ensures length { IfOk result (λ bytes. length bytes ≡ len) }
     ensures count { CountsKind input.old.1 input.new.1 result }
 {
@@ -129,6 +141,9 @@ fn read_file<R: Read>(
 ) -> Result<File, SnapshotFaultKind>
     requires { input.old.1 < 2 ^ 64 - 1 }
     ensures file { Gives is_unforeseen_kind (file_at files.now line) input.old.0 left.old input.new.0 left.new result }
+    // Where a read failed, no whole file had been taken.
+    ensures part { FailsWithin SnapshotFaultKind.Read SnapshotFaultKind.Cut (file_at files.now line)
+        input.old.0 left.old input.new.0 left.new result }
     ensures fits { IfOk result (λ file. Follows files.now file) }
     ensures count { CountsKind input.old.1 input.new.1 result }
 {
@@ -160,6 +175,9 @@ fn read_announced<R: Read>(
 ) -> Result<Option<File>, SnapshotFaultKind>
     requires { input.old.1 < 2 ^ 64 - 1 }
     ensures entry { Gives is_unforeseen_kind (announced files.now heading) input.old.0 left.old input.new.0 left.new result }
+    // Where a read failed, no whole file had been taken.
+    ensures part { FailsWithin SnapshotFaultKind.Read SnapshotFaultKind.Cut (announced files.now heading)
+        input.old.0 left.old input.new.0 left.new result }
     ensures fits { IfOk result (λ entry. IfSome entry (λ file. Follows files.now file)) }
     ensures count { CountsKind input.old.1 input.new.1 result }
 {
@@ -187,6 +205,9 @@ pub(crate) fn read_entry<R: Read>(
 ) -> Result<Option<File>, SnapshotFaultKind>
     requires { input.old.1 < 2 ^ 64 - 1 }
     ensures entry { Gives is_unforeseen_kind (entry_at files.now) input.old.0 left.old input.new.0 left.new result }
+    // Where a read failed, no whole entry had been taken.
+    ensures part { FailsWithin SnapshotFaultKind.Read SnapshotFaultKind.Cut (entry_at files.now)
+        input.old.0 left.old input.new.0 left.new result }
     ensures fits { IfOk result (λ entry. IfSome entry (λ file. Follows files.now file)) }
     ensures count { CountsKind input.old.1 input.new.1 result }
 {

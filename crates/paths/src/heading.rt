@@ -1,6 +1,7 @@
-ghost use Rattle.std.specs.Prelude.{◌≡◌, ◌+◌, ◌-◌, ◌<◌, ◌≤◌, ◌^◌, length};
+ghost use Rattle.std.specs.Prelude.{◌≡◌, ◌+◌, ◌-◌, ◌<◌, ◌≤◌, ◌^◌, length, IfErr, ◌≢◌};
 ghost use Rattle.paths.specs.SnapshotFaults.{heading_of};
-ghost use Rattle.paths.specs.Texts.{Counts};
+ghost use Rattle.paths.specs.Texts.{Counts, line_at};
+ghost use Rattle.paths.specs.Parts.{FailsWithin};
 ghost use Rattle.paths.specs.Owed.{IsOwed, GivesLine};
 
 use crate::file::{FileLine, Heading};
@@ -35,7 +36,11 @@ fn owed(front: &[u8]) -> usize
 pub(crate) fn read_entry_line<R: Read>(input: &mut Input<R>, left: &mut usize) -> Result<Line, Stop>
     requires { input.old.1 < 2 ^ 64 - 1 }
     ensures line { GivesLine input.old.0 left.old input.new.0 left.new result }
+    // Where a read failed, no whole line had been taken.
+    ensures part { FailsWithin Stop.Read Stop.Cut line_at input.old.0 left.old input.new.0 left.new result }
     ensures count { Counts input.old.1 input.new.1 result }
+    // It takes no memory.
+    ensures memory { IfErr result (λ e. e ≢ Stop.Memory) }
 {
     let mut line = Line::new();
     while line.as_slice().len() < 65 {

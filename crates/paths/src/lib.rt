@@ -7,6 +7,7 @@ mod device;
 mod entry;
 mod file;
 mod heading;
+mod laws;
 mod numbers;
 mod outcome;
 mod output;
@@ -26,6 +27,10 @@ pub use asked::Asked;
 pub use bytes::Bytes;
 pub use device::{Failed, Input};
 pub use file::File;
+pub use laws::{
+    no_fault_of_a_prefix, no_fault_of_a_snapshot, one_first_fault, one_prefix, one_snapshot,
+    prefix_or_fault, snapshot_or_fault,
+};
 pub use numbers::{number, number_and_rest, three_numbers};
 pub use outcome::Outcome;
 pub use output::Output;

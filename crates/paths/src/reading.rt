@@ -1,5 +1,6 @@
-ghost use Rattle.std.specs.Prelude.{◌≡◌, ◌<◌, ◌-◌, ◌^◌, ◌++◌, IfOk, IfErr, false, true, Option, ℕ, List};
+ghost use Rattle.std.specs.Prelude.{◌≡◌, ◌<◌, ◌-◌, ◌^◌, ◌++◌, IfOk, IfErr, false, true, Option, ℕ, List, ◌≢◌};
 ghost use Rattle.std.specs.Option.{unwrap_or};
+ghost use Rattle.paths.specs.Parts.{NamesFailed, NamesLacking, FailsInSnapshot, FailsInText};
 ghost use Rattle.paths.specs.SnapshotFaults.{ReadsFront, IsFrontFault, IsFirstFault, ReadsWhole, IsForeseen, CountsFault};
 
 use crate::entry::{read_entry, read_header};
@@ -21,7 +22,13 @@ impl Snapshot {
         requires { input.old.1 < 2 ^ 64 - 1 }
         ensures ok { IfOk result (ReadsFront input.old.0 input.new.0) }
         ensures fault { IfErr result (IsForeseen IsFrontFault input.old.0) }
+        // Where a read failed, the fault names the entry of which a part had been taken.
+        ensures failed { IfErr result (NamesFailed FailsInSnapshot input.old.0 input.new.0) }
         ensures count { CountsFault input.old.1 input.new.1 result }
+        // Where memory ran out, the fault names an entry behind files that stand whole.
+        ensures lacking { IfErr result (NamesLacking input.old.0) }
+        // The first line takes no memory.
+        ensures memory { IfErr result (λ f. f.entry ≡ 0 → f.kind ≢ SnapshotFaultKind.Memory) }
     {
         let mut left = LONGEST_TEXT;
         match read_header(input, &mut left) {
@@ -52,7 +59,14 @@ impl Snapshot {
         requires { input.old.1 < 2 ^ 64 - 1 }
         ensures ok { IfOk result (ReadsWhole input.old.0 input.new.0) }
         ensures fault { IfErr result (IsForeseen IsFirstFault input.old.0) }
+        // Where a read failed, the fault names the entry of which a part had been taken, or the one behind the last
+        // line.
+        ensures failed { IfErr result (NamesFailed FailsInText input.old.0 input.new.0) }
         ensures count { CountsFault input.old.1 input.new.1 result }
+        // Where memory ran out, the fault names an entry behind files that stand whole.
+        ensures lacking { IfErr result (NamesLacking input.old.0) }
+        // The first line takes no memory.
+        ensures memory { IfErr result (λ f. f.entry ≡ 0 → f.kind ≢ SnapshotFaultKind.Memory) }
     {
         let files = match Snapshot::read_front(alloc, input) {
             Ok(files) => files,

@@ -2,7 +2,7 @@
 use crate::{Input, Snapshot, SnapshotFault, SnapshotFaultKind};
 use std::alloc::Global;
 use std::io;
-use std::io::Read;
+use std::io::{ErrorKind, Read};
 use std::test::Fail;
 
 mod devices;
@@ -14,57 +14,36 @@ mod texts;
 /// The snapshot without files.
 pub static EMPTY: &str = "haboob-snapshot 1\nend 0\n";
 
-/// A reader over memory that gives at most so many bytes a read, and fails at one of its reads.
+/// A reader over memory that gives at most so many bytes a read, fails at one of its reads, and counts them all. The
+/// failure is an interruption: what tries a read again does so at that kind of failure first.
 #[derive(Drop)]
 pub struct Flaky<'a> {
     bytes: &'a [u8],
     size: usize,
     /// How many reads are made before the one that fails.
     good: usize,
+    /// How many reads were made.
+    pub calls: usize,
 }
 
 impl<'a> Flaky<'a> {
     pub fn new(bytes: &'a [u8], size: usize, good: usize) -> Flaky<'a> {
-        Flaky { bytes, size, good }
+        Flaky {
+            bytes,
+            size,
+            good,
+            calls: 0,
+        }
     }
 }
 
 impl<'a> Read for Flaky<'a> {
     fn read(&mut self, room: &mut [u8]) -> io::Result<usize> {
-        if self.good == 0 {
-            return Err(io::Error::other("refused"));
+        self.calls = self.calls.wrapping_add(1);
+        if self.calls == self.good.wrapping_add(1) {
+            return Err(io::Error::from(ErrorKind::Interrupted));
         }
-        self.good -= 1;
         let count = room.len().min(self.size).min(self.bytes.len());
-        room[..count].copy_from_slice(&self.bytes[..count]);
-        self.bytes = &self.bytes[count..];
-        Ok(count)
-    }
-}
-
-/// A reader over memory that fails at its first read alone.
-#[derive(Drop)]
-pub struct Stumbling<'a> {
-    bytes: &'a [u8],
-    stumbled: bool,
-}
-
-impl<'a> Stumbling<'a> {
-    pub fn new(bytes: &'a [u8]) -> Stumbling<'a> {
-        Stumbling {
-            bytes,
-            stumbled: false,
-        }
-    }
-}
-
-impl<'a> Read for Stumbling<'a> {
-    fn read(&mut self, room: &mut [u8]) -> io::Result<usize> {
-        if !self.stumbled {
-            self.stumbled = true;
-            return Err(io::Error::other("interrupted"));
-        }
-        let count = room.len().min(self.bytes.len());
         room[..count].copy_from_slice(&self.bytes[..count]);
         self.bytes = &self.bytes[count..];
         Ok(count)

@@ -1,5 +1,6 @@
-ghost use Rattle.std.specs.Prelude.{◌≡◌, ℕ, ◌+◌, ◌-◌, ◌<◌, ◌≤◌, ◌==◌, ◌^◌, ◌++◌, [], ◌∷◌, length, nat_lt, IfOk};
+ghost use Rattle.std.specs.Prelude.{◌≡◌, ℕ, ◌+◌, ◌-◌, ◌<◌, ◌≤◌, ◌==◌, ◌^◌, ◌++◌, [], ◌∷◌, length, nat_lt, IfOk, IfErr, ◌≢◌};
 ghost use Rattle.std.specs.List.{before_first};
+ghost use Rattle.paths.specs.Parts.{FailsAtOnce, FailsWithin};
 ghost use Rattle.paths.specs.Texts.{Gives, Counts, TakesSome, Fills, is_unforeseen, byte_at, line_at, run_at};
 
 use crate::{Bytes, Failed, Input, Stop};
@@ -74,7 +75,11 @@ pub(crate) fn read_some_of<R: Read>(
     requires healthy { input.old.1 < 2 ^ 64 - 1 }
     requires room { 0 < length room.old }
     ensures some { TakesSome input.old.0 left.old input.new.0 left.new room.new result }
+    // A read that failed took nothing.
+    ensures part { FailsAtOnce Stop.Read input.old.0 left.old input.new.0 left.new result }
     ensures count { Counts input.old.1 input.new.1 result }
+    // It takes no memory.
+    ensures memory { IfErr result (λ e. e ≢ Stop.Memory) }
 {
     if *left == 0 {
         return Err(match input.read_byte() {
@@ -98,7 +103,11 @@ pub(crate) fn read_some_of<R: Read>(
 pub fn read_byte_of<R: Read>(input: &mut Input<R>, left: &mut usize) -> Result<u8, Stop>
     requires { input.old.1 < 2 ^ 64 - 1 }
     ensures byte { Gives is_unforeseen byte_at input.old.0 left.old input.new.0 left.new result }
+    // A read that failed took nothing.
+    ensures part { FailsAtOnce Stop.Read input.old.0 left.old input.new.0 left.new result }
     ensures count { Counts input.old.1 input.new.1 result }
+    // It takes no memory.
+    ensures memory { IfErr result (λ e. e ≢ Stop.Memory) }
 {
     let mut room = [0];
     match read_some_of(input, left, &mut room) {
@@ -111,7 +120,11 @@ pub fn read_byte_of<R: Read>(input: &mut Input<R>, left: &mut usize) -> Result<u
 pub fn read_line<R: Read>(input: &mut Input<R>, left: &mut usize) -> Result<Line, Stop>
     requires { input.old.1 < 2 ^ 64 - 1 }
     ensures line { Gives is_unforeseen line_at input.old.0 left.old input.new.0 left.new result }
+    // Where a read failed, no whole line had been taken.
+    ensures part { FailsWithin Stop.Read Stop.Cut line_at input.old.0 left.old input.new.0 left.new result }
     ensures count { Counts input.old.1 input.new.1 result }
+    // It takes no memory.
+    ensures memory { IfErr result (λ e. e ≢ Stop.Memory) }
 {
     let mut line = Line::new();
     for _ in 0..65usize {
@@ -128,7 +141,12 @@ pub fn read_line<R: Read>(input: &mut Input<R>, left: &mut usize) -> Result<Line
 fn fill<R: Read>(input: &mut Input<R>, left: &mut usize, room: &mut [u8]) -> Result<(), Stop>
     requires { input.old.1 < 2 ^ 64 - 1 }
     ensures run { Fills input.old.0 left.old input.new.0 left.new room.new result }
+    // Where a read failed, no whole run had been taken.
+    ensures part { FailsWithin Stop.Read Stop.Cut (run_at (length room.new))
+        input.old.0 left.old input.new.0 left.new result }
     ensures count { Counts input.old.1 input.new.1 result }
+    // It takes no memory.
+    ensures memory { IfErr result (λ e. e ≢ Stop.Memory) }
 {
     let mut filled = 0;
     while filled < room.len() {
@@ -149,6 +167,8 @@ pub fn read_run<R: Read>(
 ) -> Result<Bytes, Stop>
     requires { input.old.1 < 2 ^ 64 - 1 }
     ensures run { Gives is_unforeseen (run_at count) input.old.0 left.old input.new.0 left.new result }
+    // Where a read failed, no whole run had been taken.
+    ensures part { FailsWithin Stop.Read Stop.Cut (run_at count) input.old.0 left.old input.new.0 left.new result }
     ensures length { IfOk result (λ run. length run ≡ count) }
     ensures count { Counts input.old.1 input.new.1 result }
 {

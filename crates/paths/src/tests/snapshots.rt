@@ -154,13 +154,14 @@ fn front_leaves_the_rest(rt: HostRuntime) -> Result<(), Fail> {
     Ok(())
 }
 
-/// Whatever read fails, the fault names the entry that was being read, and the count is one.
+/// Whatever read fails, the fault names the entry that was being read, the count is one, and nothing more is read.
 #[test]
 fn each_read_failing(rt: HostRuntime) {
     let text = ONE.as_bytes();
     let mut last = 0;
     for good in 0..1000 {
-        let mut input = Input::new(Flaky::new(text, 3, good));
+        let mut device = Flaky::new(text, 3, good);
+        let mut input = Input::new(&mut device);
         match Snapshot::read(rt.alloc(), &mut input) {
             Ok(files) => {
                 assert_eq!(rt; (files.len(), input.failures(), last), (1, 0, 2));
@@ -168,12 +169,32 @@ fn each_read_failing(rt: HostRuntime) {
             }
             Err(found) => {
                 assert_eq!(rt; (found.kind, input.failures()), (Kind::Read, 1));
+                assert_eq!(rt; device.calls, good.wrapping_add(1));
                 assert!(rt; found.entry == last || found.entry == last.wrapping_add(1));
                 last = found.entry;
             }
         }
     }
     assert!(rt; false, "no run met all its reads");
+}
+
+/// The longest name, of 1,024 bytes, and the largest file, of 16,777,216.
+#[test]
+fn longest_name_and_largest_file(rt: HostRuntime) -> Result<(), Fail> {
+    let mut text = Vec::new(rt.alloc());
+    text.extend_from_slice("haboob-snapshot 1\nfile 253402300799 1024 16777216\n".as_bytes())?;
+    text.resize(50 + 1024, b'n')?;
+    text.push(b'\n')?;
+    text.resize(1075 + 16_777_216, b'b')?;
+    text.extend_from_slice(b"\nend 1\n")?;
+    let files = snapshot(rt.alloc(), &text)?;
+    assert!(rt; files.len() == 1);
+    assert_eq!(rt; files.mtime(0), 253_402_300_799);
+    assert_eq!(rt;
+        (files.name(0), files.bytes(0)),
+        (&text[50..1074], &text[1075..16_778_291])
+    );
+    Ok(())
 }
 
 /// The first fault of a text of 65,536 files that goes on so.

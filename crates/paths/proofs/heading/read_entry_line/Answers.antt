@@ -3,6 +3,7 @@ use Rattle.std.proofs.lemmas.List.{take-append-le}
 use Rattle.paths.proofs.Taking.{line_err, line_too_long}
 use Rattle.paths.proofs.Pieces.{no_more, piece_more, piece_ends, piece_none}
 use Rattle.paths.proofs.heading.read_entry_line.Goals as goal
+use Rattle.paths.proofs.PartLemmas.{line_fails}
 
 pub returns-then-push_to_feed-clause-line : goal.returns-then-push_to_feed-clause-line
 returns-then-push_to_feed-clause-line g c =
@@ -37,3 +38,7 @@ returns-in-Err-clause-line g c = line_err _ _ _ _ _ _ c.loop-line.invariant.0 (o
 
 pub returns-clause-line : goal.returns-clause-line
 returns-clause-line g c = λ k _. line_too_long _ _ _ _ _ c.loop-line.invariant.0 (omega (arith, ap length c.as_slice.ensures, c.loop-line-test.false, c.loop-line.invariant.1)) k
+
+pub returns-in-Err-clause-part : goal.returns-in-Err-clause-part
+returns-in-Err-clause-part g c = λ failed k.
+    line_fails _ _ _ _ _ _ _ c.loop-line.invariant.0 (omega (arith, ap length c.as_slice.ensures, c.loop-line-test.true)) (c.in-Err.ensures.part failed) k

@@ -3,6 +3,7 @@ use Rattle.std.proofs.lemmas.Bool.{ne_eqb}
 use Rattle.std.proofs.lemmas.List.{length_push}
 use Rattle.paths.proofs.Taking.{line_ok, line_err, line_more, line_too_long}
 use Rattle.paths.proofs.text.read_line.Goals as goal
+use Rattle.paths.proofs.PartLemmas.{line_fails}
 
 pub returns-in-Ok-eq10-clause-line : goal.returns-in-Ok-eq10-clause-line
 returns-in-Ok-eq10-clause-line g c = line_ok _ _ _ _ _ _ _ _ c.loop.invariant.0 (omega arith) c.in-Ok-eq10.field-0-test c.in-Ok-eq10.ensures.byte
@@ -19,3 +20,6 @@ loop-preserved g c = (
 
 pub returns-clause-line : goal.returns-clause-line
 returns-clause-line g c = λ k _. line_too_long _ _ _ _ _ c.loop.invariant.0 (omega arith) k
+
+pub returns-in-Err-clause-part : goal.returns-in-Err-clause-part
+returns-in-Err-clause-part g c = λ failed k. line_fails _ _ _ _ _ _ _ c.loop.invariant.0 (omega arith) (c.in-Err.ensures.part failed) k

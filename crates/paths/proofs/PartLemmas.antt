@@ -1,0 +1,273 @@
+-- What was taken of a text when a read failed.
+use Rattle.std.proofs.Common.{◌≡◌, ℕ, ◌+◌, ◌-◌, ◌<◌, ◌≤◌, ◌==◌, ◌||◌, ◌⊎◌, inl, inr, not, cond, nat_lt, nat_le, Bool, true, false, List, [], ◌∷◌, ◌++◌, length, take, drop, Option, Some, None, Result, Ok, Err, refl, sym, ap, ◌∙◌, subst, arith, codes, nat_eq, is_some, unwrap_or}
+use Rattle.std.specs.List.{list_all, list_any, prefix_len, starts_with}
+use Rattle.std.proofs.lemmas.Bool.{eqb-false, ne_eqb}
+use Rattle.std.proofs.lemmas.Bool.Decides.{nat_tests}
+use Rattle.std.proofs.lemmas.List.{append_assoc, append-nil, length-append, length-take, get_or-take}
+use Rattle.std.proofs.lemmas.List.Sums.{prefix_len-le-length, prefix_len_passes, prefix_len_is}
+use Rattle.paths.specs.declared.stop.Stop.{Stop}
+use Rattle.paths.specs.declared.stop.Stop.TheVariants as stops
+use Rattle.paths.specs.declared.file.File.{File}
+use Rattle.paths.specs.declared.file.FileLine.{FileLine}
+use Rattle.paths.specs.declared.file.Heading.{Heading}
+use Rattle.paths.specs.declared.snapshot_fault.SnapshotFaultKind.{SnapshotFaultKind}
+use Rattle.paths.specs.declared.snapshot_fault.SnapshotFaultKind.TheVariants.{Cut, Read, Number, Kind}
+use Rattle.paths.specs.Numbers.{number_of, three_numbers}
+use Rattle.paths.specs.Texts.{Ahead, ahead_of, byte_at, run_at, line_at, line_front, front, ended}
+use Rattle.paths.specs.Snapshots.{feed, text_before_end, longest_text, latest_time, most_bytes, longest_name, most_files, is_name, comes_before, lies_in, IsSnapshot}
+use Rattle.paths.specs.SnapshotFaults.{kind_of, named, ◌>>=◌, file_heading, end_heading, heading_of, name_at, body_at, file_at, announced, entry_at}
+use Rattle.paths.specs.Parts.{TookPart, FailsInSnapshot, NamesBehind}
+use Rattle.paths.proofs.Taking.{Takes, TakesLine, line_whole, line_ends, ended_past}
+use Rattle.paths.proofs.Inverse.{unless_ok, ok_is, line_inverse, run_inverse, name_inverse}
+use Rattle.paths.proofs.NoFault.{bind_is, named_is, pass, neither, byte_again, run_again}
+use Rattle.paths.proofs.FilesOrFault.{name_fits}
+
+-- ---- a part behind what was taken
+
+-- a read failed behind what was taken, and took nothing
+pub none_behind : (Q : List ℕ → Type 0) (o n m : Option (List ℕ)) (l nl ml : ℕ) (taken : List ℕ) → Takes o l n nl taken → (is_some o ≡ true → Q taken)
+    → (is_some n ≡ true → TookPart (λ part. part ≡ []) n nl m ml) → is_some o ≡ true → TookPart Q o l m ml
+none_behind Q o n m l nl ml taken t q h k =
+    let none = h (t.known k) in
+    let same : none.part ≡ [] = none.holds in
+    record {
+      part = taken;
+      bytes = t.bytes k ∙ ap (λ v. taken ++ v) (none.bytes ∙ ap (λ v. v ++ unwrap_or m []) same);
+      count = omega (arith, t.count k, none.count, ap length same);
+      known = none.known;
+      holds = q k;
+    }
+
+-- it took a part
+pub part_behind : (P Q : List ℕ → Type 0) (o n m : Option (List ℕ)) (l nl ml : ℕ) (taken : List ℕ) → Takes o l n nl taken
+    → ((t : List ℕ) → l ≡ length taken + nl → P t → Q (taken ++ t))
+    → (is_some n ≡ true → TookPart P n nl m ml) → is_some o ≡ true → TookPart Q o l m ml
+part_behind P Q o n m l nl ml taken t q h k =
+    let more = h (t.known k) in
+    record {
+      part = taken ++ more.part;
+      bytes = t.bytes k ∙ (ap (λ v. taken ++ v) more.bytes ∙ sym (append_assoc taken more.part (unwrap_or m [])));
+      count = omega (arith, t.count k, more.count, length-append taken more.part);
+      known = more.known;
+      holds = q more.part (t.count k) more.holds;
+    }
+
+-- the same part, of which something else holds
+pub part_is : (P Q : List ℕ → Type 0) (o n : Option (List ℕ)) (l nl : ℕ) → ((t : List ℕ) → P t → Q t) → TookPart P o l n nl → TookPart Q o l n nl
+part_is P Q o n l nl q h = record { part = h.part; bytes = h.bytes; count = h.count; known = h.known; holds = q h.part h.holds }
+
+-- ---- parts that are cut
+
+ended_nil : (l : ℕ) → ended (record { bytes = []; left = l }) ≡ stops.Cut
+ended_nil l = let none : nat_lt l 0 ≡ false = grind (arith, nat_tests) in ap (λ b. cond b stops.TooLarge stops.Cut) none
+
+pub no_byte : (l : ℕ) → byte_at (record { bytes = []; left = l }) ≡ Err stops.Cut
+no_byte l =
+    let none : nat_lt 0 (length (take l [])) ≡ false = let s = length-take {A = ℕ} l [] in grind (arith, nat_tests) in
+    pass_err (nat_lt 0 (length (take l []))) _ _ none ∙ ap (λ (e : Stop). let r : Result (ℕ × Ahead) Stop = Err e in r) (ended_nil l)
+  where
+    pass_err : (b : Bool) (x : ℕ × Ahead) (e : Stop) → b ≡ false → cond b (Ok x) (Err e) ≡ Err e
+    pass_err true x e h = absurd cc
+    pass_err false x e h = refl
+
+line_cut : (line : List ℕ) (l nl : ℕ) → prefix_len (λ b. not (b == 10)) line ≡ length line → length line ≤ 64 → l ≡ length line + nl
+    → line_at (record { bytes = line; left = l }) ≡ Err stops.Cut
+line_cut line l nl feeds short left =
+    let none : length (take nl []) ≡ 0 = omega (arith, length-take {A = ℕ} nl []) in
+    ap (λ v. line_at (record { bytes = v; left = l })) (sym (append-nil line))
+    ∙ (line_ends line [] l nl feeds short left none
+    ∙ ap (λ (s : Stop). let r : Result (List ℕ × Ahead) Stop = Err s in r) (ended_past line [] l nl left ∙ ended_nil nl))
+
+-- a read failed in a line
+pub line_fails : (o n m : Option (List ℕ)) (l nl ml : ℕ) (line : List ℕ) → TakesLine o l n nl line → length line ≤ 64
+    → (is_some n ≡ true → TookPart (λ part. part ≡ []) n nl m ml) → is_some o ≡ true
+    → TookPart (λ part. line_at (record { bytes = part; left = l }) ≡ Err stops.Cut) o l m ml
+line_fails o n m l nl ml line t short h k =
+    none_behind (λ part. line_at (record { bytes = part; left = l }) ≡ Err stops.Cut) o n m l nl ml line t.takes
+    (λ known. line_cut line l nl t.feeds short (t.takes.count known)) h k
+
+-- ---- what was read is read again before any text
+
+line_good : (a b : Ahead) (line : List ℕ) → line_at a ≡ Ok (line, b) → (prefix_len (λ c. not (c == 10)) line ≡ length line) × (length line ≤ 64)
+line_good a b line h =
+    let full = unless_ok (length (line_front a) == 65) _ _ _ h in
+    let all = unless_ok (length (line_front a) == length (front a)) _ _ _ full.1 in
+    let F = take 65 (front a) in
+    let p = prefix_len (λ c. not (c == 10)) F in
+    let below : p ≤ length F = prefix_len-le-length (λ c. not (c == 10)) F in
+    let size : length (take p F) ≡ p = omega (arith, length-take p F) in
+    let feeds : prefix_len (λ c. not (c == 10)) (take p F) ≡ length (take p F) =
+    prefix_len_is (λ c. not (c == 10)) (take p F) (length (take p F)) 0 (omega arith)
+    (λ i under. ap (λ c. not (c == 10)) (get_or-take p F i 0 (omega arith)) ∙ prefix_len_passes (λ c. not (c == 10)) F i 0 (omega arith))
+    (λ past_end. absurd (omega arith)) in
+    let most : length F ≤ 65 = omega (arith, length-take 65 (front a)) in
+    let not_full : length (line_front a) ≡ 65 → ⊥ = λ e. eqb-false (length (line_front a)) 65 full.0 e in
+    let short : length (take p F) ≤ 64 = omega (arith, not_full) in
+    subst (λ (v : List ℕ). (prefix_len (λ c. not (c == 10)) v ≡ length v) × (length v ≤ 64)) (ap (λ (q : List ℕ × Ahead). q.0) (ok_is {A = List ℕ × Ahead} {E = Stop} _ _ _ _ refl refl all.1)) (feeds, short)
+
+pub line_alone : (a b : Ahead) (line : List ℕ) → line_at a ≡ Ok (line, b) → (t : List ℕ)
+    → line_at (record { bytes = (line ++ feed ∷ []) ++ t; left = a.left }) ≡ Ok (line, record { bytes = t; left = b.left })
+line_alone a b line h t =
+    let took = line_inverse a b line h in
+    let good = line_good a b line h in
+    ap (λ w. line_at (record { bytes = w; left = a.left })) (append_assoc line (feed ∷ []) t)
+    ∙ line_whole line t a.left b.left good.0 good.1 (let e = took.left in omega (arith, e, length-append line (feed ∷ [])))
+
+pub run_alone : (n l nl : ℕ) (run : List ℕ) → length run ≡ n → l ≡ n + nl → run_at n (record { bytes = run; left = l }) ≡ Ok (run, record { bytes = []; left = nl })
+run_alone n l nl run is left = ap (λ w. run_at n (record { bytes = w; left = l })) (sym (append-nil run)) ∙ run_again n run [] l nl is left
+
+name_alone : (files : List File) (n : ℕ) (a b : Ahead) (name : List ℕ) → name_at files n a ≡ Ok (name, b) → (t : List ℕ)
+    → name_at files n (record { bytes = (name ++ feed ∷ []) ++ t; left = a.left }) ≡ Ok (name, record { bytes = t; left = b.left })
+name_alone files n a b name h t =
+    let took = name_inverse files n a b name h in
+    let fits = name_fits files n a b name h in
+    let mid : Ahead = record { bytes = feed ∷ t; left = 1 + b.left } in
+    let last : Ahead = record { bytes = t; left = b.left } in
+    let left : a.left ≡ n + (1 + b.left) = let e = took.0.left in let s = took.1 in omega (arith, e, s, length-append name (feed ∷ [])) in
+    ap (λ w. name_at files n (record { bytes = w; left = a.left })) (append_assoc name (feed ∷ []) t)
+    ∙ (bind_is (named kind_of (run_at n (record { bytes = name ++ feed ∷ t; left = a.left }))) _ (name, mid) (named_is kind_of _ (name, mid) (run_again n name (feed ∷ t) a.left (1 + b.left) took.1 left))
+    ∙ (bind_is (named kind_of (byte_at mid)) _ (feed, last) (named_is kind_of _ (feed, last) (byte_again feed t (1 + b.left) b.left refl))
+    ∙ (pass (not (feed == feed) || not (is_name name)) _ _ (neither _ _ refl (ap not fits.0))
+    ∙ (pass (not (list_all (λ g. comes_before g.name name) files)) _ _ (ap not fits.1) ∙ pass (list_any (λ g. lies_in g.name name) files) _ _ fits.2))))
+
+-- ---- the steps of a definition
+
+bind_err : {A B : Type 0} (r : Result A SnapshotFaultKind) (f : A → Result B SnapshotFaultKind) (e : SnapshotFaultKind) → r ≡ Err e → (r >>= f) ≡ Err e
+bind_err r f e h = ap (λ (q : Result _ SnapshotFaultKind). q >>= f) h
+
+named_err : {X : Type 0} (name : Stop → SnapshotFaultKind) (r : Result X Stop) (e : Stop) → r ≡ Err e → named name r ≡ Err (name e)
+named_err name r e h = ap (named name) h
+
+-- the kind of a failed read
+pub read_is : (stop : Stop) (kind : SnapshotFaultKind) → kind ≡ kind_of stop → kind ≡ Read → stop ≡ stops.Read
+read_is stops.TooLong kind a b = absurd cc
+read_is stops.Cut kind a b = absurd cc
+read_is stops.TooLarge kind a b = absurd cc
+read_is stops.Read kind a b = refl
+read_is stops.Memory kind a b = absurd cc
+
+body_cut : (n l nl : ℕ) (bytes : List ℕ) → length bytes ≡ n → l ≡ n + nl → body_at n (record { bytes = bytes; left = l }) ≡ Err Cut
+body_cut n l nl bytes is left =
+    let mid : Ahead = record { bytes = []; left = nl } in
+    bind_is (named kind_of (run_at n (record { bytes = bytes; left = l }))) _ (bytes, mid) (named_is kind_of _ (bytes, mid) (run_alone n l nl bytes is left))
+    ∙ bind_err (named kind_of (byte_at mid)) _ Cut (named_err kind_of _ stops.Cut (no_byte nl))
+
+name_cut : (files : List File) (n l nl : ℕ) (name : List ℕ) → length name ≡ n → l ≡ n + nl → name_at files n (record { bytes = name; left = l }) ≡ Err Cut
+name_cut files n l nl name is left =
+    let mid : Ahead = record { bytes = []; left = nl } in
+    bind_is (named kind_of (run_at n (record { bytes = name; left = l }))) _ (name, mid) (named_is kind_of _ (name, mid) (run_alone n l nl name is left))
+    ∙ bind_err (named kind_of (byte_at mid)) _ Cut (named_err kind_of _ stops.Cut (no_byte nl))
+
+pub run_takes : (n : ℕ) (o m : Option (List ℕ)) (l ml : ℕ) (run : List ℕ) → (is_some o ≡ true → (run_at n (ahead_of o l) ≡ Ok (run, ahead_of m ml)) × (is_some m ≡ true)) → Takes o l m ml run
+run_takes n o m l ml run h = record {
+  bytes = λ k. (run_inverse n (ahead_of o l) (ahead_of m ml) run (h k).0).0.bytes;
+  count = λ k. (run_inverse n (ahead_of o l) (ahead_of m ml) run (h k).0).0.left;
+  known = λ k. (h k).1;
+}
+
+-- a read failed behind the bytes of a file
+pub body_fails : (n : ℕ) (o m p : Option (List ℕ)) (l ml pl : ℕ) (bytes : List ℕ) → length bytes ≡ n
+    → (is_some o ≡ true → (run_at n (ahead_of o l) ≡ Ok (bytes, ahead_of m ml)) × (is_some m ≡ true))
+    → (is_some m ≡ true → TookPart (λ part. part ≡ []) m ml p pl) → is_some o ≡ true
+    → TookPart (λ part. body_at n (record { bytes = part; left = l }) ≡ Err Cut) o l p pl
+body_fails n o m p l ml pl bytes is run h k =
+    let t = run_takes n o m l ml bytes run in
+    none_behind (λ part. body_at n (record { bytes = part; left = l }) ≡ Err Cut) o m p l ml pl bytes t
+    (λ known. body_cut n l ml bytes is (let e = t.count known in omega (arith, e, is))) h k
+
+-- behind those of a name
+pub name_fails : (files : List File) (n : ℕ) (o m p : Option (List ℕ)) (l ml pl : ℕ) (name : List ℕ) → length name ≡ n
+    → (is_some o ≡ true → (run_at n (ahead_of o l) ≡ Ok (name, ahead_of m ml)) × (is_some m ≡ true))
+    → (is_some m ≡ true → TookPart (λ part. part ≡ []) m ml p pl) → is_some o ≡ true
+    → TookPart (λ part. name_at files n (record { bytes = part; left = l }) ≡ Err Cut) o l p pl
+name_fails files n o m p l ml pl name is run h k =
+    let t = run_takes n o m l ml name run in
+    none_behind (λ part. name_at files n (record { bytes = part; left = l }) ≡ Err Cut) o m p l ml pl name t
+    (λ known. name_cut files n l ml name is (let e = t.count known in omega (arith, e, is))) h k
+
+-- in the bytes of a file whose name was read
+pub file_fails : (files : List File) (line : FileLine) (o m p : Option (List ℕ)) (l ml pl : ℕ) (name : List ℕ)
+    → line.mtime ≤ latest_time → line.len ≤ most_bytes → length files < most_files → 0 < line.name_len → line.name_len ≤ longest_name
+    → (is_some o ≡ true → (name_at files line.name_len (ahead_of o l) ≡ Ok (name, ahead_of m ml)) × (is_some m ≡ true))
+    → (is_some m ≡ true → TookPart (λ part. body_at line.len (record { bytes = part; left = ml }) ≡ Err Cut) m ml p pl) → is_some o ≡ true
+    → TookPart (λ part. file_at files line (record { bytes = part; left = l }) ≡ Err Cut) o l p pl
+file_fails files line o m p l ml pl name in_time size room some short read h k =
+    let t : Takes o l m ml (name ++ feed ∷ []) = record {
+      bytes = λ known. (name_inverse files line.name_len (ahead_of o l) (ahead_of m ml) name (read known).0).0.bytes;
+      count = λ known. (name_inverse files line.name_len (ahead_of o l) (ahead_of m ml) name (read known).0).0.left;
+      known = λ known. (read known).1;
+    } in
+    let a : nat_lt latest_time line.mtime ≡ false = grind (arith, nat_tests) in
+    let b : nat_lt most_bytes line.len ≡ false = grind (arith, nat_tests) in
+    let c : nat_le most_files (length files) ≡ false = grind (arith, nat_tests) in
+    let d : nat_lt longest_name line.name_len ≡ false = grind (arith, nat_tests) in
+    let e : (line.name_len == 0) ≡ false = ne_eqb line.name_len 0 (λ same. omega arith) in
+    part_behind (λ part. body_at line.len (record { bytes = part; left = ml }) ≡ Err Cut) (λ part. file_at files line (record { bytes = part; left = l }) ≡ Err Cut) o m p l ml pl (name ++ feed ∷ []) t
+    (λ part left cut.
+    let all : Ahead = record { bytes = (name ++ feed ∷ []) ++ part; left = l } in
+    let mid : Ahead = record { bytes = part; left = ml } in
+    pass (nat_lt latest_time line.mtime) _ _ a
+    ∙ (pass (nat_lt most_bytes line.len || nat_le most_files (length files)) _ _ (neither _ _ b c)
+    ∙ (pass (line.name_len == 0 || nat_lt longest_name line.name_len) _ _ (neither _ _ e d)
+    ∙ (bind_is (name_at files line.name_len all) _ (name, mid) (name_alone files line.name_len (ahead_of o l) (ahead_of m ml) name (read k).0 part)
+    ∙ bind_err (body_at line.len mid) _ Cut cut)))) h k
+
+-- ---- entries
+
+heading_kinds : (line : List ℕ) (kind : SnapshotFaultKind) → heading_of line ≡ Err kind → (kind ≡ Number) ⊎ (kind ≡ Kind)
+heading_kinds line kind h = go (starts_with nat_eq line (codes "file ")) (starts_with nat_eq line (codes "end ")) (three_numbers (drop 5 line)) (number_of (drop 4 line)) h
+  where
+    go : (b c : Bool) (o : Option (ℕ × ℕ × ℕ)) (p : Option ℕ) → cond b (file_heading o) (cond c (end_heading p) (Err Kind)) ≡ Err kind → (kind ≡ Number) ⊎ (kind ≡ Kind)
+    go true c (Some n) p e = absurd cc
+    go true c None p e = inl cc
+    go false true o (Some n) e = absurd cc
+    go false true o None e = inl cc
+    go false false o p e = inr cc
+
+-- a line that announces nothing is no failed read
+pub heading_not_read : (line : List ℕ) (kind : SnapshotFaultKind) → heading_of line ≡ Err kind → kind ≡ Read → ⊥
+heading_not_read line kind h is = elim (heading_kinds line kind h) [ inl number ↦ absurd cc | inr other ↦ absurd cc ]
+
+-- a read failed in what a line announced
+pub entry_fails : (files : List File) (o m p : Option (List ℕ)) (l ml pl : ℕ) (line : List ℕ) (heading : Heading) → heading_of line ≡ Ok heading
+    → (is_some o ≡ true → (behind : Ahead) × (line_at (ahead_of o l) ≡ Ok (line, behind)) × (is_some m ≡ true) × ((h : Heading) → heading_of line ≡ Ok h → behind ≡ ahead_of m ml))
+    → (is_some m ≡ true → TookPart (λ part. announced files heading (record { bytes = part; left = ml }) ≡ Err Cut) m ml p pl) → is_some o ≡ true
+    → TookPart (λ part. entry_at files (record { bytes = part; left = l }) ≡ Err Cut) o l p pl
+entry_fails files o m p l ml pl line heading is read h k =
+    let got = λ (known : is_some o ≡ true). let r = read known in subst (λ (v : Ahead). line_at (ahead_of o l) ≡ Ok (line, v)) (r.3 heading is) r.1 in
+    let t : Takes o l m ml (line ++ feed ∷ []) = record {
+      bytes = λ known. (line_inverse (ahead_of o l) (ahead_of m ml) line (got known)).bytes;
+      count = λ known. (line_inverse (ahead_of o l) (ahead_of m ml) line (got known)).left;
+      known = λ known. (read known).2;
+    } in
+    part_behind (λ part. announced files heading (record { bytes = part; left = ml }) ≡ Err Cut) (λ part. entry_at files (record { bytes = part; left = l }) ≡ Err Cut) o m p l ml pl (line ++ feed ∷ []) t
+    (λ part left cut.
+    let all : Ahead = record { bytes = (line ++ feed ∷ []) ++ part; left = l } in
+    let mid : Ahead = record { bytes = part; left = ml } in
+    bind_is (named kind_of (line_at all)) _ (line, mid) (named_is kind_of _ (line, mid) (line_alone (ahead_of o l) (ahead_of m ml) line (got k) part))
+    ∙ (bind_is (heading_of line) _ heading is ∙ cut)) h k
+
+-- the entry behind files that were taken whole
+pub front_fails : (o n m : Option (List ℕ)) (nl ml entry : ℕ) (files : List File) (kind : SnapshotFaultKind) → IsSnapshot files → entry ≡ length files + 1
+    → Takes o longest_text n nl (text_before_end files) → (is_some n ≡ true → TookPart (λ part. entry_at files (record { bytes = part; left = nl }) ≡ Err Cut) n nl m ml)
+    → is_some o ≡ true → FailsInSnapshot (unwrap_or o []) (unwrap_or m []) (record { entry = entry; kind = kind })
+front_fails o n m nl ml entry files kind rules is t h k =
+    let more = h (t.known k) in
+    let left : nl ≡ longest_text - length (text_before_end files) = omega (arith, t.count k) in
+    inr (
+      files,
+      more.part,
+      record {
+        taken = t.bytes k ∙ (ap (λ v. text_before_end files ++ v) more.bytes ∙ sym (append_assoc (text_before_end files) more.part (unwrap_or m [])));
+        rules = rules;
+        size = omega (arith, t.count k, more.count);
+        entry = is;
+        cut = subst (λ (q : ℕ). entry_at files (record { bytes = more.part; left = q }) ≡ Err Cut) left more.holds;
+      },
+    )
+
+-- memory ran out for that entry
+pub front_lacks : (o n : Option (List ℕ)) (nl entry : ℕ) (files : List File) (kind : SnapshotFaultKind) → IsSnapshot files → entry ≡ length files + 1
+    → Takes o longest_text n nl (text_before_end files) → is_some o ≡ true
+    → (fs : List File) × (rest : List ℕ) × NamesBehind (unwrap_or o []) (record { entry = entry; kind = kind }) fs rest
+front_lacks o n nl entry files kind rules is t k = (files, unwrap_or n [], record { whole = t.bytes k; rules = rules; entry = is })

@@ -1,0 +1,12 @@
+use Rattle.std.proofs.Common.{arith}
+use Rattle.std.proofs.lemmas.Result.{err_from_is_err_and}
+use Rattle.paths.proofs.PartLemmas.{file_fails}
+use Rattle.paths.proofs.entry.read_file.Goals as goal
+
+pub returns-in_err-bytes-clause-part : goal.returns-in_err-bytes-clause-part
+returns-in_err-bytes-clause-part g c =
+    let kind = err_from_is_err_and c.from_residual-in_err-bytes.result c.from_residual-in_err-bytes.ensures.1 in
+    rw (kind.1, kind.2) (λ failed k.
+    file_fails c.args.files.now c.args.line _ _ _ _ _ _ _ (omega (arith, c.if-line-gt-LATEST_TIME.false)) (omega (arith, c.if-line-gt-MOST_BYTES.false))
+    (omega (arith, c.if-len-ge-MOST_FILES.false, c.len.ensures.count)) (omega (arith, c.if-line-eq0.false)) (omega (arith, c.if-line-gt-LONGEST_NAME.false))
+    c.in_ok-name.ensures.name (c.in_err-bytes.ensures.part failed) k)
