@@ -27,13 +27,13 @@ use Rattle.captures.proofs.Records.{stop_text}
 
 -- ---- the steps of a definition that may refuse
 
-bind_is : {A B : Type 0} (r : Result A CaptureFaultKind) (f : A → Result B CaptureFaultKind) (x : A) → r ≡ Ok x → (r >>= f) ≡ f x
+pub bind_is : {A B : Type 0} (r : Result A CaptureFaultKind) (f : A → Result B CaptureFaultKind) (x : A) → r ≡ Ok x → (r >>= f) ≡ f x
 bind_is r f x h = ap (λ (q : Result _ CaptureFaultKind). q >>= f) h
 
-named_is : {X : Type 0} (name : Stop → CaptureFaultKind) (r : Result X Stop) (x : X) → r ≡ Ok x → named name r ≡ Ok x
+pub named_is : {X : Type 0} (name : Stop → CaptureFaultKind) (r : Result X Stop) (x : X) → r ≡ Ok x → named name r ≡ Ok x
 named_is name r x h = ap (named name) h
 
-pass : {A : Type 0} (b : Bool) (e r : A) → b ≡ false → cond b e r ≡ r
+pub pass : {A : Type 0} (b : Bool) (e r : A) → b ≡ false → cond b e r ≡ r
 pass true e r h = absurd cc
 pass false e r h = refl
 

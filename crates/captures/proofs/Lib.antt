@@ -6,3 +6,4 @@ pub mod Callers
 pub mod Again
 pub mod Agree
 pub mod Each
+pub mod PartLemmas

@@ -137,6 +137,10 @@ is_unforeseen_kind Read = true
 is_unforeseen_kind Memory = true
 is_unforeseen_kind _ = false
 
+-- Nothing whole was read: the text is cut, or it ends behind the last line.
+abbrev pub IsUnfinished : Result (Option Record × Ahead) CaptureFaultKind → Type 0
+IsUnfinished r = (r ≡ Err Cut) ⊎ ((left : ℕ) × (r ≡ Ok (None, record { bytes = []; left = left })))
+
 -- The fault of the record behind these, whose texts stand whole in front of it. (The last line is a record here too.)
 pub record FaultsBehind (v : Version) (text : List ℕ) (start : ℕ) (records : List Record) (f : CaptureFault) (rest : List ℕ) : Type 0 where
   pub whole : text ≡ text_before_stop v start records ++ rest

@@ -1,11 +1,12 @@
 -- A reader of a capture, which gives record after record.
-use Rattle.std.specs.Prelude.{◌≡◌, ℕ, ◌+◌, true, false, ◌||◌, ◌==◌, List, [], ◌∷◌, ◌++◌, length, Option, Some, None, Result, Ok, Err, MatchResult, slice_index_or, is_some, unwrap_or}
+use Rattle.std.specs.Prelude.{◌≡◌, ℕ, ◌+◌, ◌-◌, ◌≤◌, true, false, ◌||◌, ◌==◌, List, [], ◌∷◌, ◌++◌, length, Option, Some, None, Result, Ok, Err, MatchResult, IfErr, slice_index_or, is_some, unwrap_or}
 use Rattle.captures.specs.Captures.{Version, Past, past_of, longest_text, text_before_stop, IsCapture, IsCaptureText, sizes_of}
-use Rattle.captures.specs.CaptureFaults.{IsFaultBehind, IsForeseen, failures_of}
+use Rattle.captures.specs.CaptureFaults.{IsFaultBehind, IsForeseen, IsUnfinished, record_at, failures_of}
 use Rattle.captures.specs.declared.record.Record.{Record}
 use Rattle.captures.specs.declared.record.Record.TheVariants.{Piece, End}
 use Rattle.captures.specs.declared.capture_fault.CaptureFault.{CaptureFault}
 use Rattle.captures.specs.declared.capture_fault.CaptureFaultKind.{CaptureFaultKind}
+use Rattle.captures.specs.declared.capture_fault.CaptureFaultKind.TheVariants.{Read}
 use Rattle.captures.specs.declared.so_far.SoFar.{SoFar}
 use Rattle.captures.specs.declared.stage.Stage.{Stage}
 use Rattle.captures.specs.declared.stage.Stage.TheVariants.{Reading, Ended, Failed}
@@ -65,3 +66,20 @@ CountsNext stage old new r = MatchResult r (λ _. new ≡ old) (λ f. new ≡ ol
 abbrev pub GaveKind : Version → Option (List ℕ) → ℕ → List Record → Result (Option Record) CaptureFaultKind → Progress → Option (List ℕ) → Type 0
 GaveKind v text start records (Ok next) p now = Gave v text start records (Ok next) p now
 GaveKind v text start records (Err kind) p now = Gave v text start records (Err (record { at = length records + 1; kind = kind })) p now
+
+-- A read failed in the record behind these: their texts were taken whole, and of what follows only a part, in which no whole
+-- record lies.
+pub record FailsInRecord (v : Version) (text : List ℕ) (start : ℕ) (records : List Record) (part rest : List ℕ) : Type 0 where
+  pub taken : text ≡ (text_before_stop v start records ++ part) ++ rest
+  pub size : length (text_before_stop v start records) + length part ≤ longest_text
+  pub unfinished : IsUnfinished (record_at v (past_of records) (record { bytes = part; left = longest_text - length (text_before_stop v start records) }))
+
+-- so it is where a reader that has given these records answers a failed read, and the bytes of the input are known
+abbrev pub FailsNext : Version → Option (List ℕ) → ℕ → List Record → Result (Option Record) CaptureFault → Option (List ℕ) → Type 0
+FailsNext v text start records r now = IfErr r (λ f. f.kind ≡ Read → is_some text ≡ true
+    → (part : List ℕ) × FailsInRecord v (unwrap_or text []) start records part (unwrap_or now []))
+
+-- the same of a reader that names the kind of a fault alone
+abbrev pub FailsNextKind : Version → Option (List ℕ) → ℕ → List Record → Result (Option Record) CaptureFaultKind → Option (List ℕ) → Type 0
+FailsNextKind v text start records r now = IfErr r (λ kind. kind ≡ Read → is_some text ≡ true
+    → (part : List ℕ) × FailsInRecord v (unwrap_or text []) start records part (unwrap_or now []))

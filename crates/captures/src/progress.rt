@@ -1,7 +1,7 @@
-ghost use Rattle.std.specs.Prelude.{◌≡◌, ◌+◌, ◌<◌, ◌≤◌, ◌-◌, ◌^◌, [], ℕ, List, Option, IfNone, IfOk, IfErr, IfSome};
+ghost use Rattle.std.specs.Prelude.{◌≡◌, ◌+◌, ◌<◌, ◌≤◌, ◌-◌, ◌^◌, [], ℕ, List, Option, IfNone, IfOk, IfErr, IfSome, ◌≢◌};
 ghost use Rattle.captures.specs.Captures.{version_one, size_of};
 ghost use Rattle.captures.specs.CaptureFaults.{IsForeseen, IsHeaderFault, IsFaultBehind, CountsFault, CountsKind};
-ghost use Rattle.captures.specs.Readers.{Fits, Gave, GaveKind, stage_after, Repeats, CountsNext};
+ghost use Rattle.captures.specs.Readers.{Fits, Gave, GaveKind, FailsNext, FailsNextKind, stage_after, Repeats, CountsNext};
 ghost use Rattle.captures.specs.declared.record.Record.{Record as ARecord};
 
 use crate::reading::{read_header, read_record};
@@ -48,6 +48,8 @@ impl Progress {
         requires { input.old.1 < 2 ^ 64 - 1 }
         ensures ok { IfOk result (λ p. Fits version_one input.old.0 p.start [] p input.new.0) }
         ensures at { IfErr result (λ f. f.at ≡ 0) }
+        // It takes no memory.
+        ensures memory { IfErr result (λ f. f.kind ≢ CaptureFaultKind.Memory) }
         ensures fault { IfErr result (IsForeseen (IsHeaderFault version_one) input.old.0) }
         ensures count { CountsFault input.old.1 input.new.1 result }
     {
@@ -74,6 +76,10 @@ impl Progress {
         ensures next { (text : Option (List ℕ)) (start : ℕ) (records : List ARecord)
             → Fits version_one text start records self.old input.old.0
             → GaveKind version_one text start records result self.new input.new.0 }
+        // Where a read failed, no whole record behind these had been taken.
+        ensures failed { (text : Option (List ℕ)) (start : ℕ) (records : List ARecord)
+            → Fits version_one text start records self.old input.old.0
+            → FailsNextKind version_one text start records result input.new.0 }
         ensures room { IfOk result (λ next. IfSome next (λ r. size_of r + 1 + self.new.room ≡ self.old.room)) }
         ensures start { self.new.start ≡ self.old.start }
         ensures stage { self.new.stage ≡ self.old.stage }
@@ -103,6 +109,10 @@ impl Progress {
         ensures next { (text : Option (List ℕ)) (start : ℕ) (records : List ARecord)
             → Fits version_one text start records self.old input.old.0
             → Gave version_one text start records result self.new input.new.0 }
+        // Where a read failed, no whole record behind these had been taken.
+        ensures failed { (text : Option (List ℕ)) (start : ℕ) (records : List ARecord)
+            → Fits version_one text start records self.old input.old.0
+            → FailsNext version_one text start records result input.new.0 }
         ensures room { IfOk result (λ next. IfSome next (λ r. size_of r + 1 + self.new.room ≡ self.old.room)) }
         ensures start { self.new.start ≡ self.old.start }
         ensures stage { self.new.stage ≡ stage_after result }

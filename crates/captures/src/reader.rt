@@ -1,13 +1,13 @@
-ghost use Rattle.std.specs.Prelude.{◌≡◌, ◌+◌, ◌<◌, ◌≤◌, ◌-◌, ◌^◌, [], ℕ, List, Option, IfOk, IfErr, IfSome};
+ghost use Rattle.std.specs.Prelude.{◌≡◌, ◌+◌, ◌<◌, ◌≤◌, ◌-◌, ◌^◌, [], ℕ, List, Option, IfOk, IfErr, IfSome, ◌≢◌};
 ghost use Rattle.std.specs.Borrow.{sem, RestsIfErr};
 ghost use Rattle.paths.specs.contracts.device.Input.{the_row};
 ghost use Rattle.captures.specs.Captures.{version_one, size_of};
 ghost use Rattle.captures.specs.CaptureFaults.{IsForeseen, IsHeaderFault, CountsFault};
-ghost use Rattle.captures.specs.Readers.{Fits, Gave, stage_after, Repeats, CountsNext};
+ghost use Rattle.captures.specs.Readers.{Fits, Gave, FailsNext, stage_after, Repeats, CountsNext};
 ghost use Rattle.captures.specs.declared.record.Record.{Record as ARecord};
 
 use crate::progress::Progress;
-use crate::{CaptureFault, Record};
+use crate::{CaptureFault, CaptureFaultKind, Record};
 use paths::Input;
 use std::alloc::Global;
 use std::io::Read;
@@ -25,6 +25,8 @@ impl<'a, R: Read> CaptureReader<'a, R> {
         requires { input.old.1 < 2 ^ 64 - 1 }
         ensures ok { IfOk result (λ reader. Fits version_one input.old.0 reader.progress.start [] reader.progress reader.input.now.0) }
         ensures at { IfErr result (λ f. f.at ≡ 0) }
+        // It takes no memory.
+        ensures memory { IfErr result (λ f. f.kind ≢ CaptureFaultKind.Memory) }
         ensures fault { IfErr result (IsForeseen (IsHeaderFault version_one) input.old.0) }
         ensures count { IfOk result (λ reader. reader.input.now.1 ≡ input.old.1) }
         ensures same { IfOk result (λ reader. reader.input.ghost_name ≡ input.entry.ghost_name) }
@@ -48,6 +50,10 @@ impl<'a, R: Read> CaptureReader<'a, R> {
         ensures next { (text : Option (List ℕ)) (start : ℕ) (records : List ARecord)
             → Fits version_one text start records self.old.progress self.old.input.now.0
             → Gave version_one text start records result self.new.progress self.new.input.now.0 }
+        // Where a read failed, no whole record behind these had been taken.
+        ensures failed { (text : Option (List ℕ)) (start : ℕ) (records : List ARecord)
+            → Fits version_one text start records self.old.progress self.old.input.now.0
+            → FailsNext version_one text start records result self.new.input.now.0 }
         ensures room { IfOk result (λ next. IfSome next (λ r. size_of r + 1 + self.new.progress.room ≡ self.old.progress.room)) }
         ensures start { self.new.progress.start ≡ self.old.progress.start }
         ensures stage { self.new.progress.stage ≡ stage_after result }

@@ -1,7 +1,8 @@
-ghost use Rattle.std.specs.Prelude.{◌≡◌, ◌<◌, ◌≤◌, ◌-◌, ◌^◌, length, IfOk, IfSome};
+ghost use Rattle.std.specs.Prelude.{◌≡◌, ◌<◌, ◌≤◌, ◌-◌, ◌^◌, length, IfOk, IfErr, IfSome, ◌≢◌};
 ghost use Rattle.paths.specs.Texts.{Gives};
+ghost use Rattle.paths.specs.Parts.{FailsAtOnce, FailsBehind, FailsWithin};
 ghost use Rattle.captures.specs.Captures.{version_one, Follows};
-ghost use Rattle.captures.specs.CaptureFaults.{CountsKind, is_unforeseen_kind, header_at, body_at, piece_at, close_at, announced, record_at};
+ghost use Rattle.captures.specs.CaptureFaults.{CountsKind, IsUnfinished, is_unforeseen_kind, header_at, body_at, piece_at, close_at, announced, record_at};
 ghost use Rattle.captures.specs.Readers.{seen};
 
 use crate::heading::{Heading, PieceLine};
@@ -24,6 +25,8 @@ pub(crate) fn read_header<R: Read>(
     ensures line { Gives is_unforeseen_kind (header_at version_one) input.old.0 left.old input.new.0 left.new result }
     ensures limit { IfOk result (λ start. start ≤ 4102444800) }
     ensures count { CountsKind input.old.1 input.new.1 result }
+    // It takes no memory.
+    ensures memory { IfErr result (λ kind. kind ≢ CaptureFaultKind.Memory) }
 {
     match read_line(input, left) {
         Ok(line) => read_start(line.as_slice()),
@@ -41,6 +44,9 @@ fn read_body<R: Read>(
 ) -> Result<Bytes, CaptureFaultKind>
     requires { input.old.1 < 2 ^ 64 - 1 }
     ensures bytes { Gives is_unforeseen_kind (body_at len) input.old.0 left.old input.new.0 left.new result }
+    // Where a read failed, no whole run had been taken.
+    ensures part { FailsWithin CaptureFaultKind.Read CaptureFaultKind.Cut (body_at len)
+        input.old.0 left.old input.new.0 left.new result }
     ensures length { IfOk result (λ bytes. length bytes ≡ len) }
     ensures count { CountsKind input.old.1 input.new.1 result }
 {
@@ -62,6 +68,9 @@ fn read_piece<R: Read>(
 ) -> Result<Record, CaptureFaultKind>
     requires { input.old.1 < 2 ^ 64 - 1 }
     ensures piece { Gives is_unforeseen_kind (piece_at version_one (seen so_far.now) line) input.old.0 left.old input.new.0 left.new result }
+    // Where a read failed, no whole piece had been taken.
+    ensures part { FailsWithin CaptureFaultKind.Read CaptureFaultKind.Cut (piece_at version_one (seen so_far.now) line)
+        input.old.0 left.old input.new.0 left.new result }
     ensures fits { IfOk result (Follows version_one (seen so_far.now)) }
     ensures count { CountsKind input.old.1 input.new.1 result }
 {
@@ -81,7 +90,11 @@ fn read_piece<R: Read>(
 fn read_close<R: Read>(input: &mut Input<R>, left: usize) -> Result<(), CaptureFaultKind>
     requires { input.old.1 < 2 ^ 64 - 1 }
     ensures close { Gives is_unforeseen_kind close_at input.old.0 left input.new.0 left result }
+    // A read that failed took nothing.
+    ensures part { FailsAtOnce CaptureFaultKind.Read input.old.0 left input.new.0 left result }
     ensures count { CountsKind input.old.1 input.new.1 result }
+    // It takes no memory.
+    ensures memory { IfErr result (λ kind. kind ≢ CaptureFaultKind.Memory) }
 {
     match input.read_byte() {
         Ok(None) => Ok(()),
@@ -100,6 +113,10 @@ fn read_announced<R: Read>(
 ) -> Result<Option<Record>, CaptureFaultKind>
     requires { input.old.1 < 2 ^ 64 - 1 }
     ensures record { Gives is_unforeseen_kind (announced version_one (seen so_far.now) heading) input.old.0 left.old input.new.0 left.new result }
+    // Where a read failed, no whole record had been taken.
+    ensures part { FailsBehind CaptureFaultKind.Read
+        (λ part. IsUnfinished (announced version_one (seen so_far.now) heading (record { bytes = part; left = left.old })))
+        input.old.0 left.old input.new.0 left.new result }
     ensures fits { IfOk result (λ next. IfSome next (Follows version_one (seen so_far.now))) }
     ensures count { CountsKind input.old.1 input.new.1 result }
 {
@@ -136,6 +153,10 @@ pub(crate) fn read_record<R: Read>(
 ) -> Result<Option<Record>, CaptureFaultKind>
     requires { input.old.1 < 2 ^ 64 - 1 }
     ensures record { Gives is_unforeseen_kind (record_at version_one (seen so_far.now)) input.old.0 left.old input.new.0 left.new result }
+    // Where a read failed, no whole record had been taken.
+    ensures part { FailsBehind CaptureFaultKind.Read
+        (λ part. IsUnfinished (record_at version_one (seen so_far.now) (record { bytes = part; left = left.old })))
+        input.old.0 left.old input.new.0 left.new result }
     ensures fits { IfOk result (λ next. IfSome next (Follows version_one (seen so_far.now))) }
     ensures count { CountsKind input.old.1 input.new.1 result }
 {

@@ -4,34 +4,42 @@ use crate::{CaptureFault, CaptureFaultKind, Record};
 use paths::Input;
 use std::alloc::Global;
 use std::io;
-use std::io::Read;
+use std::io::{ErrorKind, Read};
 
 mod collecting;
 mod faults;
 mod memory;
 mod records;
 
-/// A reader over memory that gives at most so many bytes a read, and fails at one of its reads.
+/// A reader over memory that gives at most so many bytes a read, fails at one of its reads, and counts them all. The
+/// failure is an interruption: what tries a read again does so at that kind of failure first.
 #[derive(Drop)]
 pub struct Flaky<'a> {
     bytes: &'a [u8],
     size: usize,
     /// How many reads are made before the one that fails.
     good: usize,
+    /// How many reads were made.
+    pub calls: usize,
 }
 
 impl<'a> Flaky<'a> {
     pub fn new(bytes: &'a [u8], size: usize, good: usize) -> Flaky<'a> {
-        Flaky { bytes, size, good }
+        Flaky {
+            bytes,
+            size,
+            good,
+            calls: 0,
+        }
     }
 }
 
 impl<'a> Read for Flaky<'a> {
     fn read(&mut self, room: &mut [u8]) -> io::Result<usize> {
-        if self.good == 0 {
-            return Err(io::Error::other("refused"));
+        self.calls = self.calls.wrapping_add(1);
+        if self.calls == self.good.wrapping_add(1) {
+            return Err(io::Error::from(ErrorKind::Interrupted));
         }
-        self.good -= 1;
         let count = room.len().min(self.size).min(self.bytes.len());
         room[..count].copy_from_slice(&self.bytes[..count]);
         self.bytes = &self.bytes[count..];

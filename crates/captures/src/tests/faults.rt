@@ -181,13 +181,14 @@ fn cut_anywhere(rt: HostRuntime) {
     assert_eq!(rt; fault_of(rt.alloc(), text), None);
 }
 
-/// Whatever read fails, the fault names the record that was being read, and the count is one.
+/// Whatever read fails, the fault names the record that was being read, the count is one, and nothing more is read.
 #[test]
 fn each_read_failing(rt: HostRuntime) {
     let text = TWO_CONNECTIONS.as_bytes();
     let mut last = 0;
     for good in 0..1000 {
-        let mut input = Input::new(Flaky::new(text, 3, good));
+        let mut device = Flaky::new(text, 3, good);
+        let mut input = Input::new(&mut device);
         match collect(rt.alloc(), &mut input) {
             Ok((_, records)) => {
                 assert_eq!(rt; records.len(), 2);
@@ -198,6 +199,7 @@ fn each_read_failing(rt: HostRuntime) {
             Err(found) => {
                 assert_eq!(rt; found.kind, Kind::Read);
                 assert_eq!(rt; input.failures(), 1);
+                assert_eq!(rt; device.calls, good.wrapping_add(1));
                 assert!(rt; found.at == last || found.at == last.wrapping_add(1));
                 last = found.at;
             }

@@ -4,6 +4,7 @@ use Rattle.captures.specs.Readers.{seen}
 use Rattle.captures.specs.declared.record.Record.{Record as ARecord}
 use Rattle.captures.proofs.Fitting.{fits_goes_on, fits_ends, fits_faults, fits_has_room}
 use Rattle.captures.proofs.progress.Progress.take_record.Goals as goal
+use Rattle.captures.proofs.PartLemmas.{fits_fails}
 
 pub returns-in-Some-clause-next : goal.returns-in-Some-clause-next
 returns-in-Some-clause-next g c = λ text start records f.
@@ -21,3 +22,7 @@ returns-in-Ok-None-clause-next g c = λ text start records f k.
 pub returns-in-Err-clause-next : goal.returns-in-Err-clause-next
 returns-in-Err-clause-next g c = λ text start records f.
     (refl, fits_faults version_one text _ start _ records c.args.self.now _ refl f c.in-Err.ensures.record)
+
+pub returns-in-Err-clause-failed : goal.returns-in-Err-clause-failed
+returns-in-Err-clause-failed g c = λ text start records f failed k.
+    fits_fails version_one text _ _ start _ records c.args.self.now f (c.in-Err.ensures.part failed) k
