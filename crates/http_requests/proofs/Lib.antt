@@ -8,3 +8,5 @@ pub mod HeadLemmas
 pub mod JudgeLemmas
 pub mod MeaningLemmas
 pub mod PieceLemmas
+pub mod EndLaws
+pub mod CountLemmas

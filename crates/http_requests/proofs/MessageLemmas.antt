@@ -59,7 +59,7 @@ messages_prefix p r y (m ∷ ms) (n ∷ ns) g h =
 after_same : (v w : What) (p q : ℕ) (r s : List ℕ) (ms : List Message) → w ≡ v → q ≡ p → s ≡ r → MessagesAfter v p r ms → MessagesAfter w q s ms
 after_same v w p q r s ms a b c h = rw (a, b, c) h
 
-whole_alone : (p len : ℕ) (r : List ℕ) (v : Verdict) → IsBlock (drop (blank_len r) r) len → IsVerdict (take len (drop (blank_len r) r)) v
+pub whole_alone : (p len : ℕ) (r : List ℕ) (v : Verdict) → IsBlock (drop (blank_len r) r) len → IsVerdict (take len (drop (blank_len r) r)) v
     → length (drop (blank_len r + len) r) < v.length → (what : What) (j : ℕ) → (IsWhole (drop (blank_len r) r) what j ⊎ IsOver (drop (blank_len r) r) what j) → ⊥
 whole_alone p len r v block says h what j (inl w) =
     let q = blank_len r in

@@ -5,3 +5,5 @@ pub mod Meaning
 pub mod Scanning
 pub mod Cutting
 pub mod State
+pub mod Ends
+pub mod Counting

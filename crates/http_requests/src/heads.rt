@@ -6,6 +6,8 @@ ghost use Rattle.std.specs.Str.Parse.{digits_value};
 ghost use Rattle.std.specs.List.{list_all, list_any, slice_split};
 ghost use Rattle.http_requests.specs.Heads.{IsVerdict, same_text, values_of, is_host_byte, is_host_fault, is_given, is_numeral, body_length, head_fault, has_option, is_closing, is_get_or_head, IsModifiedSince, PartsSay, bad};
 ghost use Rattle.http_requests.specs.Lines.{lines_at, AreLines};
+ghost use Rattle.http_requests.specs.Counting.{IsExtent};
+ghost use Rattle.http_requests.specs.declared.heads.Verdict.{Verdict as AVerdict};
 
 use crate::messages::{Bytes, Fault, Version, What};
 use httparse::Status;
@@ -264,6 +266,62 @@ fn read_head(
         },
         length,
     })
+}
+
+/// How a message goes on behind its block.
+#[derive(Clone, Copy)]
+pub struct Extent {
+    /// Whether the message ends the connection.
+    pub closes: bool,
+    /// How many bytes of body follow the block.
+    pub length: u64,
+}
+
+/// How a message goes on whose head's parts stand at these places.
+fn measure_head(block: &[u8], head: RequestSpans, headers: &[HeaderSpan]) -> Extent
+    requires headers { All (IsHeaderWithin (length block.now)) headers.now }
+    requires method { IsWithin (length block.now) head.method }
+    requires target { IsWithin (length block.now) head.path }
+    ensures says { (verdict : AVerdict) × PartsSay (span_bytes block.now head.method)
+        (span_bytes block.now head.path) head.version (lines_at block.now headers.now) verdict × IsExtent verdict result }
+    ensures small { result.length ≤ 65_536 }
+{
+    match body_length(head.version, block, headers) {
+        Ok(length) => {
+            // A verdict tells this as well, and so it is there.
+            let _since = modified_since(head.method.of(block), block, headers);
+            Extent {
+                closes: is_closing(head.version, block, headers),
+                length,
+            }
+        }
+        Err(_) => Extent {
+            closes: true,
+            length: 0,
+        },
+    }
+}
+
+/// How a message of this block goes on. It takes no memory.
+pub fn measure_block(block: &[u8]) -> Extent
+    ensures says { (verdict : AVerdict) × IsVerdict block.now verdict × IsExtent verdict result }
+    ensures small { result.length ≤ 65_536 }
+{
+    let mut headers = [EMPTY_HEADER_SPAN; FIELD_LIMIT];
+    let fault = Extent {
+        closes: true,
+        length: 0,
+    };
+    match parse_request(block, &mut headers) {
+        Ok(Status::Complete(head)) => {
+            if head.len != block.len() {
+                return fault;
+            }
+            measure_head(block, head, &headers[..head.headers])
+        }
+        Ok(Status::Partial) => fault,
+        Err(_) => fault,
+    }
 }
 
 /// The verdict of a block. The parser is called once.

@@ -1,13 +1,24 @@
 //! What holds of the messages of each text, whoever cuts it.
 ghost use Rattle.std.specs.Prelude.{◌≡◌, ◌++◌, ◌≤◌, ℕ, List, length, map, IfOk};
 ghost use Rattle.http_requests.specs.declared.messages.Message.{Message as AMessage};
-ghost use Rattle.http_requests.specs.Framing.{MessagesOf};
+ghost use Rattle.http_requests.specs.Framing.{MessagesOf, EndsAt, IsBlock};
+ghost use Rattle.http_requests.specs.Ends.{EndsBehind, IsShortestBlock};
 ghost use Rattle.http_requests.specs.Meaning.{LieInOrder};
 ghost use Rattle.http_requests.specs.Cutting.{joined};
 
 use crate::cutting::Cutter;
 use crate::messages::Message;
 use std::alloc::{AllocError, Global};
+
+/// A block ends where the scan looks for its end: behind LF LF or LF CR LF.
+pub fn block_ends()
+    ensures { (s : List ℕ) (e : ℕ) → (EndsAt s e → EndsBehind s e) × (EndsBehind s e → EndsAt s e) }
+{}
+
+/// The block in front of a text is its shortest prefix that ends so, within the limit.
+pub fn block_in_front()
+    ensures { (s : List ℕ) (e : ℕ) → (IsBlock s e → IsShortestBlock s e) × (IsShortestBlock s e → IsBlock s e) }
+{}
 
 /// A text has one list of messages.
 pub fn one_reading()

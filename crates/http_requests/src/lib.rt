@@ -5,17 +5,19 @@
 //! in `specs/Framing.antt`, and the verdict of a block of it in `specs/Heads.antt`. So a message has
 //! its place and its meaning however the text was cut ([`cut_pieces`], [`one_reading`]) and whatever
 //! follows ([`first_of_longer`]), and blocks and bodies lie in the text one after another
-//! ([`in_order`]).
+//! ([`in_order`]). Each text has a list of messages ([`count_messages`]).
 #![tactic(auto)]
 
+mod counting;
 mod cutting;
 mod heads;
 mod laws;
 mod messages;
 mod scanning;
 
+pub use counting::count_messages;
 pub use cutting::Cutter;
-pub use laws::{cut_pieces, first_of_longer, in_order, one_reading};
+pub use laws::{block_ends, block_in_front, cut_pieces, first_of_longer, in_order, one_reading};
 pub use messages::{Bytes, Fault, Message, Version, What};
 
 #[cfg(test)]

@@ -62,6 +62,13 @@ found_is f k es keyed = elim (by_entry k es) [
   ])))
 ]
 
+-- a file that a look-up finds is there
+pub there_is : {X : Type 0} (k : ℕ) (es : List (ℕ × X)) (v : X) → lookup (nat_eq k) es ≡ Some v → has k (keys_of es) ≡ true
+there_is k es v found = elim (by_entry k es) [
+  | inl none ↦ cc
+  | inr one ↦ one.3
+]
+
 -- and of no other, whatever is there
 pub found_own : {X : Type 0} (f : X → ℕ) (k : ℕ) (list : List ℕ) (page : Option X) → option_map f page ≡ found k list → IfSome page (λ p. f p ≡ k)
 found_own f k list None is = tt

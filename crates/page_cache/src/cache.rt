@@ -1,6 +1,6 @@
-ghost use Rattle.std.specs.Prelude.{◌≡◌, ◌≤◌, [], length, option_map, IfOk, IfSome};
+ghost use Rattle.std.specs.Prelude.{◌≡◌, ◌≤◌, [], length, option_map, true, IfOk, IfSome, OnErr};
 ghost use Rattle.std.specs.Arc.{arc_value};
-ghost use Rattle.page_cache.specs.CacheLists.{found, looked, sizes};
+ghost use Rattle.page_cache.specs.CacheLists.{found, has, looked, sizes};
 
 mod keep;
 
@@ -36,14 +36,15 @@ impl<F: Tree> Model for PageCache<F> {
 }
 
 impl<F: Tree> PageCache<F> {
-    /// A cache without pages, for at most so many bytes, with room for a page of each file.
+    /// A cache without pages, for at most so many bytes. Room in its table is reserved here for a page of each file, of
+    /// which a snapshot has at most 65,536. A page that is kept takes memory for its own entry alone.
     pub fn new(alloc: Global, limit: usize, files: usize) -> Result<PageCache<F>, AllocError>
         requires { length F.files ≤ files }
         ensures { IfOk result (λ c. c ≡ record { pages = []; limit = limit }) }
     {
         let most = NonZeroUsize::new(files).unwrap_or(NonZeroUsize::MIN);
         Ok(PageCache {
-            pages: LruCache::sparse(alloc, most)?,
+            pages: LruCache::new(alloc, most)?,
             bytes: 0,
             limit,
         })
@@ -54,6 +55,8 @@ impl<F: Tree> PageCache<F> {
         ensures page { IfOk result (λ page. option_map (λ p. arc_value p) page ≡ found file self.old.pages) }
         // Whatever is there, it is the page of that file.
         ensures own { IfOk result (λ page. IfSome page (λ p. arc_value p ≡ file)) }
+        // Only a page that is there takes memory.
+        ensures absent { OnErr result (has file self.old.pages ≡ true) }
         // Also where there was no memory for a further owner.
         ensures list { self.new ≡ looked file self.old }
     {
@@ -65,6 +68,7 @@ impl<F: Tree> PageCache<F> {
     fn find(&self, file: usize) -> Result<Option<Arc<Page<F>>>, AllocError>
         ensures page { IfOk result (λ page. option_map (λ p. arc_value p) page ≡ found file self.now.pages) }
         ensures own { IfOk result (λ page. IfSome page (λ p. arc_value p ≡ file)) }
+        ensures absent { OnErr result (has file self.now.pages ≡ true) }
     {
         match self.pages.peek(&file) {
             Some(page) => Ok(Some(Arc::try_clone(page)?)),

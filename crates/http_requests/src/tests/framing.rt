@@ -1,6 +1,6 @@
 //! Texts and the messages that they must have, worked out by hand.
 use super::{cut, in_lines};
-use crate::{Bytes, Cutter, Fault, Message, What, cut_pieces};
+use crate::{Bytes, Cutter, Fault, Message, What, count_messages, cut_pieces};
 use std::process::Abort;
 use std::test::Fail;
 
@@ -68,13 +68,14 @@ static TEXTS: [(&str, &str); 16] = [
     ),
 ];
 
-/// The text has these messages, in pieces of each of some sizes.
+/// The text has these messages, in pieces of each of some sizes, and so many.
 fn check(rt: &(impl Abort + AllocGlobal), text: &[u8], want: &str) -> Result<(), Fail> {
     assert!(rt; text.len() <= 100_000);
     for size in [1, 2, 3, 7, 31, 4096, 8191, 8192, 8193, 100_000] {
         let out = cut(rt.alloc(), text, size)?;
         let lines = in_lines(rt.alloc(), &out)?;
         assert_eq!(rt; lines.as_str(), want, "in pieces of {size}");
+        assert_eq!(rt; count_messages(text), out.len());
     }
     Ok(())
 }
@@ -101,6 +102,28 @@ fn block_limit(rt: HostRuntime) -> Result<(), Fail> {
         }
         text.push_str("\r\n\r\n")?;
         check(&rt, text.as_bytes(), want)?;
+    }
+    Ok(())
+}
+
+/// A target of 8,100 bytes passes.
+#[test]
+fn long_target(rt: HostRuntime) -> Result<(), Fail> {
+    let mut text = String::from_str(rt.alloc(), "GET /")?;
+    for _ in 1..8_100 {
+        text.push('t')?;
+    }
+    text.push_str(" HTTP/1.1\r\nHost: a\r\n\r\n")?;
+    assert!(rt; text.len() == 8_126);
+    for size in [100, 8_126] {
+        let out = cut(rt.alloc(), text.as_bytes(), size)?;
+        assert!(rt; out.len() == 1);
+        assert!(rt;
+            match &out[0].what {
+                What::Request { target, .. } => target.as_slice() == &text.as_bytes()[4..8_104],
+                What::Bad(_) => false,
+            }
+        );
     }
     Ok(())
 }

@@ -2,7 +2,7 @@
 ghost use Rattle.std.specs.Prelude.{◌≡◌};
 
 use crate::tests::snapshot;
-use crate::{MediaType, Page, entity_fields};
+use crate::{Keeping, MediaType, Page, PageCache, entity_fields};
 use paths::{Snapshot, Tree};
 use std::alloc::Global;
 use std::marker::Brand;
@@ -49,4 +49,26 @@ fn fields_of_a_large_file(rt: HostRuntime) -> Result<(), Fail> {
         "Content-Type: image/jpeg\r\nContent-Length: 16777216\r\n"
     );
     Ok(())
+}
+
+/// The page of the largest file is built, and kept by a cache of just its size.
+fn check_largest<F: Tree, R: Abort>(rt: &R, alloc: Global, files: &Snapshot) -> Result<(), Fail>
+    requires { files.now ≡ F.files }
+{
+    assert!(rt; files.len() == 1);
+    let page = Page::<F>::build(alloc, files, 0)?;
+    assert_eq!(rt; (page.size(), page.body().len()), (16_777_282, 16_777_216));
+    let mut cache = PageCache::<F>::new(alloc, 16_777_282, 1)?;
+    assert_eq!(rt; cache.keep(page), Keeping::Kept);
+    Ok(())
+}
+
+#[test]
+fn page_of_the_largest_file(rt: HostRuntime) -> Result<(), Fail> {
+    let mut text = String::from_str(rt.alloc(), "haboob-snapshot 1\nfile 0 1 16777216\na\n")?;
+    let bytes = "b".repeat(rt.alloc(), 16_777_216)?;
+    text.push_str(bytes.as_str())?;
+    text.push_str("\nend 1\n")?;
+    let files = snapshot(rt.alloc(), text.as_str())?;
+    check_largest::<Brand, HostRuntime>(&rt, rt.alloc(), &files)
 }
