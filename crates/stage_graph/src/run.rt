@@ -6,10 +6,13 @@ ghost use Rattle.stage_graph.specs.Stands.{with_steps, last_cut};
 ghost use Rattle.stage_graph.specs.Stopped.{IsStopped};
 
 mod locked;
+mod seats;
 mod shared;
+mod sleepers;
 
 use crate::{Chain, Floor, Named, Plan, Run, RunName, Unrun};
 use locked::new_locked;
+use seats::{Departed, Seat, hand_back, split_seats};
 use shared::{Shared, new_shared};
 use std::alloc::Global;
 use std::marker::Brand;
@@ -20,10 +23,11 @@ use std::thread::{JoinHandle, Threads};
 
 /// Is told where items go. Its calls stand outside the floor's lock.
 pub trait Gate {
-    /// An item was taken by a worker of a stage.
+    /// An item was taken by a worker of a stage, which works on it next.
     fn enter(&self, stage: usize, number: usize);
 
-    /// An item was given on, or sent back, by a worker of a stage.
+    /// An item was given on, or sent back, by a worker of a stage. The worker may have its next item by then, which
+    /// enters after this call.
     fn left(&self, stage: usize, number: usize);
 }
 
@@ -39,10 +43,10 @@ impl Gate for NoGate {
 
 /// Runs a floor to its end: every item goes through all steps of the chain, by the workers of the plan in threads.
 ///
-/// The calling thread feeds. Each worker takes an item, works up to its stage's cut and gives it on, waiting while
-/// the next queue is full. Where the chain refuses a step, or the next queue is full on a stopped floor, it sends
-/// the item back. Where a thread can't be started, the floor is halted, and the calling thread leaves in the place
-/// of each worker that has none; with none started the answer is `Unrun::Memory`. It may wait.
+/// The calling thread feeds. Each worker takes an item, works up to its stage's cut and gives it on. Who finds a queue
+/// full waits until it is half empty. Where the chain refuses a step, or the next queue is full on a stopped floor, the
+/// worker sends the item back. Where a thread can't be started, the floor is halted, and the calling thread leaves in
+/// the place of each worker that has none; with none started the answer is `Unrun::Memory`. It may wait.
 pub fn run_floor<
     C: Chain + Sync,
     N: RunName + Send + Sync,
@@ -101,18 +105,19 @@ where
 {
     let stages = plan.stages();
     let crew = plan.workers();
-    let (book, rest) = seats.open::<L>();
+    let (book, mut rest) = seats.open::<L>();
+    let seats = split_seats(alloc, crew, &mut rest)?;
     let handles = Vec::with_capacity(alloc, crew)?;
     let floor = Floor::<C, N>::open(alloc, plan, items)?;
     let shared = new_shared(alloc, new_locked(floor, book), stages)?;
-    let (started, mut all) = run_all(rt, &shared, chain, gate, crew, rest, handles);
+    let (started, mut all) = run_all(rt, &shared, chain, gate, seats, rest, handles);
     if !started {
         return Err(Unrun::Memory);
     }
     shared.into_floor(&mut all).close()
 }
 
-// Starts the workers, feeds, and joins them. Tells whether any was started.
+// Starts a worker for each seat, feeds, and joins them. Tells whether any was started, and puts the seats together.
 fn run_all<
     'a,
     C: Chain + Sync,
@@ -125,65 +130,49 @@ fn run_all<
     shared: &'a Shared<C, N, L>,
     chain: &'a C,
     gate: &'a G,
-    crew: usize,
-    rest: Share<L>,
+    seats: Vec<Seat<L>>,
+    back: Share<L>,
     handles: Vec<JoinHandle<Departed<L>>>,
 ) -> (bool, Share<L>)
 where
     C::Item: Send,
-    requires crew { crew ≡ workers N.plan }
-    requires rest { (rest.parts ≡ workers N.plan) × (rest.amount ≡ 0) }
+    requires seats { vec_len seats ≡ workers N.plan }
+    requires back { (back.parts ≡ 0) × (back.amount ≡ 0) }
     requires cut { last_cut N.plan ≡ C.steps }
-    requires handles { (vec_len handles ≡ 0) × (crew ≤ vec_capacity handles) }
+    requires handles { (vec_len handles ≡ 0) × (workers N.plan ≤ vec_capacity handles) }
     ensures { (result.1.parts ≡ workers N.plan) × (result.1.amount ≡ workers N.plan) }
 {
     thread::scope(
         thread::scope_env(),
         rt,
         move |scope| -> (bool, Share<L>)
-            requires { (crew ≡ workers N.plan) × (rest.parts ≡ workers N.plan) × (rest.amount ≡ 0) × (last_cut N.plan ≡ C.steps) × (vec_len handles ≡ 0) × (crew ≤ vec_capacity handles) }
+            requires { (vec_len seats ≡ workers N.plan) × (back.parts ≡ 0) × (back.amount ≡ 0) × (last_cut N.plan ≡ C.steps) × (vec_len handles ≡ 0) × (workers N.plan ≤ vec_capacity handles) }
             ensures { (result.1.parts ≡ workers N.plan) × (result.1.amount ≡ workers N.plan) }
         {
-            let mut rest = rest;
+            let mut seats = seats;
             let mut handles = handles;
-            let mut back = rest.empty();
-            for worker in 0..crew {
-                let seat = rest.split_off(1, 0);
+            let mut back = back;
+            while let Some(seat) = seats.pop() {
+                let worker = seats.len();
                 let job = move || -> Departed<L>
-                    requires { (worker < workers N.plan) × (seat.parts ≡ 1) × (seat.amount ≡ 0) × (last_cut N.plan ≡ C.steps) }
+                    requires { (worker < workers N.plan) × (last_cut N.plan ≡ C.steps) }
                 { serve(rt, shared, chain, gate, worker, seat) };
                 match scope.spawn(job) {
                     Ok(handle) => handles.push_reserved(handle),
                     Err(refused) => {
                         shared.halt(rt);
-                        let Departed { seat } = (refused.value)();
-                        back.merge(seat);
+                        (refused.value)().join(&mut back);
                     }
                 }
             }
             let started = !handles.is_empty();
             shared.feed_all(rt);
             while let Some(handle) = handles.pop() {
-                let Departed { seat } = handle.join(rt);
-                back.merge(seat);
+                handle.join(rt).join(&mut back);
             }
             (started, back)
         },
     )
-}
-
-// What a worker hands back: its seat, with one leave.
-#[derive(Drop)]
-struct Departed<L: Ledger> {
-    seat: Share<L>,
-    ghost one_part: { seat.parts ≡ 1 },
-    ghost one_leave: { seat.amount ≡ 1 },
-}
-
-fn hand_back<L: Ledger>(seat: Share<L>) -> Departed<L>
-    requires { (seat.parts ≡ 1) × (seat.amount ≡ 1) }
-{
-    Departed { seat }
 }
 
 // One worker, from its first item until it has left.
@@ -193,24 +182,31 @@ fn serve<C: Chain, N: RunName, L: Ledger, G: Gate, R: Wait>(
     chain: &C,
     gate: &G,
     worker: usize,
-    seat: Share<L>,
+    seat: Seat<L>,
 ) -> Departed<L>
     requires worker { worker < workers N.plan }
-    requires seat { (seat.parts ≡ 1) × (seat.amount ≡ 0) }
     requires cut { last_cut N.plan ≡ C.steps }
 {
     let (stage, cut) = shared.place(rt, worker);
-    let mut seat = seat;
+    let mut seat = seat.into_share();
+    let mut given = None;
     for _ in rt.forever() {
-        let Some(item) = shared.take(rt, worker, stage, &mut seat) else {
+        let next = match given {
+            Some(item) => Some(item),
+            None => shared.take(rt, worker, stage, &mut seat),
+        };
+        let Some(item) = next else {
             return hand_back(seat);
         };
         let number = item.number();
         gate.enter(stage, number);
-        match work_up(chain, item, cut) {
+        given = match work_up(chain, item, cut) {
             Ok(item) => shared.give(rt, worker, stage, item),
-            Err(item) => shared.back(rt, worker, stage, item),
-        }
+            Err(item) => {
+                shared.back(rt, worker, stage, item);
+                None
+            }
+        };
         gate.left(stage, number);
     }
     unreachable!()

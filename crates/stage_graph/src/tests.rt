@@ -1,5 +1,6 @@
 mod adding;
 mod floors;
+mod gates;
 mod threads;
 
 use crate::{Event, Plan};

@@ -33,6 +33,17 @@ impl<C: Chain, N: RunName> Floor<C, N> {
         self.queues[stage].is_full()
     }
 
+    // How many items wait in the queue of a stage, and how many fit.
+    pub(crate) fn load(&self, stage: usize) -> (usize, usize)
+        requires { stage < stages N.plan }
+        ensures waiting { result.0 ≡ length (queue_at (standing N.plan N.count self.now) stage) }
+        ensures capacity { result.1 ≡ capacity_at N.plan stage }
+        ensures bound { result.0 ≤ result.1 }
+    {
+        let queue = &self.queues[stage];
+        (queue.len(), queue.capacity())
+    }
+
     pub(super) fn has_left(&self, worker: usize) -> bool
         requires { worker < workers N.plan }
         ensures { result ≡ has_left (standing N.plan N.count self.now) worker }

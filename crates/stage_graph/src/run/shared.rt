@@ -1,55 +1,71 @@
-ghost use Rattle.std.specs.Prelude.{◌≡◌, ◌+◌, ◌<◌, ◌≤◌, true, IfSome, OnSome, IfNone, vec_len};
+ghost use Rattle.std.specs.Prelude.{◌≡◌, ◌+◌, ◌-◌, ◌/◌, ◌<◌, ◌≤◌, true, nat_le, if◌then◌else◌, IfSome, OnSome, IfNone, vec_len};
 ghost use Rattle.stage_graph.specs.Layouts.{stages, workers, stage_at, cut_before};
 ghost use Rattle.stage_graph.specs.Floors.{standing, all_left};
 ghost use Rattle.stage_graph.specs.Stands.{last_cut};
 
 use super::locked::Locked;
+use super::sleepers::Sleepers;
 use crate::{Cause, Chain, Floor, RunName};
 use std::alloc::{AllocError, Global};
 use std::sync::ledger::{Ledger, Share};
-use std::sync::{Condvar, Mutex, Wait};
+use std::sync::{Mutex, MutexGuard, Wait};
 
 // What the threads of a run share: the lock with the floor, and where they sleep.
+//
+// What a thread does under the lock in one go is a section. It makes one or more events, one after another: the
+// feeder feeds all that there is room for, and a worker gives its item and takes the next one, if there is one.
 //
 // Who sleeps where:
 // - `feeder`: the calling thread, which found the first queue full.
 // - `for_item` of a stage: its workers with an empty hand, which found its queue empty and may not leave yet.
 // - `for_room` of a stage: its workers with an item, which found the next queue full.
 //
-// | event      | who may go on                                   | who is woken                               |
+// | event      | who may go on                                   | who is chosen to be woken                  |
 // |------------|-------------------------------------------------|--------------------------------------------|
 // | feed, give | a worker of the stage that has one more item    | one at the stage's `for_item`              |
-// | take       | one that waits for room in the stage's queue    | one at `for_room` of the stage before, or  |
-// |            |                                                 | `feeder` at the first                      |
+// | take       | those that wait for room in the stage's queue   | where it is at most half full, one for     |
+// |            |                                                 | each free place at `for_room` of the stage |
+// |            |                                                 | before, or `feeder` at the first           |
 // |            | where nothing can come to the stage any more:   | all at the stage's `for_item`              |
 // |            | its workers, which may leave                    |                                            |
 // | back, halt | everybody: items are only sent back, and all    | all, everywhere                            |
 // |            | workers may leave                               |                                            |
 // | leave      | nobody                                          | none                                       |
 //
-// No wake-up is lost. Call what a place's sleepers wait for a ware: an item in the queue, or free room in the next
-// one. While a thread sleeps at a place, there are at most as many wares as notifications that are still to come,
-// and woken threads that have yet to look, together. There is no ware at the look, under the lock, after which the
-// thread slept, and its sleep begins with that look. An event that brings one is followed by its notification, which
-// wakes a sleeper. A woken thread that looks uses a ware, or finds none and sleeps again. And a thread that comes by
-// and uses one only lowers their number. So where there is a ware, somebody is still to look.
+// Each place counts its sleepers that no notification is on its way to, and only from these some are chosen. So no
+// place is notified again for a sleeper that was woken and hasn't run yet.
+//
+// No wake-up is lost. Call what a place's sleepers wait for a ware: an item in the queue, or a free place in the next
+// one, where that is at most half full. While a thread sleeps that isn't chosen, there are at most as many wares as
+// notifications that are still to come, and woken threads that have yet to look, together. For there is no ware at
+// the look after which a thread sleeps, and its sleep, with its count, begins in the same section. A section that
+// brings wares chooses a sleeper for each, or all, and then none sleeps that isn't chosen. A woken thread that looks
+// uses a ware, or finds none and sleeps again. And a thread that comes by and uses one only lowers their number. The
+// count is never too low: a thread that wakes unasked, or with all others, leaves it too high, which costs no more
+// than a notification. So where there is a ware, all that sleep are to be woken, or somebody is still to look.
 // An item comes into a queue by feed and give alone, and room by take alone. That the floor is stopped stays true,
 // and so does that nothing can come to a stage any more: then all at the place are woken. The latter becomes true
 // only by a take of the stage's own workers, which empties its queue: after a feed or a give there is an item in a
 // queue, and after a take by an earlier stage one in a hand before it.
+//
+// A queue that is more than half full has an item, so that one of its workers is in its handler, or is to look. It
+// takes an item each time that it comes back, and doesn't leave before the queue is empty or the floor is stopped. So
+// the queue falls to half, and those that wait for room are woken, if of all workers of the stage one comes back. A
+// gate that holds them all, until an item behind the held ones has moved on, can count on half of the queue's
+// capacity and one place more: nobody sleeps for good before a queue with fewer items.
 #[derive(Drop)]
 pub(super) struct Shared<C: Chain, N: RunName, L: Ledger> {
     locked: Mutex<Locked<C, N, L>>,
-    feeder: Condvar,
-    sleepers: Vec<Sleepers>,
-    ghost one_each: { vec_len sleepers ≡ stages N.plan },
+    feeder: Sleepers,
+    crews: Vec<Crew>,
+    ghost one_each: { vec_len crews ≡ stages N.plan },
 }
 
 // Where the workers of one stage sleep.
 #[derive(Drop)]
-struct Sleepers {
-    for_item: Condvar,
-    for_room: Condvar,
+struct Crew {
+    for_item: Sleepers,
+    for_room: Sleepers,
 }
 
 pub(super) fn new_shared<C: Chain, N: RunName, L: Ledger>(
@@ -59,17 +75,17 @@ pub(super) fn new_shared<C: Chain, N: RunName, L: Ledger>(
 ) -> Result<Shared<C, N, L>, AllocError>
     requires { count ≡ stages N.plan }
 {
-    let mut sleepers = Vec::with_capacity(alloc, count)?;
+    let mut crews = Vec::with_capacity(alloc, count)?;
     for _ in 0..count {
-        sleepers.push_reserved(Sleepers {
-            for_item: Condvar::new(),
-            for_room: Condvar::new(),
+        crews.push_reserved(Crew {
+            for_item: Sleepers::new(),
+            for_room: Sleepers::new(),
         });
     }
     Ok(Shared {
         locked: Mutex::new(locked),
-        feeder: Condvar::new(),
-        sleepers,
+        feeder: Sleepers::new(),
+        crews,
     })
 }
 
@@ -93,18 +109,21 @@ impl<C: Chain, N: RunName, L: Ledger> Shared<C, N, L> {
         unreachable!()
     }
 
-    // Feeds one item, if the floor isn't stopped and has one.
+    // Feeds the items that there is room for, in one section. Waits for room where there is none, and tells whether
+    // there may be more to feed.
     fn feed<R: Wait>(&self, rt: &R) -> bool {
         let mut locked = self.locked.lock(rt);
+        let mut fed = 0usize;
         for _ in rt.forever() {
             match locked.feed() {
-                Ok(()) => {
+                Ok(()) => fed = fed.saturating_add(1),
+                Err(Cause::Full) if fed == 0 => locked = self.feeder.sleep(rt, locked),
+                Err(cause) => {
+                    let chosen = self.choose_for_items(0, fed);
                     drop(locked);
-                    self.notify_fed();
-                    return true;
+                    self.wake_for_items(0, chosen);
+                    return cause == Cause::Full;
                 }
-                Err(Cause::Full) => locked = self.feeder.wait(rt, locked),
-                Err(_) => return false,
             }
         }
         unreachable!()
@@ -129,21 +148,26 @@ impl<C: Chain, N: RunName, L: Ledger> Shared<C, N, L> {
         let mut locked = self.locked.lock(rt);
         for _ in rt.forever() {
             if let Ok(item) = locked.take(worker) {
-                let drained = locked.floor().is_drained(stage);
-                drop(locked);
-                self.notify_taken(stage, drained);
+                self.end_taken(locked, stage);
                 return Some(item);
             }
             if locked.leave(worker, seat).is_ok() {
                 return None;
             }
-            locked = self.sleepers[stage].for_item.wait(rt, locked);
+            locked = self.crews[stage].for_item.sleep(rt, locked);
         }
         unreachable!()
     }
 
-    // Gives the item on, or back where the floor is stopped.
-    pub(super) fn give<R: Wait>(&self, rt: &R, worker: usize, stage: usize, item: C::Item)
+    // Gives the item on and takes the next one, if there is one, in one section. Where the floor is stopped and there
+    // is no room, it sends the item back.
+    pub(super) fn give<R: Wait>(
+        &self,
+        rt: &R,
+        worker: usize,
+        stage: usize,
+        item: C::Item,
+    ) -> Option<C::Item>
         requires worker { worker < workers N.plan }
         requires stage { stage < stages N.plan }
     {
@@ -152,9 +176,11 @@ impl<C: Chain, N: RunName, L: Ledger> Shared<C, N, L> {
         for _ in rt.forever() {
             item = match locked.give(worker, item) {
                 Ok(()) => {
-                    drop(locked);
-                    self.notify_given(stage);
-                    return;
+                    let items = self.choose_for_items(stage + 1, 1);
+                    let next = locked.take(worker).ok();
+                    self.end_taken(locked, stage);
+                    self.wake_for_items(stage + 1, items);
+                    return next;
                 }
                 Err((_, item)) => item,
             };
@@ -162,13 +188,13 @@ impl<C: Chain, N: RunName, L: Ledger> Shared<C, N, L> {
                 item = match locked.back(worker, item) {
                     Ok(()) => {
                         drop(locked);
-                        self.notify_stopped();
-                        return;
+                        self.wake_all();
+                        return None;
                     }
                     Err((_, item)) => item,
                 };
             }
-            locked = self.sleepers[stage].for_room.wait(rt, locked);
+            locked = self.crews[stage].for_room.sleep(rt, locked);
         }
         unreachable!()
     }
@@ -184,12 +210,12 @@ impl<C: Chain, N: RunName, L: Ledger> Shared<C, N, L> {
             item = match locked.back(worker, item) {
                 Ok(()) => {
                     drop(locked);
-                    self.notify_stopped();
+                    self.wake_all();
                     return;
                 }
                 Err((_, item)) => item,
             };
-            locked = self.sleepers[stage].for_room.wait(rt, locked);
+            locked = self.crews[stage].for_room.sleep(rt, locked);
         }
         unreachable!()
     }
@@ -197,45 +223,57 @@ impl<C: Chain, N: RunName, L: Ledger> Shared<C, N, L> {
     // Stops the floor.
     pub(super) fn halt<R: Wait>(&self, rt: &R) {
         let _stopped = self.locked.lock(rt).halt();
-        self.notify_stopped();
+        self.wake_all();
     }
 
-    // There is an item in the first queue.
-    fn notify_fed(&self) {
-        if let Some(first) = self.sleepers.first() {
-            first.for_item.notify_one();
+    // Ends a section in which a worker took an item of the stage, or found none, and wakes who may go on for it.
+    fn end_taken(&self, locked: MutexGuard<Locked<C, N, L>>, stage: usize)
+        requires { stage < stages N.plan }
+    {
+        let (waiting, capacity) = locked.floor().load(stage);
+        let room = self
+            .for_room_of(stage)
+            .choose(room_to_wake_for(waiting, capacity));
+        let drained = locked.floor().is_drained(stage);
+        drop(locked);
+        self.for_room_of(stage).wake(room);
+        if drained {
+            self.crews[stage].for_item.wake_all();
         }
     }
 
-    // There is room in the queue of the stage, and where it is drained, its workers may leave.
-    fn notify_taken(&self, stage: usize, drained: bool)
+    // Those that wait for room in the queue of the stage.
+    fn for_room_of(&self, stage: usize) -> &Sleepers
         requires { stage < stages N.plan }
     {
         if stage == 0 {
-            self.feeder.notify_one();
+            &self.feeder
         } else {
-            self.sleepers[stage - 1].for_room.notify_one();
-        }
-        if drained {
-            self.sleepers[stage].for_item.notify_all();
+            &self.crews[stage - 1].for_room
         }
     }
 
-    // There is an item in the queue of the next stage, if the stage isn't the last.
-    fn notify_given(&self, stage: usize)
-        requires { stage < stages N.plan }
-    {
-        if stage + 1 < self.sleepers.len() {
-            self.sleepers[stage + 1].for_item.notify_one();
+    // Chooses whom to wake for new items in the queue of a stage, if there is such a stage.
+    fn choose_for_items(&self, stage: usize, count: usize) -> usize {
+        match self.crews.get(stage) {
+            Some(crew) => crew.for_item.choose(count),
+            None => 0,
+        }
+    }
+
+    // Wakes those that were chosen for new items.
+    fn wake_for_items(&self, stage: usize, chosen: usize) {
+        if let Some(crew) = self.crews.get(stage) {
+            crew.for_item.wake(chosen);
         }
     }
 
     // Everybody may leave, and nobody can take or feed.
-    fn notify_stopped(&self) {
-        self.feeder.notify_all();
-        for sleepers in &self.sleepers {
-            sleepers.for_item.notify_all();
-            sleepers.for_room.notify_all();
+    fn wake_all(&self) {
+        self.feeder.wake_all();
+        for crew in &self.crews {
+            crew.for_item.wake_all();
+            crew.for_room.wake_all();
         }
     }
 
@@ -247,5 +285,17 @@ impl<C: Chain, N: RunName, L: Ledger> Shared<C, N, L> {
     {
         let Shared { locked, .. } = self;
         locked.into_inner().into_floor(all)
+    }
+}
+
+// For how many free places of a queue those that wait for room are woken: for none while it is more than half full.
+fn room_to_wake_for(waiting: usize, capacity: usize) -> usize
+    requires { waiting ≤ capacity }
+    ensures { result ≡ (if nat_le waiting (capacity / 2) then capacity - waiting else 0) }
+{
+    if waiting <= capacity / 2 {
+        capacity - waiting
+    } else {
+        0
     }
 }

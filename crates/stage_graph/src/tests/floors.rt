@@ -12,49 +12,29 @@ use std::marker::Brand;
 use std::process::Abort;
 use std::test::*;
 
-fn fault_of(
-    alloc: Global,
-    cuts: &[usize],
-    crews: &[usize],
-    capacities: &[usize],
-) -> Option<PlanFault> {
-    Plan::new(alloc, cuts, crews, capacities).err()
-}
+type Lists = (&'static [usize], &'static [usize], &'static [usize]);
+
+// The first fault of a plan's lists: its cuts, crews and capacities.
+static FAULTS: [(Lists, Option<PlanFault>); 10] = [
+    ((&[], &[17], &[0]), Some(PlanFault::Empty)),
+    ((&[2, 2], &[17], &[0]), Some(PlanFault::Order)),
+    ((&[0, 1], &[1, 1], &[1, 1]), Some(PlanFault::Order)),
+    ((&[1], &[17], &[0]), Some(PlanFault::Workers)),
+    ((&[1], &[0], &[1]), Some(PlanFault::Workers)),
+    ((&[1], &[1, 1], &[1]), Some(PlanFault::Workers)),
+    ((&[1], &[1], &[0]), Some(PlanFault::Capacity)),
+    ((&[1], &[1], &[4097]), Some(PlanFault::Capacity)),
+    ((&[1, 2], &[1, 1], &[1]), Some(PlanFault::Capacity)),
+    ((&[1, 9], &[16, 1], &[4096, 1]), None),
+];
 
 #[test]
 fn plan_faults_in_order(rt: HostRuntime) {
-    let alloc = rt.alloc();
-    assert_eq!(rt; fault_of(alloc, &[], &[17], &[0]), Some(PlanFault::Empty));
-    assert_eq!(rt;
-        fault_of(alloc, &[2, 2], &[17], &[0]),
-        Some(PlanFault::Order)
-    );
-    assert_eq!(rt;
-        fault_of(alloc, &[0, 1], &[1, 1], &[1, 1]),
-        Some(PlanFault::Order)
-    );
-    assert_eq!(rt;
-        fault_of(alloc, &[1], &[17], &[0]),
-        Some(PlanFault::Workers)
-    );
-    assert_eq!(rt; fault_of(alloc, &[1], &[0], &[1]), Some(PlanFault::Workers));
-    assert_eq!(rt;
-        fault_of(alloc, &[1], &[1, 1], &[1]),
-        Some(PlanFault::Workers)
-    );
-    assert_eq!(rt;
-        fault_of(alloc, &[1], &[1], &[0]),
-        Some(PlanFault::Capacity)
-    );
-    assert_eq!(rt;
-        fault_of(alloc, &[1], &[1], &[4097]),
-        Some(PlanFault::Capacity)
-    );
-    assert_eq!(rt;
-        fault_of(alloc, &[1, 2], &[1, 1], &[1]),
-        Some(PlanFault::Capacity)
-    );
-    assert_eq!(rt; fault_of(alloc, &[1, 9], &[16, 1], &[4096, 1]), None);
+    for (lists, fault) in &FAULTS {
+        let (cuts, crews, capacities) = *lists;
+        let found = Plan::new(rt.alloc(), cuts, crews, capacities).err();
+        assert_eq!(rt; found, *fault);
+    }
 }
 
 #[test]
@@ -272,24 +252,21 @@ fn floor_halted(rt: HostRuntime) -> Result<(), Fail> {
 }
 
 // Events with a number, a worker or a place that the floor doesn't have are named, and so is the first of several.
+static REFUSED: [(&[Event], usize); 7] = [
+    (&[Event::Feed(1)], 0),
+    (&[Event::Feed(0), Event::Feed(1)], 1),
+    (&[Event::Feed(0), Event::Take(1, 0)], 1),
+    (&[Event::Feed(0), Event::Take(0, 1)], 1),
+    (&[Event::Leave(0), Event::Leave(0)], 0),
+    (&[Event::Halt, Event::Leave(0), Event::Leave(0)], 2),
+    (&[Event::Halt, Event::Back(0, 0), Event::Halt], 1),
+];
+
 #[test]
 fn first_refused_event(rt: HostRuntime) {
     let alloc = rt.alloc();
-    let cases: [(&[Event], usize); 7] = [
-        (&[Event::Feed(1)], 0),
-        (&[Event::Feed(0), Event::Feed(1)], 1),
-        (&[Event::Feed(0), Event::Take(1, 0)], 1),
-        (&[Event::Feed(0), Event::Take(0, 1)], 1),
-        (&[Event::Leave(0), Event::Leave(0)], 0),
-        (&[Event::Halt, Event::Leave(0), Event::Leave(0)], 2),
-        (&[Event::Halt, Event::Back(0, 0), Event::Halt], 1),
-    ];
-    for (history, place) in cases {
-        assert_eq!(rt;
-            checked(alloc, 2, history),
-            Some(Checked::Illegal(place)),
-            "at {place}"
-        );
+    for (history, place) in &REFUSED {
+        assert_eq!(rt; checked(alloc, 2, history), Some(Checked::Illegal(*place)));
     }
     assert_eq!(rt; checked(alloc, 0, &[]), Some(Checked::Legal));
     assert_eq!(rt; checked(alloc, 0, &[Event::Leave(0)]), Some(Checked::Legal));

@@ -14,7 +14,7 @@ const TABLE: [u64; 3] = [1, 10, 100];
 type Sums = Result<(Vec<u64>, History), Unrun>;
 
 // The sums of the inputs on a floor of three steps.
-fn sums<G: Gate + Sync, R: Threads + Wait + Sync>(
+pub fn sums<G: Gate + Sync, R: Threads + Wait + Sync>(
     rt: &R,
     alloc: Global,
     lists: (&[usize], &[usize], &[usize]),
@@ -32,7 +32,7 @@ fn sums<G: Gate + Sync, R: Threads + Wait + Sync>(
 }
 
 // Whether a history is legal on a floor.
-fn is_legal(
+pub fn is_legal(
     alloc: Global,
     lists: (&[usize], &[usize], &[usize]),
     count: usize,
