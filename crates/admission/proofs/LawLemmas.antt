@@ -23,7 +23,7 @@ begins rules past (offer ∷ more) =
     let next = begins rules (past ++ decided_next rules past offer ∷ []) more in
     (decided_next rules past offer ∷ next.0, next.1 ∙ append_assoc past (decided_next rules past offer ∷ []) next.0)
 
-decided_from-append : (rules : Rules) (past : List Decided) (xs ys : List Offer)
+pub decided_from-append : (rules : Rules) (past : List Decided) (xs ys : List Offer)
     → decided_from rules past (xs ++ ys) ≡ decided_from rules (decided_from rules past xs) ys
 unfolding decided_from
 decided_from-append rules past [] ys = refl

@@ -1,3 +1,4 @@
+pub mod CarryLemmas
 pub mod ControlLemmas
 pub mod CreditLemmas
 pub mod LawLemmas

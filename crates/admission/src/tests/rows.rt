@@ -158,6 +158,31 @@ fn a_window_longer_than_a_control_apart(rt: HostRuntime) -> Result<(), Fail> {
     Ok(())
 }
 
+// Each second brings one token and two offers, so that the first of them takes it.
+#[test]
+fn many_offers(rt: HostRuntime) -> Result<(), Fail> {
+    let policy = Policy::new(1000, 100, 700, 1000, 1000, 1000, 2000, 120, 100_000, 90, 1).expect(
+        &rt, "a policy",
+    );
+    let mut controller = Controller::new(rt.alloc(), policy)?;
+    for j in 0..2400u64 {
+        let wanted = if j % 2 == 0 {
+            Decision::Admitted {
+                finish: 500_000 * j + 201,
+            }
+        } else {
+            Decision::Rejected
+        };
+        assert_eq!(rt; controller.offer(500_000 * j, 201)?, wanted);
+    }
+    assert_eq!(rt; controller.controls().len(), 12);
+    assert_eq!(rt;
+        controller.controls().last().map(|control| control.instant),
+        Some(1_199_000_201)
+    );
+    Ok(())
+}
+
 #[test]
 fn the_first_fault_of_a_policy_is_named(rt: HostRuntime) {
     let fault = |window: u64, every: u64, smoothing: u64, rate: u64, target: u64, depth: u64| {

@@ -1,0 +1,5 @@
+use Rattle.admission.proofs.CarryLemmas as lemmas
+use Rattle.admission.proofs.laws.finish_from_finish.Goals as goal
+
+pub returns : goal.returns
+returns c = lemmas.finish_from_finish
