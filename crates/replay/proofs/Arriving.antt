@@ -30,21 +30,21 @@ from_piece tick conn = record { conn = conn; tick = tick }
 pub text_more : (c : ℕ) (records : List Record) (r : Record) → text_of c (records ++ r ∷ []) ≡ text_of c records ++ bytes_to c r
 text_more c records r = flat_map-append (bytes_to c) records (r ∷ []) ∙ ap (λ t. text_of c records ++ t) (append-nil (bytes_to c r))
 
-if_true : {A : Type 0} (b : Bool) (x y : A) → b ≡ true → (if b then x else y) ≡ x
+pub if_true : {A : Type 0} (b : Bool) (x y : A) → b ≡ true → (if b then x else y) ≡ x
 if_true true x y e = refl
 if_true false x y e = absurd (let z : ⊥ = grind (arith, e) in z)
 
-if_false : {A : Type 0} (b : Bool) (x y : A) → b ≡ false → (if b then x else y) ≡ y
+pub if_false : {A : Type 0} (b : Bool) (x y : A) → b ≡ false → (if b then x else y) ≡ y
 if_false true x y e = absurd (let z : ⊥ = grind (arith, e) in z)
 if_false false x y e = refl
 
-own_bytes : (tick conn : ℕ) (bytes : List ℕ) → bytes_to conn (Piece tick conn bytes) ≡ bytes
+pub own_bytes : (tick conn : ℕ) (bytes : List ℕ) → bytes_to conn (Piece tick conn bytes) ≡ bytes
 own_bytes tick conn bytes = elim (eqb_tells conn conn) [
   | inl same ↦ if_true (conn == conn) bytes [] same.0
   | inr other ↦ absurd (other.1 refl)
 ]
 
-other_bytes : (c tick conn : ℕ) (bytes : List ℕ) → c ≢ conn → bytes_to c (Piece tick conn bytes) ≡ []
+pub other_bytes : (c tick conn : ℕ) (bytes : List ℕ) → c ≢ conn → bytes_to c (Piece tick conn bytes) ≡ []
 other_bytes c tick conn bytes apart = elim (eqb_tells conn c) [
   | inl same ↦ absurd (apart (sym same.1))
   | inr other ↦ if_false (conn == c) bytes [] other.0
@@ -52,17 +52,17 @@ other_bytes c tick conn bytes apart = elim (eqb_tells conn c) [
 
 -- ---- messages of a connection
 
-messages_more : (c : ℕ) (came bs : List Arrival) → messages_of c (came ++ bs) ≡ messages_of c came ++ messages_of c bs
+pub messages_more : (c : ℕ) (came bs : List Arrival) → messages_of c (came ++ bs) ≡ messages_of c came ++ messages_of c bs
 messages_more c came bs = ap (map (λ a. a.message)) (filter-append (λ a. a.origin.conn == c) came bs) ∙ map-append (λ a. a.message) (filter (λ a. a.origin.conn == c) came) (filter (λ a. a.origin.conn == c) bs)
 
-own_messages : (place tick conn : ℕ) (ms : List Message) → messages_of conn (arrivals_with place (from_piece tick conn) ms) ≡ ms
+pub own_messages : (place tick conn : ℕ) (ms : List Message) → messages_of conn (arrivals_with place (from_piece tick conn) ms) ≡ ms
 own_messages place tick conn [] = refl
 own_messages place tick conn (m ∷ ms) = elim (eqb_tells conn conn) [
   | inl same ↦ rw same.0 (ap (λ l. m ∷ l) (own_messages place tick conn ms))
   | inr other ↦ absurd (other.1 refl)
 ]
 
-other_messages : (c place tick conn : ℕ) (ms : List Message) → c ≢ conn → messages_of c (arrivals_with place (from_piece tick conn) ms) ≡ []
+pub other_messages : (c place tick conn : ℕ) (ms : List Message) → c ≢ conn → messages_of c (arrivals_with place (from_piece tick conn) ms) ≡ []
 other_messages c place tick conn [] apart = refl
 other_messages c place tick conn (m ∷ ms) apart = elim (eqb_tells conn c) [
   | inl same ↦ absurd (apart (sym same.1))
@@ -81,7 +81,7 @@ get_seam [] y = refl
 get_seam (x ∷ xs) y = get_seam xs y
 
 -- a message that arrived stays with its piece
-arrived_stays : (records : List Record) (r : Record) (a : Arrival) → ArrivesWith records a → ArrivesWith (records ++ r ∷ []) a
+pub arrived_stays : (records : List Record) (r : Record) (a : Arrival) → ArrivesWith records a → ArrivesWith (records ++ r ∷ []) a
 arrived_stays records r a h =
     let below = slice_get_within records a.place (Piece a.origin.tick a.origin.conn h.bytes) h.piece in
     let front : take a.place (records ++ r ∷ []) ≡ take a.place records = take-append-le a.place records (r ∷ []) (omega (arith, below)) in
@@ -104,7 +104,7 @@ arrives_now records tick conn bytes m behind within =
       within = rw front within;
     }
 
-all_arrive : (records : List Record) (tick conn from : ℕ) (bytes : List ℕ) (ms : List Message) → length (text_of conn records) ≤ from
+pub all_arrive : (records : List Record) (tick conn from : ℕ) (bytes : List ℕ) (ms : List Message) → length (text_of conn records) ≤ from
     → EndBetween from (length (text_of conn records) + length bytes) ms
     → All (ArrivesWith (records ++ Piece tick conn bytes ∷ [])) (arrivals_with (length records) (from_piece tick conn) ms)
 all_arrive records tick conn from bytes [] le ends = λ k d lt. absurd (omega (arith, lt))
@@ -128,7 +128,7 @@ not_later_more : (place from end : ℕ) (a : Arrival) → from < end → NotLate
 not_later_more place from end a lt (inl h) = inl h
 not_later_more place from end a lt (inr h) = inr (h.0, (let k = h.1 in omega (arith, lt, k)))
 
-order_more : (place tick conn from to : ℕ) (came : List Arrival) (ms : List Message) → AllPairs Precedes came → All (NotLater place from) came
+pub order_more : (place tick conn from to : ℕ) (came : List Arrival) (ms : List Message) → AllPairs Precedes came → All (NotLater place from) came
     → EndBetween from to ms → AllPairs Precedes (came ++ arrivals_with place (from_piece tick conn) ms)
 order_more place tick conn from to came [] pairs early ends = rw (append-nil came) pairs
 order_more place tick conn from to came (m ∷ ms) pairs early ends =
@@ -138,12 +138,12 @@ order_more place tick conn from to came (m ∷ ms) pairs early ends =
     let later : All (NotLater place m.end) (came ++ a ∷ []) = All-push (NotLater place m.end) came a (λ k d below. not_later_more place from m.end (get_or came k d) lt (early k d below)) (inr (refl, omega arith)) in
     subst (AllPairs Precedes) (append_assoc came (a ∷ []) (arrivals_with place (from_piece tick conn) ms)) (order_more place tick conn m.end to (came ++ a ∷ []) ms pushed later ends.2)
 
-arrived_before : (records : List Record) (from : ℕ) (a : Arrival) → ArrivesWith records a → NotLater (length records) from a
+pub arrived_before : (records : List Record) (from : ℕ) (a : Arrival) → ArrivesWith records a → NotLater (length records) from a
 arrived_before records from a h = inl (slice_get_within records a.place (Piece a.origin.tick a.origin.conn h.bytes) h.piece)
 
 -- ---- one more record
 
-has_messages : (k : Connection) (text : List ℕ) (ms : List Message) → HasRead k text ms → MessagesOf text ms
+pub has_messages : (k : Connection) (text : List ℕ) (ms : List Message) → HasRead k text ms → MessagesOf text ms
 has_messages Silent text ms h = rw (h.0, h.1) (λ what k next. (let w = next_within [] what k next in let a = w.0 in let b = w.1 in omega (arith, a, b)))
 has_messages (Open cutter) text ms h = h.messages
 has_messages Closed text ms h = rw (append-nil text) at (h [])

@@ -1,6 +1,6 @@
 -- What the desk makes of one more message.
 use Rattle.std.proofs.Common.{◌≡◌, ℕ, ◌+◌, ◌-◌, ◌<◌, ◌≤◌, ◌≢◌, ◌/◌, Bool, true, false, List, [], ◌∷◌, ◌++◌, length, refl, sym, ap, ◌∙◌, arith, append-nil, Option, Result, Ok, Err}
-use Rattle.std.specs.Prelude.{IfOk, IfErr}
+use Rattle.std.specs.Prelude.{IfOk, IfErr, OnErr}
 use Rattle.std.specs.Result.{IsErrAnd}
 use Rattle.std.proofs.lemmas.List.{length-append}
 use Rattle.http_requests.specs.declared.messages.What.{What as Meaning}
@@ -276,3 +276,8 @@ by_with place origin (m ∷ ms) = All-cons (λ a. a.origin.tick ≤ origin.tick)
 
 pub by_more : (place : ℕ) (origin : Origin) (ms : List Message) (arrivals : List Arrival) → AreBy origin.tick arrivals → AreBy origin.tick (arrivals ++ arrivals_with place origin ms)
 by_more place origin ms arrivals by = All-append (λ a. a.origin.tick ≤ origin.tick) arrivals (arrivals_with place origin ms) by (by_with place origin ms)
+
+-- what holds at any fault
+pub on_err : {T : Type 0} (r : Result T ReplayFault) (P : Type 0) → P → OnErr r P
+on_err (Ok x) P h = tt
+on_err (Err f) P h = h

@@ -1,5 +1,6 @@
 pub mod Reading
 pub mod Arriving
+pub mod Merging
 pub mod SameAnswer
 pub mod CountMore
 pub mod Offering
@@ -8,3 +9,10 @@ pub mod Writing
 pub mod Server
 pub mod ArrivalLaws
 pub mod OneAnswer
+pub mod Sights
+pub mod Ticketed
+pub mod CutBatches
+pub mod Merges
+pub mod Laid
+pub mod Upcoming
+pub mod ByBatch

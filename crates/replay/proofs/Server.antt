@@ -48,7 +48,7 @@ bytes_below c (Piece tick conn bytes) = elim (eqb_tells conn c) [
 ]
 bytes_below c (End tick conn) = omega arith
 
-text_below : (c : ℕ) (records : List Record) → length (text_of c records) ≤ sizes_of records
+pub text_below : (c : ℕ) (records : List Record) → length (text_of c records) ≤ sizes_of records
 text_below c [] = omega arith
 text_below c (r ∷ records) = omega (arith, text_below c records, bytes_below c r, sum_by-cons size_of r records, length-append (bytes_to c r) (text_of c records))
 
@@ -74,7 +74,7 @@ ticks_count [] = refl
 ticks_count (Piece tick conn bytes ∷ records) = ap (λ n. suc n) (ticks_count records)
 ticks_count (End tick conn ∷ records) = ap (λ n. suc n) (ticks_count records)
 
-tick_at : (records : List Record) (i tick conn : ℕ) (bytes : List ℕ) → slice_get records i ≡ Some (Piece tick conn bytes) → slice_get (ticks_of records) i ≡ Some tick
+pub tick_at : (records : List Record) (i tick conn : ℕ) (bytes : List ℕ) → slice_get records i ≡ Some (Piece tick conn bytes) → slice_get (ticks_of records) i ≡ Some tick
 tick_at [] i tick conn bytes h = absurd (let lt = slice_get_within [] i (Piece tick conn bytes) h in omega (arith, lt))
 tick_at (Piece t c b ∷ records) zero tick conn bytes h = ap (λ o. option_map tick_in o) h
 tick_at (End t c ∷ records) zero tick conn bytes h = ap (λ o. option_map tick_in o) h
@@ -109,7 +109,7 @@ pub serves_none : (terms : Terms) (connections : List Connection) (desk : Desk) 
 serves_none terms connections desk none stands = record { reads = rw none reads_none; arrived = arrives_none; stands = stands }
 
 pub serves_end : (terms : Terms) (tick conn : ℕ) (records : List Record) (arrivals : List Arrival) (r : Record) (connections : List Connection) (desk : Desk) (old : Option (List ℕ))
-    → r ≡ End tick conn → Serves terms records arrivals connections desk → ServesMore terms records arrivals r connections desk old old
+    → r ≡ End tick conn → Serves terms records arrivals connections desk → ServesMore terms records arrivals (r ∷ []) connections desk old old
 serves_end terms tick conn records arrivals r connections desk old is serves =
     let reads = reads_end records arrivals connections tick conn serves.reads in
     let more : Serves terms (records ++ End tick conn ∷ []) arrivals connections desk = record {
@@ -142,7 +142,7 @@ brought terms tick conn n bytes piece ms out records arrivals r before after des
 pub serves_piece : (terms : Terms) (tick conn : ℕ) (ms : List Message) (records : List Record) (arrivals : List Arrival) (r : Record) (after : List Connection) (desk now : Desk) (old new : Option (List ℕ))
     → Brought records arrivals r after (arrivals_with (length records) (from_piece tick conn) ms) → now.start ≡ desk.start
     → Stands terms (arrivals ++ arrivals_with (length records) (from_piece tick conn) ms) now
-    → Written terms desk.start arrivals (arrivals_with (length records) (from_piece tick conn) ms) old new → ServesMore terms records arrivals r after now old new
+    → Written terms desk.start arrivals (arrivals_with (length records) (from_piece tick conn) ms) old new → ServesMore terms records arrivals (r ∷ []) after now old new
 serves_piece terms tick conn ms records arrivals r after desk now old new brings start stands written = record {
   more = arrivals_with (length records) (from_piece tick conn) ms;
   serves = record { reads = brings.reads; arrived = brings.arrived; stands = stands };
@@ -160,7 +160,7 @@ take_with place origin i ms = map_take (λ m. record { origin = origin; place = 
 pub serves_full : (terms : Terms) (tick conn i : ℕ) (ms : List Message) (records : List Record) (arrivals : List Arrival) (r : Record) (after : List Connection) (before : List Connection) (desk : Desk) (old new : Option (List ℕ))
     → Brought records arrivals r after (arrivals_with (length records) (from_piece tick conn) ms) → Serves terms records arrivals before desk
     → i < length ms → desk.tally.answered + i ≡ 1048576 → Written terms desk.start arrivals (arrivals_with (length records) (from_piece tick conn) (take i ms)) old new
-    → ServesFull terms desk.start records arrivals r old new
+    → ServesFull terms desk.start records arrivals (r ∷ []) old new
 serves_full terms tick conn i ms records arrivals r after before desk old new brings serves lt full written =
     let place = length records in
     let is = answered_is terms arrivals desk serves.stands in
@@ -177,7 +177,7 @@ serves_full terms tick conn i ms records arrivals r after before desk old new br
 pub serves_part : (terms : Terms) (tick conn i : ℕ) (ms : List Message) (records : List Record) (arrivals : List Arrival) (r : Record) (after : List Connection) (before : List Connection) (desk : Desk) (old new : Option (List ℕ))
     → Brought records arrivals r after (arrivals_with (length records) (from_piece tick conn) ms) → Serves terms records arrivals before desk
     → desk.tally.answered + i ≤ 1048576 → WrittenInPart terms desk.start arrivals (arrivals_with (length records) (from_piece tick conn) (take i ms)) old new
-    → ServesInPart terms desk.start records arrivals r old new
+    → ServesInPart terms desk.start records arrivals (r ∷ []) old new
 serves_part terms tick conn i ms records arrivals r after before desk old new brings serves few written =
     let place = length records in
     let is = answered_is terms arrivals desk serves.stands in
@@ -425,14 +425,14 @@ short_among terms text now old new start records arrivals p connections desk fit
   written = rw (take_all arrivals) (part_all old new _ written);
 }))
 
-pub stops_full : (terms : Terms) (text now old mid new : Option (List ℕ)) (start n : ℕ) (records : List Record) (arrivals : List Arrival) (r : Record) (p : Progress)
-    → Fits version_one text start (records ++ r ∷ []) p now → Appends old mid (text_before_stop (replies_of terms start (handled terms arrivals))) → n ≡ 1048576
-    → ServesFull terms start records arrivals r mid new → is_some text ≡ true → StopsFull terms (unwrap_or text []) old new n
-stops_full terms text now old mid new start n records arrivals r p fits written number full known =
+pub stops_full : (terms : Terms) (text now old mid new : Option (List ℕ)) (start n : ℕ) (records : List Record) (arrivals : List Arrival) (rs : List Record) (p : Progress)
+    → Fits version_one text start (records ++ rs) p now → Appends old mid (text_before_stop (replies_of terms start (handled terms arrivals))) → n ≡ 1048576
+    → ServesFull terms start records arrivals rs mid new → is_some text ≡ true → StopsFull terms (unwrap_or text []) old new n
+stops_full terms text now old mid new start n records arrivals rs p fits written number full known =
     let here : take 1048576 (arrivals ++ full.more) ≡ arrivals ++ take full.within full.more = rw (← full.full) (take-append-add arrivals full.more full.within) in
     record {
       start = start;
-      records = records ++ r ∷ [];
+      records = records ++ rs;
       rest = unwrap_or now [];
       arrivals = arrivals ++ full.more;
       front = fits.front known;
@@ -443,14 +443,14 @@ stops_full terms text now old mid new start n records arrivals r p fits written 
       written = rw here (more_written terms start arrivals (take full.within full.more) old mid new written full.written);
     }
 
-pub short_part : (terms : Terms) (text now old mid new : Option (List ℕ)) (start : ℕ) (records : List Record) (arrivals : List Arrival) (r : Record) (p : Progress)
-    → Fits version_one text start (records ++ r ∷ []) p now → Appends old mid (text_before_stop (replies_of terms start (handled terms arrivals)))
-    → ServesInPart terms start records arrivals r mid new → is_some text ≡ true → IsCutShort terms (unwrap_or text []) old new
-short_part terms text now old mid new start records arrivals r p fits written part known =
+pub short_part : (terms : Terms) (text now old mid new : Option (List ℕ)) (start : ℕ) (records : List Record) (arrivals : List Arrival) (rs : List Record) (p : Progress)
+    → Fits version_one text start (records ++ rs) p now → Appends old mid (text_before_stop (replies_of terms start (handled terms arrivals)))
+    → ServesInPart terms start records arrivals rs mid new → is_some text ≡ true → IsCutShort terms (unwrap_or text []) old new
+short_part terms text now old mid new start records arrivals rs p fits written part known =
     let here : take (length arrivals + part.within) (arrivals ++ part.more) ≡ arrivals ++ take part.within part.more = take-append-add arrivals part.more part.within in
     inr (inl (record {
       start = start;
-      records = records ++ r ∷ [];
+      records = records ++ rs;
       rest = unwrap_or now [];
       arrivals = arrivals ++ part.more;
       within = length arrivals + part.within;
@@ -466,3 +466,25 @@ own_capture (faults.Capture f) P h = absurd h
 own_capture (faults.TooMany n) P h = tt
 own_capture faults.Write P h = tt
 own_capture faults.Memory P h = tt
+
+-- a reader that failed is told, and at most once
+pub blamed_told : (old new : ℕ) (f : CaptureFault) (r : ReplayFault) → r ≡ capture_fault f → new ≡ old + failures_of f.kind → (old + reader_failures r ≤ new) × (new ≤ old + 1)
+blamed_told old new f r is count =
+    let same : reader_failures r ≡ failures_of f.kind = ap reader_failures is ∙ told_reads f in
+    let most = once f.kind in
+    (omega (arith, same, count), omega (arith, most, count))
+  where
+    once : (k : CaptureFaultKind) → failures_of k ≤ 1
+    once kinds.Read = omega arith
+    once kinds.Cut = omega arith
+    once kinds.Header = omega arith
+    once kinds.Kind = omega arith
+    once kinds.Number = omega arith
+    once kinds.Tick = omega arith
+    once kinds.Connection = omega arith
+    once kinds.Ended = omega arith
+    once kinds.Length = omega arith
+    once kinds.Count = omega arith
+    once kinds.Trailing = omega arith
+    once kinds.TooLarge = omega arith
+    once kinds.Memory = omega arith

@@ -10,3 +10,9 @@ pub mod Deciding
 pub mod Serving
 pub mod Outcomes
 pub mod Laws
+pub mod Fronts
+pub mod Backs
+pub mod Batches
+pub mod Ticketing
+pub mod Places
+pub mod Waiting

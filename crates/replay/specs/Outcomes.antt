@@ -150,3 +150,7 @@ writer_failures other = 0
 -- a device's count rose by one exactly where the fault is its own
 abbrev pub CountsBy : {X : Type 0} → (ReplayFault → ℕ) → ℕ → ℕ → Result X ReplayFault → Type 0
 CountsBy failures old new r = MatchResult r (λ _. new ≡ old) (λ f. new ≡ old + failures f)
+
+-- a device failed at most once in a call, and is blamed only where it did
+abbrev pub BlamedOnce : {X : Type 0} → (ReplayFault → ℕ) → ℕ → ℕ → Result X ReplayFault → Type 0
+BlamedOnce failures old new r = MatchResult r (λ _. new ≡ old) (λ f. (old + failures f ≤ new) × (new ≤ old + 1))

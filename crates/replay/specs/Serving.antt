@@ -47,30 +47,30 @@ pub record Serves (terms : Terms) (records : List Record) (arrivals : List Arriv
   pub arrived : AreArrivals records arrivals
   pub stands : Stands terms arrivals desk
 
--- these messages arrive with the record that comes next
-abbrev pub ArriveNext : List Record → List Arrival → Record → List Arrival → Type 0
-ArriveNext records arrivals r more = AreArrivals (records ++ r ∷ []) (arrivals ++ more)
+-- these messages arrive with the records that come next
+abbrev pub ArriveNext : List Record → List Arrival → List Record → List Arrival → Type 0
+ArriveNext records arrivals rs more = AreArrivals (records ++ rs) (arrivals ++ more)
 
--- one more record was read, and the messages that arrived with it were answered
-pub record ServesMore (terms : Terms) (records : List Record) (arrivals : List Arrival) (r : Record) (connections : List Connection) (desk : Desk)
+-- more records were read, and the messages that arrived with them were answered
+pub record ServesMore (terms : Terms) (records : List Record) (arrivals : List Arrival) (rs : List Record) (connections : List Connection) (desk : Desk)
     (old new : Option (List ℕ)) : Type 0 where
   pub more : List Arrival
-  pub serves : Serves terms (records ++ r ∷ []) (arrivals ++ more) connections desk
+  pub serves : Serves terms (records ++ rs) (arrivals ++ more) connections desk
   pub written : Written terms desk.start arrivals more old new
 
--- the next record's messages reach beyond the limit: those within it were answered
-pub record ServesFull (terms : Terms) (start : ℕ) (records : List Record) (arrivals : List Arrival) (r : Record) (old new : Option (List ℕ)) : Type 0 where
+-- the messages of the next records reach beyond the limit: those within it were answered
+pub record ServesFull (terms : Terms) (start : ℕ) (records : List Record) (arrivals : List Arrival) (rs : List Record) (old new : Option (List ℕ)) : Type 0 where
   pub more : List Arrival
-  pub arrived : ArriveNext records arrivals r more
+  pub arrived : ArriveNext records arrivals rs more
   pub within : ℕ
   pub full : length arrivals + within ≡ 1048576
   pub beyond : within < length more
   pub written : Written terms start arrivals (take within more) old new
 
--- a front was written of the replies to the next record's messages within the limit
-pub record ServesInPart (terms : Terms) (start : ℕ) (records : List Record) (arrivals : List Arrival) (r : Record) (old new : Option (List ℕ)) : Type 0 where
+-- a prefix was written of the replies to the messages of the next records within the limit
+pub record ServesInPart (terms : Terms) (start : ℕ) (records : List Record) (arrivals : List Arrival) (rs : List Record) (old new : Option (List ℕ)) : Type 0 where
   pub more : List Arrival
-  pub arrived : ArriveNext records arrivals r more
+  pub arrived : ArriveNext records arrivals rs more
   pub within : ℕ
   pub few : length arrivals + within ≤ 1048576
   pub written : WrittenInPart terms start arrivals (take within more) old new

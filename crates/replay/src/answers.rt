@@ -1,16 +1,16 @@
-ghost use Rattle.std.specs.Prelude.{◌≡◌, ◌<◌, ◌≤◌, ◌+◌, length, IfOk};
+ghost use Rattle.std.specs.Prelude.{◌≡◌, ◌<◌, ◌≤◌, ◌&&◌, true, length};
 ghost use Rattle.paths.specs.Resolution.{IsOutcome};
-ghost use Rattle.responses.specs.Replies.{HasLocation, OnlyHead};
 ghost use Rattle.cost_model.specs.Services.{service};
-ghost use Rattle.replay.specs.Answers.{fault_status, is_unmodified, file_answer, outcome_answer, is_head, answers_head, request_link, link_of};
+ghost use Rattle.replay.specs.Answers.{fault_status, is_unmodified, outcome_answer, answers_head, link_of};
+ghost use Rattle.replay.specs.Backs.{told, only_head, has_location, is_due};
 ghost use Rattle.replay.specs.Offers.{is_unmodified_file, length_given};
 
+use crate::ticket::Due;
 use cost_model::{Costs, service};
 use http_requests::{Fault, Version, What as Meaning};
-use page_cache::{MediaType, Page};
+use page_cache::MediaType;
 use paths::{Outcome, Snapshot, Tree};
-use responses::{Link, SharedPage, Status, What};
-use std::alloc::{AllocError, Global};
+use responses::{Link, Status, What};
 
 /// The status of a message that breaks a rule.
 pub(crate) fn fault_status(fault: Fault) -> Status
@@ -34,57 +34,49 @@ fn is_unmodified(since: Option<u64>, mtime: u64) -> bool
 }
 
 /// What a file is answered with.
-fn file_answer<F: Tree>(
-    alloc: Global,
-    snapshot: &Snapshot,
-    head: bool,
-    since: Option<u64>,
-    file: usize,
-) -> Result<What<F>, AllocError>
+fn file_answer<F: Tree>(snapshot: &Snapshot, head: bool, since: Option<u64>, file: usize) -> Due<F>
     requires snapshot { snapshot.now ≡ F.files }
     requires file { file < length snapshot.now }
-    ensures answer { IfOk result (λ what. what ≡ file_answer F.files head since file) }
-    ensures location { IfOk result HasLocation }
-    ensures head { IfOk result (OnlyHead head) }
+    ensures told { told result ≡ outcome_answer F.files head since (Outcome.File file) }
+    ensures due { is_due F.files result ≡ true }
+    ensures can { (only_head head (told result) && has_location (told result)) ≡ true }
 {
     let mtime = snapshot.mtime(file);
     if is_unmodified(since, mtime) {
-        return Ok(What::Unmodified { mtime });
+        return Due::Told(What::Unmodified { mtime });
     }
     if head {
-        return Ok(What::Known {
+        return Due::Told(What::Known {
             media: MediaType::of(snapshot.name(file)),
             len: snapshot.bytes(file).len() as u64,
             mtime,
         });
     }
-    let page = SharedPage::new(Page::build(alloc, snapshot, file)?);
-    Ok(What::Page { page, mtime })
+    Due::Page { file, mtime }
 }
 
 /// What an outcome is answered with.
 pub(crate) fn outcome_answer<F: Tree>(
-    alloc: Global,
     snapshot: &Snapshot,
     head: bool,
     since: Option<u64>,
     outcome: Outcome,
-) -> Result<What<F>, AllocError>
+) -> Due<F>
     requires snapshot { snapshot.now ≡ F.files }
     requires is { IsOutcome F.files outcome }
-    ensures answer { IfOk result (λ what. what ≡ outcome_answer F.files head since outcome) }
-    ensures location { IfOk result HasLocation }
-    ensures head { IfOk result (OnlyHead head) }
+    ensures told { told result ≡ outcome_answer F.files head since outcome }
+    ensures due { is_due F.files result ≡ true }
+    ensures can { (only_head head (told result) && has_location (told result)) ≡ true }
 {
     let status = match outcome {
-        Outcome::File(file) => return file_answer(alloc, snapshot, head, since, file),
-        Outcome::Move(location) => return Ok(What::Moved { location }),
+        Outcome::File(file) => return file_answer(snapshot, head, since, file),
+        Outcome::Move(location) => return Due::Told(What::Moved { location }),
         Outcome::Missing => Status::NotFound,
         Outcome::BadTarget => Status::BadRequest,
         Outcome::NotAllowed => Status::MethodNotAllowed,
         Outcome::NotKnown => Status::NotImplemented,
     };
-    Ok(What::Plain { status })
+    Due::Told(What::Plain { status })
 }
 
 /// Whether a message asks for a head alone.

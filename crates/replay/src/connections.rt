@@ -31,7 +31,8 @@ fn some_closes(messages: &[Message]) -> bool
 impl Connection {
     /// The cutter that reads on; none where the connection is closed.
     fn into_cutter(self, alloc: Global) -> Option<Cutter>
-        ensures reads { IfSome result (λ cutter. (text : List ℕ) (ms : List AMessage) → HasRead self text ms → Fits text ms cutter) }
+        ensures reads { IfSome result (λ cutter. (text : List ℕ) (ms : List AMessage) → HasRead self text ms
+            → Fits text ms cutter) }
         ensures room { IfSome result (λ cutter. (n : ℕ) → HasRoom self n → cutter.read + n ≤ 1073741824) }
         ensures closed { IfNone result (self ≡ Closed) }
     {
@@ -43,7 +44,7 @@ impl Connection {
     }
 
     /// Reads one more piece, and adds the messages that end in it.
-    fn read(
+    pub(crate) fn read(
         self,
         alloc: Global,
         piece: &[u8],
@@ -51,7 +52,8 @@ impl Connection {
     ) -> Result<Connection, AllocError>
         requires empty { out.old.items ≡ [] }
         requires room { HasRoom self (length piece.now) }
-        ensures { IfOk result (λ after. (text : List ℕ) (ms : List AMessage) → HasRead self text ms → ReadMore text ms after piece.now out.new.items) }
+        ensures { IfOk result (λ after. (text : List ℕ) (ms : List AMessage) → HasRead self text ms
+            → ReadMore text ms after piece.now out.new.items) }
     {
         let Some(mut cutter) = self.into_cutter(alloc) else {
             return Ok(Connection::Closed);
@@ -112,7 +114,9 @@ impl Connections {
     ) -> Result<(), AllocError>
         requires empty { out.old.items ≡ [] }
         requires room { HasRoom (connection_at self.old conn) (length piece.now) }
-        ensures own { OnOk result ((text : List ℕ) (ms : List AMessage) → HasRead (connection_at self.old conn) text ms → ReadMore text ms (connection_at self.new conn) piece.now out.new.items) }
+        ensures own { OnOk result ((text : List ℕ) (ms : List AMessage)
+            → HasRead (connection_at self.old conn) text ms
+            → ReadMore text ms (connection_at self.new conn) piece.now out.new.items) }
         ensures others { OnOk result ((c : ℕ) → c ≢ conn → connection_at self.new c ≡ connection_at self.old c) }
     {
         self.reach(conn)?;

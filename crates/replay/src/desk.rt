@@ -1,5 +1,4 @@
-ghost use Rattle.std.specs.Prelude.{◌≡◌, ◌<◌, ◌≤◌, ◌∷◌, [], Bool, List, length, IfOk, OnOk};
-ghost use Rattle.responses.specs.Replies.{HasLocation, OnlyHead};
+ghost use Rattle.std.specs.Prelude.{◌≡◌, ◌<◌, ◌≤◌, ◌∷◌, ◌&&◌, [], true, Bool, List, length, IfOk};
 ghost use Rattle.admission.specs.Requests.{Offer};
 ghost use Rattle.admission.specs.Fits.{Fits, tick_from};
 ghost use Rattle.replay.specs.Choices.{terms_of};
@@ -7,15 +6,19 @@ ghost use Rattle.replay.specs.Answers.{answers_head, given};
 ghost use Rattle.replay.specs.Offers.{offer_at};
 ghost use Rattle.replay.specs.Counting.{samples_of};
 ghost use Rattle.replay.specs.Deciding.{Decides};
+ghost use Rattle.replay.specs.Fronts.{sight_of};
+ghost use Rattle.replay.specs.Backs.{told, only_head, has_location, is_due};
 
-use crate::answers::{answers_head, fault_status, outcome_answer, service_of};
+use crate::answers::{answers_head, fault_status, outcome_answer};
+use crate::sight::Sight;
 use crate::tally::Tally;
+use crate::ticket::Due;
 use crate::{MOST_MESSAGES, Settings};
 use admission::{Controller, Decision, MAX_SERVICE, MAX_TICK, Policy};
 use http_requests::What as Meaning;
-use paths::{Snapshot, Tree, resolve};
+use paths::{Snapshot, Tree};
 use responses::{Status, What};
-use std::alloc::{AllocError, Global};
+use std::alloc::AllocError;
 
 /// Where the messages of a capture are decided on and counted, in the order of their arrival.
 #[derive(Drop)]
@@ -29,10 +32,12 @@ pub struct Desk {
 impl Desk {
     /// Offers a request that comes at `tick` and takes `service` ticks: whether it is turned away.
     fn offer(&mut self, tick: u64, service: u64) -> Result<bool, AllocError>
-        requires offers { (offers : List Offer) × Fits offers self.old.controller × (tick_from 0 offers ≤ tick) × (length offers < MOST_MESSAGES) }
+        requires offers { (offers : List Offer) × Fits offers self.old.controller × (tick_from 0 offers ≤ tick)
+            × (length offers < MOST_MESSAGES) }
         requires tick { tick ≤ MAX_TICK }
         requires service { (1 ≤ service) × (service ≤ MAX_SERVICE) }
-        ensures { IfOk result (λ away. (offers : List Offer) → Fits offers self.old.controller → self.old.tally.samples ≡ samples_of self.old.controller.rules offers
+        ensures { IfOk result (λ away. (offers : List Offer) → Fits offers self.old.controller
+            → self.old.tally.samples ≡ samples_of self.old.controller.rules offers
             → Decides offers (record { tick = tick; service = service } ∷ []) self.old self.new away) }
     {
         match self.controller.offer(tick, service)? {
@@ -47,44 +52,45 @@ impl Desk {
         }
     }
 
-    /// What a message that came at `tick` is told. The admission control is asked where it is a request.
-    pub(crate) fn judge<F: Tree>(
+    /// What a message that was looked into is to be told. The admission control is asked where it is a request.
+    pub(crate) fn decide<F: Tree>(
         &mut self,
-        alloc: Global,
         snapshot: &Snapshot,
         settings: &Settings,
         tick: u64,
         what: &Meaning,
-    ) -> Result<What<F>, AllocError>
+        sight: Sight,
+    ) -> Result<Due<F>, AllocError>
         requires snapshot { snapshot.now ≡ F.files }
-        requires offers { (offers : List Offer) × Fits offers self.old.controller × (tick_from 0 offers ≤ tick) × (length offers < MOST_MESSAGES) }
+        requires offers { (offers : List Offer) × Fits offers self.old.controller × (tick_from 0 offers ≤ tick)
+            × (length offers < MOST_MESSAGES) }
         requires tick { tick ≤ MAX_TICK }
-        ensures told { IfOk result (λ told. (offers : List Offer) → Fits offers self.old.controller → self.old.tally.samples ≡ samples_of self.old.controller.rules offers
-            → (away : Bool) × Decides offers (offer_at (terms_of F.files settings.now) tick what.now) self.old self.new away × (told ≡ given (terms_of F.files settings.now) away what.now)) }
-        ensures location { IfOk result HasLocation }
-        ensures head { IfOk result (OnlyHead (answers_head what.now)) }
+        requires sight { sight ≡ sight_of F.files settings.now.costs what.now }
+        ensures told { IfOk result (λ due. (offers : List Offer) → Fits offers self.old.controller
+            → self.old.tally.samples ≡ samples_of self.old.controller.rules offers
+            → (away : Bool) × Decides offers (offer_at (terms_of F.files settings.now) tick what.now) self.old self.new away
+            × (told due ≡ given (terms_of F.files settings.now) away what.now)) }
+        ensures due { IfOk result (λ due. is_due F.files due ≡ true) }
+        ensures can { IfOk result (λ due. (only_head (answers_head what.now) (told due) && has_location (told due))
+            ≡ true) }
     {
         match what {
-            Meaning::Bad(fault) => Ok(What::Plain {
+            Meaning::Bad(fault) => Ok(Due::Told(What::Plain {
                 status: fault_status(*fault),
-            }),
-            Meaning::Request {
-                method,
-                target,
-                modified_since,
-                ..
-            } => {
+            })),
+            Meaning::Request { modified_since, .. } => {
                 let since = *modified_since;
                 let head = answers_head(what);
-                let outcome = resolve(alloc, snapshot, method.as_slice(), target.as_slice())?;
-                let service = service_of(snapshot, settings.costs, head, since, &outcome);
-                if self.offer(tick, service)? {
+                let Sight::Priced(outcome, service) = sight else {
+                    unreachable!()
+                };
+                if self.offer(tick, service.ticks())? {
                     let retry_after = settings.retry_after;
-                    return Ok(What::Plain {
+                    return Ok(Due::Told(What::Plain {
                         status: Status::ServiceUnavailable { retry_after },
-                    });
+                    }));
                 }
-                outcome_answer(alloc, snapshot, head, since, outcome)
+                Ok(outcome_answer(snapshot, head, since, outcome))
             }
         }
     }

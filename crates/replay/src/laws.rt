@@ -1,5 +1,6 @@
 //! Laws of the definitions that the engines' contracts cite. Each function is there for its clause alone.
 
+ghost use Rattle.replay.specs.Batches.{MergedArrivals};
 ghost use Rattle.replay.specs.Laws.{ArrivalsBegin, FloorsChangeNothing, HandledBegin, OneAnswer, OneListOfArrivals};
 
 /// The graphs of the floors, the records of a batch and the bytes of the cache change no answer.
@@ -25,4 +26,10 @@ pub fn arrivals_begin()
 /// What becomes of a message depends on the messages before it alone.
 pub fn handled_begin()
     ensures { HandledBegin }
+{}
+
+/// The messages that each connection finds in its pieces of a batch, merged in the order of the records, are the arrivals of
+/// the batch.
+pub fn merged_arrivals()
+    ensures { MergedArrivals }
 {}

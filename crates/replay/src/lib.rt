@@ -3,27 +3,45 @@
 
 mod answering;
 mod answers;
+mod back;
+mod back_state;
+mod batch;
 mod connection;
 mod connections;
 mod counting;
+mod deciding;
 mod desk;
+mod front;
+mod incoming;
 pub mod laws;
 mod origin;
 mod outcome;
+mod parts;
+mod piece_messages;
 mod plain;
 mod replay_fault;
+mod seat;
+mod seats;
 mod series;
+mod service_time;
+mod serving;
 mod settings;
+mod shifted;
+mod sight;
+mod staged;
 mod summary;
 mod tally;
 #[cfg(test)]
 mod tests;
+mod ticket;
+mod unnamed;
 
 pub use outcome::Outcome;
 pub use plain::plain_replay;
 pub use replay_fault::ReplayFault;
 pub use series::Series;
 pub use settings::{BACK_STEPS, FRONT_STEPS, Settings, SettingsFault};
+pub use staged::staged_replay;
 pub use summary::{Counts, Summary};
 
 /// The most messages that a capture may have.

@@ -1,4 +1,5 @@
-ghost use Rattle.std.specs.Prelude.{◌≡◌, ◌+◌, ◌≤◌, ◌<◌, ◌-◌, ◌^◌, ◌⊎◌, [], ℕ, List, true, is_some, unwrap_or, IfOk, IfErr, OnOk, OnErr};
+ghost use Rattle.std.specs.Prelude.{◌≡◌, ◌+◌, ◌≤◌, ◌<◌, ◌-◌, ◌^◌, ◌⊎◌, ◌∷◌, [], ℕ, List, true, is_some, unwrap_or};
+ghost use Rattle.std.specs.Prelude.{IfOk, IfErr, OnOk, OnErr};
 ghost use Rattle.std.specs.Io.KnownBytes.{Appends};
 ghost use Rattle.captures.specs.Captures.{version_one, IsRecord, Follows, past_of, size_of, sizes_of};
 ghost use Rattle.captures.specs.declared.record.Record.{Record as ARecord};
@@ -8,7 +9,9 @@ ghost use Rattle.replay.specs.Replies.{first_line, last_line};
 ghost use Rattle.replay.specs.Serving.{IsLater, Serves, ServesMore, ServesFull, ServesInPart, Stands};
 ghost use Rattle.replay.specs.Counting.{rejected_of, summary_of};
 ghost use Rattle.replay.specs.Offers.{handled};
-ghost use Rattle.replay.specs.Outcomes.{Answers, AppendsInPart, IfCapture, IfTooMany, IfCutShort, IsCutShort, IsOwn, Stops, StopsFull, CountsBy, reader_failures, writer_failures, IsWriteOrMemory};
+ghost use Rattle.replay.specs.Outcomes.{Answers, AppendsInPart, IfCapture, IfTooMany, IfCutShort, IsCutShort, IsOwn};
+ghost use Rattle.replay.specs.Outcomes.{Stops, StopsFull, CountsBy, reader_failures, writer_failures};
+ghost use Rattle.replay.specs.Outcomes.{IsWriteOrMemory};
 
 use crate::answering::answer_all;
 use crate::connections::Connections;
@@ -25,7 +28,7 @@ use std::alloc::{AllocError, Global};
 use std::io::{Read, Write};
 
 /// Writes the line in front of the replies.
-fn write_first_line<W: Write>(writer: &mut Output<W>) -> Result<(), ReplayFault>
+pub(crate) fn write_first_line<W: Write>(writer: &mut Output<W>) -> Result<(), ReplayFault>
     requires { writer.old.1 < 2 ^ 64 - 1 }
     ensures written { OnOk result (Appends writer.old.0 writer.new.0 first_line) }
     ensures part { OnErr result (AppendsInPart writer.old.0 writer.new.0 first_line) }
@@ -37,7 +40,7 @@ fn write_first_line<W: Write>(writer: &mut Output<W>) -> Result<(), ReplayFault>
 }
 
 /// Writes the line behind so many replies.
-fn write_last_line<W: Write>(
+pub(crate) fn write_last_line<W: Write>(
     alloc: Global,
     writer: &mut Output<W>,
     count: usize,
@@ -54,9 +57,10 @@ fn write_last_line<W: Write>(
 }
 
 /// What the replay has come to.
-fn outcome_of(alloc: Global, desk: Desk) -> Result<Outcome, AllocError>
+pub(crate) fn outcome_of(alloc: Global, desk: Desk) -> Result<Outcome, AllocError>
     ensures rejected { IfOk result (λ outcome. outcome.rejected ≡ desk.tally.rejected) }
-    ensures summary { IfOk result (λ outcome. (terms : Terms) (arrivals : List Arrival) → Stands terms arrivals desk → outcome.summary ≡ summary_of terms arrivals) }
+    ensures summary { IfOk result (λ outcome. (terms : Terms) (arrivals : List Arrival)
+        → Stands terms arrivals desk → outcome.summary ≡ summary_of terms arrivals) }
 {
     let controls = Vec::from_slice(alloc, desk.controller.controls())?;
     let tally = desk.tally;
@@ -84,16 +88,22 @@ fn answer_record<F: Tree, W: Write>(
     requires snapshot { snapshot.now ≡ F.files }
     requires start { desk.old.start ≤ 4102444800 }
     requires record { IsRecord version_one next.now }
-    requires room { (records : List ARecord) × (arrivals : List Arrival) × Serves (terms_of F.files settings.now) records arrivals connections.old desk.old
+    requires room { (records : List ARecord) × (arrivals : List Arrival)
+        × Serves (terms_of F.files settings.now) records arrivals connections.old desk.old
         × (sizes_of records + size_of next.now ≤ 1073741824) × IsLater next.now arrivals }
     requires failures { writer.old.1 < 2 ^ 64 - 1 }
-    ensures serves { OnOk result ((records : List ARecord) (arrivals : List Arrival) → Serves (terms_of F.files settings.now) records arrivals connections.old desk.old
-        → ServesMore (terms_of F.files settings.now) records arrivals next.now connections.new desk.new writer.old.0 writer.new.0) }
+    ensures serves { OnOk result ((records : List ARecord) (arrivals : List Arrival)
+        → Serves (terms_of F.files settings.now) records arrivals connections.old desk.old
+        → ServesMore (terms_of F.files settings.now) records arrivals (next.now ∷ []) connections.new desk.new writer.old.0 writer.new.0) }
     ensures start { OnOk result (desk.new.start ≡ desk.old.start) }
-    ensures many { IfErr result (λ f. IfTooMany f (λ n. (n ≡ MOST_MESSAGES) × ((records : List ARecord) (arrivals : List Arrival) → Serves (terms_of F.files settings.now) records arrivals connections.old desk.old
-        → ServesFull (terms_of F.files settings.now) desk.old.start records arrivals next.now writer.old.0 writer.new.0))) }
-    ensures part { IfErr result (λ f. IfCutShort f ((writer.new.0 ≡ writer.old.0) ⊎ ((records : List ARecord) (arrivals : List Arrival) → Serves (terms_of F.files settings.now) records arrivals connections.old desk.old
-        → ServesInPart (terms_of F.files settings.now) desk.old.start records arrivals next.now writer.old.0 writer.new.0))) }
+    ensures many { IfErr result (λ f. IfTooMany f (λ n. (n ≡ MOST_MESSAGES)
+        × ((records : List ARecord) (arrivals : List Arrival)
+        → Serves (terms_of F.files settings.now) records arrivals connections.old desk.old
+        → ServesFull (terms_of F.files settings.now) desk.old.start records arrivals (next.now ∷ []) writer.old.0 writer.new.0))) }
+    ensures part { IfErr result (λ f. IfCutShort f ((writer.new.0
+        ≡ writer.old.0) ⊎ ((records : List ARecord) (arrivals : List Arrival)
+        → Serves (terms_of F.files settings.now) records arrivals connections.old desk.old
+        → ServesInPart (terms_of F.files settings.now) desk.old.start records arrivals (next.now ∷ []) writer.old.0 writer.new.0))) }
     ensures failures { CountsBy writer_failures writer.old.1 writer.new.1 result }
     ensures own { IfErr result IsOwn }
 {
@@ -129,15 +139,19 @@ pub fn plain_replay<F: Tree, R: Read, W: Write>(
     requires reading { reader.old.1 < 2 ^ 64 - 1 }
     requires writing { writer.old.1 < 2 ^ 64 - 1 }
     // Read, and each other fault of the capture, only with the replies to the messages of the whole records before it.
-    ensures stops { IfErr result (λ f. IfCapture f (λ fault. is_some reader.old.0 ≡ true → Stops (terms_of F.files settings.now) (unwrap_or reader.old.0 []) writer.old.0 writer.new.0 fault)) }
+    ensures stops { IfErr result (λ f. IfCapture f (λ fault. is_some reader.old.0 ≡ true
+        → Stops (terms_of F.files settings.now) (unwrap_or reader.old.0 []) writer.old.0 writer.new.0 fault)) }
     // Too many messages, only with the replies to those within the limit.
-    ensures many { IfErr result (λ f. IfTooMany f (λ number. is_some reader.old.0 ≡ true → StopsFull (terms_of F.files settings.now) (unwrap_or reader.old.0 []) writer.old.0 writer.new.0 number)) }
+    ensures many { IfErr result (λ f. IfTooMany f (λ number. is_some reader.old.0 ≡ true
+        → StopsFull (terms_of F.files settings.now) (unwrap_or reader.old.0 []) writer.old.0 writer.new.0 number)) }
     // After a failed write and want of memory, a front of what was due stands.
-    ensures part { IfErr result (λ f. IfCutShort f (is_some reader.old.0 ≡ true → IsCutShort (terms_of F.files settings.now) (unwrap_or reader.old.0 []) writer.old.0 writer.new.0)) }
+    ensures part { IfErr result (λ f. IfCutShort f (is_some reader.old.0 ≡ true
+        → IsCutShort (terms_of F.files settings.now) (unwrap_or reader.old.0 []) writer.old.0 writer.new.0)) }
     // A device is blamed only where it failed in this call.
     ensures reads { CountsBy reader_failures reader.old.1 reader.new.1 result }
     ensures writes { CountsBy writer_failures writer.old.1 writer.new.1 result }
-    ensures ok { IfOk result (λ outcome. is_some reader.old.0 ≡ true → Answers (terms_of F.files settings.now) (unwrap_or reader.old.0 []) writer.old.0 writer.new.0 outcome) }
+    ensures ok { IfOk result (λ outcome. is_some reader.old.0 ≡ true
+        → Answers (terms_of F.files settings.now) (unwrap_or reader.old.0 []) writer.old.0 writer.new.0 outcome) }
 {
     write_first_line(writer)?;
     let mut capture = match CaptureReader::open(reader) {

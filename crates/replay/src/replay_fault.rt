@@ -3,6 +3,7 @@ ghost use Rattle.std.specs.Prelude.{◌≡◌};
 use captures::{CaptureFault, CaptureFaultKind};
 use paths::Failed;
 use responses::Write;
+use stage_graph::Unrun;
 use std::alloc::AllocError;
 use thiserror::Error;
 
@@ -29,6 +30,16 @@ impl From<AllocError> for ReplayFault {
     ghost from_gives = { λ refused fault. fault ≡ Memory };
 
     fn from(_refused: AllocError) -> ReplayFault {
+        ReplayFault::Memory
+    }
+}
+
+impl From<Unrun> for ReplayFault {
+    ghost use Rattle.replay.specs.declared.replay_fault.ReplayFault.TheVariants.{Memory};
+
+    ghost from_gives = { λ unrun fault. fault ≡ Memory };
+
+    fn from(_unrun: Unrun) -> ReplayFault {
         ReplayFault::Memory
     }
 }

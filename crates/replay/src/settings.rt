@@ -79,8 +79,10 @@ impl Settings {
         policy: Policy,
         retry_after: u64,
     ) -> Result<Settings, SettingsFault>
-        ensures ok { IfOk result (λ s. (s ≡ record { front = front; back = back; batch = batch; cache = cache; costs = costs; rules = policy; retry_after = retry_after }) × (settings_fault s ≡ None)) }
-        ensures fault { IfErr result (λ f. settings_fault (record { front = front; back = back; batch = batch; cache = cache; costs = costs; rules = policy; retry_after = retry_after }) ≡ Some f) }
+        ensures ok { IfOk result (λ s. (s
+            ≡ record { front = front; back = back; batch = batch; cache = cache; costs = costs; rules = policy; retry_after = retry_after }) × (settings_fault s ≡ None)) }
+        ensures fault { IfErr result
+            (λ f. settings_fault (record { front = front; back = back; batch = batch; cache = cache; costs = costs; rules = policy; retry_after = retry_after }) ≡ Some f) }
     {
         if front.steps() != FRONT_STEPS {
             return Err(SettingsFault::Front);

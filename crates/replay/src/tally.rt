@@ -2,10 +2,12 @@ ghost use Rattle.std.specs.Prelude.{◌≡◌, ◌-◌, ◌<◌, ◌^◌, []};
 ghost use Rattle.responses.specs.Replies.{status_of};
 ghost use Rattle.replay.specs.Counting.{AreBelow, breaks_a_rule};
 ghost use Rattle.replay.specs.Tallies.{no_counts, noted};
+ghost use Rattle.replay.specs.Backs.{told};
 
 use crate::Series;
 use crate::counting::{NONE, breaks_a_rule};
 use crate::summary::Counts;
+use crate::ticket::Due;
 use http_requests::What as Meaning;
 use paths::Tree;
 use responses::What;
@@ -39,15 +41,18 @@ impl Tally {
         }
     }
 
-    /// Counts one more message, and what it is told.
-    pub(crate) fn note<F: Tree>(&mut self, given: &What<F>, what: &Meaning)
+    /// Counts one more message, and what it is to be told.
+    pub(crate) fn note<F: Tree>(&mut self, due: &Due<F>, what: &Meaning)
         requires number { self.old.answered < 2 ^ 64 - 1 }
         requires counts { AreBelow (2 ^ 64 - 1) self.old.counts }
         requires bypassed { self.old.bypassed < 2 ^ 64 - 1 }
-        ensures { self.new ≡ noted self.old (status_of given.now) (breaks_a_rule what.now) }
+        ensures { self.new ≡ noted self.old (status_of (told due.now)) (breaks_a_rule what.now) }
     {
         self.answered += 1;
-        self.counts.note(given);
+        match due {
+            Due::Page { .. } => self.counts.ok += 1,
+            Due::Told(given) => self.counts.note(given),
+        }
         if breaks_a_rule(what) {
             self.bypassed += 1;
         }

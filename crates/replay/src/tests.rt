@@ -1,5 +1,7 @@
+mod batches;
 mod devices;
 mod faults;
+mod gates;
 mod memory;
 mod rejections;
 mod rows;

@@ -148,3 +148,7 @@ note_of what = []
 abbrev pub held_body : List File → Option ℕ → List ℕ
 held_body files None = []
 held_body files (Some file) = (file_of files file).bytes
+
+-- the part of a reply that is no page: its head, and the line
+abbrev pub front_text : {X : Type 0} → List File → Slip X → List ℕ
+front_text files slip = head_text files slip ++ (if slip.head then [] else note_of slip.what)

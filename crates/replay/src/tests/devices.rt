@@ -1,13 +1,18 @@
 //! Devices that fail.
-use super::running::{A, FILES, capture_of, default_costs, default_policy, run_devices, settings};
+use super::running::{
+    A, Engine, FILES, capture_of, default_costs, default_policy, run_devices, settings,
+};
 use crate::{ReplayFault, Settings};
 use captures::CaptureFaultKind;
 use paths::{Input, Output};
+use stage_graph::NoGate;
 use std::alloc::AllocGlobal;
 use std::io;
 use std::io::{Read, Write};
 use std::process::Abort;
+use std::sync::Wait;
 use std::test::Fail;
+use std::thread::Threads;
 
 /// A reader over memory that gives at most 16 bytes a read, and fails behind so many reads.
 #[derive(Drop)]
@@ -57,7 +62,8 @@ static WANT: &str =
 
 /// Replays with devices that fail behind so many calls; whether the replay came to its end.
 fn ends(
-    rt: &(impl Abort + AllocGlobal),
+    rt: &(impl Abort + AllocGlobal + Threads + Wait + Sync),
+    engine: Engine,
     settings: &Settings,
     capture: &str,
     reads: usize,
@@ -72,7 +78,16 @@ fn ends(
         taken: &mut taken,
         good: writes,
     });
-    let ran = run_devices(rt.alloc(), FILES, settings, &mut reader, &mut writer);
+    let ran = run_devices(
+        rt,
+        rt.alloc(),
+        engine,
+        FILES,
+        settings,
+        &NoGate,
+        &mut reader,
+        &mut writer,
+    );
     let failed = (reader.failures(), writer.failures());
     let answer = ran.expect(rt, "a snapshot");
     let want = WANT.as_bytes();
@@ -92,6 +107,27 @@ fn ends(
     answer.is_ok()
 }
 
+/// Fails each read in turn, or each write, until a replay comes to its end: how many calls it made, if below 200.
+fn calls_to_the_end<T: Abort + AllocGlobal + Threads + Wait + Sync>(
+    rt: &T,
+    engine: Engine,
+    settings: &Settings,
+    capture: &str,
+    is_read: bool,
+) -> usize {
+    for good in 0..200usize {
+        let (reads, writes) = if is_read {
+            (good, usize::MAX)
+        } else {
+            (usize::MAX, good)
+        };
+        if ends(rt, engine, settings, capture, reads, writes) {
+            return good;
+        }
+    }
+    200
+}
+
 #[test]
 fn each_read_and_write_failing(rt: HostRuntime) -> Result<(), Fail> {
     let alloc = rt.alloc();
@@ -99,27 +135,11 @@ fn each_read_and_write_failing(rt: HostRuntime) -> Result<(), Fail> {
     let policy = default_policy().expect(&rt, "a policy");
     let settings = settings(alloc, costs, policy).expect(&rt, "settings");
     let capture = capture_of(alloc, &[(0, 0, A)])?;
-    for good in 0..200usize {
-        if ends(&rt, &settings, &capture, good, usize::MAX) {
-            assert!(rt; good > 10);
-            return writes_failing(&rt, &settings, &capture);
-        }
+    for engine in [Engine::Plain, Engine::Staged] {
+        let reads = calls_to_the_end(&rt, engine, &settings, &capture, true);
+        assert!(rt; 10 < reads && reads < 200);
+        let writes = calls_to_the_end(&rt, engine, &settings, &capture, false);
+        assert!(rt; 10 < writes && writes < 200);
     }
-    assert!(rt; false, "the replay comes to no end");
-    Ok(())
-}
-
-fn writes_failing(
-    rt: &(impl Abort + AllocGlobal),
-    settings: &Settings,
-    capture: &str,
-) -> Result<(), Fail> {
-    for good in 0..100usize {
-        if ends(rt, settings, capture, usize::MAX, good) {
-            assert!(rt; good > 10);
-            return Ok(());
-        }
-    }
-    assert!(rt; false, "the replay comes to no end");
     Ok(())
 }

@@ -4,17 +4,19 @@ use crate::ReplayFault;
 use captures::{CaptureFault, CaptureFaultKind as Kind};
 use std::alloc::AllocGlobal;
 use std::process::Abort;
+use std::sync::Wait;
 use std::test::Fail;
+use std::thread::Threads;
 
 /// Replays a capture with a fault.
 fn check(
-    rt: &(impl Abort + AllocGlobal),
+    rt: &(impl Abort + AllocGlobal + Threads + Wait + Sync),
     capture: &str,
     at: usize,
     kind: Kind,
     want: &str,
 ) -> Result<(), Fail> {
-    let ran = run(rt.alloc(), FILES, capture).expect(rt, "a snapshot");
+    let ran = run(rt, rt.alloc(), FILES, capture).expect(rt, "a snapshot");
     assert!(rt;
         matches!(ran.answer, Err(ReplayFault::Capture(fault)) if fault == CaptureFault { at, kind })
     );

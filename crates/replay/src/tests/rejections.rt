@@ -2,27 +2,30 @@
 use super::running::{A, FILES, Ran, capture_of, default_costs, outline, run_settings, settings};
 use admission::{Control, Policy};
 use cost_model::Costs;
-use std::alloc::{AllocError, AllocGlobal, Global};
+use std::alloc::{AllocError, AllocGlobal};
 use std::process::Abort;
+use std::sync::Wait;
 use std::test::Fail;
+use std::thread::Threads;
 
 /// One token, and one more each second.
-fn tight() -> Option<Policy> {
+pub fn tight() -> Option<Policy> {
     Policy::new(100, 100, 700, 1000, 1000, 1000, 2000, 120, 100_000, 90, 1).ok()
 }
 
 /// A control at each request, of this least rate and this depth.
-fn nimble(least: u64, depth: u64) -> Option<Policy> {
+pub fn nimble(least: u64, depth: u64) -> Option<Policy> {
     Policy::new(1, 1, 700, 1000, least, 2000, 10, 120, 1000, 90, depth).ok()
 }
 
 /// Replays these pieces with these service times and this policy; `None` where they are none.
-fn run_policy(
-    alloc: Global,
+fn run_policy<T: Abort + AllocGlobal + Threads + Wait + Sync>(
+    rt: &T,
     costs: Option<Costs>,
     policy: Option<Policy>,
     pieces: &[(u64, u64, &str)],
 ) -> Result<Option<Ran>, AllocError> {
+    let alloc = rt.alloc();
     let capture = capture_of(alloc, pieces)?;
     let (Some(costs), Some(policy)) = (costs, policy) else {
         return Ok(None);
@@ -30,7 +33,7 @@ fn run_policy(
     let Some(settings) = settings(alloc, costs, policy) else {
         return Ok(None);
     };
-    Ok(run_settings(alloc, FILES, &settings, capture.as_bytes()))
+    Ok(run_settings(rt, alloc, FILES, &settings, capture.as_bytes()))
 }
 
 /// Compares the replies' lines, the numbers of the rejected requests, and the samples.
@@ -67,7 +70,7 @@ fn controls_of(ran: &Ran) -> (usize, Option<Control>, Option<Control>) {
 #[test]
 fn tight_bucket(rt: HostRuntime) -> Result<(), Fail> {
     let pieces = [(0, 0, A), (0, 0, A), (999_999, 0, A), (1_000_000, 0, A)];
-    let ran = run_policy(rt.alloc(), default_costs(), tight(), &pieces)?.expect(&rt, "a replay");
+    let ran = run_policy(&rt, default_costs(), tight(), &pieces)?.expect(&rt, "a replay");
     let want =
         "reply 0 0 150; 200 OK;reply 1 0 159; 503 Service Unavailable;reply 2 0 159; 503 Service Unavailable;reply 3 0 150; 200 OK;stop 4;";
     check(&rt, &ran, want, &[1, 2], &[201, 201])?;
@@ -81,7 +84,7 @@ fn tight_bucket(rt: HostRuntime) -> Result<(), Fail> {
 fn rejected_head(rt: HostRuntime) -> Result<(), Fail> {
     let head = "HEAD /a.txt HTTP/1.1\r\nHost: a\r\n\r\n";
     let pieces = [(0, 0, A), (0, 0, head), (1_000_000, 0, A)];
-    let ran = run_policy(rt.alloc(), default_costs(), tight(), &pieces)?.expect(&rt, "a replay");
+    let ran = run_policy(&rt, default_costs(), tight(), &pieces)?.expect(&rt, "a replay");
     let want =
         "reply 0 0 150; 200 OK;reply 1 0 135; 503 Service Unavailable;reply 2 0 150; 200 OK;stop 3;";
     check(&rt, &ran, want, &[1], &[201, 201])?;
@@ -97,7 +100,7 @@ fn bypassed_and_closing(rt: HostRuntime) -> Result<(), Fail> {
     let closing = "GET /a.txt HTTP/1.1\r\nHost: a\r\nConnection: close\r\n\r\n";
     let old = "GET /a.txt HTTP/1.0\r\nConnection: keep-alive\r\n\r\n";
     let pieces = [(0, 0, bad), (0, 1, A), (0, 2, closing), (0, 3, old)];
-    let ran = run_policy(rt.alloc(), default_costs(), tight(), &pieces)?.expect(&rt, "a replay");
+    let ran = run_policy(&rt, default_costs(), tight(), &pieces)?.expect(&rt, "a replay");
     let want =
         "reply 0 0 146; 400 Bad Request;reply 1 1 150; 200 OK;reply 2 2 178; 503 Service Unavailable;reply 3 3 183; 503 Service Unavailable;stop 4;";
     check(&rt, &ran, want, &[2, 3], &[201])
@@ -110,9 +113,7 @@ fn finishes_and_percentile(rt: HostRuntime) -> Result<(), Fail> {
     )
     .ok();
     let pieces = [(0, 0, A), (0, 1, A), (10, 2, A)];
-    let ran = run_policy(rt.alloc(), Costs::new(5, 0, 50).ok(), policy, &pieces)?.expect(
-        &rt, "a replay",
-    );
+    let ran = run_policy(&rt, Costs::new(5, 0, 50).ok(), policy, &pieces)?.expect(&rt, "a replay");
     let want = "reply 0 0 150; 200 OK;reply 1 1 150; 200 OK;reply 2 2 150; 200 OK;stop 3;";
     check(&rt, &ran, want, &[], &[5, 10, 5])
 }
@@ -124,7 +125,7 @@ static NONE: &str = "GET /none HTTP/1.1\r\nHost: a\r\n\r\n";
 fn controls_and_credit(rt: HostRuntime) -> Result<(), Fail> {
     let costs = Costs::new(100, 0, 5000).ok();
     let pieces = [(0, 0, NONE), (5000, 0, A), (5100, 0, A), (5200, 0, A)];
-    let ran = run_policy(rt.alloc(), costs, nimble(500, 10), &pieces)?.expect(&rt, "a replay");
+    let ran = run_policy(&rt, costs, nimble(500, 10), &pieces)?.expect(&rt, "a replay");
     let first = Control {
         instant: 5000,
         percentile: 5000,
@@ -139,7 +140,7 @@ fn controls_and_credit(rt: HostRuntime) -> Result<(), Fail> {
     };
     assert_eq!(rt; controls_of(&ran), (3, Some(first), Some(second)));
     let pieces = [(0, 0, NONE), (1_199_477, 0, A), (1_199_478, 0, A)];
-    let ran = run_policy(rt.alloc(), costs, nimble(500, 1), &pieces)?.expect(&rt, "a replay");
+    let ran = run_policy(&rt, costs, nimble(500, 1), &pieces)?.expect(&rt, "a replay");
     let want =
         "reply 0 0 123; 404 Not Found;reply 1 0 159; 503 Service Unavailable;reply 2 0 150; 200 OK;stop 3;";
     check(&rt, &ran, want, &[1], &[5000, 100])?;

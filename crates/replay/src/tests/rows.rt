@@ -2,17 +2,19 @@
 use super::running::{A, FILES, capture_of, outline, run};
 use std::alloc::{AllocError, AllocGlobal, Global};
 use std::process::Abort;
+use std::sync::Wait;
 use std::test::Fail;
+use std::thread::Threads;
 
 /// Replays these pieces, and compares the lines that tell of the replies.
 fn check(
-    rt: &(impl Abort + AllocGlobal),
+    rt: &(impl Abort + AllocGlobal + Threads + Wait + Sync),
     files: &str,
     pieces: &[(u64, u64, &str)],
     want: &str,
 ) -> Result<(), Fail> {
     let alloc = rt.alloc();
-    let ran = run(alloc, files, &capture_of(alloc, pieces)?).expect(rt, "a snapshot");
+    let ran = run(rt, alloc, files, &capture_of(alloc, pieces)?).expect(rt, "a snapshot");
     assert_eq!(rt; outline(alloc, &ran.text)?.as_str(), want);
     assert!(rt; ran.answer.is_ok());
     Ok(())
@@ -20,10 +22,13 @@ fn check(
 
 #[test]
 fn first_run(rt: HostRuntime) -> Result<(), Fail> {
-    let ran = run(rt.alloc(), FILES, &capture_of(rt.alloc(), &[(0, 0, A)])?).expect(
+    let ran = run(
         &rt,
-        "a snapshot",
-    );
+        rt.alloc(),
+        FILES,
+        &capture_of(rt.alloc(), &[(0, 0, A)])?,
+    )
+    .expect(&rt, "a snapshot");
     let want =
         "haboob-replies 1\nreply 0 0 150\nHTTP/1.1 200 OK\r\nDate: Sun, 06 Nov 1994 08:49:37 GMT\r\nContent-Type: text/plain\r\nContent-Length: 3\r\nLast-Modified: Sun, 06 Nov 1994 08:49:37 GMT\r\n\r\nhi\n\nstop 1\n";
     assert_eq!(rt; ran.text.as_slice(), want.as_bytes());
@@ -37,10 +42,13 @@ fn first_run(rt: HostRuntime) -> Result<(), Fail> {
 
 #[test]
 fn empty_capture(rt: HostRuntime) -> Result<(), Fail> {
-    let ran = run(rt.alloc(), FILES, "haboob-capture 1 784111777\nstop 0\n").expect(
+    let ran = run(
         &rt,
-        "a snapshot",
-    );
+        rt.alloc(),
+        FILES,
+        "haboob-capture 1 784111777\nstop 0\n",
+    )
+    .expect(&rt, "a snapshot");
     assert_eq!(rt;
         ran.text.as_slice(),
         b"haboob-replies 1\nstop 0\n".as_slice()
@@ -56,7 +64,10 @@ fn byte_pieces(rt: HostRuntime) -> Result<(), Fail> {
         (1_000_000, 0, "\n\r\n\nG"),
         (2_000_000, 0, "ET /a.txt HTTP/1.1\r\nHost: a\r\n\r\n"),
     ];
-    let ran = run(rt.alloc(), FILES, &capture_of(rt.alloc(), &pieces)?).expect(&rt, "a snapshot");
+    let ran = run(&rt, rt.alloc(), FILES, &capture_of(rt.alloc(), &pieces)?).expect(
+        &rt,
+        "a snapshot",
+    );
     assert_eq!(rt;
         outline(rt.alloc(), &ran.text)?.as_str(),
         "reply 0 0 150; 200 OK;reply 1 0 150; 200 OK;stop 2;"
@@ -97,10 +108,13 @@ fn two_connections_in_turn(rt: HostRuntime) -> Result<(), Fail> {
 #[test]
 fn missing_host(rt: HostRuntime) -> Result<(), Fail> {
     let text = "GET / HTTP/1.1\r\n\r\nGET /a.txt HTTP/1.1\r\nHost: a\r\n\r\n";
-    let ran = run(rt.alloc(), FILES, &capture_of(rt.alloc(), &[(0, 0, text)])?).expect(
+    let ran = run(
         &rt,
-        "a snapshot",
-    );
+        rt.alloc(),
+        FILES,
+        &capture_of(rt.alloc(), &[(0, 0, text)])?,
+    )
+    .expect(&rt, "a snapshot");
     assert_eq!(rt;
         outline(rt.alloc(), &ran.text)?.as_str(),
         "reply 0 0 146; 400 Bad Request;stop 1;"
@@ -131,7 +145,10 @@ fn block_limit(rt: HostRuntime) -> Result<(), Fail> {
     )?;
     let longer = request_of(rt.alloc(), 8156, "\r\n\r")?;
     let pieces = [(0, 0, longer.as_str()), (1_000_000, 0, "\n")];
-    let ran = run(rt.alloc(), FILES, &capture_of(rt.alloc(), &pieces)?).expect(&rt, "a snapshot");
+    let ran = run(&rt, rt.alloc(), FILES, &capture_of(rt.alloc(), &pieces)?).expect(
+        &rt,
+        "a snapshot",
+    );
     assert_eq!(rt;
         outline(rt.alloc(), &ran.text)?.as_str(),
         "reply 0 0 146; 400 Bad Request;stop 1;"

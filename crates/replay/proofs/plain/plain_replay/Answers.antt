@@ -74,7 +74,7 @@ returns-in_err-answer_record-clause-many g c =
     let fits = gave_some version_one _ _ _ inv.0 _ _ _ c.in-Ok-Some.field-0-is (c.in-Ok-Some.ensures.next _ _ _ inv.2) in
     passed_on c.from_residual-in_err-answer_record.result _ _
     (λ f same. rw same (on_many c.in_err-answer_record.field-0.0 _ _
-    (λ n full known. stops_full (terms_of g.F.Tree.files c.args.settings.now) _ _ _ _ _ _ n inv.0 inv.1 c.in-Ok-Some.next _ fits inv.4 full.0 (full.1 inv.0 inv.1 inv.3) known)
+    (λ n full known. stops_full (terms_of g.F.Tree.files c.args.settings.now) _ _ _ _ _ _ n inv.0 inv.1 (c.in-Ok-Some.next ∷ []) _ fits inv.4 full.0 (full.1 inv.0 inv.1 inv.3) known)
     c.in_err-answer_record.ensures.many))
     c.from_residual-in_err-answer_record.ensures.1
 
@@ -88,7 +88,7 @@ returns-in_err-answer_record-clause-part g c =
     (λ short known. elim short [
       | inl none ↦ short_among terms _ _ _ _ _ _ _ _ _ _ inv.2 inv.3
           (subst (λ (w : Option (List ℕ)). Appends c.args.writer.now.0 w (text_before_stop (replies_of terms c.loop-next.desk.start (handled terms inv.1)))) (sym none) inv.4) known
-      | inr part ↦ short_part terms _ _ _ _ _ _ inv.0 inv.1 c.in-Ok-Some.next _ fits inv.4 (part inv.0 inv.1 inv.3) known
+      | inr part ↦ short_part terms _ _ _ _ _ _ inv.0 inv.1 (c.in-Ok-Some.next ∷ []) _ fits inv.4 (part inv.0 inv.1 inv.3) known
     ])
     c.in_err-answer_record.ensures.part))
     c.from_residual-in_err-answer_record.ensures.1

@@ -1,0 +1,285 @@
+-- A batch of records: how it is read, cut, and merged into arrivals.
+use Rattle.std.proofs.Common.{◌≡◌, ◌≢◌, ℕ, suc, zero, ◌+◌, ◌<◌, ◌≤◌, ◌==◌, ◌⊎◌, inl, inr, Bool, true, false, List, [], ◌∷◌, ◌++◌, length, map, get_or, All, Option, Some, None, refl, sym, ap, ◌∙◌, subst, arith, append-nil, append_assoc}
+use Rattle.std.specs.Prelude.{flat_map, slice_get, slice_index_or, if◌then◌else◌}
+use Rattle.std.specs.List.{AllPairs, AllZip}
+use Rattle.std.proofs.lemmas.Bool.Decides.{eqb_tells}
+use Rattle.std.proofs.lemmas.List.{length-append, length-map, map-append, get_or_append_left, get_or_default}
+use Rattle.std.proofs.lemmas.List.Sums.{sum_by-cons, sum_by-append}
+use Rattle.std.proofs.lemmas.Option.{slice_get_within, get_or_from_slice_get}
+use Rattle.std.proofs.Math.Seq.{get_or-append_seam}
+use Rattle.captures.specs.declared.record.Record.{Record}
+use Rattle.captures.specs.declared.record.Record.TheVariants.{Piece, End}
+use Rattle.captures.specs.declared.progress.Progress.{Progress}
+use Rattle.captures.specs.Captures.{version_one, IsCapture, IsRecord, size_of, sizes_of, ticks_of}
+use Rattle.captures.specs.Readers.{Fits}
+use Rattle.http_requests.specs.declared.messages.Message.{Message}
+use Rattle.replay.specs.Choices.{Terms}
+use Rattle.replay.specs.Arrivals.{Arrival, ArrivesWith, AreArrivals, Precedes, text_of, messages_of}
+use Rattle.replay.specs.Batches.{ReadsOn, pieces_to, origins_of, lists_to, arrivals_in, incoming_from, Stand}
+use Rattle.replay.specs.Connections.{HasRead, HaveRead, connection_at, arrivals_with}
+use Rattle.replay.specs.Places.{Place, place_at, with_piece, with_lists, total, IsReady, IsCutOf, count_to}
+use Rattle.replay.specs.Serving.{Serves, AreBy}
+use Rattle.replay.specs.Ticketing.{incoming_of, InTime}
+use Rattle.replay.specs.Waiting.{with_pieces, Adds, AddsOne, connections_of, Waiting, ComeNext, Upcoming}
+use Rattle.replay.specs.declared.connection.Connection.{Connection}
+use Rattle.replay.specs.declared.desk.Desk.{Desk}
+use Rattle.replay.specs.declared.incoming.Incoming.{Incoming}
+use Rattle.replay.specs.declared.origin.Origin.{Origin}
+use Rattle.replay.specs.declared.piece_messages.PieceMessages.{PieceMessages}
+use Rattle.replay.proofs.Arriving.{if_true, if_false}
+use Rattle.replay.proofs.Merging.{stand_batch}
+use Rattle.replay.proofs.Server.{text_below, tick_at}
+
+-- ---- reading
+
+abbrev holding : Place → List (List ℕ) → Place
+holding p pieces = record { connection = p.connection; pieces = pieces; lists = p.lists }
+
+pub adds_none : (places : List Place) → Adds [] places places
+adds_none places = λ c. sym (ap (holding (place_at places c)) (append-nil (place_at places c).pieces))
+
+pub adds_end : (tick conn : ℕ) (r : Record) (places : List Place) → r ≡ End tick conn → AddsOne r places places
+adds_end tick conn r places is = rw is (adds_none places)
+
+pieces_push : (c : ℕ) (rs : List Record) (r : Record) → pieces_to c (rs ++ r ∷ []) ≡ pieces_to c rs ++ pieces_to c (r ∷ [])
+pieces_push c [] r = refl
+pieces_push c (Piece tick conn bytes ∷ rs) r = go (conn == c) (pieces_push c rs r)
+  where
+    go : (b : Bool) → pieces_to c (rs ++ r ∷ []) ≡ pieces_to c rs ++ pieces_to c (r ∷ []) → (if b then bytes ∷ pieces_to c (rs ++ r ∷ []) else pieces_to c (rs ++ r ∷ [])) ≡ (if b then bytes ∷ pieces_to c rs else pieces_to c rs) ++ pieces_to c (r ∷ [])
+    go true e = ap (λ l. bytes ∷ l) e
+    go false e = e
+pieces_push c (End tick conn ∷ rs) r = pieces_push c rs r
+
+pub origins_push : (rs : List Record) (r : Record) → origins_of (rs ++ r ∷ []) ≡ origins_of rs ++ origins_of (r ∷ [])
+origins_push [] r = refl
+origins_push (Piece tick conn bytes ∷ rs) r = ap (λ os. record { conn = conn; tick = tick } ∷ os) (origins_push rs r)
+origins_push (End tick conn ∷ rs) r = origins_push rs r
+
+pub adds_more : (rs : List Record) (r : Record) (old mid new : List Place) → Adds rs old mid → AddsOne r mid new → Adds (rs ++ r ∷ []) old new
+adds_more rs r old mid new first second = λ c.
+    second c ∙ ap (λ p. with_pieces p (pieces_to c (r ∷ []))) (first c)
+    ∙ ap (holding (place_at old c)) (append_assoc (place_at old c).pieces (pieces_to c rs) (pieces_to c (r ∷ [])) ∙ ap (λ xs. (place_at old c).pieces ++ xs) (sym (pieces_push c rs r)))
+
+pub adds_piece : (tick conn n : ℕ) (bytes piece : List ℕ) (r : Record) (old new : List Place) → r ≡ Piece tick conn bytes → n ≡ conn → piece ≡ bytes
+    → place_at new n ≡ with_piece piece (place_at old n) → ((c : ℕ) → c ≢ n → place_at new c ≡ place_at old c) → AddsOne r old new
+adds_piece tick conn n bytes piece r old new is named same own others = rw is (λ c. elim (eqb_tells conn c) [
+  | inl e ↦ rw (if_true (conn == c) (bytes ∷ []) [] e.0, ← e.1) (rw (named, same) at own)
+  | inr e ↦ rw (if_false (conn == c) (bytes ∷ []) [] e.0, append-nil (place_at old c).pieces) (others c (λ s. e.1 (sym (s ∙ named))))
+])
+
+-- ---- what the engine keeps
+
+pub connection_of : (places : List Place) (c : ℕ) → connection_at (connections_of places) c ≡ (place_at places c).connection
+connection_of [] zero = refl
+connection_of [] (suc c) = refl
+connection_of (p ∷ places) zero = refl
+connection_of (p ∷ places) (suc c) = connection_of places c
+
+serves_same : (terms : Terms) (records : List Record) (arrivals : List Arrival) (old new : List Place) (desk : Desk) → ((c : ℕ) → (place_at new c).connection ≡ (place_at old c).connection)
+    → Serves terms records arrivals (connections_of old) desk → Serves terms records arrivals (connections_of new) desk
+serves_same terms records arrivals old new desk same serves = record {
+  reads = record { each = λ c. rw (connection_of new c, same c, ← connection_of old c) (serves.reads.each c) };
+  arrived = serves.arrived;
+  stands = serves.stands;
+}
+
+-- a batch was read
+pub come_next : (terms : Terms) (text ahead : Option (List ℕ)) (start : ℕ) (records rs : List Record) (arrivals : List Arrival) (old new : List Place) (origins : List Origin) (desk : Desk) (p : Progress)
+    → Serves terms records arrivals (connections_of old) desk → Waiting [] old → Adds rs old new → origins ≡ origins_of rs → Fits version_one text start (records ++ rs) p ahead → start ≡ desk.start
+    → ComeNext terms records rs arrivals new origins desk
+come_next terms text ahead start records rs arrivals old new origins desk p serves idle adds from fits begun = record {
+  serves = serves_same terms records arrivals old new desk (λ c. ap (λ (q : Place). q.connection) (adds c)) serves;
+  waiting = λ c. (
+    ap (λ (q : Place). q.pieces) (adds c) ∙ ap (λ xs. xs ++ pieces_to c rs) (idle c).0,
+    ap (λ (q : Place). q.lists) (adds c) ∙ (idle c).1,
+  );
+  origins_are = from;
+  rules = rw begun at fits.rules;
+  small = (let h = fits.room in omega (arith, h));
+}
+
+-- ---- cutting
+
+total_below : (c : ℕ) (rs : List Record) → total (pieces_to c rs) ≤ sizes_of rs
+total_below c [] = omega arith
+total_below c (Piece tick conn bytes ∷ rs) =
+    let more = sum_by-cons size_of (Piece tick conn bytes) rs in
+    let ih = total_below c rs in
+    go (conn == c) more ih
+  where
+    go : (b : Bool) → sizes_of (Piece tick conn bytes ∷ rs) ≡ length bytes + sizes_of rs → total (pieces_to c rs) ≤ sizes_of rs
+        → total (if b then bytes ∷ pieces_to c rs else pieces_to c rs) ≤ sizes_of (Piece tick conn bytes ∷ rs)
+    go true more ih = let own = sum_by-cons length bytes (pieces_to c rs) in omega (arith, more, ih, own)
+    go false more ih = omega (arith, more, ih)
+total_below c (End tick conn ∷ rs) = let more = sum_by-cons size_of (End tick conn) rs in let ih = total_below c rs in omega (arith, more, ih)
+
+pub all_ready : (terms : Terms) (records rs : List Record) (arrivals : List Arrival) (places : List Place) (origins : List Origin) (desk : Desk)
+    → ComeNext terms records rs arrivals places origins desk → All IsReady places
+all_ready terms records rs arrivals places origins desk next = λ k d lt.
+    let same : place_at places k ≡ get_or places k d = get_or_default places k _ d lt in
+    let below = text_below k records in
+    let more = total_below k rs in
+    let sum = sum_by-append size_of records rs in
+    let small = next.small in
+    let at : (place_at places k).pieces ≡ pieces_to k rs = (next.waiting k).0 in
+    subst IsReady same (record {
+      can = record {
+        text = text_of k records;
+        ms = messages_of k arrivals;
+        has = rw (← connection_of places k) (next.serves.reads.each k);
+        room = rw at (omega (arith, below, more, sum, small));
+      };
+      fresh = (next.waiting k).1;
+    })
+
+-- a place of the cut connections
+cut_at : (places cut : List Place) (c : ℕ) → AllZip IsCutOf places cut → IsCutOf (place_at places c) (place_at cut c)
+cut_at [] [] zero h = record { reads = refl; done = refl }
+cut_at [] [] (suc c) h = record { reads = refl; done = refl }
+cut_at [] (q ∷ cut) c h = absurd h
+cut_at (p ∷ places) [] c h = absurd h
+cut_at (p ∷ places) (q ∷ cut) zero h = h.0
+cut_at (p ∷ places) (q ∷ cut) (suc c) h = cut_at places cut c h.1
+
+reads_count : (before after : Connection) (pieces : List (List ℕ)) (mss : List (List Message)) → ReadsOn before pieces mss after → length mss ≡ length pieces
+reads_count before after [] [] h = refl
+reads_count before after [] (ms ∷ mss) h = absurd h
+reads_count before after (p ∷ pieces) [] h = absurd h
+reads_count before after (p ∷ pieces) (ms ∷ mss) h = ap (λ n. suc n) (reads_count h.0 after pieces mss h.2)
+
+pieces_count : (c : ℕ) (rs : List Record) → length (pieces_to c rs) ≡ count_to c (origins_of rs)
+pieces_count c [] = refl
+pieces_count c (Piece tick conn bytes ∷ rs) = go (conn == c) (pieces_count c rs)
+  where
+    go : (b : Bool) → length (pieces_to c rs) ≡ count_to c (origins_of rs) → length (if b then bytes ∷ pieces_to c rs else pieces_to c rs) ≡ (if b then count_to c (origins_of rs) + 1 else count_to c (origins_of rs))
+    go true e = omega (arith, e)
+    go false e = e
+pieces_count c (End tick conn ∷ rs) = pieces_count c rs
+
+pub lists_count : (terms : Terms) (records rs : List Record) (arrivals : List Arrival) (places cut : List Place) (origins : List Origin) (desk : Desk)
+    → ComeNext terms records rs arrivals places origins desk → AllZip IsCutOf places cut → (c : ℕ) → length (place_at cut c).lists ≡ count_to c origins
+lists_count terms records rs arrivals places cut origins desk next cuts c =
+    let own = cut_at places cut c cuts in
+    reads_count _ _ (place_at places c).pieces (place_at cut c).lists own.reads ∙ ap length (next.waiting c).0 ∙ pieces_count c rs ∙ ap (count_to c) (sym next.origins_are)
+
+-- nothing waits once the lists were taken
+pub none_wait : (places cut after : List Place) → AllZip IsCutOf places cut → ((c : ℕ) → place_at after c ≡ with_lists [] (place_at cut c)) → Waiting [] after
+none_wait places cut after cuts taken = λ c. (
+  ap (λ (q : Place). q.pieces) (taken c) ∙ (cut_at places cut c cuts).done,
+  ap (λ (q : Place). q.lists) (taken c),
+)
+
+-- ---- messages in the order of their arrival
+
+incoming_are : (rs : List Record) (pieces : List PieceMessages) (place : ℕ) → map (λ p. p.origin) pieces ≡ origins_of rs
+    → map incoming_of (arrivals_in place rs (map (λ p. p.messages) pieces)) ≡ flat_map incoming_from pieces
+incoming_are [] [] place e = refl
+incoming_are [] (p ∷ pieces) place e = absurd (let z : ⊥ = cc in z)
+incoming_are (End tick conn ∷ rs) pieces place e = incoming_are rs pieces (place + 1) e
+incoming_are (Piece tick conn bytes ∷ rs) [] place e = absurd (let z : ⊥ = cc in z)
+incoming_are (Piece tick conn bytes ∷ rs) (p ∷ pieces) place e =
+    let own : p.origin ≡ record { conn = conn; tick = tick } = cc in
+    let rest : map (λ p. p.origin) pieces ≡ origins_of rs = cc in
+    map-append incoming_of (arrivals_with place (record { conn = conn; tick = tick }) p.messages) (arrivals_in (place + 1) rs (map (λ p. p.messages) pieces))
+    ∙ ap (λ xs. xs ++ map incoming_of (arrivals_in (place + 1) rs (map (λ p. p.messages) pieces))) (one (record { conn = conn; tick = tick }) p.messages ∙ ap (λ o. map (λ m. record { origin = o; what = m.what }) p.messages) (sym own))
+    ∙ ap (λ xs. incoming_from p ++ xs) (incoming_are rs pieces (place + 1) rest)
+  where
+    one : (o : Origin) (ms : List Message) → map incoming_of (arrivals_with place o ms) ≡ map (λ m. record { origin = o; what = m.what }) ms
+    one o [] = refl
+    one o (m ∷ ms) = ap (λ xs. record { origin = o; what = m.what } ∷ xs) (one o ms)
+
+-- ticks don't fall
+ticks_rise : (ticks : List ℕ) (i j s t : ℕ) → AllPairs (λ a b. a ≤ b) ticks → i ≤ j → slice_get ticks i ≡ Some s → slice_get ticks j ≡ Some t → s ≤ t
+ticks_rise ticks i j s t rising le first second =
+    let here : get_or ticks i 0 ≡ s = get_or_from_slice_get ticks i s 0 first in
+    let there : get_or ticks j 0 ≡ t = get_or_from_slice_get ticks j t 0 second in
+    let lt = slice_get_within ticks j t second in
+    go (order i j le) here there lt
+  where
+    order : (i j : ℕ) → i ≤ j → (i < j) ⊎ (i ≡ j)
+    order zero zero le = inr refl
+    order zero (suc j) le = inl (omega arith)
+    order (suc i) zero le = absurd (omega (arith, le))
+    order (suc i) (suc j) le = elim (order i j (omega (arith, le))) [ inl lt ↦ inl (omega (arith, lt)) | inr e ↦ inr (ap (λ n. suc n) e) ]
+
+    go : (i < j) ⊎ (i ≡ j) → get_or ticks i 0 ≡ s → get_or ticks j 0 ≡ t → j < length ticks → s ≤ t
+    go (inl lt) here there within = (let h = rising i j 0 lt within in omega (arith, h, here, there))
+    go (inr e) here there within = (let same : get_or ticks i 0 ≡ get_or ticks j 0 = ap (λ k. get_or ticks k 0) e in omega (arith, same, here, there))
+
+place_le : (a b : Arrival) → Precedes a b → a.place ≤ b.place
+place_le a b (inl lt) = omega (arith, lt)
+place_le a b (inr e) = let same = e.0 in omega (arith, same)
+
+pub in_time : (start : ℕ) (records : List Record) (arrivals more : List Arrival) → IsCapture version_one start records → AreArrivals records (arrivals ++ more) → InTime arrivals more
+in_time start records arrivals [] rules arrived = tt
+in_time start records arrivals (a ∷ more) rules arrived = (
+  (λ k d lt.
+      (let b = get_or arrivals k d in
+      let len = length-append arrivals (a ∷ more) in
+      let first : get_or (arrivals ++ a ∷ more) k d ≡ b = get_or_append_left arrivals (a ∷ more) d k lt in
+      let second : get_or (arrivals ++ a ∷ more) (length arrivals) d ≡ a = get_or-append_seam arrivals a more d in
+      let before : Precedes b a = rw (first, second) at (arrived.order k (length arrivals) d lt (omega (arith, len))) in
+      let own : ArrivesWith records b = rw first at (arrived.with k d (omega (arith, len, lt))) in
+      let next : ArrivesWith records a = rw second at (arrived.with (length arrivals) d (omega (arith, len))) in
+      ticks_rise (ticks_of records) b.place a.place b.origin.tick a.origin.tick rules.rising (place_le b a before)
+      (tick_at records b.place b.origin.tick b.origin.conn own.bytes own.piece) (tick_at records a.place a.origin.tick a.origin.conn next.bytes next.piece))),
+  latest,
+  in_time start records (arrivals ++ a ∷ []) more rules (rw (append_assoc arrivals (a ∷ []) more) arrived),
+)
+  where
+    latest : a.origin.tick ≤ 1000000000000000
+    latest =
+        let len = length-append arrivals (a ∷ more) in
+        let second : get_or (arrivals ++ a ∷ more) (length arrivals) a ≡ a = get_or-append_seam arrivals a more a in
+        let next : ArrivesWith records a = rw second at (arrived.with (length arrivals) a (omega (arith, len))) in
+        let r = Piece a.origin.tick a.origin.conn next.bytes in
+        let is : get_or records a.place r ≡ r = get_or_from_slice_get records a.place r r next.piece in
+        let ok : IsRecord version_one r = rw is at (rules.each a.place r (slice_get_within records a.place r next.piece)) in
+        ok.0
+
+-- ---- what a batch brings
+
+pub record Brings (terms : Terms) (records rs : List Record) (arrivals : List Arrival) (desk : Desk) (after : List Place) (messages : List Incoming) : Type 0 where
+  pub more : List Arrival
+  pub reads : HaveRead (records ++ rs) (arrivals ++ more) (connections_of after)
+  pub arrived : AreArrivals (records ++ rs) (arrivals ++ more)
+  pub up : Upcoming terms arrivals more messages desk
+
+pub brings : (terms : Terms) (records rs : List Record) (arrivals : List Arrival) (places cut after : List Place) (origins : List Origin) (pieces : List PieceMessages) (messages : List Incoming) (desk : Desk)
+    → ComeNext terms records rs arrivals places origins desk → AllZip IsCutOf places cut → map (λ p. p.origin) pieces ≡ origins
+    → ((c : ℕ) → (place_at cut c).lists ≡ lists_to c origins (map (λ p. p.messages) pieces)) → ((c : ℕ) → place_at after c ≡ with_lists [] (place_at cut c))
+    → messages ≡ flat_map incoming_from pieces → Brings terms records rs arrivals desk after messages
+brings terms records rs arrivals places cut after origins pieces messages desk next cuts from found taken are = record {
+  more = more;
+  reads = record { each = λ c. rw (connection_of after c, ap (λ (q : Place). q.connection) (taken c)) (stand.each c) };
+  arrived = stand.arrived;
+  up = record {
+    stands = next.serves.stands;
+    are = incoming_are rs pieces (length records) (from ∙ next.origins_are) ∙ sym are;
+    timely = in_time desk.start (records ++ rs) arrivals more next.rules stand.arrived;
+  };
+}
+  where
+    lists : List (List Message)
+    lists = map (λ p. p.messages) pieces
+
+    more : List Arrival
+    more = arrivals_in (length records) rs lists
+
+    count : length lists ≡ length (origins_of rs)
+    count = length-map pieces _ ∙ sym (length-map pieces (λ p. p.origin)) ∙ ap length (from ∙ next.origins_are)
+
+    reading : (c : ℕ) → ReadsOn (place_at places c).connection (pieces_to c rs) (lists_to c (origins_of rs) lists) (place_at cut c).connection
+    reading c = rw ((next.waiting c).0, found c, next.origins_are) at (cut_at places cut c cuts).reads
+
+    stand : Stand (records ++ rs) (arrivals ++ more) (λ c. (place_at cut c).connection)
+    stand = stand_batch rs lists records arrivals (λ c. (place_at places c).connection) (λ c. (place_at cut c).connection) count
+        (record { each = λ c. rw (← connection_of places c) (next.serves.reads.each c); arrived = next.serves.arrived }) reading
+
+-- no seat is taken yet
+pub waits_none : (places : List Place) → places ≡ [] → Waiting [] places
+waits_none places none = rw none at_none
+  where
+    at_none : Waiting [] []
+    at_none zero = (refl, refl)
+    at_none (suc c) = (refl, refl)

@@ -1,0 +1,208 @@
+-- What is known of the items of both floors.
+use Rattle.std.proofs.Common.{◌≡◌, ℕ, zero, suc, ◌+◌, List, [], ◌∷◌, ◌++◌, ◌≤◌, nat_le, length, drop, map, refl, sym, ap, ◌∙◌, arith, add-one}
+use Rattle.std.specs.Prelude.{flat_map}
+use Rattle.std.specs.List.{range_with_len}
+use Rattle.replay.specs.declared.ticket.Ticket.{Ticket}
+use Rattle.replay.specs.declared.back_state.BackState.{BackState}
+use Rattle.replay.specs.declared.back_state.BackState.TheVariants.{Due as Waits, Fetched, Rendered}
+use Rattle.std.specs.Prelude.{Bool, true, false, ◌&&◌}
+use Rattle.std.specs.List.{list_all}
+use Rattle.responses.specs.declared.link.Link.{Link}
+use Rattle.responses.specs.declared.slip.Slip.{Slip}
+use Rattle.responses.specs.declared.what.What.{What as Given}
+use Rattle.responses.specs.declared.what.What.TheVariants as givens
+use Rattle.responses.specs.Replies.{reply_text, OnlyHead, HasLocation}
+use Rattle.replay.specs.declared.ticket.Due.{Due}
+use Rattle.replay.specs.declared.ticket.Due.TheVariants.{Page, Told}
+use Rattle.replay.specs.Backs.{only_head, has_location, can_render, is_due, is_back, due_at, reply_in, reply_to, back_after, back_step, slip_of_ticket, told, given_elsewhere, due_elsewhere, ticket_elsewhere, slip_elsewhere, elsewhere}
+use Rattle.std.proofs.lemmas.Bool.{leb-true}
+use Rattle.stage_graph.specs.Steps.{value_of}
+use Rattle.paths.specs.declared.file.File.{File}
+use Rattle.paths.proofs.Locations.{outcome_is}
+use Rattle.http_requests.specs.declared.messages.What.{What as Meaning}
+use Rattle.http_requests.specs.declared.messages.What.TheVariants.{Request, Bad}
+use Rattle.cost_model.specs.Services.{CostTable}
+use Rattle.replay.specs.declared.sight.Sight.{Sight}
+use Rattle.replay.specs.declared.sight.Sight.TheVariants.{Unseen, Asked, Found, Priced}
+use Rattle.replay.specs.declared.incoming.Incoming.{Incoming}
+use Rattle.replay.specs.declared.sight.Sighted.{Sighted}
+use Rattle.std.specs.Prelude.{Option}
+use Rattle.paths.specs.Targets.{asked}
+use Rattle.paths.specs.Resolution.{outcome}
+use Rattle.paths.specs.declared.outcome.Outcome.{Outcome}
+use Rattle.http_requests.specs.declared.messages.Version.{Version}
+use Rattle.cost_model.specs.Services.{service}
+use Rattle.replay.specs.Answers.{is_head, answers_head}
+use Rattle.replay.specs.Offers.{is_unmodified_file, length_given}
+use Rattle.replay.specs.Fronts.{sight_after, front_step, sight_of, unseen_at, IsSight}
+
+one_sight : (files : List File) (costs : CostTable) (what : Meaning) (sight : Sight) → IsSight files sight → IsSight files (sight_after files costs what sight)
+one_sight files costs (Bad fault) sight h = h
+one_sight files costs (Request method target version closing since) Unseen h = tt
+one_sight files costs (Request method target version closing since) (Asked a) h = outcome_is files a
+one_sight files costs (Request method target version closing since) (Found o) h = h
+one_sight files costs (Request method target version closing since) (Priced o cost) h = h
+
+-- an outcome that an item has found is one of the files'
+pub sight_is : (files : List File) (costs : CostTable) (messages : List Incoming) (number k : ℕ) → IsSight files (value_of (front_step files costs) k (unseen_at messages number)).sight
+sight_is files costs messages number zero = tt
+sight_is files costs messages number (suc k) =
+    let v = value_of (front_step files costs) k (unseen_at messages number) in
+    one_sight files costs v.message.what v.sight (sight_is files costs messages number k)
+
+-- one more step
+pub value_more : {V : Type 0} (step : ℕ → V → V) (k : ℕ) (x : V) → value_of step (k + 1) x ≡ step k (value_of step k x)
+value_more step k x =
+    let e : k + 1 ≡ suc k = omega arith in
+    rw e refl
+
+abbrev pub sighted : Incoming → Sight → Sighted
+sighted message sight = record { message = message; sight = sight }
+
+-- what follows the first of the rest of a list
+pub drop_next : {X : Type 0} (xs ys : List X) (k : ℕ) (x : X) → drop k xs ≡ x ∷ ys → drop (k + 1) xs ≡ ys
+drop_next xs ys k x e =
+    let n : k + 1 ≡ suc k = omega arith in
+    rw n (after xs ys k x e)
+  where
+    after : {X : Type 0} (xs ys : List X) (k : ℕ) (x : X) → drop k xs ≡ x ∷ ys → drop (suc k) xs ≡ ys
+    after [] ys zero x e = absurd (let z : ⊥ = grind (arith, e) in z)
+    after [] ys (suc k) x e = absurd (let z : ⊥ = grind (arith, e) in z)
+    after (z ∷ xs) ys zero x e = cc
+    after (z ∷ xs) ys (suc k) x e = after xs ys k x e
+
+pub length-more : {X : Type 0} (xs ys : List X) (x : X) → xs ≡ x ∷ ys → length xs ≡ length ys + 1
+length-more xs ys x e = rw e (omega arith)
+
+range_map : {V : Type 0} (f : ℕ → V) (a n : ℕ) → map f (range_with_len (a + 1) n) ≡ map (λ k. f (k + 1)) (range_with_len a n)
+range_map f a zero = refl
+range_map f a (suc n) = ap (λ vs. f (a + 1) ∷ vs) (range_map f (a + 1) n)
+
+-- the tickets by number
+pub by_ticket : {X V : Type 0} (f : BackState X → V) (ts : List (Ticket X)) → map (λ k. f (due_at ts k)) (range_with_len 0 (length ts)) ≡ map (λ t. f (Waits t)) ts
+by_ticket f [] = refl
+by_ticket f (t ∷ ts) =
+    let step : map (λ k. f (due_at (t ∷ ts) (k + 1))) (range_with_len 0 (length ts)) ≡ map (λ k. f (due_at ts k)) (range_with_len 0 (length ts)) = simp add-one in
+    ap (λ vs. f (Waits t) ∷ vs) (range_map (λ k. f (due_at (t ∷ ts) k)) 0 (length ts) ∙ (step ∙ by_ticket f ts))
+
+pub flat_map-states : {A B C : Type 0} (f : B → List C) (g : A → B) (xs : List A) → flat_map (λ x. f (g x)) xs ≡ flat_map f (map g xs)
+flat_map-states f g [] = refl
+flat_map-states f g (x ∷ xs) = ap (λ l. f (g x) ++ l) (flat_map-states f g xs)
+
+-- ---- the same at another type of pages
+
+told_same : {X Y : Type 0} (d : Due X) → told {X = Y} (due_elsewhere d) ≡ given_elsewhere (told d)
+told_same (Page file mtime) = refl
+told_same (Told what) = refl
+
+abbrev slip_with : {X : Type 0} → ℕ → ℕ → ℕ → Bool → Link → Given X → Slip X
+slip_with number conn date head link what = record { number = number; conn = conn; date = date; head = head; link = link; what = what }
+
+slip_same : {X Y : Type 0} (t : Ticket X) → slip_of_ticket {X = Y} (ticket_elsewhere t) ≡ slip_elsewhere (slip_of_ticket t)
+slip_same {X} {Y} t = ap (λ (w : Given Y). slip_with t.number t.conn t.date t.head t.link w) (told_same t.due)
+
+text_go : {X : Type 0} (Y : Type 0) (files : List File) (number conn date : ℕ) (head : Bool) (link : Link) (what : Given X)
+    → reply_text files (slip_with {X = Y} number conn date head link (given_elsewhere what)) ≡ reply_text files (slip_with number conn date head link what)
+text_go Y files number conn date head link (givens.Page file mtime) = refl
+text_go Y files number conn date head link (givens.Known media len mtime) = refl
+text_go Y files number conn date head link (givens.Unmodified mtime) = refl
+text_go Y files number conn date head link (givens.Moved location) = refl
+text_go Y files number conn date head link (givens.Plain status) = refl
+
+reply_same : {X : Type 0} (Y : Type 0) (files : List File) (s : Slip X) → reply_to files (slip_elsewhere {Y = Y} s) ≡ reply_to files s
+reply_same Y files s = ap (λ x. (s.number, s.conn, x)) (text_go Y files s.number s.conn s.date s.head s.link s.what)
+
+pub step_same : {X Y : Type 0} (files : List File) (s : BackState X) → elsewhere {Y = Y} (back_after files s) ≡ back_after files (elsewhere s)
+step_same {X} {Y} files (Waits t) = ap (λ (x : Slip Y). Fetched x) (sym (slip_same t))
+step_same {X} {Y} files (Fetched s) = ap (λ r. Rendered r) (sym (reply_same Y files s))
+step_same files (Rendered r) = refl
+
+pub reply_elsewhere : {X : Type 0} (Y : Type 0) (s : BackState X) → reply_in (elsewhere {Y = Y} s) ≡ reply_in s
+reply_elsewhere Y (Waits t) = refl
+reply_elsewhere Y (Fetched s) = refl
+reply_elsewhere Y (Rendered r) = refl
+
+-- all that is rendered are replies
+pub all_rendered : {X : Type 0} (Y : Type 0) (files : List File) (ts : List (Ticket X))
+    → flat_map reply_in (map (λ (t : Ticket Y). value_of (back_step files) 2 (Waits t)) (map ticket_elsewhere ts)) ≡ map (λ t. reply_to files (slip_of_ticket t)) ts
+all_rendered Y files [] = refl
+all_rendered Y files (t ∷ ts) =
+    let one : reply_to files (slip_of_ticket {X = Y} (ticket_elsewhere t)) ≡ reply_to files (slip_of_ticket t) = ap (reply_to files) (slip_same t) ∙ reply_same Y files (slip_of_ticket t) in
+    ap (λ r. r ∷ flat_map reply_in (map (λ (x : Ticket Y). value_of (back_step files) 2 (Waits x)) (map ticket_elsewhere ts))) one ∙ ap (λ rs. reply_to files (slip_of_ticket t) ∷ rs) (all_rendered Y files ts)
+
+-- ---- reading a list to its end
+
+-- the ticket that comes next
+pub due_here : {X Y : Type 0} (ts rest : List (Ticket X)) (k : ℕ) (t : Ticket X) → drop k ts ≡ t ∷ rest → due_at {X = Y} (map ticket_elsewhere ts) k ≡ Waits (ticket_elsewhere t)
+due_here [] rest zero t e = absurd (let z : ⊥ = grind (arith, e) in z)
+due_here [] rest (suc k) t e = absurd (let z : ⊥ = grind (arith, e) in z)
+due_here {X} {Y} (x ∷ ts) rest zero t e = let same : x ≡ t = cc in ap (λ (y : Ticket X). Waits (ticket_elsewhere {Y = Y} y)) same
+due_here (x ∷ ts) rest (suc k) t e = due_here ts rest k t e
+
+and_right : (a b : Bool) → (a && b) ≡ true → b ≡ true
+and_right true b e = e
+and_right false b e = absurd (let z : ⊥ = grind (arith, e) in z)
+
+pub all_rest : {X : Type 0} (p : X → Bool) (xs ys : List X) (x : X) → xs ≡ x ∷ ys → list_all p xs ≡ true → list_all p ys ≡ true
+all_rest p xs ys x e h = and_right (p x) (list_all p ys) (rw e at h)
+
+pub replies_same : {A X : Type 0} (Y : Type 0) (g : A → BackState X) (xs : List A) → flat_map (λ x. reply_in (g x)) xs ≡ flat_map (λ x. reply_in (elsewhere {Y = Y} (g x))) xs
+replies_same Y g [] = refl
+replies_same Y g (x ∷ xs) = ap (λ l. l ++ flat_map (λ y. reply_in (g y)) xs) (sym (reply_elsewhere Y (g x))) ∙ ap (λ l. reply_in (elsewhere {Y = Y} (g x)) ++ l) (replies_same Y g xs)
+
+-- ---- a ticket that may be answered
+
+and_left : (a b : Bool) → (a && b) ≡ true → a ≡ true
+and_left true b e = refl
+and_left false b e = e
+
+-- its slip may be rendered
+pub may_render : {X : Type 0} (files : List File) (t : Ticket X) → is_back files (Waits t) ≡ true
+    → (t.date ≤ 253402300799) × OnlyHead t.head (told t.due) × HasLocation (told t.due) × (is_due files t.due ≡ true)
+may_render files t ready =
+    let slip = slip_of_ticket t in
+    let can = and_left (can_render slip) (is_due files t.due) ready in
+    let rest = and_right (nat_le t.date 253402300799) (only_head t.head (told t.due) && has_location (told t.due)) can in (
+      leb-true t.date 253402300799 (and_left (nat_le t.date 253402300799) (only_head t.head (told t.due) && has_location (told t.due)) can),
+      known t.head (told t.due) (and_left (only_head t.head (told t.due)) (has_location (told t.due)) rest),
+      placed (told t.due) (and_right (only_head t.head (told t.due)) (has_location (told t.due)) rest),
+      and_right (can_render slip) (is_due files t.due) ready,
+    )
+  where
+    known : {X : Type 0} (head : Bool) (what : Given X) → only_head head what ≡ true → OnlyHead head what
+    known head (givens.Page file mtime) e = tt
+    known head (givens.Known media len mtime) e = e
+    known head (givens.Unmodified mtime) e = tt
+    known head (givens.Moved location) e = tt
+    known head (givens.Plain status) e = tt
+
+    placed : {X : Type 0} (what : Given X) → has_location what ≡ true → HasLocation what
+    placed (givens.Page file mtime) e = tt
+    placed (givens.Known media len mtime) e = tt
+    placed (givens.Unmodified mtime) e = tt
+    placed (givens.Moved location) e = e
+    placed (givens.Plain status) e = tt
+
+-- ---- a request that was looked into
+
+-- its outcome and its service time
+pub priced : (files : List File) (costs : CostTable) (what : Meaning) (method target : List ℕ) (version : Version) (closing : Bool) (since : Option ℕ) (head : Bool) (sight : Sight) (o : Outcome) (cost : ℕ)
+    → what ≡ Request method target version closing since → head ≡ answers_head what → sight ≡ sight_of files costs what → sight ≡ Priced o cost
+    → (o ≡ outcome files (asked method target)) × (cost ≡ service costs o head (is_unmodified_file files since o) (length_given files o))
+priced files costs what method target version closing since head sight o cost is heads seen priced_is =
+    let own : head ≡ is_head method = heads ∙ ap answers_head is in
+    let all : Priced o cost ≡ Priced (outcome files (asked method target)) (service costs (outcome files (asked method target)) (is_head method) (is_unmodified_file files since (outcome files (asked method target))) (length_given files (outcome files (asked method target)))) =
+    sym priced_is ∙ rw is at seen in
+    let found : o ≡ outcome files (asked method target) = cc in
+    let costing : cost ≡ service costs (outcome files (asked method target)) (is_head method) (is_unmodified_file files since (outcome files (asked method target))) (length_given files (outcome files (asked method target))) = cc in
+    (found, rw (found, own) costing)
+
+abbrev is_priced : Sight → Bool
+is_priced Unseen = false
+is_priced (Asked a) = false
+is_priced (Found o) = false
+is_priced (Priced o cost) = true
+
+pub is_priced_request : (files : List File) (costs : CostTable) (what : Meaning) (method target : List ℕ) (version : Version) (closing : Bool) (since : Option ℕ) (sight : Sight)
+    → what ≡ Request method target version closing since → sight ≡ sight_of files costs what → is_priced sight ≡ true
+is_priced_request files costs what method target version closing since sight is seen = rw (seen, is) refl

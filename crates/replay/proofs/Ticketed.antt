@@ -1,0 +1,176 @@
+-- The loop that decides on messages.
+use Rattle.std.proofs.Common.{◌≡◌, ℕ, zero, suc, ◌+◌, ◌<◌, ◌≤◌, Bool, true, false, ◌&&◌, List, [], ◌∷◌, ◌++◌, length, take, drop, map, refl, sym, ap, ◌∙◌, subst, arith, append-nil, append_assoc}
+use Rattle.std.specs.List.{list_all}
+use Rattle.std.proofs.lemmas.List.{map-append, length-append, length-map}
+use Rattle.paths.specs.declared.file.File.{File}
+use Rattle.cost_model.specs.Services.{CostTable}
+use Rattle.responses.specs.declared.slip.Slip.{Slip}
+use Rattle.replay.specs.Choices.{Terms}
+use Rattle.replay.specs.Arrivals.{Arrival}
+use Rattle.replay.specs.Offers.{handled_next, handled_behind}
+use Rattle.replay.specs.Replies.{slip_of}
+use Rattle.replay.specs.Serving.{Stands, AreBy}
+use Rattle.replay.specs.Fronts.{front_value, sight_of}
+use Rattle.replay.specs.Backs.{is_back, slip_of_ticket}
+use Rattle.replay.specs.Ticketing.{incoming_of, AreSighted, InTime}
+use Rattle.replay.specs.declared.incoming.Incoming.{Incoming}
+use Rattle.replay.specs.declared.sight.Sighted.{Sighted}
+use Rattle.replay.specs.declared.ticket.Ticket.{Ticket}
+use Rattle.replay.specs.declared.back_state.BackState.TheVariants.{Due as Waits}
+use Rattle.replay.specs.declared.desk.Desk.{Desk}
+use Rattle.replay.proofs.Offering.{handled_more, handled_one}
+use Rattle.replay.proofs.Judging.{answered_is}
+
+-- the first k of the messages are decided on
+pub record Settled {X : Type 0} (files : List File) (terms : Terms) (costs : CostTable) (sights : List Sighted) (old now : Desk) (rest : List Sighted) (tickets : List (Ticket X)) (k : ℕ) : Type 0 where
+  pub count : length tickets ≡ k
+  pub rest_is : rest ≡ drop k sights
+  pub stands : (arrivals more : List Arrival) → Stands terms arrivals old → AreSighted files costs more sights → Stands terms (arrivals ++ take k more) now
+  pub slips : (arrivals more : List Arrival) → Stands terms arrivals old → AreSighted files costs more sights
+      → map slip_of_ticket tickets ≡ map (slip_of terms old.start) (handled_behind terms arrivals (take k more))
+  pub ready : list_all (λ t. is_back files (Waits t)) tickets ≡ true
+  pub start : now.start ≡ old.start
+
+-- the element of a list that a place of its image shows
+pub record At {A B : Type 0} (f : A → B) (more : List A) (k : ℕ) (s : B) : Type 0 where
+  pub one : A
+  pub below : k < length more
+  pub is : f one ≡ s
+  pub taken : take (suc k) more ≡ take k more ++ one ∷ []
+  pub rest : drop k more ≡ one ∷ drop (suc k) more
+
+pub at_place : {A B : Type 0} (f : A → B) (more : List A) (k : ℕ) (s : B) (rest : List B) → s ∷ rest ≡ drop k (map f more) → At f more k s
+at_place f [] zero s rest e = absurd (let z : ⊥ = cc in z)
+at_place f [] (suc k) s rest e = absurd (let z : ⊥ = cc in z)
+at_place f (x ∷ more) zero s rest e = record { one = x; below = omega arith; is = cc; taken = refl; rest = refl }
+at_place f (x ∷ more) (suc k) s rest e =
+    let h = at_place f more k s rest e in
+    let lt = h.below in
+    record { one = h.one; below = omega (arith, lt); is = h.is; taken = ap (λ xs. x ∷ xs) h.taken; rest = h.rest }
+
+-- the next of messages that come in time
+pub in_time_at : (earlier more : List Arrival) (k : ℕ) (a : Arrival) → InTime earlier more → drop k more ≡ a ∷ drop (suc k) more
+    → AreBy a.origin.tick (earlier ++ take k more) × (a.origin.tick ≤ 1000000000000000)
+in_time_at earlier [] zero a h e = absurd (let z : ⊥ = cc in z)
+in_time_at earlier [] (suc k) a h e = absurd (let z : ⊥ = cc in z)
+in_time_at earlier (x ∷ more) zero a h e =
+    let same : x ≡ a = cc in
+    rw (append-nil earlier, ← same) (h.0, h.1)
+in_time_at earlier (x ∷ more) (suc k) a h e =
+    let rest = in_time_at (earlier ++ x ∷ []) more k a h.2 e in
+    (rw (append_assoc earlier (x ∷ []) (take k more)) at rest.0, rest.1)
+
+one_more : (k : ℕ) → k + 1 ≡ suc k
+one_more k = omega arith
+
+list_all-push : {A : Type 0} (p : A → Bool) (xs : List A) (x : A) → list_all p xs ≡ true → p x ≡ true → list_all p (xs ++ x ∷ []) ≡ true
+list_all-push p [] x h e = rw e refl
+list_all-push p (y ∷ xs) x h e = go (p y) (list_all p xs) (list_all p (xs ++ x ∷ [])) h (list_all-push p xs x)
+  where
+    go : (b all more : Bool) → (b && all) ≡ true → (all ≡ true → p x ≡ true → more ≡ true) → (b && more) ≡ true
+    go true all more h f = f h e
+    go false all more h f = h
+
+-- what `settle` asks of the next message
+pub record Next (terms : Terms) (desk : Desk) (message : Incoming) : Type 0 where
+  pub arrivals : List Arrival
+  pub stands : Stands terms arrivals desk
+  pub by : AreBy message.origin.tick arrivals
+  pub tick : message.origin.tick ≤ 1000000000000000
+  pub few : desk.tally.answered < 1048576
+
+pub next_is : {X : Type 0} (files : List File) (terms : Terms) (costs : CostTable) (sights : List Sighted) (old now : Desk) (rest after : List Sighted) (tickets : List (Ticket X)) (k : ℕ)
+    (arrivals more : List Arrival) (s : Sighted) → Settled files terms costs sights old now rest tickets k → rest ≡ s ∷ after
+    → Stands terms arrivals old → AreSighted files costs more sights → InTime arrivals more → length arrivals + length more ≤ 1048576
+    → Next terms now s.message × (s ≡ front_value files costs s.message) × (s.sight ≡ sight_of files costs s.message.what)
+next_is files terms costs sights old now rest after tickets k arrivals more s settled steps stands sighted timely few =
+    let here = at_place (λ a. front_value files costs (incoming_of a)) more k s after (sym steps ∙ settled.rest_is ∙ ap (drop k) sighted) in
+    let a = here.one in
+    let own : incoming_of a ≡ s.message = ap (λ (v : Sighted). v.message) here.is in
+    let tick : a.origin.tick ≡ s.message.origin.tick = ap (λ (m : Incoming). m.origin.tick) own in
+    let timing = in_time_at arrivals more k a timely here.rest in
+    let now_stands = settled.stands arrivals more stands sighted in
+    let counted = answered_is terms (arrivals ++ take k more) now now_stands in
+    let len = length-append arrivals (take k more) in
+    let short = length_take_below k more here.below in
+    let below = here.below in (
+      record {
+        arrivals = arrivals ++ take k more;
+        stands = now_stands;
+        by = rw tick at timing.0;
+        tick = rw tick at timing.1;
+        few = omega (arith, counted, len, short, below, few);
+      },
+      sym here.is ∙ ap (front_value files costs) own,
+      ap (λ (v : Sighted). v.sight) (sym here.is ∙ ap (front_value files costs) own),
+    )
+  where
+    length_take_below : {A : Type 0} (k : ℕ) (xs : List A) → k < length xs → length (take k xs) ≡ k
+    length_take_below zero xs lt = refl
+    length_take_below (suc k) [] lt = absurd (omega (arith, lt))
+    length_take_below (suc k) (x ∷ xs) lt = ap (λ n. suc n) (length_take_below k xs (omega (arith, lt)))
+
+-- one more of them is
+pub settled_more : {X : Type 0} (files : List File) (terms : Terms) (costs : CostTable) (sights : List Sighted) (old now next : Desk) (rest after : List Sighted) (tickets : List (Ticket X)) (t : Ticket X) (k : ℕ)
+    (s : Sighted) → Settled files terms costs sights old now rest tickets k → rest ≡ s ∷ after
+    → ((arrivals : List Arrival) (a : Arrival) → Stands terms arrivals now → incoming_of a ≡ s.message → Stands terms (arrivals ++ a ∷ []) next)
+    → ((arrivals : List Arrival) (a : Arrival) → Stands terms arrivals now → incoming_of a ≡ s.message → slip_of_ticket t ≡ slip_of terms now.start (handled_next terms arrivals a))
+    → is_back files (Waits t) ≡ true → next.start ≡ now.start
+    → Settled files terms costs sights old next after (tickets ++ t ∷ []) (k + 1)
+settled_more {X} files terms costs sights old now next rest after tickets t k s settled steps stands slip ready start = rw (one_more k) (record {
+  count = (let e = settled.count in let l = length-append tickets (t ∷ []) in omega (arith, e, l));
+  rest_is = next_rest sights k s after (sym steps ∙ settled.rest_is);
+  stands = λ arrivals more begun sighted.
+      (let here = at_place (λ a. front_value files costs (incoming_of a)) more k s after (sym steps ∙ settled.rest_is ∙ ap (drop k) sighted) in
+      rw here.taken (rw (append_assoc arrivals (take k more) (here.one ∷ [])) at (stands (arrivals ++ take k more) here.one (settled.stands arrivals more begun sighted) (ap (λ (v : Sighted). v.message) here.is))));
+  slips = λ arrivals more begun sighted.
+      (let here = at_place (λ a. front_value files costs (incoming_of a)) more k s after (sym steps ∙ settled.rest_is ∙ ap (drop k) sighted) in
+      let own = slip (arrivals ++ take k more) here.one (settled.stands arrivals more begun sighted) (ap (λ (v : Sighted). v.message) here.is) in
+      rw (
+        here.taken,
+        handled_more terms arrivals (take k more) (here.one ∷ []),
+        handled_one terms (arrivals ++ take k more) here.one,
+        map-append (slip_of {X = X} terms old.start) (handled_behind terms arrivals (take k more)) (handled_next terms (arrivals ++ take k more) here.one ∷ []),
+        map-append (slip_of_ticket {X = X}) tickets (t ∷ []),
+        settled.slips arrivals more begun sighted,
+        own,
+        settled.start,
+      ) refl);
+  ready = list_all-push (λ t. is_back files (Waits t)) tickets t settled.ready ready;
+  start = start ∙ settled.start;
+})
+  where
+    next_rest : {A : Type 0} (xs : List A) (k : ℕ) (x : A) (after : List A) → x ∷ after ≡ drop k xs → after ≡ drop (suc k) xs
+    next_rest [] zero x after e = absurd (let z : ⊥ = cc in z)
+    next_rest [] (suc k) x after e = absurd (let z : ⊥ = cc in z)
+    next_rest (y ∷ xs) zero x after e = cc
+    next_rest (y ∷ xs) (suc k) x after e = next_rest xs k x after e
+
+-- none are left
+pub settled_all : {A B : Type 0} (xs : List A) (k : ℕ) → [] ≡ drop k xs → (m : List B) → length m ≡ length xs → take k m ≡ m
+settled_all [] zero e [] l = refl
+settled_all [] zero e (y ∷ m) l = absurd (let z : ⊥ = omega (arith, l) in z)
+settled_all [] (suc k) e [] l = refl
+settled_all [] (suc k) e (y ∷ m) l = absurd (let z : ⊥ = omega (arith, l) in z)
+settled_all (x ∷ xs) zero e m l = absurd (let z : ⊥ = cc in z)
+settled_all (x ∷ xs) (suc k) e [] l = refl
+settled_all (x ∷ xs) (suc k) e (y ∷ m) l = ap (λ ys. y ∷ ys) (settled_all xs k e m (omega (arith, l)))
+
+-- nothing is decided on yet
+pub settled_none : {X : Type 0} (files : List File) (terms : Terms) (costs : CostTable) (sights : List Sighted) (old : Desk) (rest : List Sighted) (tickets : List (Ticket X)) (k : ℕ)
+    → tickets ≡ [] → k ≡ 0 → rest ≡ sights → Settled files terms costs sights old old rest tickets k
+unfolding handled_behind
+settled_none {X} files terms costs sights old rest tickets k none start all = rw (none, start) (record {
+  count = refl;
+  rest_is = all;
+  stands = λ arrivals more stands sighted. rw (append-nil arrivals) stands;
+  slips = λ arrivals more stands sighted. refl;
+  ready = refl;
+  start = refl;
+})
+
+-- all are
+pub settled_last : {X : Type 0} (files : List File) (terms : Terms) (costs : CostTable) (sights : List Sighted) (old now : Desk) (rest : List Sighted) (tickets : List (Ticket X)) (k : ℕ) (more : List Arrival)
+    → Settled files terms costs sights old now rest tickets k → rest ≡ [] → AreSighted files costs more sights → take k more ≡ more
+settled_last files terms costs sights old now rest tickets k more settled none sighted =
+    settled_all sights k (sym none ∙ settled.rest_is) more (sym (ap length sighted ∙ length-map more _))

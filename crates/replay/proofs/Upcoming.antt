@@ -1,0 +1,314 @@
+-- Messages that come next: those of the next arrivals, served part after part.
+use Rattle.std.proofs.Common.{◌≡◌, ℕ, suc, zero, ◌+◌, ◌-◌, ◌<◌, ◌≤◌, ◌==◌, true, List, [], ◌∷◌, ◌++◌, length, take, drop, map, get_or, Option, Result, Ok, Err, refl, sym, ap, ◌∙◌, subst, arith, append-nil, append_assoc}
+use Rattle.std.specs.Prelude.{flat_map, IfErr, OnOk, OnErr}
+use Rattle.std.proofs.lemmas.List.{length-append, length-map, take-append-le, length-take-le, drop-drop}
+use Rattle.std.proofs.lemmas.Grind.{flat_map-append, common_steps}
+use Rattle.std.proofs.Math.Seq.{take-append_seam, drop-append_seam}
+use Rattle.std.specs.Io.KnownBytes.{Appends}
+use Rattle.paths.specs.declared.file.File.{File}
+use Rattle.cost_model.specs.Services.{CostTable}
+use Rattle.responses.specs.declared.slip.Slip.{Slip}
+use Rattle.responses.specs.Records.{record_text}
+use Rattle.replay.specs.Choices.{Terms}
+use Rattle.replay.specs.Arrivals.{Arrival}
+use Rattle.replay.specs.Offers.{Handled, handled_behind}
+use Rattle.replay.specs.Replies.{slip_of, replies_of, reply_of}
+use Rattle.replay.specs.Serving.{Stands, AreBy, records_behind, Written, WrittenInPart}
+use Rattle.replay.specs.Fronts.{front_value}
+use Rattle.replay.specs.Backs.{slip_of_ticket, reply_to}
+use Rattle.replay.specs.Batches.{joined}
+use Rattle.replay.specs.Ticketing.{incoming_of, AreOf, AreSighted, InTime}
+use Rattle.replay.specs.Outcomes.{AppendsInPart, IsWriteOrMemory, IfTooMany, IfCutShort}
+use Rattle.replay.specs.Waiting.{Upcoming}
+use Rattle.replay.specs.declared.incoming.Incoming.{Incoming}
+use Rattle.replay.specs.declared.sight.Sighted.{Sighted}
+use Rattle.replay.specs.declared.ticket.Ticket.{Ticket}
+use Rattle.replay.specs.declared.desk.Desk.{Desk}
+use Rattle.replay.specs.declared.replay_fault.ReplayFault.{ReplayFault}
+use Rattle.replay.specs.declared.replay_fault.ReplayFault.TheVariants as faults
+use Rattle.replay.proofs.SameAnswer.{reply_is}
+use Rattle.replay.proofs.Judging.{answered_is}
+use Rattle.replay.proofs.Writing.{part_then, part_none, appends_then, written_none, written_more, part_more}
+
+-- ---- lists
+
+map_map : {A B C : Type 0} (g : B → C) (f : A → B) (xs : List A) → map g (map f xs) ≡ map (λ x. g (f x)) xs
+map_map g f [] = refl
+map_map g f (x ∷ xs) = ap (λ ys. g (f x) ∷ ys) (map_map g f xs)
+
+map_take : {A B : Type 0} (f : A → B) (n : ℕ) (xs : List A) → map f (take n xs) ≡ take n (map f xs)
+map_take f zero xs = refl
+map_take f (suc n) [] = refl
+map_take f (suc n) (x ∷ xs) = ap (λ ys. f x ∷ ys) (map_take f n xs)
+
+map_drop : {A B : Type 0} (f : A → B) (n : ℕ) (xs : List A) → map f (drop n xs) ≡ drop n (map f xs)
+map_drop f zero xs = refl
+map_drop f (suc n) [] = refl
+map_drop f (suc n) (x ∷ xs) = map_drop f n xs
+
+take_add : {A : Type 0} (n m : ℕ) (xs : List A) → take (n + m) xs ≡ take n xs ++ take m (drop n xs)
+take_add zero m xs = let e : 0 + m ≡ m = omega arith in rw e refl
+take_add (suc n) m [] = let e : suc n + m ≡ suc (n + m) = omega arith in rw e (sym (none m))
+  where
+    none : {A : Type 0} (m : ℕ) → take m (let xs : List A = [] in xs) ≡ []
+    none zero = refl
+    none (suc m) = refl
+take_add (suc n) m (x ∷ xs) = let e : suc n + m ≡ suc (n + m) = omega arith in rw e (ap (λ ys. x ∷ ys) (take_add n m xs))
+
+take_all : {A : Type 0} (xs : List A) → take (length xs) xs ≡ xs
+take_all xs = grind (arith, common_steps)
+
+pub take_short : {A : Type 0} (n : ℕ) (xs : List A) → length (take n xs) ≤ n
+take_short zero xs = omega arith
+take_short (suc n) [] = omega arith
+take_short (suc n) (x ∷ xs) = let h = take_short n xs in omega (arith, h)
+
+-- ---- messages in time
+
+pub in_time_take : (earlier more : List Arrival) (n : ℕ) → InTime earlier more → InTime earlier (take n more)
+in_time_take earlier more zero h = tt
+in_time_take earlier [] (suc n) h = tt
+in_time_take earlier (a ∷ more) (suc n) h = (h.0, h.1, in_time_take (earlier ++ a ∷ []) more n h.2)
+
+pub in_time_drop : (earlier more : List Arrival) (n : ℕ) → InTime earlier more → InTime (earlier ++ take n more) (drop n more)
+in_time_drop earlier more zero h = rw (append-nil earlier) h
+in_time_drop earlier [] (suc n) h = tt
+in_time_drop earlier (a ∷ more) (suc n) h = rw (append_assoc earlier (a ∷ []) (take n more)) at (in_time_drop (earlier ++ a ∷ []) more n h.2)
+
+-- the first of the messages
+pub first_come : (terms : Terms) (arrivals more : List Arrival) (messages within : List Incoming) (desk : Desk) (n : ℕ)
+    → Upcoming terms arrivals more messages desk → within ≡ take n messages → Upcoming terms arrivals (take n more) within desk
+first_come terms arrivals more messages within desk n up e = record {
+  stands = up.stands;
+  are = map_take incoming_of n more ∙ ap (take n) up.are ∙ sym e;
+  timely = in_time_take arrivals more n up.timely;
+}
+
+pub come_count : (terms : Terms) (arrivals more : List Arrival) (messages : List Incoming) (desk : Desk) → Upcoming terms arrivals more messages desk → length more ≡ length messages
+come_count terms arrivals more messages desk up = sym (length-map more incoming_of) ∙ ap length up.are
+
+pub take_count : (terms : Terms) (arrivals more : List Arrival) (messages : List Incoming) (desk : Desk) → Upcoming terms arrivals more messages desk → take (length messages) more ≡ more
+take_count terms arrivals more messages desk up = rw (← come_count terms arrivals more messages desk up) (take_all more)
+
+-- no message
+pub none_come : (terms : Terms) (arrivals more : List Arrival) (messages : List Incoming) (desk : Desk) → Upcoming terms arrivals more messages desk → messages ≡ [] → more ≡ []
+none_come terms arrivals more messages desk up none = go more (come_count terms arrivals more messages desk up ∙ ap length none)
+  where
+    go : (xs : List Arrival) → length xs ≡ 0 → xs ≡ []
+    go [] e = refl
+    go (x ∷ xs) e = absurd (let z : ⊥ = omega (arith, e) in z)
+
+pub none_stands : (terms : Terms) (arrivals more : List Arrival) (messages : List Incoming) (desk : Desk) → Upcoming terms arrivals more messages desk → messages ≡ [] → Stands terms (arrivals ++ more) desk
+none_stands terms arrivals more messages desk up none = rw (none_come terms arrivals more messages desk up none, append-nil arrivals) up.stands
+
+pub none_written : (terms : Terms) (arrivals more : List Arrival) (messages : List Incoming) (desk : Desk) (old : Option (List ℕ)) → Upcoming terms arrivals more messages desk → messages ≡ []
+    → Written terms desk.start arrivals more old old
+none_written terms arrivals more messages desk old up none = rw (none_come terms arrivals more messages desk up none) (written_none terms desk.start arrivals old)
+
+-- ---- between the floors
+
+pub sighted_are : (files : List File) (costs table : CostTable) (arrivals : List Arrival) (messages : List Incoming) (sights : List Sighted)
+    → table ≡ costs → AreOf arrivals messages → sights ≡ map (front_value files table) messages → AreSighted files costs arrivals sights
+sighted_are files costs table arrivals messages sights same are e =
+    e ∙ ap (λ (t : CostTable). map (front_value files t) messages) same ∙ ap (map (front_value files costs)) (sym are) ∙ map_map (front_value files costs) incoming_of arrivals
+
+pub replies_are : (X : Type 0) (terms : Terms) (start : ℕ) (hs : List Handled) (tickets : List (Ticket X)) (replies : List (ℕ × ℕ × List ℕ))
+    → map slip_of_ticket tickets ≡ map (slip_of {X = X} terms start) hs → replies ≡ map (λ t. reply_to terms.files (slip_of_ticket t)) tickets → replies ≡ replies_of terms start hs
+replies_are X terms start hs tickets replies slips e =
+    e ∙ sym (map_map (reply_to terms.files) (slip_of_ticket {X = X}) tickets) ∙ ap (map (reply_to terms.files)) slips ∙ each hs
+  where
+    each : (hs : List Handled) → map (reply_to terms.files) (map (slip_of {X = X} terms start) hs) ≡ replies_of terms start hs
+    each [] = refl
+    each (h ∷ hs) =
+        let one : reply_to terms.files (slip_of {X = X} terms start h) ≡ reply_of terms start h = reply_is terms start h (slip_of {X = X} terms start h) (reply_to terms.files (slip_of {X = X} terms start h)) refl refl in
+        ap (λ r. r ∷ map (reply_to terms.files) (map (slip_of {X = X} terms start) hs)) one ∙ ap (λ rs. reply_of terms start h ∷ rs) (each hs)
+
+-- ---- writing
+
+-- a prefix of a prefix's part
+part_longer : (old new : Option (List ℕ)) (text rest : List ℕ) → AppendsInPart old new text → AppendsInPart old new (text ++ rest)
+part_longer old new text rest part =
+    let short = go part.0 text in
+    (short.0, rw short.1 part.1)
+  where
+    go : (n : ℕ) (xs : List ℕ) → (k : ℕ) × (take k (xs ++ rest) ≡ take n xs)
+    go zero xs = (0, refl)
+    go (suc n) [] = (0, refl)
+    go (suc n) (x ∷ xs) = let more = go n xs in (suc more.0, ap (λ ys. x ∷ ys) more.1)
+
+-- one reply among others
+pub split_at : {A : Type 0} (xs : List A) (i : ℕ) (d : A) → i < length xs → xs ≡ take i xs ++ (get_or xs i d ∷ drop (suc i) xs)
+split_at [] i d lt = absurd (omega (arith, lt))
+split_at (x ∷ xs) zero d lt = refl
+split_at (x ∷ xs) (suc i) d lt = ap (λ ys. x ∷ ys) (split_at xs i d (omega (arith, lt)))
+
+pub taken_more : {A : Type 0} (xs : List A) (i : ℕ) (d : A) → i < length xs → take (suc i) xs ≡ take i xs ++ get_or xs i d ∷ []
+taken_more [] i d lt = absurd (omega (arith, lt))
+taken_more (x ∷ xs) zero d lt = refl
+taken_more (x ∷ xs) (suc i) d lt = ap (λ ys. x ∷ ys) (taken_more xs i d (omega (arith, lt)))
+
+pub reply_cut : (old mid new : Option (List ℕ)) (replies : List (ℕ × ℕ × List ℕ)) (i : ℕ) (r : ℕ × ℕ × List ℕ) → i < length replies → r ≡ get_or replies i r
+    → Appends old mid (flat_map record_text (take i replies)) → AppendsInPart mid new (record_text r) → AppendsInPart old new (flat_map record_text replies)
+reply_cut old mid new replies i r lt is before part =
+    let all : flat_map record_text replies ≡ flat_map record_text (take i replies) ++ (record_text r ++ flat_map record_text (drop (suc i) replies)) =
+    ap (flat_map record_text) (split_at replies i r lt ∙ ap (λ x. take i replies ++ (x ∷ drop (suc i) replies)) (sym is))
+    ∙ flat_map-append record_text (take i replies) (r ∷ drop (suc i) replies) in
+    rw all (part_then old mid new (flat_map record_text (take i replies)) (record_text r ++ flat_map record_text (drop (suc i) replies)) before
+    (part_longer mid new (record_text r) (flat_map record_text (drop (suc i) replies)) part))
+
+pub reply_more : (old mid new : Option (List ℕ)) (replies : List (ℕ × ℕ × List ℕ)) (i : ℕ) (r : ℕ × ℕ × List ℕ) → i < length replies → r ≡ get_or replies i r
+    → Appends old mid (flat_map record_text (take i replies)) → Appends mid new (record_text r) → Appends old new (flat_map record_text (take (i + 1) replies))
+reply_more old mid new replies i r lt is before one =
+    let n : i + 1 ≡ suc i = omega arith in
+    let all : flat_map record_text (take (suc i) replies) ≡ flat_map record_text (take i replies) ++ record_text r =
+    ap (flat_map record_text) (taken_more replies i r lt ∙ ap (λ x. take i replies ++ x ∷ []) (sym is))
+    ∙ flat_map-append record_text (take i replies) (r ∷ []) ∙ ap (λ t. flat_map record_text (take i replies) ++ t) (append-nil (record_text r)) in
+    rw (n, all) (appends_then old mid new (flat_map record_text (take i replies)) (record_text r) before one)
+
+-- ---- faults
+
+pub short_many : {T : Type 0} (r : Result T ReplayFault) (P : ℕ → Type 0) → IfErr r IsWriteOrMemory → IfErr r (λ f. IfTooMany f P)
+short_many (Ok x) P h = tt
+short_many (Err (faults.Capture f)) P h = absurd h
+short_many (Err (faults.TooMany n)) P h = absurd h
+short_many (Err faults.Write) P h = tt
+short_many (Err faults.Memory) P h = tt
+
+pub short_cut : {T : Type 0} (r : Result T ReplayFault) (P Q : Type 0) → (P → Q) → OnErr r P → IfErr r (λ f. IfCutShort f Q)
+short_cut (Ok x) P Q more h = tt
+short_cut (Err (faults.Capture f)) P Q more h = tt
+short_cut (Err (faults.TooMany n)) P Q more h = tt
+short_cut (Err faults.Write) P Q more h = more h
+short_cut (Err faults.Memory) P Q more h = more h
+
+-- what holds where a call answers so
+pub ok_more : {T : Type 0} (r : Result T ReplayFault) (P Q : Type 0) → (P → Q) → OnOk r P → OnOk r Q
+ok_more (Ok x) P Q more h = more h
+ok_more (Err f) P Q more h = tt
+
+pub ok_all : {T : Type 0} (r : Result T ReplayFault) (P : Type 0) → P → OnOk r P
+ok_all (Ok x) P h = h
+ok_all (Err f) P h = tt
+
+pub err_more : {T : Type 0} (r : Result T ReplayFault) (P Q : Type 0) → (P → Q) → OnErr r P → OnErr r Q
+err_more (Ok x) P Q more h = tt
+err_more (Err f) P Q more h = more h
+
+-- nothing is written yet
+pub unwritten : {T : Type 0} (r : Result T ReplayFault) (terms : Terms) (messages : List Incoming) (desk : Desk) (old : Option (List ℕ))
+    → OnErr r ((arrivals more : List Arrival) → Upcoming terms arrivals more messages desk → WrittenInPart terms desk.start arrivals more old old)
+unwritten (Ok x) terms messages desk old = tt
+unwritten (Err f) terms messages desk old = λ arrivals more up. part_none old (records_behind terms desk.start arrivals more)
+
+pub no_messages : (n : ℕ) (xs : List Incoming) → n ≡ length xs → (n == 0) ≡ true → xs ≡ []
+no_messages n [] e t = refl
+no_messages n (x ∷ xs) e t = absurd (let z : ⊥ = grind (arith, e, t) in z)
+
+-- ---- part after part
+
+-- the first k of the messages are served
+pub record Served (terms : Terms) (messages : List Incoming) (old now : Desk) (before after : Option (List ℕ)) (rest : List (List Incoming)) : Type 0 where
+  pub count : ℕ
+  pub below : count ≤ length messages
+  pub rest_is : joined rest ≡ drop count messages
+  pub stands : (arrivals more : List Arrival) → Upcoming terms arrivals more messages old → Stands terms (arrivals ++ take count more) now
+  pub written : (arrivals more : List Arrival) → Upcoming terms arrivals more messages old → Written terms old.start arrivals (take count more) before after
+  pub start : now.start ≡ old.start
+
+pub served_none : (terms : Terms) (messages : List Incoming) (old : Desk) (before : Option (List ℕ)) (rest : List (List Incoming)) → joined rest ≡ messages → Served terms messages old old before before rest
+served_none terms messages old before rest e = record {
+  count = 0;
+  below = omega arith;
+  rest_is = e;
+  stands = λ arrivals more up. rw (append-nil arrivals) up.stands;
+  written = λ arrivals more up. written_none terms old.start arrivals before;
+  start = refl;
+}
+
+-- what comes next of the messages
+pub next_come : (terms : Terms) (messages part : List Incoming) (old now : Desk) (before after : Option (List ℕ)) (rest behind : List (List Incoming)) (arrivals more : List Arrival)
+    → (s : Served terms messages old now before after rest) → rest ≡ part ∷ behind → Upcoming terms arrivals more messages old
+    → Upcoming terms (arrivals ++ take s.count more) (take (length part) (drop s.count more)) part now
+next_come terms messages part old now before after rest behind arrivals more s steps up = record {
+  stands = s.stands arrivals more up;
+  are = map_take incoming_of (length part) (drop s.count more) ∙ ap (take (length part)) (map_drop incoming_of s.count more ∙ ap (drop s.count) up.are ∙ sym s.rest_is ∙ ap joined steps) ∙ take-append_seam part (joined behind);
+  timely = in_time_take (arrivals ++ take s.count more) (drop s.count more) (length part) (in_time_drop arrivals more s.count up.timely);
+}
+
+pub next_come_as : (terms : Terms) (messages taken part : List Incoming) (old now : Desk) (before after : Option (List ℕ)) (rest behind : List (List Incoming)) (arrivals more : List Arrival)
+    → (s : Served terms messages old now before after rest) → rest ≡ part ∷ behind → taken ≡ part → Upcoming terms arrivals more messages old
+    → Upcoming terms (arrivals ++ take s.count more) (take (length part) (drop s.count more)) taken now
+next_come_as terms messages taken part old now before after rest behind arrivals more s steps same up =
+    let next = next_come terms messages part old now before after rest behind arrivals more s steps up in
+    record { stands = next.stands; are = next.are ∙ sym same; timely = next.timely }
+
+-- how many they are
+part_fits : (messages part : List Incoming) (rest behind : List (List Incoming)) (k : ℕ) → k ≤ length messages → joined rest ≡ drop k messages → rest ≡ part ∷ behind → k + length part ≤ length messages
+part_fits messages part rest behind k below e steps =
+    let all : part ++ joined behind ≡ drop k messages = ap joined (sym steps) ∙ e in
+    let len = length-append part (joined behind) in
+    let cut = length_drop k messages below in
+    let same : length (part ++ joined behind) ≡ length (drop k messages) = ap length all in
+    omega (arith, len, cut, same, below)
+  where
+    length_drop : (k : ℕ) (xs : List Incoming) → k ≤ length xs → k + length (drop k xs) ≡ length xs
+    length_drop zero xs le = omega arith
+    length_drop (suc k) [] le = absurd (omega (arith, le))
+    length_drop (suc k) (x ∷ xs) le = let h = length_drop k xs (omega (arith, le)) in omega (arith, h)
+
+-- how many are answered
+pub answered_now : (terms : Terms) (messages part : List Incoming) (old now : Desk) (before after : Option (List ℕ)) (rest behind : List (List Incoming)) (arrivals more : List Arrival)
+    → (s : Served terms messages old now before after rest) → rest ≡ part ∷ behind → Upcoming terms arrivals more messages old
+    → (now.tally.answered ≡ old.tally.answered + s.count) × (s.count + length part ≤ length messages)
+answered_now terms messages part old now before after rest behind arrivals more s steps up =
+    let first = answered_is terms arrivals old up.stands in
+    let later = answered_is terms (arrivals ++ take s.count more) now (s.stands arrivals more up) in
+    let len = length-append arrivals (take s.count more) in
+    let counted = come_count terms arrivals more messages old up in
+    let below = s.below in
+    let short : length (take s.count more) ≡ s.count = length-take-le s.count more (omega (arith, below, counted)) in
+    (omega (arith, first, later, len, short), part_fits messages part rest behind s.count s.below s.rest_is steps)
+
+-- a prefix of what comes next, behind what was served
+pub taken_behind : (k n m : ℕ) (more : List Arrival) → m ≤ n → take (k + m) more ≡ take k more ++ take m (take n (drop k more))
+taken_behind k n m more le = take_add k m more ∙ ap (λ xs. take k more ++ xs) (sym (take_take m n (drop k more) le))
+  where
+    take_take : (m n : ℕ) (xs : List Arrival) → m ≤ n → take m (take n xs) ≡ take m xs
+    take_take zero n xs le = refl
+    take_take (suc m) zero xs le = absurd (omega (arith, le))
+    take_take (suc m) (suc n) [] le = refl
+    take_take (suc m) (suc n) (x ∷ xs) le = ap (λ ys. x ∷ ys) (take_take m n xs (omega (arith, le)))
+
+pub served_more : (terms : Terms) (messages part : List Incoming) (old now next : Desk) (before after later : Option (List ℕ)) (rest behind : List (List Incoming))
+    → Served terms messages old now before after rest → rest ≡ part ∷ behind → next.start ≡ now.start
+    → ((arrivals more : List Arrival) → Upcoming terms arrivals more part now → Stands terms (arrivals ++ more) next)
+    → ((arrivals more : List Arrival) → Upcoming terms arrivals more part now → Written terms now.start arrivals more after later)
+    → Served terms messages old next before later behind
+served_more terms messages part old now next before after later rest behind s steps start stands written =
+    let n = length part in record {
+      count = s.count + n;
+      below = part_fits messages part rest behind s.count s.below s.rest_is steps;
+      rest_is = sym (drop-append_seam part (joined behind)) ∙ ap (drop n) (ap joined (sym steps) ∙ s.rest_is) ∙ drop-drop n s.count messages;
+      stands = λ arrivals more up.
+          rw (take_add s.count n more, ← append_assoc arrivals (take s.count more) (take n (drop s.count more)))
+          (stands (arrivals ++ take s.count more) (take n (drop s.count more)) (next_come terms messages part old now before after rest behind arrivals more s steps up));
+      written = λ arrivals more up.
+          rw (take_add s.count n more) (written_more terms old.start arrivals (take s.count more) (take n (drop s.count more)) before after later (s.written arrivals more up)
+          (rw s.start at (written (arrivals ++ take s.count more) (take n (drop s.count more)) (next_come terms messages part old now before after rest behind arrivals more s steps up))));
+      start = start ∙ s.start;
+    }
+
+-- all are served
+pub served_all : (terms : Terms) (messages : List Incoming) (old now : Desk) (before after : Option (List ℕ)) (rest : List (List Incoming)) (arrivals more : List Arrival)
+    → (s : Served terms messages old now before after rest) → rest ≡ [] → Upcoming terms arrivals more messages old → take s.count more ≡ more
+served_all terms messages old now before after rest arrivals more s none up =
+    all s.count messages (sym (ap joined (sym none) ∙ s.rest_is)) more (come_count terms arrivals more messages old up)
+  where
+    all : {A B : Type 0} (k : ℕ) (xs : List A) → drop k xs ≡ [] → (ys : List B) → length ys ≡ length xs → take k ys ≡ ys
+    all zero [] e [] l = refl
+    all zero [] e (y ∷ ys) l = absurd (let z : ⊥ = omega (arith, l) in z)
+    all zero (x ∷ xs) e ys l = absurd (let z : ⊥ = cc in z)
+    all (suc k) [] e [] l = refl
+    all (suc k) [] e (y ∷ ys) l = absurd (let z : ⊥ = omega (arith, l) in z)
+    all (suc k) (x ∷ xs) e [] l = refl
+    all (suc k) (x ∷ xs) e (y ∷ ys) l = ap (λ zs. y ∷ zs) (all k xs e ys (omega (arith, l)))

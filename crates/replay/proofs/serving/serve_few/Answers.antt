@@ -1,0 +1,45 @@
+use Rattle.std.proofs.Common.{◌≡◌, ◌∙◌, [], ◌++◌, List, refl, sym, ap, rules}
+use Rattle.responses.specs.Records.{record_text}
+use Rattle.replay.specs.Choices.{Choice, terms_of}
+use Rattle.replay.specs.Offers.{handled_behind}
+use Rattle.replay.proofs.Upcoming.{none_come, none_stands, none_written, come_count, sighted_are, replies_are, ok_all, ok_more, err_more, unwritten, no_messages}
+use Rattle.replay.proofs.serving.serve_few.Goals as goal
+
+pub returns-then-is_empty-clause-stands : goal.returns-then-is_empty-clause-stands
+returns-then-is_empty-clause-stands g c = λ arrivals more up. none_stands _ arrivals more _ _ up (no_messages _ _ c.args.messages.ok.0 (sym c.is_empty.ensures ∙ c.if-is_empty.true))
+
+pub returns-then-is_empty-clause-written : goal.returns-then-is_empty-clause-written
+returns-then-is_empty-clause-written g c = λ arrivals more up. none_written _ arrivals more _ _ _ up (no_messages _ _ c.args.messages.ok.0 (sym c.is_empty.ensures ∙ c.if-is_empty.true))
+
+pub returns-in_err-sights-clause-part : goal.returns-in_err-sights-clause-part
+returns-in_err-sights-clause-part g c = unwritten _ _ _ _ c.args.writer.now.0
+
+pub decide_all-requires-clause-arrived : goal.decide_all-requires-clause-arrived
+decide_all-requires-clause-arrived g c =
+    let next = c.requires.next in
+    (next.0, next.1, next.2.stands, sighted_are _ _ _ next.1 _ _ (ap (λ (s : Choice). s.costs) c.settings.view_is) next.2.are c.in_ok-sights.ensures, next.2.timely, next.3)
+
+pub returns-in_err-tickets-clause-part : goal.returns-in_err-tickets-clause-part
+returns-in_err-tickets-clause-part g c = unwritten _ _ _ _ c.args.writer.now.0
+
+pub returns-in_err-replies-clause-part : goal.returns-in_err-replies-clause-part
+returns-in_err-replies-clause-part g c = unwritten _ _ _ _ c.args.writer.now.0
+
+pub returns-clause-stands : goal.returns-clause-stands
+returns-clause-stands g c = ok_all c.write_replies.result _ (λ arrivals more up. c.in_ok-tickets.ensures.stands arrivals more up.stands (sighted_are _ _ _ more _ _ (ap (λ (s : Choice). s.costs) c.settings.view_is) up.are c.in_ok-sights.ensures))
+
+pub returns-clause-written : goal.returns-clause-written
+returns-clause-written g c = ok_more c.write_replies.result _ _
+    (λ written arrivals more up.
+    (let slips = c.in_ok-tickets.ensures.slips arrivals more up.stands (sighted_are _ _ _ more _ _ (ap (λ (s : Choice). s.costs) c.settings.view_is) up.are c.in_ok-sights.ensures) in
+    let replies = c.deref.ensures.value ∙ replies_are _ (terms_of g.F.Tree.files c.args.settings.now) c.args.desk.now.start _ _ _ slips c.in_ok-replies.ensures in
+    rw (← replies) written))
+    c.write_replies.ensures.written
+
+pub returns-clause-part : goal.returns-clause-part
+returns-clause-part g c = err_more c.write_replies.result _ _
+    (λ part arrivals more up.
+    (let slips = c.in_ok-tickets.ensures.slips arrivals more up.stands (sighted_are _ _ _ more _ _ (ap (λ (s : Choice). s.costs) c.settings.view_is) up.are c.in_ok-sights.ensures) in
+    let replies = c.deref.ensures.value ∙ replies_are _ (terms_of g.F.Tree.files c.args.settings.now) c.args.desk.now.start _ _ _ slips c.in_ok-replies.ensures in
+    rw (← replies) part))
+    c.write_replies.ensures.part

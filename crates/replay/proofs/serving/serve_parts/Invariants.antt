@@ -1,0 +1,11 @@
+use Rattle.std.proofs.Common.{◌≡◌}
+use Rattle.std.specs.Vec.Iter.{into_iter_items}
+use Rattle.replay.specs.Batches.{joined}
+use Rattle.replay.specs.Choices.{terms_of}
+use Rattle.replay.proofs.Upcoming.{Served}
+use Rattle.replay.proofs.serving.serve_parts.Given as goal
+
+-- some of the parts are served
+abbrev pub invariant-loop-part : goal.invariant-loop-part
+invariant-loop-part g l =
+    Served (terms_of g.F.Tree.files l.settings) (joined l.fn.parts.items) l.fn.desk l.desk l.fn.writer.0 l.writer.0 (into_iter_items l.part-iterator) × (l.writer.1 ≡ l.fn.writer.1)

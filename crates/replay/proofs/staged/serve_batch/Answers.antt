@@ -1,0 +1,81 @@
+use Rattle.std.proofs.Common.{◌≡◌, inl, inr, refl, arith}
+use Rattle.replay.specs.Choices.{terms_of}
+use Rattle.replay.proofs.Judging.{answered_is, cut_short, passed_on, on_many, on_cut}
+use Rattle.replay.proofs.Upcoming.{come_count}
+use Rattle.replay.proofs.ByBatch.{all_ready, lists_count, none_wait, brings}
+use Rattle.replay.proofs.staged.serve_batch.Goals as goal
+
+pub cut-requires-clause-ready : goal.cut-requires-clause-ready
+cut-requires-clause-ready g c = λ κs lives.
+    let next = c.requires.next in
+    all_ready _ next.0 next.1 next.2 _ _ _ next.3
+
+pub merge-requires : goal.merge-requires
+merge-requires g c =
+    let next = c.requires.next in
+    lists_count _ next.0 next.1 next.2 _ _ _ _ next.3 c.in_ok-seats.ensures
+
+pub serve_parts-requires-clause-next : goal.serve_parts-requires-clause-next
+serve_parts-requires-clause-next g c = λ κs lives.
+    let next = c.requires.next in
+    let found = c.in_ok-pieces.ensures in
+    let b = brings _ next.0 next.1 next.2 _ _ _ _ _ _ _ next.3 c.in_ok-seats.ensures found.origins found.found found.seats c.in_ok-parts.ensures in
+    (next.2, b.more, b.up)
+
+pub returns-clause-serves : goal.returns-clause-serves
+returns-clause-serves g c = λ records rs arrivals next.
+    let found = c.in_ok-pieces.ensures in
+    let served = c.in_ok-serve_parts.ensures in
+    let b = brings _ records rs arrivals _ _ _ _ _ _ _ next c.in_ok-seats.ensures found.origins found.found found.seats c.in_ok-parts.ensures in
+    record {
+      more = b.more;
+      serves = record { reads = b.reads; arrived = b.arrived; stands = served.stands arrivals b.more b.up };
+      written = rw served.start (served.written arrivals b.more b.up);
+    }
+
+pub returns-clause-idle : goal.returns-clause-idle
+returns-clause-idle g c = none_wait _ _ _ c.in_ok-seats.ensures c.in_ok-pieces.ensures.seats
+
+pub returns-in_err-serve_parts-clause-many : goal.returns-in_err-serve_parts-clause-many
+returns-in_err-serve_parts-clause-many g c =
+    let found = c.in_ok-pieces.ensures in
+    passed_on c.from_residual-in_err-serve_parts.result _ _
+    (λ f same. rw same (on_many c.in_err-serve_parts.field-0.0 _ _
+    (λ n full. (
+      full.0,
+      λ records rs arrivals next.
+          (let b = brings _ records rs arrivals _ _ _ _ _ _ _ next c.in_ok-seats.ensures found.origins found.found found.seats c.in_ok-parts.ensures in
+          let is = answered_is _ arrivals _ b.up.stands in
+          let count = come_count _ arrivals b.more _ _ b.up in
+          let all = full.3 in
+          let beyond = full.2 in
+          record {
+            more = b.more;
+            arrived = b.arrived;
+            within = full.1;
+            full = omega (arith, is, all);
+            beyond = omega (arith, count, beyond);
+            written = full.4 arrivals b.more b.up;
+          }),
+    ))
+    c.in_err-serve_parts.ensures.many))
+    c.from_residual-in_err-serve_parts.ensures.1
+
+pub returns-in_err-serve_parts-clause-part : goal.returns-in_err-serve_parts-clause-part
+returns-in_err-serve_parts-clause-part g c =
+    let found = c.in_ok-pieces.ensures in
+    passed_on c.from_residual-in_err-serve_parts.result _ _
+    (λ f same. rw same (on_cut c.in_err-serve_parts.field-0.0 _ _
+    (λ short. inr (λ records rs arrivals next.
+    (let b = brings _ records rs arrivals _ _ _ _ _ _ _ next c.in_ok-seats.ensures found.origins found.found found.seats c.in_ok-parts.ensures in
+    let is = answered_is _ arrivals _ b.up.stands in
+    let few = short.2 in
+    record {
+      more = b.more;
+      arrived = b.arrived;
+      within = short.0;
+      few = omega (arith, is, few);
+      written = short.3 arrivals b.more b.up;
+    })))
+    c.in_err-serve_parts.ensures.part))
+    c.from_residual-in_err-serve_parts.ensures.1

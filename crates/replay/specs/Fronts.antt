@@ -1,0 +1,53 @@
+-- The steps that a message takes before it is decided on.
+use Rattle.std.specs.Prelude.{ℕ, ◌<◌, List, slice_index_or}
+use Rattle.stage_graph.specs.Steps.{value_of}
+use Rattle.paths.specs.Targets.{asked}
+use Rattle.paths.specs.Resolution.{outcome, IsOutcome}
+use Rattle.paths.specs.declared.file.File.{File}
+use Rattle.http_requests.specs.declared.messages.Fault.TheVariants.{Block}
+use Rattle.http_requests.specs.declared.messages.What.{What as Meaning}
+use Rattle.http_requests.specs.declared.messages.What.TheVariants.{Request, Bad}
+use Rattle.cost_model.specs.Services.{CostTable, service}
+use Rattle.replay.specs.Answers.{is_head}
+use Rattle.replay.specs.Offers.{is_unmodified_file, length_given}
+use Rattle.replay.specs.declared.sight.Sight.{Sight}
+use Rattle.replay.specs.declared.sight.Sight.TheVariants.{Unseen, Asked, Found, Priced}
+use Rattle.replay.specs.declared.origin.Origin.{Origin}
+use Rattle.replay.specs.declared.incoming.Incoming.{Incoming}
+use Rattle.replay.specs.declared.sight.Sighted.{Sighted}
+
+-- what is known of a message after one more step; one that breaks a rule passes unchanged
+abbrev pub sight_after : List File → CostTable → Meaning → Sight → Sight
+sight_after files costs (Bad fault) sight = sight
+sight_after files costs (Request method target version closing since) Unseen = Asked (asked method target)
+sight_after files costs (Request method target version closing since) (Asked a) = Found (outcome files a)
+sight_after files costs (Request method target version closing since) (Found o) = Priced o (service costs o (is_head method) (is_unmodified_file files since o) (length_given files o))
+sight_after files costs (Request method target version closing since) (Priced o cost) = Priced o cost
+
+abbrev pub front_step : List File → CostTable → ℕ → Sighted → Sighted
+front_step files costs k v = record { message = v.message; sight = sight_after files costs v.message.what v.sight }
+
+-- a message that wasn't looked into yet
+abbrev pub unseen : Incoming → Sighted
+unseen message = record { message = message; sight = Unseen }
+
+-- what stands for a message behind the last
+abbrev pub no_message : Incoming
+no_message = record { origin = record { conn = 0; tick = 0 }; what = Bad Block }
+
+abbrev pub unseen_at : List Incoming → ℕ → Sighted
+unseen_at messages n = unseen (slice_index_or messages n no_message)
+
+-- an outcome that was found is one of these files'
+abbrev pub IsSight : List File → Sight → Type 0
+IsSight files (Found o) = IsOutcome files o
+IsSight files (Priced o cost) = IsOutcome files o
+IsSight files sight = Unit {0}
+
+-- what is known of a message before it is decided on: what it asks for, what that is, and how long it takes
+abbrev pub front_value : List File → CostTable → Incoming → Sighted
+front_value files costs message = value_of (front_step files costs) 3 (unseen message)
+
+-- the same of the message alone, wherever it came from
+abbrev pub sight_of : List File → CostTable → Meaning → Sight
+sight_of files costs what = sight_after files costs what (sight_after files costs what (sight_after files costs what Unseen))

@@ -1,0 +1,26 @@
+-- The messages of a batch between the two floors.
+use Rattle.std.specs.Prelude.{◌≡◌, ℕ, ◌≤◌, List, [], ◌∷◌, ◌++◌, map}
+use Rattle.paths.specs.declared.file.File.{File}
+use Rattle.cost_model.specs.Services.{CostTable}
+use Rattle.replay.specs.Arrivals.{Arrival}
+use Rattle.replay.specs.Serving.{AreBy}
+use Rattle.replay.specs.Fronts.{front_value}
+use Rattle.replay.specs.declared.incoming.Incoming.{Incoming}
+use Rattle.replay.specs.declared.sight.Sighted.{Sighted}
+
+-- what an arrival brings: its message, and where that came from
+abbrev pub incoming_of : Arrival → Incoming
+incoming_of a = record { origin = a.origin; what = a.message.what }
+
+-- these are the messages of the arrivals
+abbrev pub AreOf : List Arrival → List Incoming → Type 0
+AreOf arrivals messages = map incoming_of arrivals ≡ messages
+
+-- these arrivals were looked into
+abbrev pub AreSighted : List File → CostTable → List Arrival → List Sighted → Type 0
+AreSighted files costs arrivals sights = sights ≡ map (λ a. front_value files costs (incoming_of a)) arrivals
+
+-- none of them comes before an earlier one
+abbrev pub InTime : List Arrival → List Arrival → Type 0
+InTime earlier [] = Unit {0}
+InTime earlier (a ∷ more) = AreBy a.origin.tick earlier × (a.origin.tick ≤ 1000000000000000) × InTime (earlier ++ a ∷ []) more

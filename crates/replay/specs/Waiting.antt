@@ -1,0 +1,74 @@
+-- How a batch of records is read: its pieces wait at the seats of their connections.
+use Rattle.std.specs.Prelude.{◌≡◌, ℕ, ◌+◌, ◌≤◌, List, [], ◌∷◌, ◌++◌, map, Option, Some, None, Ok, Err}
+use Rattle.captures.specs.declared.record.Record.{Record}
+use Rattle.captures.specs.declared.progress.Progress.{Progress}
+use Rattle.captures.specs.declared.capture_fault.CaptureFault.{CaptureFault}
+use Rattle.captures.specs.Captures.{version_one, IsCapture, sizes_of}
+use Rattle.captures.specs.CaptureFaults.{failures_of}
+use Rattle.captures.specs.Readers.{Fits, Gave}
+use Rattle.replay.specs.Arrivals.{Arrival}
+use Rattle.replay.specs.Batches.{pieces_to, origins_of}
+use Rattle.replay.specs.Choices.{Terms}
+use Rattle.replay.specs.Places.{Place, place_at}
+use Rattle.replay.specs.Serving.{Serves, Stands}
+use Rattle.replay.specs.Ticketing.{AreOf, InTime}
+use Rattle.replay.specs.declared.batch.Ending.{Ending}
+use Rattle.replay.specs.declared.batch.Ending.TheVariants.{More, End, Fault}
+use Rattle.replay.specs.declared.connection.Connection.{Connection}
+use Rattle.replay.specs.declared.desk.Desk.{Desk}
+use Rattle.replay.specs.declared.incoming.Incoming.{Incoming}
+use Rattle.replay.specs.declared.origin.Origin.{Origin}
+
+-- a seat with more pieces behind those that wait
+abbrev pub with_pieces : Place → List (List ℕ) → Place
+with_pieces p pieces = record { connection = p.connection; pieces = p.pieces ++ pieces; lists = p.lists }
+
+-- these records, in a batch: each seat has the pieces that they bring to its connection behind its own
+abbrev pub Adds : List Record → List Place → List Place → Type 0
+Adds rs old new = (c : ℕ) → place_at new c ≡ with_pieces (place_at old c) (pieces_to c rs)
+
+abbrev pub AddsOne : Record → List Place → List Place → Type 0
+AddsOne r old new = Adds (r ∷ []) old new
+
+-- the reader has given these records, and behind them what the ending says
+abbrev pub EndsWith : Option (List ℕ) → ℕ → List Record → Ending → Progress → Option (List ℕ) → Type 0
+EndsWith text start records More p now = Fits version_one text start records p now
+EndsWith text start records End p now = Gave version_one text start records (Ok None) p now
+EndsWith text start records (Fault f) p now = Gave version_one text start records (Err f) p now
+
+pub record ReadOn (text : Option (List ℕ)) (start : ℕ) (records : List Record) (ending : Ending) (p : Progress) (now : Option (List ℕ)) : Type 0 where
+  pub progress : Progress
+  pub ahead : Option (List ℕ)
+  pub fits : Fits version_one text start records progress ahead
+  pub ends : EndsWith text start records ending p now
+
+-- how often the reader failed
+abbrev pub CountsEnding : ℕ → ℕ → Ending → Type 0
+CountsEnding old new (Fault f) = new ≡ old + failures_of f.kind
+CountsEnding old new other = new ≡ old
+
+abbrev pub IfMore : Ending → Type 0 → Type 0
+IfMore More P = P
+IfMore other P = Unit {0}
+
+-- the connections at the seats
+abbrev pub connections_of : List Place → List Connection
+connections_of places = map (λ p. p.connection) places
+
+-- the pieces that these records bring wait at the seats, and nothing is cut yet
+abbrev pub Waiting : List Record → List Place → Type 0
+Waiting rs places = (c : ℕ) → ((place_at places c).pieces ≡ pieces_to c rs) × ((place_at places c).lists ≡ [])
+
+-- These records come next, behind others that were served: their pieces wait at the seats, and came from these origins.
+pub record ComeNext (terms : Terms) (records rs : List Record) (arrivals : List Arrival) (places : List Place) (origins : List Origin) (desk : Desk) : Type 0 where
+  pub serves : Serves terms records arrivals (connections_of places) desk
+  pub waiting : Waiting rs places
+  pub origins_are : origins ≡ origins_of rs
+  pub rules : IsCapture version_one desk.start (records ++ rs)
+  pub small : sizes_of (records ++ rs) ≤ 1073741824
+
+-- these messages come next, behind those that were served: they are those of the arrivals, in time
+pub record Upcoming (terms : Terms) (arrivals more : List Arrival) (messages : List Incoming) (desk : Desk) : Type 0 where
+  pub stands : Stands terms arrivals desk
+  pub are : AreOf more messages
+  pub timely : InTime arrivals more

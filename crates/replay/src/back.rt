@@ -1,0 +1,298 @@
+ghost use Rattle.std.specs.Prelude.{◌≡◌, ◌<◌, true, ℕ, List, length, map, flat_map, IfOk, IfErr};
+ghost use Rattle.std.specs.List.{list_all, range_with_len};
+ghost use Rattle.stage_graph.specs.Stands.{last_cut, with_steps};
+ghost use Rattle.replay.specs.declared.back_state.BackState.TheVariants.{Due as Waits};
+ghost use Rattle.std.specs.Arc.{arc_value};
+ghost use Rattle.stage_graph.specs.Steps.{value_of};
+ghost use Rattle.replay.specs.Backs.{slip_of_ticket, back_step, is_back, can_render, is_due, due_at, reply_in};
+ghost use Rattle.replay.specs.Backs.{reply_to, back_after, elsewhere, ticket_elsewhere};
+
+use crate::back_state::BackState;
+use crate::ticket::{Due, Ticket};
+use crate::unnamed::Unnamed;
+use page_cache::{Page, PageCache};
+use paths::{Snapshot, Tree};
+use responses::{Reply, SharedPage, Slip, What, try_render};
+use stage_graph::{Chain, Gate, Named, Plan, RunName, Unrun, run_floor};
+use std::alloc::{AllocError, Global};
+use std::marker::{Brand, PhantomData};
+use std::sync::{Arc, Mutex, Wait};
+use std::thread::Threads;
+
+/// Names the tickets of a back floor.
+pub trait Backs {
+    ghost use Rattle.std.specs.Prelude.{List};
+    ghost use Rattle.replay.specs.declared.ticket.Ticket.{Ticket};
+    ghost use Rattle.replay.specs.declared.unnamed.Unnamed.{Unnamed};
+
+    ghost tickets: { List (Ticket Unnamed) };
+}
+
+impl Backs for Brand {
+    ghost use Rattle.std.specs.Prelude.{[]};
+
+    ghost tickets = { [] };
+}
+
+/// A reply on its way.
+#[derive(Drop)]
+pub struct BackItem<F: Tree, K: Backs> {
+    number: usize,
+    done: usize,
+    state: BackState<F>,
+    of: PhantomData<K>,
+    pub ghost is: { is_back F.files state ≡ true },
+    pub ghost own: { elsewhere state ≡ value_of (back_step F.files) done (due_at K.tickets number) },
+}
+
+impl<F: Tree, K: Backs> Named for BackItem<F, K> {
+    ghost number_of = { λ x. x.number };
+
+    ghost done_of = { λ x. x.done };
+
+    fn number(&self) -> usize {
+        self.number
+    }
+
+    fn done(&self) -> usize {
+        self.done
+    }
+}
+
+/// The steps behind the decision: the page is fetched through a cache that all workers share, and the reply is rendered.
+#[derive(Drop)]
+pub struct Back<'a, F: Tree, K: Backs, R: Wait> {
+    rt: &'a R,
+    alloc: Global,
+    snapshot: &'a Snapshot,
+    cache: &'a Mutex<PageCache<F>>,
+    of: PhantomData<K>,
+    pub ghost files: { snapshot.now ≡ F.files },
+}
+
+impl<'a, F: Tree, K: Backs, R: Wait> Back<'a, F, K, R> {
+    /// The page of a file: from the cache, or built and kept there.
+    fn page(&self, file: usize) -> Result<SharedPage<F>, AllocError>
+        requires { file < length F.files }
+        ensures { IfOk result (λ p. p ≡ file) }
+    {
+        let found = self.cache.lock(self.rt).look(file)?;
+        if let Some(page) = found {
+            return Ok(SharedPage::new(page));
+        }
+        let page = Page::build(self.alloc, self.snapshot, file)?;
+        let _kept = self.cache.lock(self.rt).keep(Arc::try_clone(&page)?);
+        Ok(SharedPage::new(page))
+    }
+
+    /// Fetches the page of a ticket, where one is due.
+    fn fetch(&self, ticket: Ticket<F>) -> Result<Slip<F>, Ticket<F>>
+        requires { is_due F.files ticket.due ≡ true }
+        ensures ok { IfOk result (λ slip. slip ≡ slip_of_ticket ticket) }
+        ensures err { IfErr result (λ t. t ≡ ticket) }
+    {
+        let Ticket {
+            number,
+            conn,
+            date,
+            head,
+            link,
+            due,
+        } = ticket;
+        let what = match due {
+            Due::Told(what) => what,
+            Due::Page { file, mtime } => match self.page(file) {
+                Ok(page) => What::Page { page, mtime },
+                Err(_) => {
+                    return Err(Ticket {
+                        number,
+                        conn,
+                        date,
+                        head,
+                        link,
+                        due,
+                    });
+                }
+            },
+        };
+        Ok(Slip {
+            number,
+            conn,
+            date,
+            head,
+            link,
+            what,
+        })
+    }
+
+    /// Does one more step to a reply.
+    fn advance(&self, state: BackState<F>) -> Result<BackState<F>, BackState<F>>
+        requires { is_back F.files state ≡ true }
+        ensures ok { IfOk result (λ s. s ≡ back_after F.files state) }
+        ensures is { IfOk result (λ s. is_back F.files s ≡ true) }
+        ensures err { IfErr result (λ s. s ≡ state) }
+    {
+        match state {
+            BackState::Due(ticket) => match self.fetch(ticket) {
+                Ok(slip) => Ok(BackState::Fetched(slip)),
+                Err(ticket) => Err(BackState::Due(ticket)),
+            },
+            BackState::Fetched(slip) => match try_render(self.alloc, slip) {
+                Ok(reply) => Ok(BackState::Rendered(reply)),
+                Err(slip) => Err(BackState::Fetched(slip)),
+            },
+            BackState::Rendered(reply) => Ok(BackState::Rendered(reply)),
+        }
+    }
+}
+
+impl<'a, F: Tree, K: Backs, R: Wait> Chain for Back<'a, F, K, R> {
+    type Item = BackItem<F, K>;
+
+    type Value = BackState<Unnamed>;
+
+    ghost steps = { 2 };
+
+    ghost step = { back_step F.files };
+
+    ghost input_at = { λ n. due_at K.tickets n };
+
+    ghost content = { λ x. elsewhere x.state };
+
+    fn steps(&self) -> usize {
+        2
+    }
+
+    fn work(&self, item: BackItem<F, K>) -> Result<BackItem<F, K>, BackItem<F, K>> {
+        let BackItem {
+            number,
+            done,
+            state,
+            of,
+        } = item;
+        match self.advance(state) {
+            Ok(state) => Ok(BackItem {
+                number,
+                done: done + 1,
+                state,
+                of,
+            }),
+            Err(state) => Err(BackItem {
+                number,
+                done,
+                state,
+                of,
+            }),
+        }
+    }
+
+    ghost holds = { λ x. x.own };
+}
+
+fn back_item<F: Tree, K: Backs>(number: usize, ticket: Ticket<F>) -> BackItem<F, K>
+    requires named { due_at K.tickets number ≡ Waits (ticket_elsewhere ticket) }
+    requires ready { is_back F.files (Waits ticket) ≡ true }
+    ensures { (result.number ≡ number) × (result.done ≡ 0) }
+{
+    BackItem {
+        number,
+        done: 0,
+        state: BackState::Due(ticket),
+        of: PhantomData,
+    }
+}
+
+/// The items of the tickets, with no step done.
+fn back_items<F: Tree, K: Backs>(
+    alloc: Global,
+    tickets: Vec<Ticket<F>>,
+) -> Result<Vec<BackItem<F, K>>, AllocError>
+    requires named { map ticket_elsewhere tickets.items ≡ K.tickets }
+    requires ready { list_all (λ t. is_back F.files (Waits t)) tickets.items ≡ true }
+    ensures { IfOk result (λ v. map (λ x. (x.number, x.done)) v.items
+        ≡ map (with_steps 0) (range_with_len 0 (length tickets.items))) }
+{
+    let mut items = Vec::with_capacity(alloc, tickets.len())?;
+    for ticket in tickets {
+        let number = items.len();
+        items.push_reserved(back_item(number, ticket));
+    }
+    Ok(items)
+}
+
+/// The replies of the items.
+fn replies_of<F: Tree, K: Backs>(
+    alloc: Global,
+    items: Vec<BackItem<F, K>>,
+) -> Result<Vec<Reply<F>>, AllocError>
+    ensures { IfOk result (λ v. v.items ≡ flat_map (λ x. reply_in x.state) items.items) }
+{
+    let mut replies = Vec::new(alloc);
+    for item in items {
+        let BackItem { state, .. } = item;
+        if let BackState::Rendered(reply) = state {
+            replies.push(reply)?;
+        }
+    }
+    Ok(replies)
+}
+
+fn run_back_with<
+    F: Tree + Send + Sync,
+    K: Backs + RunName + Send + Sync,
+    G: Gate + Sync,
+    T: Threads + Wait + Sync,
+>(
+    rt: &T,
+    alloc: Global,
+    plan: Plan,
+    snapshot: &Snapshot,
+    cache: &Mutex<PageCache<F>>,
+    tickets: Vec<Ticket<F>>,
+    gate: &G,
+) -> Result<Vec<Reply<F>>, Unrun>
+    requires files { snapshot.now ≡ F.files }
+    requires named { map ticket_elsewhere tickets.items ≡ K.tickets }
+    requires ready { list_all (λ t. is_back F.files (Waits t)) tickets.items ≡ true }
+    requires count { length tickets.items ≡ K.count }
+    requires plan { plan ≡ K.plan }
+    requires cut { last_cut plan ≡ 2 }
+    ensures { IfOk result (λ v. v.items ≡ map (λ t. reply_to F.files (slip_of_ticket t)) tickets.items) }
+{
+    let items = back_items::<F, K>(alloc, tickets)?;
+    let chain = Back::<F, K, T> {
+        rt,
+        alloc,
+        snapshot,
+        cache,
+        of: PhantomData,
+    };
+    let run = run_floor::<Back<F, K, T>, K, G, T>(rt, alloc, plan, &chain, items, gate)?;
+    Ok(replies_of(alloc, run.into_items())?)
+}
+
+/// The replies to the tickets, by a floor that shares a cache of pages.
+pub fn run_back<F: Tree + Send + Sync, G: Gate + Sync, T: Threads + Wait + Sync>(
+    rt: &T,
+    alloc: Global,
+    plan: &Plan,
+    snapshot: &Snapshot,
+    cache: &Mutex<PageCache<F>>,
+    tickets: Vec<Ticket<F>>,
+    gate: &G,
+) -> Result<Vec<Reply<F>>, Unrun>
+    requires files { snapshot.now ≡ F.files }
+    requires ready { list_all (λ t. is_back F.files (Waits t)) tickets.items ≡ true }
+    requires cut { last_cut plan.now ≡ 2 }
+    ensures { IfOk result (λ v. v.items ≡ map (λ t. reply_to F.files (slip_of_ticket t)) tickets.items) }
+{
+    run_back_with::<F, Brand, G, T>(
+        rt,
+        alloc,
+        plan.try_clone(alloc)?,
+        snapshot,
+        cache,
+        tickets,
+        gate,
+    )
+}

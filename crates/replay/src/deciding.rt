@@ -1,0 +1,105 @@
+ghost use Rattle.std.specs.Prelude.{◌≡◌, ◌<◌, ◌≤◌, ◌+◌, ◌∷◌, ◌++◌, [], true, List, length, map, IfOk, OnOk};
+ghost use Rattle.std.specs.List.{list_all};
+ghost use Rattle.replay.specs.Choices.{terms_of};
+ghost use Rattle.replay.specs.Arrivals.{Arrival};
+ghost use Rattle.replay.specs.Offers.{handled_next, handled_behind};
+ghost use Rattle.replay.specs.Replies.{slip_of};
+ghost use Rattle.replay.specs.Serving.{Stands, AreBy};
+ghost use Rattle.replay.specs.Fronts.{sight_of};
+ghost use Rattle.replay.specs.Ticketing.{AreSighted, InTime};
+ghost use Rattle.replay.specs.Backs.{is_back, slip_of_ticket};
+ghost use Rattle.replay.specs.declared.back_state.BackState.TheVariants.{Due as Waits};
+
+use crate::answers::{answers_head, link_of};
+use crate::desk::Desk;
+use crate::origin::Origin;
+use crate::sight::{Sight, Sighted};
+use crate::ticket::Ticket;
+use crate::{MOST_MESSAGES, Settings};
+use http_requests::What as Meaning;
+use paths::{Snapshot, Tree};
+use std::alloc::{AllocError, Global};
+
+/// Decides on the next message, and counts it.
+pub(crate) fn settle<F: Tree>(
+    snapshot: &Snapshot,
+    settings: &Settings,
+    origin: Origin,
+    what: &Meaning,
+    sight: Sight,
+    desk: &mut Desk,
+) -> Result<Ticket<F>, AllocError>
+    requires snapshot { snapshot.now ≡ F.files }
+    requires start { desk.old.start ≤ 4102444800 }
+    requires tick { origin.tick ≤ 1000000000000000 }
+    requires few { desk.old.tally.answered < MOST_MESSAGES }
+    requires stands { (arrivals : List Arrival) × Stands (terms_of F.files settings.now) arrivals desk.old
+        × AreBy origin.tick arrivals }
+    requires sight { sight ≡ sight_of F.files settings.now.costs what.now }
+    ensures stands { OnOk result ((arrivals : List Arrival) (a : Arrival)
+        → Stands (terms_of F.files settings.now) arrivals desk.old → a.origin ≡ origin → a.message.what ≡ what.now
+        → Stands (terms_of F.files settings.now) (arrivals ++ a ∷ []) desk.new) }
+    ensures slip { IfOk result (λ t. (arrivals : List Arrival) (a : Arrival)
+        → Stands (terms_of F.files settings.now) arrivals desk.old → a.origin ≡ origin → a.message.what ≡ what.now
+        → slip_of_ticket t ≡ slip_of (terms_of F.files settings.now) desk.old.start (handled_next (terms_of F.files settings.now) arrivals a)) }
+    ensures ready { IfOk result (λ t. is_back F.files (Waits t) ≡ true) }
+    ensures start { OnOk result (desk.new.start ≡ desk.old.start) }
+    ensures number { OnOk result (desk.new.tally.answered ≡ desk.old.tally.answered + 1) }
+{
+    let number = desk.tally.answered;
+    let date = desk.start + origin.tick / 1_000_000;
+    let head = answers_head(what);
+    let link = link_of(what);
+    let due = desk.decide::<F>(snapshot, settings, origin.tick, what, sight)?;
+    desk.tally.note(&due, what);
+    Ok(Ticket {
+        number,
+        conn: usize::from(origin.conn),
+        date,
+        head,
+        link,
+        due,
+    })
+}
+
+/// Decides on messages, in their order.
+pub(crate) fn decide_all<F: Tree>(
+    alloc: Global,
+    snapshot: &Snapshot,
+    settings: &Settings,
+    sights: Vec<Sighted>,
+    desk: &mut Desk,
+) -> Result<Vec<Ticket<F>>, AllocError>
+    requires snapshot { snapshot.now ≡ F.files }
+    requires start { desk.old.start ≤ 4102444800 }
+    requires arrived { (arrivals : List Arrival) × (more : List Arrival)
+        × Stands (terms_of F.files settings.now) arrivals desk.old
+        × AreSighted F.files settings.now.costs more sights.items × InTime arrivals more
+        × (length arrivals + length more ≤ 1048576) }
+    ensures stands { OnOk result ((arrivals more : List Arrival)
+        → Stands (terms_of F.files settings.now) arrivals desk.old
+        → AreSighted F.files settings.now.costs more sights.items
+        → Stands (terms_of F.files settings.now) (arrivals ++ more) desk.new) }
+    ensures slips { IfOk result (λ v. (arrivals more : List Arrival)
+        → Stands (terms_of F.files settings.now) arrivals desk.old
+        → AreSighted F.files settings.now.costs more sights.items
+        → map slip_of_ticket v.items
+        ≡ map (slip_of (terms_of F.files settings.now) desk.old.start) (handled_behind (terms_of F.files settings.now) arrivals more)) }
+    ensures ready { IfOk result (λ v. list_all (λ t. is_back F.files (Waits t)) v.items ≡ true) }
+    ensures start { OnOk result (desk.new.start ≡ desk.old.start) }
+{
+    let mut tickets = Vec::with_capacity(alloc, sights.len())?;
+    for sighted in sights {
+        let Sighted { message, sight } = sighted;
+        let ticket = settle::<F>(
+            snapshot,
+            settings,
+            message.origin,
+            &message.what,
+            sight,
+            desk,
+        )?;
+        tickets.push(ticket)?;
+    }
+    Ok(tickets)
+}

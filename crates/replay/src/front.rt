@@ -1,0 +1,273 @@
+ghost use Rattle.std.specs.Prelude.{◌≡◌, ℕ, List, IfOk, IfErr, length, map, slice_index_or};
+ghost use Rattle.std.specs.List.{range_with_len};
+ghost use Rattle.stage_graph.specs.Stands.{last_cut, with_steps};
+ghost use Rattle.replay.specs.Fronts.{front_value};
+ghost use Rattle.stage_graph.specs.Steps.{value_of};
+ghost use Rattle.replay.specs.Fronts.{sight_after, front_step, unseen, unseen_at, IsSight};
+
+use crate::answers::{answers_head, service_of};
+use crate::incoming::Incoming;
+use crate::service_time::ServiceTime;
+use crate::sight::{Sight, Sighted};
+use cost_model::Costs;
+use http_requests::What as Meaning;
+use paths::{Snapshot, Tree, inspect, locate};
+use stage_graph::{Chain, Gate, Named, Plan, RunName, Unrun, run_floor};
+use std::alloc::{AllocError, Global};
+use std::marker::{Brand, PhantomData};
+use std::sync::Wait;
+use std::thread::Threads;
+
+/// Names the messages of a front floor, and the costs.
+pub trait Fronts {
+    ghost use Rattle.std.specs.Prelude.{List};
+    ghost use Rattle.cost_model.specs.Services.{CostTable};
+    ghost use Rattle.replay.specs.declared.incoming.Incoming.{Incoming};
+
+    ghost messages: { List Incoming };
+
+    ghost costs: { CostTable };
+}
+
+impl Fronts for Brand {
+    ghost use Rattle.std.specs.Prelude.{[]};
+
+    ghost messages = { [] };
+
+    ghost costs = { record { file = 1; kib = 0; error = 1 } };
+}
+
+/// A message on its way to the decision.
+#[derive(Drop)]
+pub struct FrontItem<F: Tree, K: Fronts> {
+    number: usize,
+    done: usize,
+    message: Incoming,
+    sight: Sight,
+    tree: PhantomData<F>,
+    of: PhantomData<K>,
+    pub ghost own: { record { message = message; sight = sight }
+        ≡ value_of (front_step F.files K.costs) done (unseen_at K.messages number) },
+}
+
+impl<F: Tree, K: Fronts> Named for FrontItem<F, K> {
+    ghost number_of = { λ x. x.number };
+
+    ghost done_of = { λ x. x.done };
+
+    fn number(&self) -> usize {
+        self.number
+    }
+
+    fn done(&self) -> usize {
+        self.done
+    }
+}
+
+/// The steps before the decision: the target is read, it is looked up, and its service time is computed.
+#[derive(Drop)]
+pub struct Front<'a, F: Tree, K: Fronts> {
+    alloc: Global,
+    snapshot: &'a Snapshot,
+    costs: Costs,
+    tree: PhantomData<F>,
+    of: PhantomData<K>,
+    pub ghost files: { snapshot.now ≡ F.files },
+    pub ghost table: { costs ≡ K.costs },
+}
+
+impl<'a, F: Tree, K: Fronts> Front<'a, F, K> {
+    /// Looks one step further into a message.
+    fn look(&self, what: &Meaning, sight: Sight) -> Result<Sight, Sight>
+        requires { IsSight F.files sight }
+        ensures ok { IfOk result (λ s. s ≡ sight_after F.files K.costs what.now sight) }
+        ensures is { IfOk result (IsSight F.files) }
+        ensures err { IfErr result (λ s. s ≡ sight) }
+    {
+        let Meaning::Request {
+            method,
+            target,
+            modified_since,
+            ..
+        } = what
+        else {
+            return Ok(sight);
+        };
+        match sight {
+            Sight::Unseen => match inspect(self.alloc, method.as_slice(), target.as_slice()) {
+                Ok(asked) => Ok(Sight::Asked(asked)),
+                Err(_) => Err(Sight::Unseen),
+            },
+            Sight::Asked(asked) => match locate(self.alloc, self.snapshot, &asked) {
+                Ok(outcome) => Ok(Sight::Found(outcome)),
+                Err(_) => Err(Sight::Asked(asked)),
+            },
+            Sight::Found(outcome) => {
+                let head = answers_head(what);
+                let service = service_of(
+                    self.snapshot,
+                    self.costs,
+                    head,
+                    *modified_since,
+                    &outcome,
+                );
+                Ok(Sight::Priced(outcome, ServiceTime::new(service)))
+            }
+            Sight::Priced(outcome, service) => Ok(Sight::Priced(outcome, service)),
+        }
+    }
+}
+
+impl<'a, F: Tree, K: Fronts> Chain for Front<'a, F, K> {
+    type Item = FrontItem<F, K>;
+
+    type Value = Sighted;
+
+    ghost steps = { 3 };
+
+    ghost step = { front_step F.files K.costs };
+
+    ghost input_at = { λ n. unseen_at K.messages n };
+
+    ghost content = { λ x. record { message = x.message; sight = x.sight } };
+
+    fn steps(&self) -> usize {
+        3
+    }
+
+    fn work(&self, item: FrontItem<F, K>) -> Result<FrontItem<F, K>, FrontItem<F, K>> {
+        let FrontItem {
+            number,
+            done,
+            message,
+            sight,
+            tree,
+            of,
+        } = item;
+        match self.look(&message.what, sight) {
+            Ok(sight) => Ok(FrontItem {
+                number,
+                done: done + 1,
+                message,
+                sight,
+                tree,
+                of,
+            }),
+            Err(sight) => Err(FrontItem {
+                number,
+                done,
+                message,
+                sight,
+                tree,
+                of,
+            }),
+        }
+    }
+
+    ghost holds = { λ x. x.own };
+}
+
+fn front_item<F: Tree, K: Fronts>(number: usize, message: Incoming) -> FrontItem<F, K>
+    requires { unseen_at K.messages number ≡ unseen message }
+    ensures { (result.number ≡ number) × (result.done ≡ 0) }
+{
+    FrontItem {
+        number,
+        done: 0,
+        message,
+        sight: Sight::Unseen,
+        tree: PhantomData,
+        of: PhantomData,
+    }
+}
+
+/// The items of the messages, with no step done.
+fn front_items<F: Tree, K: Fronts>(
+    alloc: Global,
+    messages: Vec<Incoming>,
+) -> Result<Vec<FrontItem<F, K>>, AllocError>
+    requires { messages.items ≡ K.messages }
+    ensures { IfOk result (λ v. map (λ x. (x.number, x.done)) v.items
+        ≡ map (with_steps 0) (range_with_len 0 (length messages.items))) }
+{
+    let mut items = Vec::with_capacity(alloc, messages.len())?;
+    for message in messages {
+        let number = items.len();
+        items.push_reserved(front_item(number, message));
+    }
+    Ok(items)
+}
+
+/// What is known of the messages.
+fn sights_of<F: Tree, K: Fronts>(
+    alloc: Global,
+    items: Vec<FrontItem<F, K>>,
+) -> Result<Vec<Sighted>, AllocError>
+    ensures { IfOk result (λ v. v.items ≡ map (λ x. record { message = x.message; sight = x.sight }) items.items) }
+{
+    let mut sights = Vec::with_capacity(alloc, items.len())?;
+    for item in items {
+        let FrontItem { message, sight, .. } = item;
+        sights.push_reserved(Sighted { message, sight });
+    }
+    Ok(sights)
+}
+
+fn run_front_with<
+    F: Tree + Send + Sync,
+    K: Fronts + RunName + Send + Sync,
+    G: Gate + Sync,
+    T: Threads + Wait + Sync,
+>(
+    rt: &T,
+    alloc: Global,
+    plan: Plan,
+    snapshot: &Snapshot,
+    costs: Costs,
+    messages: Vec<Incoming>,
+    gate: &G,
+) -> Result<Vec<Sighted>, Unrun>
+    requires files { snapshot.now ≡ F.files }
+    requires costs { costs ≡ K.costs }
+    requires messages { messages.items ≡ K.messages }
+    requires count { length messages.items ≡ K.count }
+    requires plan { plan ≡ K.plan }
+    requires cut { last_cut plan ≡ 3 }
+    ensures { IfOk result (λ v. v.items ≡ map (front_value F.files costs) messages.items) }
+{
+    let items = front_items::<F, K>(alloc, messages)?;
+    let chain = Front::<F, K> {
+        alloc,
+        snapshot,
+        costs,
+        tree: PhantomData,
+        of: PhantomData,
+    };
+    let run = run_floor::<Front<F, K>, K, G, T>(rt, alloc, plan, &chain, items, gate)?;
+    Ok(sights_of(alloc, run.into_items())?)
+}
+
+/// What is known of each message before it is decided on, by a floor.
+pub fn run_front<F: Tree + Send + Sync, G: Gate + Sync, T: Threads + Wait + Sync>(
+    rt: &T,
+    alloc: Global,
+    plan: &Plan,
+    snapshot: &Snapshot,
+    costs: Costs,
+    messages: Vec<Incoming>,
+    gate: &G,
+) -> Result<Vec<Sighted>, Unrun>
+    requires files { snapshot.now ≡ F.files }
+    requires cut { last_cut plan.now ≡ 3 }
+    ensures { IfOk result (λ v. v.items ≡ map (front_value F.files costs) messages.items) }
+{
+    run_front_with::<F, Brand, G, T>(
+        rt,
+        alloc,
+        plan.try_clone(alloc)?,
+        snapshot,
+        costs,
+        messages,
+        gate,
+    )
+}

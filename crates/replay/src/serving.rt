@@ -1,0 +1,220 @@
+ghost use Rattle.std.specs.Prelude.{◌≡◌, ◌<◌, ◌≤◌, ◌-◌, ◌+◌, ◌^◌, ◌++◌, ℕ, List, take, flat_map, length, IfErr, OnOk};
+ghost use Rattle.std.specs.Prelude.{OnErr};
+ghost use Rattle.responses.specs.Records.{record_text};
+ghost use Rattle.replay.specs.Arrivals.{Arrival};
+ghost use Rattle.replay.specs.Batches.{joined};
+ghost use Rattle.replay.specs.Choices.{terms_of};
+ghost use Rattle.replay.specs.Outcomes.{AppendsInPart, CountsBy, writer_failures, IsOwn, IsWriteOrMemory, IfTooMany};
+ghost use Rattle.replay.specs.Outcomes.{IfCutShort};
+ghost use Rattle.replay.specs.Serving.{Stands, Written, WrittenInPart};
+ghost use Rattle.replay.specs.Waiting.{Upcoming};
+ghost use Rattle.std.specs.Io.KnownBytes.{Appends};
+
+use crate::back::run_back;
+use crate::deciding::decide_all;
+use crate::desk::Desk;
+use crate::front::run_front;
+use crate::incoming::Incoming;
+use crate::shifted::Shifted;
+use crate::{MOST_MESSAGES, ReplayFault, Series, Settings};
+use page_cache::PageCache;
+use paths::{Output, Snapshot, Tree};
+use responses::{Reply, write_reply};
+use stage_graph::Gate;
+use std::alloc::Global;
+use std::io::Write;
+use std::sync::{Mutex, Wait};
+use std::thread::Threads;
+
+/// Writes replies, in their order.
+fn write_replies<F: Tree, W: Write>(
+    replies: &[Reply<F>],
+    writer: &mut Output<W>,
+) -> Result<(), ReplayFault>
+    requires { writer.old.1 < 2 ^ 64 - 1 }
+    ensures written { OnOk result (Appends writer.old.0 writer.new.0 (flat_map record_text replies.now)) }
+    ensures part { OnErr result (AppendsInPart writer.old.0 writer.new.0 (flat_map record_text replies.now)) }
+    ensures failures { CountsBy writer_failures writer.old.1 writer.new.1 result }
+    ensures own { IfErr result IsWriteOrMemory }
+{
+    for reply in replies {
+        write_reply(writer, reply)?;
+    }
+    Ok(())
+}
+
+/// Serves messages within the limit, by a pair of floors with the decisions between them.
+fn serve_few<F: Tree + Send + Sync, G: Gate + Sync, T: Threads + Wait + Sync, W: Write>(
+    rt: &T,
+    alloc: Global,
+    snapshot: &Snapshot,
+    settings: &Settings,
+    cache: &Mutex<PageCache<F>>,
+    gate: &G,
+    messages: Vec<Incoming>,
+    desk: &mut Desk,
+    writer: &mut Output<W>,
+) -> Result<(), ReplayFault>
+    requires snapshot { snapshot.now ≡ F.files }
+    requires start { desk.old.start ≤ 4102444800 }
+    requires next { (arrivals : List Arrival) × (more : List Arrival)
+        × Upcoming (terms_of F.files settings.now) arrivals more messages.items desk.old
+        × (length arrivals + length more ≤ 1048576) }
+    requires failures { writer.old.1 < 2 ^ 64 - 1 }
+    ensures stands { OnOk result ((arrivals more : List Arrival)
+        → Upcoming (terms_of F.files settings.now) arrivals more messages.items desk.old
+        → Stands (terms_of F.files settings.now) (arrivals ++ more) desk.new) }
+    ensures written { OnOk result ((arrivals more : List Arrival)
+        → Upcoming (terms_of F.files settings.now) arrivals more messages.items desk.old
+        → Written (terms_of F.files settings.now) desk.old.start arrivals more writer.old.0 writer.new.0) }
+    ensures part { OnErr result ((arrivals more : List Arrival)
+        → Upcoming (terms_of F.files settings.now) arrivals more messages.items desk.old
+        → WrittenInPart (terms_of F.files settings.now) desk.old.start arrivals more writer.old.0 writer.new.0) }
+    ensures start { OnOk result (desk.new.start ≡ desk.old.start) }
+    ensures failures { CountsBy writer_failures writer.old.1 writer.new.1 result }
+    ensures own { IfErr result IsWriteOrMemory }
+{
+    if messages.is_empty() {
+        return Ok(());
+    }
+    let first = desk.tally.answered;
+    let before = Shifted {
+        gate,
+        stages: 0,
+        first,
+    };
+    let sights = run_front::<F, Shifted<G>, T>(
+        rt,
+        alloc,
+        &settings.front,
+        snapshot,
+        settings.costs,
+        messages,
+        &before,
+    )?;
+    let tickets = decide_all::<F>(alloc, snapshot, settings, sights, desk)?;
+    let behind = Shifted {
+        gate,
+        stages: settings.front.stages(),
+        first,
+    };
+    let replies = run_back::<F, Shifted<G>, T>(
+        rt,
+        alloc,
+        &settings.back,
+        snapshot,
+        cache,
+        tickets,
+        &behind,
+    )?;
+    write_replies(&replies, writer)
+}
+
+/// Serves messages: those within the limit.
+fn serve_part<F: Tree + Send + Sync, G: Gate + Sync, T: Threads + Wait + Sync, W: Write>(
+    rt: &T,
+    alloc: Global,
+    snapshot: &Snapshot,
+    settings: &Settings,
+    cache: &Mutex<PageCache<F>>,
+    gate: &G,
+    messages: Vec<Incoming>,
+    desk: &mut Desk,
+    writer: &mut Output<W>,
+) -> Result<(), ReplayFault>
+    requires snapshot { snapshot.now ≡ F.files }
+    requires start { desk.old.start ≤ 4102444800 }
+    requires next { (arrivals : List Arrival) × (more : List Arrival)
+        × Upcoming (terms_of F.files settings.now) arrivals more messages.items desk.old }
+    requires failures { writer.old.1 < 2 ^ 64 - 1 }
+    ensures stands { OnOk result ((arrivals more : List Arrival)
+        → Upcoming (terms_of F.files settings.now) arrivals more messages.items desk.old
+        → Stands (terms_of F.files settings.now) (arrivals ++ more) desk.new) }
+    ensures written { OnOk result ((arrivals more : List Arrival)
+        → Upcoming (terms_of F.files settings.now) arrivals more messages.items desk.old
+        → Written (terms_of F.files settings.now) desk.old.start arrivals more writer.old.0 writer.new.0) }
+    ensures many { IfErr result (λ f. IfTooMany f (λ n. (n ≡ MOST_MESSAGES) × (i : ℕ) × (i < length messages.items)
+        × (desk.old.tally.answered + i ≡ MOST_MESSAGES)
+        × ((arrivals more : List Arrival)
+        → Upcoming (terms_of F.files settings.now) arrivals more messages.items desk.old
+        → Written (terms_of F.files settings.now) desk.old.start arrivals (take i more) writer.old.0 writer.new.0))) }
+    ensures part { IfErr result (λ f. IfCutShort f ((i : ℕ) × (i ≤ length messages.items)
+        × (desk.old.tally.answered + i ≤ MOST_MESSAGES)
+        × ((arrivals more : List Arrival)
+        → Upcoming (terms_of F.files settings.now) arrivals more messages.items desk.old
+        → WrittenInPart (terms_of F.files settings.now) desk.old.start arrivals (take i more) writer.old.0 writer.new.0))) }
+    ensures start { OnOk result (desk.new.start ≡ desk.old.start) }
+    ensures failures { CountsBy writer_failures writer.old.1 writer.new.1 result }
+    ensures own { IfErr result IsOwn }
+{
+    let room = MOST_MESSAGES - desk.tally.answered;
+    if messages.len() <= room {
+        return serve_few::<F, G, T, W>(
+            rt, alloc, snapshot, settings, cache, gate, messages, desk, writer,
+        );
+    }
+    let mut within = messages;
+    within.truncate(room);
+    serve_few::<F, G, T, W>(
+        rt, alloc, snapshot, settings, cache, gate, within, desk, writer,
+    )?;
+    Err(ReplayFault::TooMany(MOST_MESSAGES))
+}
+
+/// Serves the messages of a batch, part after part.
+pub(crate) fn serve_parts<
+    F: Tree + Send + Sync,
+    G: Gate + Sync,
+    T: Threads + Wait + Sync,
+    W: Write,
+>(
+    rt: &T,
+    alloc: Global,
+    snapshot: &Snapshot,
+    settings: &Settings,
+    cache: &Mutex<PageCache<F>>,
+    gate: &G,
+    parts: Vec<Series<Incoming>>,
+    desk: &mut Desk,
+    writer: &mut Output<W>,
+) -> Result<(), ReplayFault>
+    requires snapshot { snapshot.now ≡ F.files }
+    requires start { desk.old.start ≤ 4102444800 }
+    requires next { (arrivals : List Arrival) × (more : List Arrival)
+        × Upcoming (terms_of F.files settings.now) arrivals more (joined parts.items) desk.old }
+    requires failures { writer.old.1 < 2 ^ 64 - 1 }
+    ensures stands { OnOk result ((arrivals more : List Arrival)
+        → Upcoming (terms_of F.files settings.now) arrivals more (joined parts.items) desk.old
+        → Stands (terms_of F.files settings.now) (arrivals ++ more) desk.new) }
+    ensures written { OnOk result ((arrivals more : List Arrival)
+        → Upcoming (terms_of F.files settings.now) arrivals more (joined parts.items) desk.old
+        → Written (terms_of F.files settings.now) desk.old.start arrivals more writer.old.0 writer.new.0) }
+    ensures many { IfErr result (λ f. IfTooMany f (λ n. (n ≡ MOST_MESSAGES) × (i : ℕ)
+        × (i < length (joined parts.items)) × (desk.old.tally.answered + i ≡ MOST_MESSAGES)
+        × ((arrivals more : List Arrival)
+        → Upcoming (terms_of F.files settings.now) arrivals more (joined parts.items) desk.old
+        → Written (terms_of F.files settings.now) desk.old.start arrivals (take i more) writer.old.0 writer.new.0))) }
+    ensures part { IfErr result (λ f. IfCutShort f ((i : ℕ) × (i ≤ length (joined parts.items))
+        × (desk.old.tally.answered + i ≤ MOST_MESSAGES)
+        × ((arrivals more : List Arrival)
+        → Upcoming (terms_of F.files settings.now) arrivals more (joined parts.items) desk.old
+        → WrittenInPart (terms_of F.files settings.now) desk.old.start arrivals (take i more) writer.old.0 writer.new.0))) }
+    ensures start { OnOk result (desk.new.start ≡ desk.old.start) }
+    ensures failures { CountsBy writer_failures writer.old.1 writer.new.1 result }
+    ensures own { IfErr result IsOwn }
+{
+    for part in parts {
+        serve_part::<F, G, T, W>(
+            rt,
+            alloc,
+            snapshot,
+            settings,
+            cache,
+            gate,
+            part.into_vec(),
+            desk,
+            writer,
+        )?;
+    }
+    Ok(())
+}

@@ -1,0 +1,155 @@
+ghost use Rattle.std.specs.Prelude.{◌≡◌, ◌<◌, ◌≤◌, ◌-◌, ◌+◌, ◌^◌, ◌++◌, ◌⊎◌, [], ℕ, List, true, is_some, unwrap_or};
+ghost use Rattle.std.specs.Prelude.{IfOk, IfErr, OnOk, OnErr};
+ghost use Rattle.captures.specs.declared.record.Record.{Record as ARecord};
+ghost use Rattle.replay.specs.Arrivals.{Arrival};
+ghost use Rattle.replay.specs.Choices.{terms_of};
+ghost use Rattle.replay.specs.Outcomes.{Answers, IfCapture, IfTooMany, IfCutShort, IsCutShort, IsOwn, Stops};
+ghost use Rattle.replay.specs.Outcomes.{StopsFull, CountsBy, BlamedOnce, reader_failures, writer_failures};
+ghost use Rattle.replay.specs.Serving.{ServesMore, ServesFull, ServesInPart};
+ghost use Rattle.replay.specs.Waiting.{ComeNext, Waiting, connections_of};
+
+use crate::batch::{Ending, read_batch};
+use crate::desk::Desk;
+use crate::origin::Origin;
+use crate::outcome::Outcome;
+use crate::parts::parts_of;
+use crate::plain::{outcome_of, write_first_line, write_last_line};
+use crate::seats::Seats;
+use crate::serving::serve_parts;
+use crate::tally::Tally;
+use crate::{MOST_MESSAGES, ReplayFault, Settings};
+use admission::Controller;
+use captures::CaptureReader;
+use page_cache::PageCache;
+use paths::{Input, Output, Snapshot, Tree};
+use stage_graph::Gate;
+use std::alloc::Global;
+use std::io::{Read, Write};
+use std::sync::{Mutex, Wait};
+use std::thread::Threads;
+
+/// Serves a batch whose pieces wait at the seats: the connections are cut in parallel, and their messages answered in the
+/// order of their arrival.
+fn serve_batch<F: Tree + Send + Sync, G: Gate + Sync, T: Threads + Wait + Sync, W: Write>(
+    rt: &T,
+    alloc: Global,
+    snapshot: &Snapshot,
+    settings: &Settings,
+    cache: &Mutex<PageCache<F>>,
+    gate: &G,
+    seats: Seats,
+    origins: &[Origin],
+    desk: &mut Desk,
+    writer: &mut Output<W>,
+) -> Result<Seats, ReplayFault>
+    requires snapshot { snapshot.now ≡ F.files }
+    requires start { desk.old.start ≤ 4102444800 }
+    requires next { (records : List ARecord) × (rs : List ARecord) × (arrivals : List Arrival)
+        × ComeNext (terms_of F.files settings.now) records rs arrivals seats origins.now desk.old }
+    requires failures { writer.old.1 < 2 ^ 64 - 1 }
+    ensures serves { IfOk result (λ after. (records rs : List ARecord) (arrivals : List Arrival)
+        → ComeNext (terms_of F.files settings.now) records rs arrivals seats origins.now desk.old
+        → ServesMore (terms_of F.files settings.now) records arrivals rs (connections_of after) desk.new writer.old.0 writer.new.0) }
+    ensures idle { IfOk result (Waiting []) }
+    ensures start { OnOk result (desk.new.start ≡ desk.old.start) }
+    ensures many { IfErr result (λ f. IfTooMany f (λ n. (n ≡ MOST_MESSAGES)
+        × ((records rs : List ARecord) (arrivals : List Arrival)
+        → ComeNext (terms_of F.files settings.now) records rs arrivals seats origins.now desk.old
+        → ServesFull (terms_of F.files settings.now) desk.old.start records arrivals rs writer.old.0 writer.new.0))) }
+    ensures part { IfErr result (λ f. IfCutShort f ((writer.new.0
+        ≡ writer.old.0) ⊎ ((records rs : List ARecord) (arrivals : List Arrival)
+        → ComeNext (terms_of F.files settings.now) records rs arrivals seats origins.now desk.old
+        → ServesInPart (terms_of F.files settings.now) desk.old.start records arrivals rs writer.old.0 writer.new.0))) }
+    ensures failures { CountsBy writer_failures writer.old.1 writer.new.1 result }
+    ensures own { IfErr result IsOwn }
+{
+    let mut seats = seats.cut(rt, alloc)?;
+    let pieces = seats.merge(alloc, origins)?;
+    let parts = parts_of(alloc, pieces)?;
+    serve_parts::<F, G, T, W>(
+        rt, alloc, snapshot, settings, cache, gate, parts, desk, writer,
+    )?;
+    Ok(seats)
+}
+
+/// Replays a capture through stages of threads: a batch of its pieces at a time is cut, its messages are looked up by the
+/// front floor, decided on in the order of their arrival, and answered by the back floor, with pages from a cache. The
+/// replies of a batch are written before the next batch is read. `gate` sees each message, by its number, enter and leave
+/// each stage, the stages of the back floor numbered behind those of the front floor.
+///
+/// What is written and answered is what [`plain_replay`](crate::plain_replay) writes and answers.
+///
+/// # Errors
+///
+/// As `plain_replay`; `Memory` also where a thread can't be started.
+pub fn staged_replay<
+    F: Tree + Send + Sync,
+    G: Gate + Sync,
+    T: Threads + Wait + Sync,
+    R: Read,
+    W: Write,
+>(
+    rt: &T,
+    alloc: Global,
+    snapshot: &Snapshot,
+    settings: &Settings,
+    gate: &G,
+    reader: &mut Input<R>,
+    writer: &mut Output<W>,
+) -> Result<Outcome, ReplayFault>
+    requires snapshot { snapshot.now ≡ F.files }
+    requires reading { reader.old.1 < 2 ^ 64 - 1 }
+    requires writing { writer.old.1 < 2 ^ 64 - 1 }
+    // Read, and each other fault of the capture, only with the replies to the messages of the whole records before it.
+    ensures stops { IfErr result (λ f. IfCapture f (λ fault. is_some reader.old.0 ≡ true
+        → Stops (terms_of F.files settings.now) (unwrap_or reader.old.0 []) writer.old.0 writer.new.0 fault)) }
+    // Too many messages, only with the replies to those within the limit.
+    ensures many { IfErr result (λ f. IfTooMany f (λ number. is_some reader.old.0 ≡ true
+        → StopsFull (terms_of F.files settings.now) (unwrap_or reader.old.0 []) writer.old.0 writer.new.0 number)) }
+    // After a failed write and out of memory, a prefix of what was due stands.
+    ensures part { IfErr result (λ f. IfCutShort f (is_some reader.old.0 ≡ true
+        → IsCutShort (terms_of F.files settings.now) (unwrap_or reader.old.0 []) writer.old.0 writer.new.0)) }
+    // A device is blamed only where it failed in this call. A read that failed may not be told: where the messages before it
+    // are too many, where they can't be written, and where memory runs out.
+    ensures reads { BlamedOnce reader_failures reader.old.1 reader.new.1 result }
+    ensures writes { CountsBy writer_failures writer.old.1 writer.new.1 result }
+    ensures ok { IfOk result (λ outcome. is_some reader.old.0 ≡ true
+        → Answers (terms_of F.files settings.now) (unwrap_or reader.old.0 []) writer.old.0 writer.new.0 outcome) }
+{
+    write_first_line(writer)?;
+    let mut capture = match CaptureReader::open(reader) {
+        Ok(capture) => capture,
+        Err(fault) => return Err(ReplayFault::from(fault)),
+    };
+    let mut seats = Seats::new(alloc);
+    let mut desk = Desk {
+        start: capture.start(),
+        controller: Controller::new(alloc, settings.policy)?,
+        tally: Tally::new(alloc),
+    };
+    let cache = Mutex::new(PageCache::<F>::new(alloc, settings.cache, snapshot.len())?);
+    loop {
+        let batch = read_batch(alloc, &mut capture, settings.batch, &mut seats)?;
+        seats = serve_batch::<F, G, T, W>(
+            rt,
+            alloc,
+            snapshot,
+            settings,
+            &cache,
+            gate,
+            seats,
+            &batch.origins,
+            &mut desk,
+            writer,
+        )?;
+        match batch.ending {
+            Ending::More => {}
+            Ending::End => break,
+            Ending::Fault(fault) => return Err(ReplayFault::from(fault)),
+        }
+    }
+    let answered = desk.tally.answered;
+    let outcome = outcome_of(alloc, desk)?;
+    write_last_line(alloc, writer, answered)?;
+    Ok(outcome)
+}
