@@ -62,6 +62,10 @@ writer_failures other = 0
 abbrev pub CountsBy : {X : Type 0} → (Fault → ℕ) → ℕ → ℕ → Result X Fault → Type 0
 CountsBy failures old new r = MatchResult r (λ _. new ≡ old) (λ f. new ≡ old + failures f)
 
+-- a device failed at most once in a run, and is blamed only where it did
+abbrev pub BlamedOnce : {X : Type 0} → (Fault → ℕ) → ℕ → ℕ → Result X Fault → Type 0
+BlamedOnce failures old new r = MatchResult r (λ _. new ≡ old) (λ f. (old + failures f ≤ new) × (new ≤ old + 1))
+
 -- the bytes behind the snapshot are the text of a capture
 abbrev pub HoldsCapture : List File → List ℕ → Type 0
 HoldsCapture files bytes = (start : ℕ) × (records : List Record) × IsCaptureText version_one bytes start records

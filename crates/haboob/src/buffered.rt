@@ -13,6 +13,8 @@ use paths::{Input, Output};
 use replay::Settings;
 use std::alloc::Global;
 use std::io::{BufReader, BufWriter, Read, Write};
+use std::sync::Wait;
+use std::thread::Threads;
 
 /// Writes what the buffer of the report still holds, where the run came to its end.
 fn write_rest_of_report<O: Write + Drop>(
@@ -39,7 +41,14 @@ fn write_rest_of_report<O: Write + Drop>(
 /// Those of [`run_replay`]; `Memory` where there is none for the buffers; `Write` of the replies or of the report where
 /// what its buffer held at the end couldn't be written. The replies were due before any other fault; behind one, no more
 /// of the report is written.
-pub fn run_files<S: Read + Drop, C: Read + Drop, W: Write + Drop, O: Write + Drop>(
+pub fn run_files<
+    T: Threads + Wait + Sync,
+    S: Read + Drop,
+    C: Read + Drop,
+    W: Write + Drop,
+    O: Write + Drop,
+>(
+    rt: &T,
     alloc: Global,
     settings: &Settings,
     engine: Engine,
@@ -65,6 +74,7 @@ pub fn run_files<S: Read + Drop, C: Read + Drop, W: Write + Drop, O: Write + Dro
         return Err(Fault::Memory);
     };
     let ran = run_replay(
+        rt,
         alloc,
         settings,
         engine,

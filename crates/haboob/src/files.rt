@@ -7,6 +7,8 @@ use replay::Settings;
 use std::env;
 use std::fs::File;
 use std::io::{ErrorKind, Read};
+use std::sync::Wait;
+use std::thread::Threads;
 
 /// How many bytes of a settings file are read: one more than it may have.
 const MOST_READ: u64 = LONGEST_SETTINGS as u64 + 1;
@@ -59,11 +61,11 @@ fn settings_in(rt: &HostRuntime, name: Option<&str>) -> Result<Settings, Fault> 
 
 /// Does what the words behind the program's name ask for: a run from standard input to standard output, or one over files
 /// with its report on standard output. The files are opened in the order settings, snapshot, capture, replies; the settings
-/// are read before the snapshot is opened.
+/// are read before the snapshot is opened. `threads` is the runtime once more, for the engine that starts threads.
 ///
 /// Which words there are, and what the files hold, is the system's to say: no contract can. Tests do, and
 /// checks/run_program.py.
-pub fn run_words(rt: &HostRuntime) -> Result<(), Fault> {
+pub fn run_words<T: Threads + Wait + Sync>(rt: &HostRuntime, threads: &T) -> Result<(), Fault> {
     let alloc = rt.alloc();
     let words = words_of(rt)?;
     match read_words(alloc, &words)? {
@@ -80,6 +82,7 @@ pub fn run_words(rt: &HostRuntime) -> Result<(), Fault> {
             let capture = open(rt, capture, Place::Capture)?;
             let replies = create(rt, replies, Place::Replies)?;
             run_files(
+                threads,
                 alloc,
                 &settings,
                 engine,

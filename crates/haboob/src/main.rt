@@ -23,7 +23,7 @@ use paths::Output;
 use std::process::ExitCode;
 
 fn main(rt: HostRuntime) -> ExitCode {
-    match run_words(&rt) {
+    match run_words(&rt, &rt) {
         Ok(()) => ExitCode::SUCCESS,
         Err(fault) => {
             // Where standard error can't be written either, the status alone tells of the fault.

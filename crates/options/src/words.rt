@@ -22,8 +22,7 @@ const REPLAY_NOTES: &str = "Example:
     --settings tight.toml";
 
 /// What help says of the engines.
-const ENGINE_HELP: &str =
-    "plain or staged; staged runs the plain engine until the staged one stands";
+const ENGINE_HELP: &str = "plain, on one thread, or staged, on many; both answer the same";
 
 /// Which engine answers the messages.
 #[derive(Clone, Copy, Debug, PartialEq, Eq)]

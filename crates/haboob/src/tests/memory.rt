@@ -1,11 +1,16 @@
-//! Want of memory: `rt try --test --fail-alloc 1..` refuses each growth in turn.
+//! Out of memory: `rt try --test --fail-alloc 1..` refuses each growth in turn.
 use super::reports;
 use super::reports::{CAPTURE, REPORT};
 use super::running::{FIRST_RUN, Narrow, REPLIES, SNAPSHOT, run_tight};
 use crate::program::run_program;
 use crate::told::Told;
+use options::Engine;
+use std::alloc::AllocGlobal;
+use std::process::Abort;
+use std::sync::Wait;
+use std::thread::Threads;
 
-/// A run whose growth is refused says so, and has written a front of the replies.
+/// A run whose growth is refused says so, and has written a prefix of the replies.
 #[test]
 fn each_growth_refused(rt: HostRuntime) {
     let mut replies = Narrow::ample();
@@ -19,11 +24,19 @@ fn each_growth_refused(rt: HostRuntime) {
 }
 
 /// The same of a run with a report: of that the whole is written, or nothing.
-#[test]
-fn each_growth_refused_with_a_report(rt: HostRuntime) {
+fn check<T: Abort + AllocGlobal + Threads + Wait + Sync>(rt: &T, engine: Engine) {
     let mut replies = Narrow::ample();
     let mut report = Narrow::ample();
-    match run_tight(rt.alloc(), SNAPSHOT, CAPTURE, &mut replies, &mut report) {
+    let ran = run_tight(
+        rt,
+        rt.alloc(),
+        engine,
+        SNAPSHOT,
+        CAPTURE,
+        &mut replies,
+        &mut report,
+    );
+    match ran {
         Ok(()) => {
             assert_eq!(rt; replies.text(), reports::REPLIES.as_bytes());
             assert_eq!(rt; report.text(), REPORT.as_bytes());
@@ -34,4 +47,10 @@ fn each_growth_refused_with_a_report(rt: HostRuntime) {
             assert!(rt; report.text().is_empty());
         }
     }
+}
+
+#[test]
+fn each_growth_refused_with_a_report(rt: HostRuntime) {
+    check(&rt, Engine::Plain);
+    check(&rt, Engine::Staged);
 }

@@ -9,6 +9,8 @@ use paths::{SnapshotFault, SnapshotFaultKind};
 use replay::ReplayFault;
 use std::alloc::{AllocGlobal, Global};
 use std::process::Abort;
+use std::sync::Wait;
+use std::thread::Threads;
 
 /// A request at once, two that find no token, and one when a token is there again.
 pub static CAPTURE: &str =
@@ -24,12 +26,22 @@ pub static REPORT: &str =
 
 #[test]
 fn tight_bucket(rt: HostRuntime) {
-    let mut replies = Narrow::ample();
-    let mut report = Narrow::ample();
-    let ran = run_tight(rt.alloc(), SNAPSHOT, CAPTURE, &mut replies, &mut report);
-    assert_eq!(rt; ran, Ok(()));
-    assert_eq!(rt; replies.text(), REPLIES.as_bytes());
-    assert_eq!(rt; report.text(), REPORT.as_bytes());
+    for engine in [Engine::Plain, Engine::Staged] {
+        let mut replies = Narrow::ample();
+        let mut report = Narrow::ample();
+        let ran = run_tight(
+            &rt,
+            rt.alloc(),
+            engine,
+            SNAPSHOT,
+            CAPTURE,
+            &mut replies,
+            &mut report,
+        );
+        assert_eq!(rt; ran, Ok(()));
+        assert_eq!(rt; replies.text(), REPLIES.as_bytes());
+        assert_eq!(rt; report.text(), REPORT.as_bytes());
+    }
 }
 
 #[test]
@@ -37,7 +49,16 @@ fn snapshot_fault(rt: HostRuntime) {
     let mut replies = Narrow::ample();
     let mut report = Narrow::ample();
     let behind = "haboob-snapshot 1\nend 0\n.";
-    let ran = run_tight(rt.alloc(), behind, CAPTURE, &mut replies, &mut report);
+    let staged = Engine::Staged;
+    let ran = run_tight(
+        &rt,
+        rt.alloc(),
+        staged,
+        behind,
+        CAPTURE,
+        &mut replies,
+        &mut report,
+    );
     let fault = SnapshotFault {
         entry: 1,
         kind: SnapshotFaultKind::Trailing,
@@ -51,7 +72,16 @@ fn snapshot_fault(rt: HostRuntime) {
 fn capture_fault(rt: HostRuntime) {
     let mut replies = Narrow::ample();
     let mut report = Narrow::ample();
-    let ran = run_tight(rt.alloc(), SNAPSHOT, "", &mut replies, &mut report);
+    let staged = Engine::Staged;
+    let ran = run_tight(
+        &rt,
+        rt.alloc(),
+        staged,
+        SNAPSHOT,
+        "",
+        &mut replies,
+        &mut report,
+    );
     let fault = CaptureFault {
         at: 0,
         kind: CaptureFaultKind::Cut,
@@ -62,10 +92,19 @@ fn capture_fault(rt: HostRuntime) {
 }
 
 /// Runs with a writer of the report that fails behind so many writes; whether the run came to its end.
-fn ends_reporting(rt: &(impl Abort + AllocGlobal), good: usize) -> bool {
+fn ends_reporting<T: Abort + AllocGlobal + Threads + Wait + Sync>(rt: &T, good: usize) -> bool {
     let mut replies = Narrow::ample();
     let mut report = Narrow::new(32, good);
-    let ran = run_tight(rt.alloc(), SNAPSHOT, CAPTURE, &mut replies, &mut report);
+    let staged = Engine::Staged;
+    let ran = run_tight(
+        rt,
+        rt.alloc(),
+        staged,
+        SNAPSHOT,
+        CAPTURE,
+        &mut replies,
+        &mut report,
+    );
     assert_eq!(rt; replies.text(), REPLIES.as_bytes());
     let Err(fault) = ran else {
         assert_eq!(rt; report.text(), REPORT.as_bytes());
@@ -88,7 +127,8 @@ fn each_write_of_the_report_failing(rt: HostRuntime) {
 }
 
 /// Runs with buffers in front of the devices.
-fn run_buffered(
+fn run_buffered<T: Threads + Wait + Sync>(
+    rt: &T,
     alloc: Global,
     capture: &str,
     replies: &mut Narrow,
@@ -96,6 +136,7 @@ fn run_buffered(
 ) -> Result<(), Fault> {
     let settings = read_settings(alloc, TIGHT.as_bytes())?;
     run_files(
+        rt,
         alloc,
         &settings,
         Engine::Staged,
@@ -112,28 +153,28 @@ fn run_buffered(
 fn buffered_report(rt: HostRuntime) {
     let mut replies = Narrow::ample();
     let mut report = Narrow::ample();
-    let ran = run_buffered(rt.alloc(), CAPTURE, &mut replies, &mut report);
+    let ran = run_buffered(&rt, rt.alloc(), CAPTURE, &mut replies, &mut report);
     assert_eq!(rt; ran, Ok(()));
     assert_eq!(rt; replies.text(), REPLIES.as_bytes());
     assert_eq!(rt; report.text(), REPORT.as_bytes());
 
     let mut replies = Narrow::ample();
     let mut report = Narrow::new(8, 1);
-    let ran = run_buffered(rt.alloc(), CAPTURE, &mut replies, &mut report);
+    let ran = run_buffered(&rt, rt.alloc(), CAPTURE, &mut replies, &mut report);
     assert_eq!(rt; ran, Err(Fault::Write(Place::Report)));
     assert_eq!(rt; replies.text(), REPLIES.as_bytes());
     assert_eq!(rt; report.text(), b"haboob-r".as_slice());
 
     let mut replies = Narrow::new(8, 1);
     let mut report = Narrow::ample();
-    let ran = run_buffered(rt.alloc(), CAPTURE, &mut replies, &mut report);
+    let ran = run_buffered(&rt, rt.alloc(), CAPTURE, &mut replies, &mut report);
     assert_eq!(rt; ran, Err(Fault::Write(Place::Replies)));
     assert_eq!(rt; replies.text(), b"haboob-r".as_slice());
     assert!(rt; report.text().is_empty());
 
     let mut replies = Narrow::ample();
     let mut report = Narrow::ample();
-    let ran = run_buffered(rt.alloc(), "", &mut replies, &mut report);
+    let ran = run_buffered(&rt, rt.alloc(), "", &mut replies, &mut report);
     assert!(rt; matches!(ran, Err(Fault::Replay(ReplayFault::Capture(_)))));
     assert_eq!(rt; replies.text(), b"haboob-replies 1\n".as_slice());
     assert!(rt; report.text().is_empty());

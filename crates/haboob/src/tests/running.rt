@@ -9,6 +9,8 @@ use paths::{Input, Output};
 use std::alloc::Global;
 use std::io;
 use std::io::{Read, Write};
+use std::sync::Wait;
+use std::thread::Threads;
 
 /// `a.txt` with `hi` and a line feed, of 1994-11-06 08:49:37.
 pub static SNAPSHOT: &str = "haboob-snapshot 1\nfile 784111777 5 3\na.txt\nhi\n\nend 1\n";
@@ -117,9 +119,11 @@ pub fn run(alloc: Global, input: &str, replies: &mut Narrow) -> Result<(), Fault
 /// Settings with one token, and one more each second.
 pub static TIGHT: &str = "[policy]\ndepth = 1\nrate = 1000\nrate_min = 1000\nrate_max = 1000\n";
 
-/// Runs over inputs in memory with these settings, and writes a report.
-pub fn run_tight(
+/// Runs over inputs in memory on an engine with these settings, and writes a report.
+pub fn run_tight<T: Threads + Wait + Sync>(
+    rt: &T,
     alloc: Global,
+    engine: Engine,
     snapshot: &str,
     capture: &str,
     replies: &mut Narrow,
@@ -127,9 +131,10 @@ pub fn run_tight(
 ) -> Result<(), Fault> {
     let settings = read_settings(alloc, TIGHT.as_bytes())?;
     run_replay(
+        rt,
         alloc,
         &settings,
-        Engine::Plain,
+        engine,
         &mut Input::new(snapshot.as_bytes()),
         &mut Input::new(capture.as_bytes()),
         &mut Output::new(replies),

@@ -121,7 +121,7 @@ Options:
       --capture <FILE>   The recorded requests
       --replies <FILE>   Where the replies go; a file that is there is overwritten
       --settings <FILE>  Settings, as TOML; a key that is left out has its default
-      --engine <ENGINE>  plain or staged; staged runs the plain engine until the staged one stands [default: staged]
+      --engine <ENGINE>  plain, on one thread, or staged, on many; both answer the same [default: staged]
   -h, --help             Print help
 
 Example:

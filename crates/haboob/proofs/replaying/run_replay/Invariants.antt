@@ -1,4 +1,4 @@
 use Rattle.haboob.proofs.replaying.run_replay.Given as goal
 
-abbrev pub ghosts-plain_replay : goal.ghosts-plain_replay
-ghosts-plain_replay g a = record { files = a.snapshot.now }
+abbrev pub ghosts-run_engine : goal.ghosts-run_engine
+ghosts-run_engine g a = record { files = a.files.now }
