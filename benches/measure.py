@@ -1,15 +1,16 @@
 #!/usr/bin/env python3
-"""Measures the program on large inputs, on one core, with its replies thrown away.
+"""Measures the program's two engines side by side on large inputs, with its replies thrown away.
 
 usage: measure.py PROGRAM [RUNS]
 
-Each input is run twice: as the program's one input, with default settings; and by `replay` from files, with settings that
-admit each request, and with a report. For each run it prints requests a second, bytes a second (read and written), and the
-peak of memory beside the size of the snapshot. Of RUNS runs (3 if left out) it takes the fastest. The inputs stand in a
-folder of their own while it runs, and need about 600 MB.
+Each input is replayed from files with a report, by the plain and the staged engine in turn, RUNS times each (3 if left out),
+with settings that admit each request and that leave the stages, the batch and the cache as they are by default. Of each
+engine's runs the fastest is taken: its seconds, the seconds that all processors worked for it, requests a second, microseconds
+a request, bytes a second (read and written), and the peak of memory beside the size of the snapshot. The last line of an
+input says how many times as many requests a second the staged engine answers as the plain one. The inputs stand in a folder
+of their own while it runs, and need about 100 MB. Run it on a machine that does nothing else.
 """
 import os
-import shutil
 import sys
 import tempfile
 import time
@@ -51,11 +52,20 @@ def large(count):
     return files, (requests[number * 617 % 1000] for number in range(count))
 
 
+def huge(count):
+    """So many requests over 64 files of 256 KiB to 1 MiB, in an order that jumps. The default cache has room for all."""
+    names = [b"files/%02d.html" % number for number in range(64)]
+    files = [(name, b"x" * (262144 + number * 786432 // 63)) for number, name in enumerate(names)]
+    requests = [b"GET /%b HTTP/1.1\r\nHost: a\r\n\r\n" % name for name in names]
+    return files, (requests[number * 37 % 64] for number in range(count))
+
+
 INPUTS = [
-    ("100,000 small", 100_000, small),
-    ("1,000,000 small", 1_000_000, small),
-    ("1,000,000 of 1 to 16 KiB", 1_000_000, large),
+    ("1,000,000 of 32 bytes", 1_000_000, small),
+    ("1,000,000 for 1 to 16 KiB", 1_000_000, large),
+    ("20,000 for 256 KiB to 1 MiB", 20_000, huge),
 ]
+ENGINES = ["plain", "staged"]
 
 
 # Settings that admit each request, so that all are answered and each has a sample.
@@ -63,19 +73,15 @@ SETTINGS = b"[policy]\ndepth = 1000000\nrate = 1000000000\nrate_max = 1000000000
 
 
 class Run:
-    """One way to run the program on an input: its words, and the files that it reads and writes."""
+    """One way to run the program on an input: its words."""
 
-    def __init__(self, title, words, given):
-        self.title = title
+    def __init__(self, words):
         self.words = words
-        self.given = given
 
     def start(self, output):
-        """Starts the program on one core, with its standard output into a device."""
+        """Starts the program, with its standard output into a device."""
         child = os.fork()
         if child == 0:
-            os.sched_setaffinity(0, {min(os.sched_getaffinity(0))})
-            os.dup2(os.open(self.given, os.O_RDONLY), 0)
             os.dup2(output, 1)
             os.execv(self.words[0], self.words)
         return child
@@ -117,37 +123,43 @@ def count_replies(run):
 
 
 def write_inputs(folder, text, requests):
-    """Writes the snapshot, the capture and the settings, and the first two together; answers the names of the files."""
-    names = {name: os.path.join(folder, name) for name in ("input", "snapshot", "capture", "settings")}
+    """Writes the snapshot, the capture and the settings; answers the names of the files."""
+    names = {name: os.path.join(folder, name) for name in ("snapshot", "capture", "settings")}
     with open(names["snapshot"], "wb") as file:
         file.write(text)
     with open(names["capture"], "wb") as file:
         write_capture(file, requests)
     with open(names["settings"], "wb") as file:
         file.write(SETTINGS)
-    with open(names["input"], "wb") as file:
-        file.write(text)
-        with open(names["capture"], "rb") as capture:
-            shutil.copyfileobj(capture, file)
     return names
+
+
+def fastest(engines, runs):
+    """The seconds and the processor times of each engine's fastest run. The engines take turns."""
+    times = {name: [] for name in engines}
+    for _ in range(runs):
+        for name, run in engines.items():
+            times[name].append(run.time())
+    return {name: min(results, key=lambda result: result[0]) for name, results in times.items()}
 
 
 def measure(program, runs, title, count, make, folder):
     files, requests = make(count)
     text = snapshot(files)
     names = write_inputs(folder, text, requests)
-    size = os.path.getsize(names["input"])
-    bundle = Run(title, [program], names["input"])
-    words = ["replay", "--snapshot", names["snapshot"], "--capture", names["capture"], "--settings", names["settings"]]
-    report = Run(title + ", report", [program, *words, "--replies", os.devnull], os.devnull)
-    to_output = Run(title, [program, *words, "--replies", "/dev/stdout"], os.devnull)
-    for run, written in [(bundle, count_replies(bundle)), (report, count_replies(to_output))]:
-        memory = run.peak_of_memory()
-        seconds, best = min((run.time() for _ in range(runs)), key=lambda result: result[0])
+    size = os.path.getsize(names["snapshot"]) + os.path.getsize(names["capture"])
+    words = [program, "replay", "--snapshot", names["snapshot"], "--capture", names["capture"], "--settings", names["settings"]]
+    written = count_replies(Run(words + ["--replies", "/dev/stdout", "--engine", "plain"]))
+    engines = {name: Run(words + ["--replies", os.devnull, "--engine", name]) for name in ENGINES}
+    best = fastest(engines, runs)
+    print("%s, snapshot %.1f MiB" % (title, len(text) / 2**20))
+    for name, (seconds, usage) in best.items():
+        worked = usage.ru_utime + usage.ru_stime
         print(
-            "%-34s %5.2f s (user %.2f, system %.2f)  %9.0f requests/s  %7.0f MB/s read  %7.0f MB/s written  peak %.1f MiB, snapshot %.1f MiB"
-            % (run.title, seconds, best.ru_utime, best.ru_stime, count / seconds, size / seconds / 1e6, written / seconds / 1e6, memory / 2**20, len(text) / 2**20)
+            "  %-6s %6.2f s (processors %.2f s)  %9.0f requests/s  %6.2f us a request  %5.0f MB/s read  %5.0f MB/s written  peak %.1f MiB"
+            % (name, seconds, worked, count / seconds, seconds / count * 1e6, size / seconds / 1e6, written / seconds / 1e6, engines[name].peak_of_memory() / 2**20)
         )
+    print("  staged answers %.2f times as many requests a second" % (best["plain"][0] / best["staged"][0]), flush=True)
     for name in names.values():
         os.unlink(name)
 

@@ -5,8 +5,9 @@
 
 Two runs of 100,000 requests come first, then replays at the limits and just past them, then COUNT random ones (40
 without it), made from the seeds FIRST (0 without it), FIRST + 1 and so on: the same seed gives the same replay. About
-a third of these have a fault. Each is run with both engines, and compared byte for byte. Exits with 1 where anything
-differs.
+a third of these have a fault. Each is run with both engines, and compared byte for byte. The cuts of the steps into
+stages, the workers, the capacities, the batch and the cache are drawn at random for each, but for the first, which has
+those of the default settings: nothing that is written may depend on them. Exits with 1 where anything differs.
 """
 import datetime
 import os
@@ -296,6 +297,24 @@ def random_rates(chance):
     return {"rate": rate, "rate_min": least, "rate_max": most}
 
 
+def random_floor(chance):
+    """A value for each key of the table `floor`, in its range. The answer doesn't depend on them."""
+    floor = {"batch": chance.choice((1, 2, 3, 7, 1024, 65_536)), "cache": chance.choice((0, 47, 96, 1000, 10**6, 2**30))}
+    for side, steps in (("front", 3), ("back", 2)):
+        floor[side + "_cuts"] = [cut for cut in range(1, steps) if chance.random() < 0.7] + [steps]
+        floor[side + "_workers"] = [chance.choice((1, 2, 3, 16)) for _ in floor[side + "_cuts"]]
+        floor[side + "_capacities"] = [chance.choice((1, 2, 64, 4096)) for _ in floor[side + "_cuts"]]
+    return floor
+
+
+def with_floor(chance, settings, least):
+    """The settings with a table `floor` drawn at random behind them, and this batch or more, where there is room for it."""
+    floor = random_floor(chance)
+    floor["batch"] = max(floor["batch"], least)
+    text = (settings or b"") + "".join(["[floor]\n"] + ["%s = %s\n" % pair for pair in floor.items()]).encode()
+    return text if len(text) <= reference.SETTINGS_LIMIT else settings
+
+
 def random_values(chance):
     """A value for each key, in its range, small enough that much happens."""
     policy = {
@@ -304,13 +323,8 @@ def random_values(chance):
         "low": chance.choice((0, 50, 90, 100)), "depth": chance.choice((1, 2, 5, 30)),
     }
     costs = {key: chance.choice((1, 50, 100, 200, chance.randint(1, 400))) for key in ("file", "error")} | {"kib": chance.choice((0, 0, 1, 10, 1000))}
-    floor = {"batch": chance.choice((1, 2, 3, 7, 1024, 65_536)), "cache": chance.choice((0, 47, 96, 1000, 10**6, 2**30))}
-    for side, steps in (("front", 3), ("back", 2)):
-        floor[side + "_cuts"] = [cut for cut in range(1, steps) if chance.random() < 0.7] + [steps]
-        floor[side + "_workers"] = [chance.choice((1, 2, 3, 16)) for _ in floor[side + "_cuts"]]
-        floor[side + "_capacities"] = [chance.choice((1, 2, 64, 4096)) for _ in floor[side + "_cuts"]]
     page = {"retry_after": chance.choice((0, 1, 86_400))}
-    return {"floor": floor, "costs": costs, "policy": policy, "page": page}
+    return {"floor": random_floor(chance), "costs": costs, "policy": policy, "page": page}
 
 
 def bounds_of(table, key):
@@ -446,12 +460,12 @@ def compare_large(program, name, settings):
     return wrong
 
 
-def compare_limits(program):
+def compare_limits(program, chance):
     """Compares replays at and past the limits."""
     count, wrong = 0, 0
     for name, files, start, records, settings in limit_replays():
         texts = snapshot_text(None, files, False), capture_text(None, start, records, False)
-        wrong += compare(program, "limit of " + name, *texts, settings)[1]
+        wrong += compare(program, "limit of " + name, *texts, with_floor(chance, settings, 1))[1]
         count += 1
     print("%-30s %d replays" % ("limits", count), flush=True)
     return count, wrong
@@ -474,9 +488,11 @@ def main():
         sys.exit(__doc__)
     program = os.path.abspath(sys.argv[1])
     count, first = (int(word) for word in (sys.argv[2:] + ["40", "0"][len(sys.argv) - 2:]))
+    chance = random.Random(first)
     wrong = compare_large(program, "hundred thousand requests", None)
-    wrong += compare_large(program, "hundred thousand, tight bucket", TIGHT)
-    limits, limits_wrong = compare_limits(program)
+    # With a batch of one piece, starting threads would take minutes.
+    wrong += compare_large(program, "hundred thousand, tight bucket", with_floor(chance, TIGHT, 1000))
+    limits, limits_wrong = compare_limits(program, chance)
     wrong += limits_wrong + compare_random(program, count, first)
     print("%d replays, %d wrong" % ((2 + limits + count) * len(ENGINES), wrong))
     return wrong != 0

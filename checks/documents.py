@@ -1,5 +1,5 @@
 #!/usr/bin/env python3
-"""Runs the commands that README.md and docs/FORMATS.md show, and compares what they print with what stands below them.
+"""Runs the commands that README.md, docs/WALK.md and docs/FORMATS.md show, and compares what they print with what stands below them.
 
 usage: documents.py PROGRAM
 
@@ -13,7 +13,7 @@ import subprocess
 import sys
 import tempfile
 
-DOCUMENTS = ["README.md", os.path.join("docs", "FORMATS.md")]
+DOCUMENTS = ["README.md", os.path.join("docs", "WALK.md"), os.path.join("docs", "FORMATS.md")]
 INDENT = "    "
 PROMPT = INDENT + "$ "
 SECONDS = 60

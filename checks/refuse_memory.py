@@ -3,9 +3,11 @@
 
 usage: refuse_memory.py PROGRAM
 
-For N = 1, 2, .. the Nth request is refused, until a run makes fewer. Each such run says `haboob: memory`, with status 7, a
-front of the replies that the run has with ample memory, and no report; or it ends as with ample memory, where the program
-can do without. It needs a C compiler (CC, or cc) and the C library of GNU; without a compiler nothing is tried.
+For N = 1, 2, .. the Nth request is refused, until some runs make fewer. Each such run says `haboob: memory`, with status 7, a
+prefix of the replies that the run has with ample memory, and no report; or it ends as with ample memory, where the program
+can do without. Then it counts the requests of 64 GETs of one file, with the cache of pages and without: each page that the
+cache spares is a request less, so a staged engine that goes round its cache shows. It needs a C compiler (CC, or cc) and the
+C library of GNU; without a compiler nothing is tried.
 """
 import os
 import shutil
@@ -14,6 +16,8 @@ import sys
 import tempfile
 
 SECONDS = 20
+# So many runs that meet no refusal end a sweep.
+MISSED = 5
 TOP = os.path.dirname(os.path.dirname(os.path.abspath(__file__)))
 SITE = os.path.join(TOP, "examples", "site.snapshot")
 BURST = os.path.join(TOP, "examples", "burst.capture")
@@ -24,7 +28,8 @@ REPLAY = ["replay", "--snapshot", SITE, "--capture", BURST, "--replies", "replie
 # The words of each run, and its standard input.
 RUNS = [
     ("the first run", [], FIRST_RUN),
-    ("a replay with a report", REPLAY + ["--settings", TIGHT], os.devnull),
+    ("a replay on one thread", REPLAY + ["--settings", TIGHT, "--engine", "plain"], os.devnull),
+    ("a replay on many threads", REPLAY + ["--settings", TIGHT], os.devnull),
     ("a fault of the settings", REPLAY + ["--settings", SITE], os.devnull),
     ("a fault of the capture", ["replay", "--snapshot", SITE, "--capture", SITE, "--replies", "replies"], os.devnull),
     ("too few words", ["replay", "--snapshot", SITE], os.devnull),
@@ -40,8 +45,8 @@ class Ending:
     def is_same(self, other):
         return vars(self) == vars(other)
 
-    def is_want_of_memory(self, ample, has_words):
-        """Whether it says that memory was wanting, with a front of what was due."""
+    def is_out_of_memory(self, ample, has_words):
+        """Whether it says that memory ran out, with a prefix of what was due."""
         said = (self.status, self.line) == (7, b"haboob: memory\n")
         whole = self.output == b"" if has_words else ample.output.startswith(self.output)
         return said and whole and ample.replies.startswith(self.replies)
@@ -64,19 +69,48 @@ def run(program, words, given, folder, refuser, number):
 
 
 def sweep(program, title, words, given, folder, refuser):
-    """Refuses each request of a run in turn; how many of these runs ended otherwise than they may."""
+    """Refuses each request of a run in turn; how many of these runs ended otherwise than they may. (Runs on many threads
+    make some requests more or less.)"""
     ample, _ = run(program, words, given, folder, refuser, 0)
-    number, wrong = 0, 0
-    while True:
-        ending, was_refused = run(program, words, given, folder, refuser, number + 1)
-        if not was_refused:
-            break
+    number, missed, wrong = 0, 0, 0
+    while missed < MISSED:
         number += 1
-        if not ending.is_same(ample) and not ending.is_want_of_memory(ample, bool(words)):
+        ending, was_refused = run(program, words, given, folder, refuser, number)
+        missed = 0 if was_refused else missed + 1
+        if not ending.is_same(ample) and not ending.is_out_of_memory(ample, bool(words)):
             wrong += 1
             print("WRONG: %s, request %d: %d %r" % (title, number, ending.status, ending.line))
-    print("%-26s status %d, %d requests refused, %d wrong" % (title, ample.status, number, wrong))
+    print("%-26s status %d, %d requests refused, %d wrong" % (title, ample.status, number - missed, wrong))
     return wrong
+
+
+def requests_made(program, cache, folder, refuser):
+    """How many requests for memory a staged replay makes of 64 GETs of one file, with a cache of so many bytes."""
+    get = b"GET /a.txt HTTP/1.1\r\nHost: a\r\n\r\n" * 64
+    texts = {
+        "site": b"haboob-snapshot 1\nfile 0 5 3\na.txt\nhi\n\nend 1\n",
+        "capture": b"haboob-capture 1 0\npiece 0 0 %d\n%b\nstop 1\n" % (len(get), get),
+        "settings": b"[floor]\nfront_workers = [1, 1, 1]\nback_workers = [1, 1]\ncache = %d\n" % cache,
+    }
+    for name, text in texts.items():
+        with open(os.path.join(folder, name), "wb") as file:
+            file.write(text)
+    words = ["replay", "--snapshot", "site", "--capture", "capture", "--replies", os.devnull, "--settings", "settings"]
+    counted = os.path.join(folder, "counted")
+    with open(counted, "wb") as file:
+        file.write(bytes(8))
+    shim = dict(os.environ, LD_PRELOAD=refuser, COUNTED=counted)
+    subprocess.run([program, *words], cwd=folder, stdout=subprocess.DEVNULL, env=shim, timeout=SECONDS, check=True)
+    with open(counted, "rb") as file:
+        return int.from_bytes(file.read(), sys.byteorder)
+
+
+def builds_each_page(program, folder, refuser):
+    """Whether the cache spares no pages: 64 GETs of one file build it once with a cache, and 64 times without."""
+    with_cache = requests_made(program, 1 << 26, folder, refuser)
+    without = requests_made(program, 0, folder, refuser)
+    print("64 requests for one file   %d requests with a cache, %d without" % (with_cache, without))
+    return with_cache + 32 > without
 
 
 def main():
@@ -91,7 +125,9 @@ def main():
         refuser = os.path.join(folder, "refuse_memory.so")
         source = os.path.join(TOP, "checks", "refuse_memory.c")
         subprocess.run([compiler, "-shared", "-fPIC", "-O1", "-o", refuser, source], check=True)
-        return int(sum(sweep(program, *it, folder, refuser) for it in RUNS) != 0)
+        wrong = sum(sweep(program, *it, folder, refuser) for it in RUNS)
+        wrong += builds_each_page(program, folder, refuser)
+        return int(wrong != 0)
 
 
 if __name__ == "__main__":

@@ -1,0 +1,20 @@
+#!/usr/bin/env bash
+# Tries the edits of checks/edits/, which must fail as those of must-fail/ must, and stand outside the gate to save its time.
+# It works on a copy of the repository.
+#
+# usage: try_edits.sh [CRATE..]
+set -euo pipefail
+cd "$(dirname "$0")/.."
+crates=("$@")
+if [ "${#crates[@]}" = 0 ]; then
+    for folder in checks/edits/*/; do crates+=("$(basename "$folder")"); done
+fi
+copy=$(mktemp -d)
+trap 'rm -rf "$copy"' EXIT
+git clone -q . "$copy"
+cd "$copy"
+for crate in "${crates[@]}"; do
+    rm -f "crates/$crate/must-fail/"*.edit
+    cp "checks/edits/$crate/"*.edit "crates/$crate/must-fail/"
+done
+rt must-fail "${crates[@]}"
