@@ -11,18 +11,23 @@ use Rattle.std.proofs.lemmas.Fmt.{digits_decimal, digits_value-decimal, length-d
 use Rattle.std.proofs.lemmas.Str.Parse.{IsNumeralModel, numerals_by_value, tells_all_ascii_digits}
 use Rattle.std.proofs.lemmas.List.{append_assoc, length-append, length-take, take_at, drop_at}
 use Rattle.std.proofs.lemmas.List.Folds.{prefix_len-append}
-use Rattle.std.proofs.lemmas.Slice.Eq.{starts_is}
+use Rattle.std.specs.Cmp.Lexicographic.{pointwise}
+use Rattle.std.proofs.lemmas.Slice.Eq.{slice_eq-Decides}
 use Rattle.paths.specs.Numbers.{is_decimal, number_of, number_and_rest, three_numbers}
 use Rattle.paths.specs.Numbers.{◌>>=◌ as ◌>?=◌}
 use Rattle.paths.specs.Texts.{Ahead, byte_at, run_at, line_at, front, past as beyond, ended}
 use Rattle.paths.specs.declared.stop.Stop.{Stop}
 use Rattle.paths.proofs.Taking.{line_whole}
-use Rattle.captures.specs.Captures.{Version, Past, feed, first_line, piece_line, end_line, record_text, latest_start, latest_tick, most_bytes, Follows}
-use Rattle.captures.specs.CaptureFaults.{named, ◌>>=◌, kind_of, header_kind_of, start_heading, start_of, header_at, two_numbers, piece_heading, end_heading, stop_heading, heading_of, allowed, body_at, piece_at, record_at}
+use Rattle.captures.specs.Captures.{front as front_of, last_connection, has_tiers, Past, feed, first_line, piece_line, end_line, tier_line, record_text, latest_start, latest_tick, most_bytes, last_tier, Follows}
+use Rattle.captures.specs.declared.version.Version.{Version}
+use Rattle.captures.specs.declared.version.Version.TheVariants.{One, Two}
+use Rattle.captures.specs.CaptureFaults.{named, ◌>>=◌, kind_of, header_kind_of, start_heading, start_of, header_at, two_numbers, piece_heading, end_heading, tier_heading, stop_heading, heading_of, open_connection, allowed, body_at, piece_at, tier_record, record_at}
 use Rattle.captures.specs.declared.record.Record.{Record}
-use Rattle.captures.specs.declared.record.Record.TheVariants.{Piece, End}
+use Rattle.captures.specs.declared.record.Record.TheVariants.{Piece, End, Tier}
 use Rattle.captures.specs.declared.heading.Heading.TheVariants as headings
 use Rattle.captures.specs.declared.capture_fault.CaptureFaultKind.{CaptureFaultKind}
+use Rattle.captures.specs.declared.capture_fault.CaptureFaultKind.TheVariants.{Header}
+use Rattle.captures.proofs.Lines.{few_connections}
 use Rattle.captures.proofs.Records.{stop_text}
 
 -- ---- the steps of a definition that may refuse
@@ -117,6 +122,9 @@ piece_words a b c = simp append_assoc
 end_words : (a b : List ℕ) → codes "end " ++ a ++ codes " " ++ b ≡ codes "end " ++ (a ++ 32 ∷ b)
 end_words a b = simp append_assoc
 
+tier_words : (a b : List ℕ) → codes "tier " ++ a ++ codes " " ++ b ≡ codes "tier " ++ (a ++ 32 ∷ b)
+tier_words a b = simp append_assoc
+
 -- a line that can be read: no line feed in it, and not too long
 record IsLine (line : List ℕ) : Type 0 where
   feeds : prefix_len (λ b. not (b == 10)) line ≡ length line
@@ -146,6 +154,16 @@ end_is_line t c ht hc =
       short = omega (arith, digits_short 16 t (omega arith) (omega arith) (omega arith), digits_short 5 c (omega arith) (omega arith) (omega arith), length-append T (32 ∷ C));
     })
 
+tier_is_line : (c t : ℕ) → c ≤ 65535 → t ≤ last_tier → IsLine (tier_line c t)
+tier_is_line c t hc ht =
+    let C = decimal c in let T = decimal t in
+    let tail : prefix_len (λ b. not (b == 10)) (C ++ 32 ∷ T) ≡ length (C ++ 32 ∷ T) =
+    passes_append _ C (32 ∷ T) (decimal_passes 10 c (omega arith) (omega arith)) (passes_append _ (32 ∷ []) T refl (decimal_passes 10 t (omega arith) (omega arith))) in
+    subst (λ (w : List ℕ). IsLine w) (sym (tier_words C T)) (record {
+      feeds = passes_append _ (codes "tier ") (C ++ 32 ∷ T) refl tail;
+      short = omega (arith, digits_short 5 c (omega arith) (omega arith) (omega arith), digits_short 1 t (omega arith) (omega arith) (omega arith), length-append C (32 ∷ T));
+    })
+
 stop_is_line : (n : ℕ) → n < 2 ^ 64 - 1 → IsLine (codes "stop " ++ decimal n)
 stop_is_line n small = record {
   feeds = passes_append _ (codes "stop ") (decimal n) refl (decimal_passes 10 n (omega arith) small);
@@ -155,15 +173,19 @@ stop_is_line n small = record {
 line_again : (line t : List ℕ) (l nl : ℕ) → IsLine line → l ≡ length line + (1 + nl) → line_at (record { bytes = line ++ 10 ∷ t; left = l }) ≡ Ok (line, record { bytes = t; left = nl })
 line_again line t l nl is left = line_whole line t l nl is.feeds is.short left
 
-piece_heading_again : (t c l : ℕ) → t < 2 ^ 64 - 1 → c < 2 ^ 64 - 1 → l < 2 ^ 64 - 1 → heading_of (piece_line t c l) ≡ Ok (headings.Piece (record { tick = t; conn = c; len = l }))
-piece_heading_again t c l st sc sl =
-    ap heading_of (piece_words (decimal t) (decimal c) (decimal l)) ∙ ap piece_heading (three_again t c l st sc sl)
+piece_heading_again : (v : Version) (t c l : ℕ) → t < 2 ^ 64 - 1 → c < 2 ^ 64 - 1 → l < 2 ^ 64 - 1 → heading_of v (piece_line t c l) ≡ Ok (headings.Piece (record { tick = t; conn = c; len = l }))
+piece_heading_again v t c l st sc sl =
+    ap (heading_of v) (piece_words (decimal t) (decimal c) (decimal l)) ∙ ap piece_heading (three_again t c l st sc sl)
 
-end_heading_again : (t c : ℕ) → t < 2 ^ 64 - 1 → c < 2 ^ 64 - 1 → heading_of (end_line t c) ≡ Ok (headings.End (record { tick = t; conn = c }))
-end_heading_again t c st sc = ap heading_of (end_words (decimal t) (decimal c)) ∙ ap end_heading (two_again t c st sc)
+end_heading_again : (v : Version) (t c : ℕ) → t < 2 ^ 64 - 1 → c < 2 ^ 64 - 1 → heading_of v (end_line t c) ≡ Ok (headings.End (record { tick = t; conn = c }))
+end_heading_again v t c st sc = ap (heading_of v) (end_words (decimal t) (decimal c)) ∙ ap end_heading (two_again t c st sc)
 
-stop_heading_again : (n : ℕ) → n < 2 ^ 64 - 1 → heading_of (codes "stop " ++ decimal n) ≡ Ok (headings.Stop n)
-stop_heading_again n small = ap stop_heading (number_again n small)
+tier_heading_again : (v : Version) (c t : ℕ) → has_tiers v ≡ true → c < 2 ^ 64 - 1 → t < 2 ^ 64 - 1 → heading_of v (tier_line c t) ≡ Ok (headings.Tier (record { conn = c; tier = t }))
+tier_heading_again One c t has sc st = absurd cc
+tier_heading_again Two c t has sc st = ap (heading_of Two) (tier_words (decimal c) (decimal t)) ∙ ap tier_heading (two_again c t sc st)
+
+stop_heading_again : (v : Version) (n : ℕ) → n < 2 ^ 64 - 1 → heading_of v (codes "stop " ++ decimal n) ≡ Ok (headings.Stop n)
+stop_heading_again v n small = ap stop_heading (number_again n small)
 
 -- ---- records
 
@@ -185,12 +207,23 @@ run_again n run t l nl is left =
     meet (nat_le n (length (front a))) (Ok (take n (run ++ t), beyond n a)) (Err (ended a)) there
     ∙ ap (λ (v : List ℕ × Ahead). let r : Result (List ℕ × Ahead) Stop = Ok v in r) (λ i. (bytes i, record { bytes = rest i; left = less i }))
 
-allowed_again : (v : Version) (past : Past) (tick conn : ℕ) → tick ≤ latest_tick → past.tick ≤ tick → conn ≤ v.last_connection → past.ended conn ≡ false → allowed v past tick conn ≡ Ok conn
+open_again : (v : Version) (past : Past) (conn : ℕ) → conn ≤ last_connection v → past.ended conn ≡ false → open_connection v past conn ≡ Ok conn
+open_again v past conn few live =
+    let c : nat_lt (last_connection v) conn ≡ false = grind (arith, nat_tests) in
+    pass (nat_lt (last_connection v) conn) _ _ c ∙ pass (past.ended conn) _ _ live
+
+allowed_again : (v : Version) (past : Past) (tick conn : ℕ) → tick ≤ latest_tick → past.tick ≤ tick → conn ≤ last_connection v → past.ended conn ≡ false → allowed v past tick conn ≡ Ok conn
 allowed_again v past tick conn in_time rising few live =
     let a : nat_lt latest_tick tick ≡ false = grind (arith, nat_tests) in
     let b : nat_lt tick past.tick ≡ false = grind (arith, nat_tests) in
-    let c : nat_lt v.last_connection conn ≡ false = grind (arith, nat_tests) in
-    pass (nat_lt latest_tick tick || nat_lt tick past.tick) _ _ (neither _ _ a b) ∙ (pass (nat_lt v.last_connection conn) _ _ c ∙ pass (past.ended conn) _ _ live)
+    pass (nat_lt latest_tick tick || nat_lt tick past.tick) _ _ (neither _ _ a b) ∙ open_again v past conn few live
+
+tier_again : (v : Version) (past : Past) (conn tier : ℕ) → conn ≤ last_connection v → past.ended conn ≡ false → past.used conn ≡ false → tier ≤ last_tier
+    → tier_record v past (record { conn = conn; tier = tier }) ≡ Ok (Tier conn tier)
+tier_again v past conn tier few live unused low =
+    let a : nat_lt last_tier tier ≡ false = grind (arith, nat_tests) in
+    bind_is (open_connection v past conn) _ conn (open_again v past conn few live)
+    ∙ pass (nat_lt last_tier tier || past.used conn) _ _ (neither _ _ a unused)
 
 body_again : (n : ℕ) (bytes t : List ℕ) (l nl : ℕ) → length bytes ≡ n → l ≡ n + (1 + nl) → body_at n (record { bytes = bytes ++ feed ∷ t; left = l }) ≡ Ok (bytes, record { bytes = t; left = nl })
 body_again n bytes t l nl is left =
@@ -199,45 +232,49 @@ body_again n bytes t l nl is left =
     bind_is (named kind_of (run_at n (record { bytes = bytes ++ feed ∷ t; left = l }))) _ (bytes, mid) (named_is kind_of _ (bytes, mid) (run_again n bytes (feed ∷ t) l (1 + nl) is left))
     ∙ bind_is (named kind_of (byte_at mid)) _ (feed, last) (named_is kind_of _ (feed, last) (byte_again feed t (1 + nl) nl refl))
 
--- what a version must keep so that its lines can be read
-pub record IsPlain (v : Version) : Type 0 where
-  pub few : v.last_connection ≤ 65535
-  pub feeds : prefix_len (λ b. not (b == 10)) v.front ≡ length v.front
-  pub short : length v.front ≤ 40
-
 line_then : (line rest t : List ℕ) → (line ++ feed ∷ rest) ++ t ≡ line ++ feed ∷ (rest ++ t)
 line_then line rest t = append_assoc line (feed ∷ rest) t
 
 -- a record's text is read as the record
-pub record_again : (v : Version) (past : Past) (r : Record) (t : List ℕ) (l nl : ℕ) → IsPlain v → Follows v past r → l ≡ length (record_text r) + nl
+pub record_again : (v : Version) (past : Past) (r : Record) (t : List ℕ) (l nl : ℕ) → Follows v past r → l ≡ length (record_text r) + nl
     → record_at v past (record { bytes = record_text r ++ t; left = l }) ≡ Ok (Some r, record { bytes = t; left = nl })
-record_again v past (Piece tick conn bytes) t l nl plain (rising, live, (in_time, few, some, short)) left =
+record_again v past (Piece tick conn bytes) t l nl (rising, live, (in_time, few, some, short)) left =
     let line = piece_line tick conn (length bytes) in
     let body = bytes ++ feed ∷ [] in
-    let few_enough = plain.few in
+    let few_enough = few_connections v in
     let is = piece_is_line tick conn (length bytes) in_time (omega arith) short in
     let whole : record_text (Piece tick conn bytes) ++ t ≡ line ++ feed ∷ (bytes ++ feed ∷ t) = line_then line body t ∙ ap (λ w. line ++ feed ∷ w) (append_assoc bytes (feed ∷ []) t) in
     let mid : Ahead = record { bytes = bytes ++ feed ∷ t; left = length bytes + (1 + nl) } in
     let last : Ahead = record { bytes = t; left = nl } in
     let read : line_at (record { bytes = line ++ feed ∷ (bytes ++ feed ∷ t); left = l }) ≡ Ok (line, mid) = line_again line (bytes ++ feed ∷ t) l (length bytes + (1 + nl)) is (omega (arith, length-append line (feed ∷ body), length-append bytes (feed ∷ []))) in
-    let heading : heading_of line ≡ Ok (headings.Piece (record { tick = tick; conn = conn; len = length bytes })) = piece_heading_again tick conn (length bytes) (omega arith) (omega arith) (omega arith) in
+    let heading : heading_of v line ≡ Ok (headings.Piece (record { tick = tick; conn = conn; len = length bytes })) = piece_heading_again v tick conn (length bytes) (omega arith) (omega arith) (omega arith) in
     let allow = allowed_again v past tick conn in_time rising few live in
     let sized : (length bytes == 0 || nat_lt most_bytes (length bytes)) ≡ false = neither _ _ (ne_eqb (length bytes) 0 (λ e. omega arith)) (grind (arith, nat_tests)) in
     let piece : piece_at v past (record { tick = tick; conn = conn; len = length bytes }) mid ≡ Ok (Piece tick conn bytes, last) =
     bind_is (allowed v past tick conn) _ conn allow ∙ (pass (length bytes == 0 || nat_lt most_bytes (length bytes)) _ _ sized ∙ bind_is (body_at (length bytes) mid) _ (bytes, last) (body_again (length bytes) bytes t (length bytes + (1 + nl)) nl refl refl)) in
     ap (λ w. record_at v past (record { bytes = w; left = l })) whole
     ∙ (bind_is (named kind_of (line_at (record { bytes = line ++ feed ∷ (bytes ++ feed ∷ t); left = l }))) _ (line, mid) (named_is kind_of _ (line, mid) read)
-    ∙ (bind_is (heading_of line) _ _ heading ∙ bind_is (piece_at v past (record { tick = tick; conn = conn; len = length bytes }) mid) _ (Piece tick conn bytes, last) piece))
-record_again v past (End tick conn) t l nl plain (rising, live, (in_time, few)) left =
+    ∙ (bind_is (heading_of v line) _ _ heading ∙ bind_is (piece_at v past (record { tick = tick; conn = conn; len = length bytes }) mid) _ (Piece tick conn bytes, last) piece))
+record_again v past (End tick conn) t l nl (rising, live, (in_time, few)) left =
     let line = end_line tick conn in
-    let few_enough = plain.few in
+    let few_enough = few_connections v in
     let is = end_is_line tick conn in_time (omega arith) in
     let last : Ahead = record { bytes = t; left = nl } in
     let read : line_at (record { bytes = line ++ feed ∷ t; left = l }) ≡ Ok (line, last) = line_again line t l nl is (omega (arith, length-append line (feed ∷ []))) in
-    let heading = end_heading_again tick conn (omega arith) (omega arith) in
+    let heading = end_heading_again v tick conn (omega arith) (omega arith) in
     ap (λ w. record_at v past (record { bytes = w; left = l })) (line_then line [] t)
     ∙ (bind_is (named kind_of (line_at (record { bytes = line ++ feed ∷ t; left = l }))) _ (line, last) (named_is kind_of _ (line, last) read)
-    ∙ (bind_is (heading_of line) _ _ heading ∙ bind_is (allowed v past tick conn) _ conn (allowed_again v past tick conn in_time rising few live)))
+    ∙ (bind_is (heading_of v line) _ _ heading ∙ bind_is (allowed v past tick conn) _ conn (allowed_again v past tick conn in_time rising few live)))
+record_again v past (Tier conn tier) t l nl (live, unused, (has, few, low)) left =
+    let line = tier_line conn tier in
+    let few_enough = few_connections v in
+    let is = tier_is_line conn tier (omega arith) low in
+    let last : Ahead = record { bytes = t; left = nl } in
+    let read : line_at (record { bytes = line ++ feed ∷ t; left = l }) ≡ Ok (line, last) = line_again line t l nl is (omega (arith, length-append line (feed ∷ []))) in
+    let heading = tier_heading_again v conn tier has (omega arith) (omega arith) in
+    ap (λ w. record_at v past (record { bytes = w; left = l })) (line_then line [] t)
+    ∙ (bind_is (named kind_of (line_at (record { bytes = line ++ feed ∷ t; left = l }))) _ (line, last) (named_is kind_of _ (line, last) read)
+    ∙ (bind_is (heading_of v line) _ _ heading ∙ bind_is (tier_record v past (record { conn = conn; tier = tier })) _ (Tier conn tier) (tier_again v past conn tier few live unused low)))
 
 -- the last line, behind which the input ends, is read as the end
 pub stop_again : (v : Version) (past : Past) (l nl : ℕ) → past.count < 2 ^ 64 - 1 → l ≡ length (stop_text past.count) + nl
@@ -247,26 +284,52 @@ stop_again v past l nl small left =
     let last : Ahead = record { bytes = []; left = nl } in
     let read : line_at (record { bytes = line ++ feed ∷ []; left = l }) ≡ Ok (line, last) = line_again line [] l nl (stop_is_line past.count small) (omega (arith, length-append line (feed ∷ []))) in
     bind_is (named kind_of (line_at (record { bytes = line ++ feed ∷ []; left = l }))) _ (line, last) (named_is kind_of _ (line, last) read)
-    ∙ (bind_is (heading_of line) _ _ (stop_heading_again past.count small) ∙ meet (past.count == past.count) _ _ (eq-eqb past.count past.count refl))
+    ∙ (bind_is (heading_of v line) _ _ (stop_heading_again v past.count small) ∙ meet (past.count == past.count) _ _ (eq-eqb past.count past.count refl))
 
--- the first line is read as its start
-pub header_again : (v : Version) (start : ℕ) (t : List ℕ) (l nl : ℕ) → IsPlain v → start ≤ latest_start → l ≡ length (first_line v start ++ feed ∷ []) + nl
-    → header_at v (record { bytes = (first_line v start ++ feed ∷ []) ++ t; left = l }) ≡ Ok (start, record { bytes = t; left = nl })
-header_again v start t l nl plain in_time left =
+-- the first line is a line, and tells its version
+first_is_line : (v : Version) (start : ℕ) → start < 2 ^ 64 - 1 → IsLine (first_line v start)
+first_is_line One start small = record {
+  feeds = passes_append _ (front_of One) (decimal start) refl (decimal_passes 10 start (omega arith) small);
+  short = omega (arith, digits_short 20 start (omega arith) (omega arith) small, length-append (front_of One) (decimal start));
+}
+first_is_line Two start small = record {
+  feeds = passes_append _ (front_of Two) (decimal start) refl (decimal_passes 10 start (omega arith) small);
+  short = omega (arith, digits_short 20 start (omega arith) (omega arith) small, length-append (front_of Two) (decimal start));
+}
+
+start_again : (v : Version) (start : ℕ) → start ≤ latest_start → start_heading v (number_of (decimal start)) ≡ Ok (v, start)
+start_again v start in_time =
+    let on_time : nat_lt latest_start start ≡ false = grind (arith, nat_tests) in
+    ap (start_heading v) (number_again start (omega arith)) ∙ pass (nat_lt latest_start start) _ _ on_time
+
+first_again : (v : Version) (start : ℕ) → start ≤ latest_start → start_of (first_line v start) ≡ Ok (v, start)
+first_again One start in_time = start_again One start in_time
+first_again Two start in_time = start_again Two start in_time
+
+-- the first line is read as its version and its start
+pub header_again : (v : Version) (start : ℕ) (t : List ℕ) (l nl : ℕ) → start ≤ latest_start → l ≡ length (first_line v start ++ feed ∷ []) + nl
+    → header_at (record { bytes = (first_line v start ++ feed ∷ []) ++ t; left = l }) ≡ Ok ((v, start), record { bytes = t; left = nl })
+header_again v start t l nl in_time left =
     let line = first_line v start in
     let last : Ahead = record { bytes = t; left = nl } in
-    let small : start < 2 ^ 64 - 1 = omega arith in
-    let few = plain.short in
-    let is : IsLine line = record {
-      feeds = passes_append _ v.front (decimal start) plain.feeds (decimal_passes 10 start (omega arith) small);
-      short = omega (arith, digits_short 20 start (omega arith) (omega arith) small, length-append v.front (decimal start));
-    } in
+    let is = first_is_line v start (omega arith) in
     let read : line_at (record { bytes = line ++ feed ∷ t; left = l }) ≡ Ok (line, last) = line_again line t l nl is (omega (arith, length-append line (feed ∷ []))) in
-    let begins : starts_with nat_eq line v.front ≡ true = (starts_is Decides-eqb line v.front (starts_with nat_eq line v.front) refl).1 (decimal start) refl in
-    let on_time : nat_lt latest_start start ≡ false = grind (arith, nat_tests) in
-    let rest : drop (length v.front) line ≡ decimal start = drop_at v.front (decimal start) (length v.front) refl in
-    let found : start_of v line ≡ Ok start =
-    meet (starts_with nat_eq line v.front) _ _ begins ∙ (ap (λ w. start_heading (number_of w)) rest ∙ (ap start_heading (number_again start small) ∙ pass (nat_lt latest_start start) _ _ on_time)) in
-    ap (λ w. header_at v (record { bytes = w; left = l })) (line_then line [] t)
+    ap (λ w. header_at (record { bytes = w; left = l })) (line_then line [] t)
     ∙ (bind_is (named header_kind_of (line_at (record { bytes = line ++ feed ∷ t; left = l }))) _ (line, last) (named_is header_kind_of _ (line, last) read)
-    ∙ bind_is (start_of v line) _ start found)
+    ∙ bind_is (start_of line) _ (v, start) (first_again v start in_time))
+
+-- a test of two lists, the other way round
+turned : (xs ys : List ℕ) → pointwise nat_eq xs ys ≡ false → pointwise nat_eq ys xs ≡ false
+turned xs ys h = go (pointwise nat_eq ys xs) refl
+  where
+    go : (b : Bool) → pointwise nat_eq ys xs ≡ b → b ≡ false
+    go false e = refl
+    go true e =
+        let same : ys ≡ xs = (slice_eq-Decides Decides-eqb ys xs true (sym e)).0 refl in
+        let back : pointwise nat_eq xs ys ≡ true = (slice_eq-Decides Decides-eqb xs ys (pointwise nat_eq xs ys) refl).1 (sym same) in
+        absurd (let t = h in cc)
+
+-- a line that begins as neither version's is no first line
+pub no_header : (line : List ℕ) → pointwise nat_eq (take (length (front_of One)) line) (front_of One) ≡ false → pointwise nat_eq (take (length (front_of Two)) line) (front_of Two) ≡ false
+    → start_of line ≡ Err Header
+no_header line a b = pass (starts_with nat_eq line (front_of One)) _ _ (turned (take (length (front_of One)) line) (front_of One) a) ∙ pass (starts_with nat_eq line (front_of Two)) _ _ (turned (take (length (front_of Two)) line) (front_of Two) b)

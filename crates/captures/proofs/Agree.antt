@@ -8,31 +8,33 @@ use Rattle.std.proofs.lemmas.List.Folds.{list_any_none}
 use Rattle.std.proofs.lemmas.Grind.{flat_map-append}
 use Rattle.paths.specs.Texts.{Ahead}
 use Rattle.paths.proofs.Inverse.{ok_is}
-use Rattle.captures.specs.Captures.{Version, version_one, Past, feed, first_line, record_text, text_before_stop, longest_text, latest_start, is_end_of, connection_of, tick_of, ticks_of, IsRecord, IsCapture, IsCaptureText, past_of, Follows}
+use Rattle.captures.specs.Captures.{Past, feed, first_line, record_text, text_before_stop, longest_text, latest_start, is_end_of, is_use_of, connection_of, LetsFollow, tick_of, ticks_of, IsRecord, IsCapture, IsCaptureText, past_of, Follows}
+use Rattle.captures.specs.declared.version.Version.{Version}
 use Rattle.captures.specs.CaptureFaults.{header_at, record_at, FaultsBehind, IsHeaderFault, IsFirstFault}
 use Rattle.captures.specs.declared.record.Record.{Record}
-use Rattle.captures.specs.declared.record.Record.TheVariants.{Piece, End}
+use Rattle.captures.specs.declared.record.Record.TheVariants.{Piece, End, Tier}
 use Rattle.captures.specs.declared.capture_fault.CaptureFault.{CaptureFault}
 use Rattle.captures.specs.declared.capture_fault.CaptureFaultKind.{CaptureFaultKind}
 use Rattle.captures.proofs.Records.{stop_text}
 use Rattle.captures.proofs.Fitting.{sizes_below}
-use Rattle.captures.proofs.Again.{IsPlain, record_again, stop_again, header_again}
+use Rattle.captures.proofs.Again.{record_again, stop_again, header_again}
 
 -- ---- one record
 
 free : Past
-free = record { count = 0; tick = 0; ended = λ _. false }
+free = record { count = 0; tick = 0; ended = λ _. false; used = λ _. false }
 
 free_follows : (v : Version) (r : Record) → IsRecord v r → Follows v free r
 unfolding free
 free_follows v (Piece tick conn bytes) h = (omega arith, refl, h)
 free_follows v (End tick conn) h = (omega arith, refl, h)
+free_follows v (Tier conn tier) h = (refl, refl, h)
 
-same_record : (v : Version) (r s : Record) (x y : List ℕ) → IsPlain v → IsRecord v r → IsRecord v s → record_text r ++ x ≡ record_text s ++ y → (r ≡ s) × (x ≡ y)
-same_record v r s x y plain hr hs h =
+same_record : (v : Version) (r s : Record) (x y : List ℕ) → IsRecord v r → IsRecord v s → record_text r ++ x ≡ record_text s ++ y → (r ≡ s) × (x ≡ y)
+same_record v r s x y hr hs h =
     let l = length (record_text r) + length (record_text s) in
-    let a = record_again v free r x l (length (record_text s)) plain (free_follows v r hr) refl in
-    let b = record_again v free s y l (length (record_text r)) plain (free_follows v s hs) (omega arith) in
+    let a = record_again v free r x l (length (record_text s)) (free_follows v r hr) refl in
+    let b = record_again v free s y l (length (record_text r)) (free_follows v s hs) (omega arith) in
     let e : (Some r, record { bytes = x; left = length (record_text s) }) ≡ (Some s, record { bytes = y; left = length (record_text r) }) =
     ok_is {A = Option Record × Ahead} {E = CaptureFaultKind} _ _ _ _ a b (ap (λ w. record_at v free (record { bytes = w; left = l })) h) in
     (ap (λ (p : Option Record × Ahead). unwrap_or p.0 r) e, ap (λ (p : Option Record × Ahead). p.1.bytes) e)
@@ -41,6 +43,7 @@ same_record v r s x y plain hr hs h =
 stop_apart : (n : ℕ) (r : Record) (x y : List ℕ) → stop_text n ++ x ≡ record_text r ++ y → ⊥
 stop_apart n (Piece tick conn bytes) x y h = let first : ◌≡◌ {A = ℕ} 115 112 = ap (λ (l : List ℕ). get_or l 0 0) h in omega arith
 stop_apart n (End tick conn) x y h = let first : ◌≡◌ {A = ℕ} 115 101 = ap (λ (l : List ℕ). get_or l 0 0) h in omega arith
+stop_apart n (Tier conn tier) x y h = let first : ◌≡◌ {A = ℕ} 115 116 = ap (λ (l : List ℕ). get_or l 0 0) h in omega arith
 
 -- ---- lists of records
 
@@ -48,14 +51,14 @@ abbrev pub Agrees : List Record → List ℕ → List Record → List ℕ → Ty
 Agrees rs x ss y = ((more : List Record) × (ss ≡ rs ++ more) × (x ≡ flat_map record_text more ++ y))
     ⊎ ((r : Record) × (more : List Record) × (rs ≡ ss ++ r ∷ more) × (y ≡ record_text r ++ (flat_map record_text more ++ x)))
 
-agree : (v : Version) (rs ss : List Record) (x y : List ℕ) → IsPlain v → All (IsRecord v) rs → All (IsRecord v) ss
+agree : (v : Version) (rs ss : List Record) (x y : List ℕ) → All (IsRecord v) rs → All (IsRecord v) ss
     → flat_map record_text rs ++ x ≡ flat_map record_text ss ++ y → Agrees rs x ss y
-agree v [] ss x y plain hr hs h = inl (ss, refl, h)
-agree v (r ∷ rs) [] x y plain hr hs h = inr (r, rs, refl, sym h ∙ append_assoc (record_text r) (flat_map record_text rs) x)
-agree v (r ∷ rs) (s ∷ ss) x y plain hr hs h =
-    let both = same_record v r s (flat_map record_text rs ++ x) (flat_map record_text ss ++ y) plain (All-head (IsRecord v) r rs hr) (All-head (IsRecord v) s ss hs)
+agree v [] ss x y hr hs h = inl (ss, refl, h)
+agree v (r ∷ rs) [] x y hr hs h = inr (r, rs, refl, sym h ∙ append_assoc (record_text r) (flat_map record_text rs) x)
+agree v (r ∷ rs) (s ∷ ss) x y hr hs h =
+    let both = same_record v r s (flat_map record_text rs ++ x) (flat_map record_text ss ++ y) (All-head (IsRecord v) r rs hr) (All-head (IsRecord v) s ss hs)
     (sym (append_assoc (record_text r) (flat_map record_text rs) x) ∙ (h ∙ append_assoc (record_text s) (flat_map record_text ss) y)) in
-    elim (agree v rs ss x y plain (All-tail (IsRecord v) r rs hr) (All-tail (IsRecord v) s ss hs) both.1) [
+    elim (agree v rs ss x y (All-tail (IsRecord v) r rs hr) (All-tail (IsRecord v) s ss hs) both.1) [
       | inl a ↦ inl (a.0, (λ i. sym both.0 i ∷ a.1 i), a.2)
       | inr b ↦ inr (b.0, b.1, (λ i. both.0 i ∷ b.2 i), b.3)
     ]
@@ -93,33 +96,44 @@ follows_front v start ss more r c = go r c
     late : (r : Record) (t : ℕ) → tick_of r ≡ t ∷ [] → IsCapture v start (ss ++ r ∷ more) → get_or (ticks_of ss) (length (ticks_of ss) - 1) 0 ≤ t
     late r t is c = rises t (ticks_of ss) (ticks_of more) (subst (λ (ts : List ℕ). AllPairs (λ s u. s ≤ u) ts) (ticks r t is) c.rising)
 
+    unused : (conn tier : ℕ) → IsCapture v start (ss ++ Tier conn tier ∷ more) → list_any (is_use_of conn) ss ≡ false
+    unused conn tier c = list_any_none (is_use_of conn) ss (All-from_get_or (λ q. is_use_of conn q ≡ false) ss (Tier conn tier) at)
+      where
+        at : (i : ℕ) → i < length ss → is_use_of conn (get_or ss i (Tier conn tier)) ≡ false
+        at i lt =
+            let all = ss ++ Tier conn tier ∷ more in
+            let apart = c.tiers_first i (length ss) (Tier conn tier) lt (omega (arith, length-append ss (Tier conn tier ∷ more))) in
+            let last : LetsFollow (get_or all i (Tier conn tier)) (Tier conn tier) = subst (λ (q : Record). LetsFollow (get_or all i (Tier conn tier)) q) (get_or-append_seam ss (Tier conn tier) more (Tier conn tier)) apart in
+            sym (ap (λ (q : Record). is_use_of conn q) (get_or_append_left ss (Tier conn tier ∷ more) (Tier conn tier) i lt)) ∙ last
+
     go : (r : Record) → IsCapture v start (ss ++ r ∷ more) → Follows v (past_of ss) r
     go (Piece tick conn bytes) c = (late (Piece tick conn bytes) tick refl c, live (Piece tick conn bytes) c, here (Piece tick conn bytes) c)
     go (End tick conn) c = (late (End tick conn) tick refl c, live (End tick conn) c, here (End tick conn) c)
+    go (Tier conn tier) c = (live (Tier conn tier) c, unused conn tier c, here (Tier conn tier) c)
 
 -- ---- whole texts
 
 abbrev pub header_text : Version → ℕ → List ℕ
 header_text v start = first_line v start ++ feed ∷ []
 
-same_start : (v : Version) (s t : ℕ) (x y : List ℕ) → IsPlain v → s ≤ latest_start → t ≤ latest_start → header_text v s ++ x ≡ header_text v t ++ y → (s ≡ t) × (x ≡ y)
-same_start v s t x y plain hs ht h =
-    let l = length (header_text v s) + length (header_text v t) in
-    let a = header_again v s x l (length (header_text v t)) plain hs refl in
-    let b = header_again v t y l (length (header_text v s)) plain ht (omega arith) in
-    let e : (s, record { bytes = x; left = length (header_text v t) }) ≡ (t, record { bytes = y; left = length (header_text v s) }) =
-    ok_is {A = ℕ × Ahead} {E = CaptureFaultKind} _ _ _ _ a b (ap (λ w. header_at v (record { bytes = w; left = l })) h) in
-    (ap (λ (p : ℕ × Ahead). p.0) e, ap (λ (p : ℕ × Ahead). p.1.bytes) e)
+same_start : (v w : Version) (s t : ℕ) (x y : List ℕ) → s ≤ latest_start → t ≤ latest_start → header_text v s ++ x ≡ header_text w t ++ y → (v ≡ w) × (s ≡ t) × (x ≡ y)
+same_start v w s t x y hs ht h =
+    let l = length (header_text v s) + length (header_text w t) in
+    let a = header_again v s x l (length (header_text w t)) hs refl in
+    let b = header_again w t y l (length (header_text v s)) ht (omega arith) in
+    let e : ((v, s), record { bytes = x; left = length (header_text w t) }) ≡ ((w, t), record { bytes = y; left = length (header_text v s) }) =
+    ok_is {A = (Version × ℕ) × Ahead} {E = CaptureFaultKind} _ _ _ _ a b (ap (λ w. header_at (record { bytes = w; left = l })) h) in
+    (ap (λ (p : (Version × ℕ) × Ahead). p.0.0) e, ap (λ (p : (Version × ℕ) × Ahead). p.0.1) e, ap (λ (p : (Version × ℕ) × Ahead). p.1.bytes) e)
 
 -- a text up to the last line, and what is behind it
 behind : (v : Version) (start : ℕ) (rs : List Record) (rest bytes : List ℕ) → bytes ≡ text_before_stop v start rs ++ rest → bytes ≡ header_text v start ++ (flat_map record_text rs ++ rest)
 behind v start rs rest bytes h = h ∙ append_assoc (header_text v start) (flat_map record_text rs) rest
 
--- the two starts are one, and what is behind them too
-starts_agree : (v : Version) (s t : ℕ) (rs ss : List Record) (x y bytes : List ℕ) → IsPlain v → s ≤ latest_start → t ≤ latest_start
-    → bytes ≡ text_before_stop v s rs ++ x → bytes ≡ text_before_stop v t ss ++ y → (s ≡ t) × (flat_map record_text rs ++ x ≡ flat_map record_text ss ++ y)
-starts_agree v s t rs ss x y bytes plain hs ht a b =
-    same_start v s t (flat_map record_text rs ++ x) (flat_map record_text ss ++ y) plain hs ht (sym (behind v s rs x bytes a) ∙ behind v t ss y bytes b)
+-- the two versions and the two starts are one, and what is behind them too
+starts_agree : (v w : Version) (s t : ℕ) (rs ss : List Record) (x y bytes : List ℕ) → s ≤ latest_start → t ≤ latest_start
+    → bytes ≡ text_before_stop v s rs ++ x → bytes ≡ text_before_stop w t ss ++ y → (v ≡ w) × (s ≡ t) × (flat_map record_text rs ++ x ≡ flat_map record_text ss ++ y)
+starts_agree v w s t rs ss x y bytes hs ht a b =
+    same_start v w s t (flat_map record_text rs ++ x) (flat_map record_text ss ++ y) hs ht (sym (behind v s rs x bytes a) ∙ behind w t ss y bytes b)
 
 -- what begins with a record's text doesn't begin with a last line
 no_stop : (n : ℕ) (r : Record) (more : List Record) (y : List ℕ) → stop_text n ≡ flat_map record_text (r ∷ more) ++ y → ⊥
@@ -128,36 +142,39 @@ no_stop n r more y h = stop_apart n r [] (flat_map record_text more ++ y) (appen
 no_stop_then : (n : ℕ) (r : Record) (y : List ℕ) → stop_text n ≡ record_text r ++ y → ⊥
 no_stop_then n r y h = stop_apart n r [] y (append-nil (stop_text n) ∙ h)
 
--- a text has one start and one list of records
-pub one_list : (v : Version) (bytes : List ℕ) (s t : ℕ) (rs ss : List Record) → IsPlain v → IsCaptureText v bytes s rs → IsCaptureText v bytes t ss → (s ≡ t) × (rs ≡ ss)
-one_list v bytes s t rs ss plain a b =
-    let both = starts_agree v s t rs ss (stop_text (length rs)) (stop_text (length ss)) bytes plain a.rules.in_time b.rules.in_time a.text b.text in (
-      both.0,
-      elim (agree v rs ss (stop_text (length rs)) (stop_text (length ss)) plain a.rules.each b.rules.each both.1) [
-        | inl c ↦ longer c.0 c.1 c.2
-        | inr c ↦ absurd (no_stop_then (length ss) c.0 _ c.3)
-      ],
-    )
+same_list : (v : Version) (bytes : List ℕ) (s t : ℕ) (rs ss : List Record) → IsCaptureText v bytes s rs → IsCaptureText v bytes t ss → rs ≡ ss
+same_list v bytes s t rs ss a b =
+    let both = starts_agree v v s t rs ss (stop_text (length rs)) (stop_text (length ss)) bytes a.rules.in_time b.rules.in_time a.text b.text in
+    elim (agree v rs ss (stop_text (length rs)) (stop_text (length ss)) a.rules.each b.rules.each both.2) [
+      | inl c ↦ longer c.0 c.1 c.2
+      | inr c ↦ absurd (no_stop_then (length ss) c.0 _ c.3)
+    ]
   where
     longer : (more : List Record) → ss ≡ rs ++ more → stop_text (length rs) ≡ flat_map record_text more ++ stop_text (length ss) → rs ≡ ss
     longer [] e h = sym (e ∙ append-nil rs)
     longer (r ∷ more) e h = absurd (no_stop (length rs) r more (stop_text (length ss)) h)
 
+-- a text has one version, one start and one list of records
+pub one_list : (bytes : List ℕ) (v w : Version) (s t : ℕ) (rs ss : List Record) → IsCaptureText v bytes s rs → IsCaptureText w bytes t ss → (v ≡ w) × (s ≡ t) × (rs ≡ ss)
+one_list bytes v w s t rs ss a b =
+    let both = starts_agree v w s t rs ss (stop_text (length rs)) (stop_text (length ss)) bytes a.rules.in_time b.rules.in_time a.text b.text in
+    (both.0, both.1, same_list v bytes s t rs ss a (subst (λ (x : Version). IsCaptureText x bytes t ss) (sym both.0) b))
+
 not_both : {A : Type 0} (x : A) (k : CaptureFaultKind) (r : Result A CaptureFaultKind) → r ≡ Ok x → r ≡ Err k → ⊥
 not_both x k r a b = absurd cc
 
 -- no fault stands in the first line of what begins with one
-header_good : (v : Version) (bytes : List ℕ) (s : ℕ) (rest : List ℕ) (f : CaptureFault) → IsPlain v → s ≤ latest_start → length (header_text v s) ≤ longest_text → bytes ≡ header_text v s ++ rest → IsHeaderFault v bytes f → ⊥
-header_good v bytes s rest f plain in_time size is fault =
-    let good = header_again v s rest longest_text (longest_text - length (header_text v s)) plain in_time (omega arith) in
-    not_both _ f.kind (header_at v (record { bytes = header_text v s ++ rest; left = longest_text })) good (sym (ap (λ w. header_at v (record { bytes = w; left = longest_text })) is) ∙ fault.1)
+header_good : (v : Version) (bytes : List ℕ) (s : ℕ) (rest : List ℕ) (f : CaptureFault) → s ≤ latest_start → length (header_text v s) ≤ longest_text → bytes ≡ header_text v s ++ rest → IsHeaderFault bytes f → ⊥
+header_good v bytes s rest f in_time size is fault =
+    let good = header_again v s rest longest_text (longest_text - length (header_text v s)) in_time (omega arith) in
+    not_both _ f.kind (header_at (record { bytes = header_text v s ++ rest; left = longest_text })) good (sym (ap (λ w. header_at (record { bytes = w; left = longest_text })) is) ∙ fault.1)
 
 -- nor behind records where one more stands
-record_good : (v : Version) (bytes : List ℕ) (t : ℕ) (ss : List Record) (f : CaptureFault) (rest : List ℕ) (q : Record) (z : List ℕ) → IsPlain v → FaultsBehind v bytes t ss f rest
+record_good : (v : Version) (bytes : List ℕ) (t : ℕ) (ss : List Record) (f : CaptureFault) (rest : List ℕ) (q : Record) (z : List ℕ) → FaultsBehind v bytes t ss f rest
     → rest ≡ record_text q ++ z → Follows v (past_of ss) q → length (text_before_stop v t ss) + length (record_text q) ≤ longest_text → ⊥
-record_good v bytes t ss f rest q z plain fault is follows size =
+record_good v bytes t ss f rest q z fault is follows size =
     let l = longest_text - length (text_before_stop v t ss) in
-    let good = record_again v (past_of ss) q z l (l - length (record_text q)) plain follows (omega arith) in
+    let good = record_again v (past_of ss) q z l (l - length (record_text q)) follows (omega arith) in
     not_both _ f.kind (record_at v (past_of ss) (record { bytes = record_text q ++ z; left = l })) good (sym (ap (λ w. record_at v (past_of ss) (record { bytes = w; left = l })) is) ∙ fault.kind)
 
 -- nor where the last line stands
@@ -178,20 +195,14 @@ one_more_text v t ss more q =
 header_below : (v : Version) (t : ℕ) (ss : List Record) → length (header_text v t) ≤ length (text_before_stop v t ss)
 header_below v t ss = omega (arith, length-append (header_text v t) (flat_map record_text ss))
 
--- a capture text has no fault
-pub no_fault : (v : Version) (bytes : List ℕ) (s : ℕ) (rs : List Record) (f : CaptureFault) → IsPlain v → length rs < 2 ^ 64 - 1 → IsCaptureText v bytes s rs → IsFirstFault v bytes f → ⊥
-no_fault v bytes s rs f plain small c (inl first) =
-    let long = ap length c.text in
-    let size = c.size in
-    header_good v bytes s (flat_map record_text rs ++ stop_text (length rs)) f plain c.rules.in_time (omega (arith, header_below v s rs, length-append (text_before_stop v s rs) (stop_text (length rs))))
-    (behind v s rs (stop_text (length rs)) bytes c.text) first
-no_fault v bytes s rs f plain small c (inr (t, ss, (rest, fault))) =
-    let both = starts_agree v s t rs ss (stop_text (length rs)) rest bytes plain c.rules.in_time fault.rules.in_time c.text fault.whole in
+behind_good : (v : Version) (bytes : List ℕ) (s t : ℕ) (rs ss : List Record) (f : CaptureFault) (rest : List ℕ) → length rs < 2 ^ 64 - 1 → IsCaptureText v bytes s rs → FaultsBehind v bytes t ss f rest → ⊥
+behind_good v bytes s t rs ss f rest small c fault =
+    let both = starts_agree v v s t rs ss (stop_text (length rs)) rest bytes c.rules.in_time fault.rules.in_time c.text fault.whole in
     let long = ap length c.text in
     let size = c.size in
     let all : length (text_before_stop v s rs) + length (stop_text (length rs)) ≤ longest_text = omega (arith, length-append (text_before_stop v s rs) (stop_text (length rs))) in
-    elim (agree v ss rs rest (stop_text (length rs)) plain fault.rules.each c.rules.each (sym both.1)) [
-      | inl a ↦ shorter both.0 all a.0 a.1 a.2 fault
+    elim (agree v ss rs rest (stop_text (length rs)) fault.rules.each c.rules.each (sym both.2)) [
+      | inl a ↦ shorter both.1 all a.0 a.1 a.2 fault
       | inr b ↦ no_stop_then (length rs) b.0 _ b.3
     ]
   where
@@ -205,8 +216,19 @@ no_fault v bytes s rs f plain small c (inr (t, ss, (rest, fault))) =
     shorter same all (q ∷ more) e g fault =
         let rules = subst (λ (p : ℕ × List Record). IsCapture v p.0 p.1) (λ i. (same i, e i)) c.rules in
         let size = subst (λ (p : ℕ × List Record). length (text_before_stop v p.0 p.1) ≤ longest_text) (λ i. (same i, e i)) (let a = all in omega arith) in
-        record_good v bytes t ss f rest q (flat_map record_text more ++ stop_text (length rs)) plain fault (g ∙ append_assoc (record_text q) (flat_map record_text more) (stop_text (length rs)))
+        record_good v bytes t ss f rest q (flat_map record_text more ++ stop_text (length rs)) fault (g ∙ append_assoc (record_text q) (flat_map record_text more) (stop_text (length rs)))
         (follows_front v t ss more q rules) (omega (arith, one_more_text v t ss more q))
+
+-- a capture text has no fault
+pub no_fault : (bytes : List ℕ) (v : Version) (s : ℕ) (rs : List Record) (f : CaptureFault) → length rs < 2 ^ 64 - 1 → IsCaptureText v bytes s rs → IsFirstFault bytes f → ⊥
+no_fault bytes v s rs f small c (inl first) =
+    let long = ap length c.text in
+    let size = c.size in
+    header_good v bytes s (flat_map record_text rs ++ stop_text (length rs)) f c.rules.in_time (omega (arith, header_below v s rs, length-append (text_before_stop v s rs) (stop_text (length rs))))
+    (behind v s rs (stop_text (length rs)) bytes c.text) first
+no_fault bytes v s rs f small c (inr (w, t, ss, (rest, fault))) =
+    let same = (starts_agree v w s t rs ss (stop_text (length rs)) rest bytes c.rules.in_time fault.rules.in_time c.text fault.whole).0 in
+    behind_good v bytes s t rs ss f rest small c (subst (λ (x : Version). FaultsBehind x bytes t ss f rest) (sym same) fault)
 
 same_fault : (f g : CaptureFault) → f.at ≡ g.at → f.kind ≡ g.kind → f ≡ g
 same_fault f g a k = λ i. record { at = a i; kind = k i }
@@ -215,36 +237,38 @@ same_kind : {A : Type 0} (r : Result A CaptureFaultKind) (j k : CaptureFaultKind
 same_kind r j k a b = cc
 
 -- of two faults one stands behind fewer records: then another record stands there
-fewer : (v : Version) (bytes : List ℕ) (t u : ℕ) (ss rs : List Record) (f g : CaptureFault) (x y : List ℕ) (more : List Record) → IsPlain v → FaultsBehind v bytes t ss f x → FaultsBehind v bytes u rs g y
+fewer : (v : Version) (bytes : List ℕ) (t u : ℕ) (ss rs : List Record) (f g : CaptureFault) (x y : List ℕ) (more : List Record) → FaultsBehind v bytes t ss f x → FaultsBehind v bytes u rs g y
     → u ≡ t → rs ≡ ss ++ more → x ≡ flat_map record_text more ++ y → f ≡ g
-fewer v bytes t u ss rs f g x y [] plain a b same e h =
+fewer v bytes t u ss rs f g x y [] a b same e h =
     let is : ss ≡ rs = sym (e ∙ append-nil ss) in
     let kind = subst (λ (p : ℕ × (List Record × List ℕ)). record_at v (past_of p.1.0) (record { bytes = p.1.1; left = longest_text - length (text_before_stop v p.0 p.1.0) }) ≡ Err f.kind) (λ i. (sym same i, (is i, h i))) a.kind in
     same_fault f g (a.at ∙ (ap (λ (l : List Record). length l + 1) is ∙ sym b.at)) (same_kind _ f.kind g.kind kind b.kind)
-fewer v bytes t u ss rs f g x y (q ∷ more) plain a b same e h =
+fewer v bytes t u ss rs f g x y (q ∷ more) a b same e h =
     let rules = subst (λ (p : ℕ × List Record). IsCapture v p.0 p.1) (λ i. (same i, e i)) b.rules in
     let size = subst (λ (p : ℕ × List Record). length (text_before_stop v p.0 p.1) ≤ longest_text) (λ i. (same i, e i)) b.size in
-    absurd (record_good v bytes t ss f x q (flat_map record_text more ++ y) plain a (h ∙ append_assoc (record_text q) (flat_map record_text more) y)
+    absurd (record_good v bytes t ss f x q (flat_map record_text more ++ y) a (h ∙ append_assoc (record_text q) (flat_map record_text more) y)
     (follows_front v t ss more q rules) (omega (arith, one_more_text v t ss more q)))
 
--- a text has one first fault
-pub one_fault : (v : Version) (bytes : List ℕ) (f g : CaptureFault) → IsPlain v → IsFirstFault v bytes f → IsFirstFault v bytes g → f ≡ g
-one_fault v bytes f g plain (inl a) (inl b) = same_fault f g (a.0 ∙ sym b.0) (same_kind _ f.kind g.kind a.1 b.1)
-one_fault v bytes f g plain (inl a) (inr (t, ss, (y, b))) =
-    let size = b.size in
-    absurd (header_good v bytes t (flat_map record_text ss ++ y) f plain b.rules.in_time (omega (arith, header_below v t ss)) (behind v t ss y bytes b.whole) a)
-one_fault v bytes f g plain (inr (s, rs, (x, a))) (inl b) =
-    let size = a.size in
-    absurd (header_good v bytes s (flat_map record_text rs ++ x) g plain a.rules.in_time (omega (arith, header_below v s rs)) (behind v s rs x bytes a.whole) b)
-one_fault v bytes f g plain (inr (s, rs, (x, a))) (inr (t, ss, (y, b))) =
-    let both = starts_agree v s t rs ss x y bytes plain a.rules.in_time b.rules.in_time a.whole b.whole in
-    elim (agree v rs ss x y plain a.rules.each b.rules.each both.1) [
-      | inl c ↦ fewer v bytes s t rs ss f g x y c.0 plain a b (sym both.0) c.1 c.2
-      | inr c ↦ sym (fewer v bytes t s ss rs g f y x (c.0 ∷ c.1) plain b a both.0 c.2 (c.3 ∙ sym (append_assoc (record_text c.0) (flat_map record_text c.1) x)))
+behind_same : (v : Version) (bytes : List ℕ) (s t : ℕ) (rs ss : List Record) (f g : CaptureFault) (x y : List ℕ) → FaultsBehind v bytes s rs f x → FaultsBehind v bytes t ss g y → f ≡ g
+behind_same v bytes s t rs ss f g x y a b =
+    let both = starts_agree v v s t rs ss x y bytes a.rules.in_time b.rules.in_time a.whole b.whole in
+    elim (agree v rs ss x y a.rules.each b.rules.each both.2) [
+      | inl c ↦ fewer v bytes s t rs ss f g x y c.0 a b (sym both.1) c.1 c.2
+      | inr c ↦ sym (fewer v bytes t s ss rs g f y x (c.0 ∷ c.1) b a both.1 c.2 (c.3 ∙ sym (append_assoc (record_text c.0) (flat_map record_text c.1) x)))
     ]
 
-pub plain_one : IsPlain version_one
-plain_one = record { few = omega arith; feeds = refl; short = omega arith }
+-- a text has one first fault
+pub one_fault : (bytes : List ℕ) (f g : CaptureFault) → IsFirstFault bytes f → IsFirstFault bytes g → f ≡ g
+one_fault bytes f g (inl a) (inl b) = same_fault f g (a.0 ∙ sym b.0) (same_kind _ f.kind g.kind a.1 b.1)
+one_fault bytes f g (inl a) (inr (w, t, ss, (y, b))) =
+    let size = b.size in
+    absurd (header_good w bytes t (flat_map record_text ss ++ y) f b.rules.in_time (omega (arith, header_below w t ss)) (behind w t ss y bytes b.whole) a)
+one_fault bytes f g (inr (v, s, rs, (x, a))) (inl b) =
+    let size = a.size in
+    absurd (header_good v bytes s (flat_map record_text rs ++ x) g a.rules.in_time (omega (arith, header_below v s rs)) (behind v s rs x bytes a.whole) b)
+one_fault bytes f g (inr (v, s, rs, (x, a))) (inr (w, t, ss, (y, b))) =
+    let same = (starts_agree v w s t rs ss x y bytes a.rules.in_time b.rules.in_time a.whole b.whole).0 in
+    behind_same v bytes s t rs ss f g x y a (subst (λ (u : Version). FaultsBehind u bytes t ss g y) (sym same) b)
 
 -- there are fewer records than bytes
 pub few_records : (v : Version) (bytes : List ℕ) (s : ℕ) (rs : List Record) → IsCaptureText v bytes s rs → length rs < 2 ^ 64 - 1

@@ -2,7 +2,8 @@
 use Rattle.std.proofs.Common.{◌≡◌, ℕ, suc, zero, ◌+◌, ◌-◌, ◌^◌, ◌<◌, ◌⊎◌, inl, inr, List, [], ◌∷◌, ◌++◌, length, Option, Some, None, Result, Ok, Err, refl, sym, ap, ◌∙◌, subst, arith, flat_map}
 use Rattle.std.proofs.lemmas.List.{append_assoc, append-nil, length-append, flat_map_more}
 use Rattle.paths.specs.Texts.{Ahead}
-use Rattle.captures.specs.Captures.{Version, feed, first_line, record_text, text_before_stop, longest_text, IsCapture, IsCaptureText, past_of}
+use Rattle.captures.specs.Captures.{feed, first_line, record_text, text_before_stop, longest_text, IsCapture, IsCaptureText, past_of}
+use Rattle.captures.specs.declared.version.Version.{Version}
 use Rattle.captures.specs.CaptureFaults.{header_at, record_at, IsFirstFault}
 use Rattle.captures.specs.declared.record.Record.{Record}
 use Rattle.captures.specs.declared.capture_fault.CaptureFault.{CaptureFault}
@@ -11,25 +12,26 @@ use Rattle.captures.proofs.Lines.{header_inverse}
 use Rattle.captures.proofs.Records.{stop_text, record_takes, record_follows, size_below}
 use Rattle.captures.proofs.Fitting.{rules_more, rules_none, sizes_below}
 
-abbrev pub Read : Version → List ℕ → Type 0
-Read v bytes = ((start : ℕ) × (records : List Record) × IsCaptureText v bytes start records) ⊎ ((f : CaptureFault) × IsFirstFault v bytes f)
+abbrev pub Read : List ℕ → Type 0
+Read bytes = ((v : Version) × (start : ℕ) × (records : List Record) × IsCaptureText v bytes start records) ⊎ ((f : CaptureFault) × IsFirstFault bytes f)
 
 -- from so many records on, with what is left of the text
-reads_on : (v : Version) (bytes : List ℕ) → v.last_connection < 2 ^ 64 - 1 → (fuel start : ℕ) (rs : List Record) (rest : List ℕ) (l : ℕ) → IsCapture v start rs
-    → bytes ≡ text_before_stop v start rs ++ rest → longest_text ≡ length (text_before_stop v start rs) + l → l < fuel → Read v bytes
-reads_on v bytes few zero start rs rest l rules whole left more = absurd (omega arith)
-reads_on v bytes few (suc fuel) start rs rest l rules whole left more = step (reads_on v bytes few fuel start) (record_at v (past_of rs) (record { bytes = rest; left = l })) refl
+reads_on : (v : Version) (bytes : List ℕ) (fuel start : ℕ) (rs : List Record) (rest : List ℕ) (l : ℕ) → IsCapture v start rs
+    → bytes ≡ text_before_stop v start rs ++ rest → longest_text ≡ length (text_before_stop v start rs) + l → l < fuel → Read bytes
+reads_on v bytes zero start rs rest l rules whole left more = absurd (omega arith)
+reads_on v bytes (suc fuel) start rs rest l rules whole left more = step (reads_on v bytes fuel start) (record_at v (past_of rs) (record { bytes = rest; left = l })) refl
   where
     count : length rs < 2 ^ 64 - 1
     count = omega (arith, left, sizes_below rs, length-append (first_line v start ++ feed ∷ []) (flat_map record_text rs))
 
-    step : ((rs : List Record) (rest : List ℕ) (l : ℕ) → IsCapture v start rs → bytes ≡ text_before_stop v start rs ++ rest → longest_text ≡ length (text_before_stop v start rs) + l → l < fuel → Read v bytes)
-        → (r : Result (Option Record × Ahead) CaptureFaultKind) → record_at v (past_of rs) (record { bytes = rest; left = l }) ≡ r → Read v bytes
+    step : ((rs : List Record) (rest : List ℕ) (l : ℕ) → IsCapture v start rs → bytes ≡ text_before_stop v start rs ++ rest → longest_text ≡ length (text_before_stop v start rs) + l → l < fuel → Read bytes)
+        → (r : Result (Option Record × Ahead) CaptureFaultKind) → record_at v (past_of rs) (record { bytes = rest; left = l }) ≡ r → Read bytes
     step again (Err k) e =
         let same : l ≡ longest_text - length (text_before_stop v start rs) = omega (arith, left) in
         inr (
           record { at = length rs + 1; kind = k },
           inr (
+            v,
             start,
             rs,
             (
@@ -45,14 +47,14 @@ reads_on v bytes few (suc fuel) start rs rest l rules whole left more = step (re
           ),
         )
     step again (Ok (None, b)) e =
-        let took = record_takes v (past_of rs) (record { bytes = rest; left = l }) b None few count e in
+        let took = record_takes v (past_of rs) (record { bytes = rest; left = l }) b None count e in
         let last : rest ≡ stop_text (length rs) = took.0.bytes ∙ (ap (λ w. stop_text (length rs) ++ w) took.1 ∙ append-nil (stop_text (length rs))) in
         let text : bytes ≡ text_before_stop v start rs ++ stop_text (length rs) = whole ∙ ap (λ w. text_before_stop v start rs ++ w) last in
         let long = ap length text in
         let took_left = took.0.left in
-        inl (start, rs, record { text = text; rules = rules; size = omega (arith, left, length-append (text_before_stop v start rs) (stop_text (length rs))) })
+        inl (v, start, rs, record { text = text; rules = rules; size = omega (arith, left, length-append (text_before_stop v start rs) (stop_text (length rs))) })
     step again (Ok (Some r, b)) e =
-        let took = (record_takes v (past_of rs) (record { bytes = rest; left = l }) b (Some r) few count e).0 in
+        let took = (record_takes v (past_of rs) (record { bytes = rest; left = l }) b (Some r) count e).0 in
         let follows = record_follows v (past_of rs) (record { bytes = rest; left = l }) b (Some r) e in
         let longer : text_before_stop v start rs ++ record_text r ≡ text_before_stop v start (rs ++ r ∷ []) = flat_map_more record_text (first_line v start ++ feed ∷ []) rs r in
         let long = ap length longer in
@@ -61,13 +63,13 @@ reads_on v bytes few (suc fuel) start rs rest l rules whole left more = step (re
         (whole ∙ (ap (λ w. text_before_stop v start rs ++ w) took.bytes ∙ (sym (append_assoc (text_before_stop v start rs) (record_text r) b.bytes) ∙ ap (λ w. w ++ b.bytes) longer)))
         (omega (arith, left, length-append (text_before_stop v start rs) (record_text r))) (omega (arith, size_below r, more))
 
-pub reads : (v : Version) (bytes : List ℕ) → v.last_connection < 2 ^ 64 - 1 → Read v bytes
-reads v bytes few = step (header_at v (record { bytes = bytes; left = longest_text })) refl
+pub reads : (bytes : List ℕ) → Read bytes
+reads bytes = step (header_at (record { bytes = bytes; left = longest_text })) refl
   where
-    step : (r : Result (ℕ × Ahead) CaptureFaultKind) → header_at v (record { bytes = bytes; left = longest_text }) ≡ r → Read v bytes
+    step : (r : Result ((Version × ℕ) × Ahead) CaptureFaultKind) → header_at (record { bytes = bytes; left = longest_text }) ≡ r → Read bytes
     step (Err k) e = inr (record { at = 0; kind = k }, inl (refl, e))
-    step (Ok (start, b)) e =
+    step (Ok ((v, start), b)) e =
         let took = header_inverse v (record { bytes = bytes; left = longest_text }) b start e in
         let all : text_before_stop v start [] ≡ first_line v start ++ feed ∷ [] = append-nil (first_line v start ++ feed ∷ []) in
-        reads_on v bytes few (b.left + 1) start [] b.bytes b.left (rules_none v start took.1)
+        reads_on v bytes (b.left + 1) start [] b.bytes b.left (rules_none v start took.1)
         (took.0.bytes ∙ ap (λ w. w ++ b.bytes) (sym all)) (took.0.left ∙ ap (λ w. length w + b.left) (sym all)) (omega arith)

@@ -10,11 +10,12 @@ use Rattle.std.proofs.lemmas.List.Sums.{sum_by_push, sum_by-cons}
 use Rattle.std.proofs.lemmas.Grind.{flat_map-append}
 use Rattle.paths.specs.Texts.{ahead_of}
 use Rattle.paths.proofs.Inverse.{TakesAhead}
-use Rattle.captures.specs.Captures.{Version, Past, feed, first_line, record_text, text_before_stop, longest_text, latest_start, is_end_of, connection_of, tick_of, ticks_of, IsRecord, IsCapture, IsCaptureText, past_of, Follows, size_of, sizes_of}
+use Rattle.captures.specs.Captures.{Past, feed, first_line, record_text, text_before_stop, longest_text, latest_start, is_end_of, is_use_of, connection_of, LetsFollow, tick_of, ticks_of, IsRecord, IsCapture, IsCaptureText, past_of, Follows, size_of, sizes_of}
+use Rattle.captures.specs.declared.version.Version.{Version}
 use Rattle.captures.specs.CaptureFaults.{header_at, record_at, is_unforeseen_kind, IsForeseen, IsFaultBehind}
 use Rattle.captures.specs.Readers.{seen, after, Fits}
 use Rattle.captures.specs.declared.record.Record.{Record}
-use Rattle.captures.specs.declared.record.Record.TheVariants.{Piece, End}
+use Rattle.captures.specs.declared.record.Record.TheVariants.{Piece, End, Tier}
 use Rattle.captures.specs.declared.so_far.SoFar.{SoFar}
 use Rattle.captures.specs.declared.stage.Stage.TheVariants.{Reading}
 use Rattle.captures.specs.declared.progress.Progress.{Progress}
@@ -44,18 +45,33 @@ none_passes p xs k d none lt = go (p (get_or xs k d)) refl
     go true h = absurd (let found = list_any_at p xs k d lt h in cc)
     go false h = refl
 
+rising_with : (records : List Record) (r : Record) (t : ℕ) → tick_of r ≡ t ∷ [] → AllPairs (λ s u. s ≤ u) (ticks_of records) → (past_of records).tick ≤ t
+    → AllPairs (λ s u. s ≤ u) (ticks_of (records ++ r ∷ []))
+rising_with records r t is h below =
+    let more : ticks_of (records ++ r ∷ []) ≡ ticks_of records ++ t ∷ [] = flat_map-append tick_of records (r ∷ []) ∙ ap (λ v. ticks_of records ++ v) (ap (λ v. v ++ []) is) in
+    subst (λ (ts : List ℕ). AllPairs (λ s u. s ≤ u) ts) (sym more) (rising_more (ticks_of records) t h below)
+
 pub rules_more : (v : Version) (start : ℕ) (records : List Record) (r : Record) → IsCapture v start records → Follows v (past_of records) r → IsCapture v start (records ++ r ∷ [])
 rules_more v start records (Piece tick conn bytes) c f = record {
   in_time = c.in_time;
   each = All-push (IsRecord v) records (Piece tick conn bytes) c.each f.2;
-  rising = subst (λ (ts : List ℕ). AllPairs (λ s u. s ≤ u) ts) (sym (flat_map-append tick_of records (Piece tick conn bytes ∷ []))) (rising_more (ticks_of records) tick c.rising f.0);
+  rising = rising_with records (Piece tick conn bytes) tick refl c.rising f.0;
   ends_last = all_pairs_push (λ r s. is_end_of (connection_of s) r ≡ false) records (Piece tick conn bytes) c.ends_last (λ k d lt. none_passes (is_end_of conn) records k d f.1 lt);
+  tiers_first = all_pairs_push LetsFollow records (Piece tick conn bytes) c.tiers_first (λ k d lt. tt);
 }
 rules_more v start records (End tick conn) c f = record {
   in_time = c.in_time;
   each = All-push (IsRecord v) records (End tick conn) c.each f.2;
-  rising = subst (λ (ts : List ℕ). AllPairs (λ s u. s ≤ u) ts) (sym (flat_map-append tick_of records (End tick conn ∷ []))) (rising_more (ticks_of records) tick c.rising f.0);
+  rising = rising_with records (End tick conn) tick refl c.rising f.0;
   ends_last = all_pairs_push (λ r s. is_end_of (connection_of s) r ≡ false) records (End tick conn) c.ends_last (λ k d lt. none_passes (is_end_of conn) records k d f.1 lt);
+  tiers_first = all_pairs_push LetsFollow records (End tick conn) c.tiers_first (λ k d lt. tt);
+}
+rules_more v start records (Tier conn tier) c f = record {
+  in_time = c.in_time;
+  each = All-push (IsRecord v) records (Tier conn tier) c.each f.2;
+  rising = subst (λ (ts : List ℕ). AllPairs (λ s u. s ≤ u) ts) (sym (flat_map-append tick_of records (Tier conn tier ∷ []) ∙ append-nil (ticks_of records))) c.rising;
+  ends_last = all_pairs_push (λ r s. is_end_of (connection_of s) r ≡ false) records (Tier conn tier) c.ends_last (λ k d lt. none_passes (is_end_of conn) records k d f.0 lt);
+  tiers_first = all_pairs_push LetsFollow records (Tier conn tier) c.tiers_first (λ k d lt. none_passes (is_use_of conn) records k d f.1 lt);
 }
 
 pub rules_none : (v : Version) (start : ℕ) → start ≤ latest_start → IsCapture v start []
@@ -64,6 +80,7 @@ rules_none v start h = record {
   each = search rules;
   rising = λ i j d lt within. absurd (omega arith);
   ends_last = λ i j d lt within. absurd (omega arith);
+  tiers_first = λ i j d lt within. absurd (omega arith);
 }
 
 -- ---- what was taken
@@ -76,13 +93,14 @@ sizes_below (r ∷ records) = omega (arith, sizes_below records, size_below r, s
 -- ---- the reader
 
 pub fits_begins : (v : Version) (text now : Option (List ℕ)) (start left : ℕ) (s : SoFar) → seen s ≡ past_of [] → start ≤ latest_start
-    → (is_some text ≡ true → (header_at v (ahead_of text longest_text) ≡ Ok (start, ahead_of now left)) × (is_some now ≡ true))
-    → Fits v text start [] (record { start = start; left = left; room = longest_text; so_far = s; stage = Reading }) now
+    → (is_some text ≡ true → (header_at (ahead_of text longest_text) ≡ Ok ((v, start), ahead_of now left)) × (is_some now ≡ true))
+    → Fits v text start [] (record { version = v; start = start; left = left; room = longest_text; so_far = s; stage = Reading }) now
 fits_begins v text now start left s none in_time h =
     let all : text_before_stop v start [] ≡ first_line v start ++ feed ∷ [] = append-nil (first_line v start ++ feed ∷ []) in
     let took = λ (k : is_some text ≡ true). (header_inverse v (ahead_of text longest_text) (ahead_of now left) start (h k).0).0 in
     record {
       stage = refl;
+      version = refl;
       begun = refl;
       rules = rules_none v start in_time;
       past = none;
@@ -93,31 +111,33 @@ fits_begins v text now start left s none in_time h =
     }
 
 -- what the next record, or the last line, takes
-next_takes : (v : Version) (text now new : Option (List ℕ)) (start new_left : ℕ) (records : List Record) (p : Progress) (x : Option Record) → v.last_connection < 2 ^ 64 - 1 → Fits v text start records p now
-    → (is_some now ≡ true → (record_at v (seen p.so_far) (ahead_of now p.left) ≡ Ok (x, ahead_of new new_left)) × (is_some new ≡ true))
+next_takes : (v : Version) (text now new : Option (List ℕ)) (start new_left : ℕ) (records : List Record) (p : Progress) (x : Option Record) → Fits v text start records p now
+    → (is_some now ≡ true → (record_at p.version (seen p.so_far) (ahead_of now p.left) ≡ Ok (x, ahead_of new new_left)) × (is_some new ≡ true))
     → is_some text ≡ true → TakesAhead (ahead_of now p.left) (next_text (past_of records) x) (ahead_of new new_left) × EndsIfNone x (ahead_of new new_left)
-next_takes v text now new start new_left records p x few f h k =
-    let read = subst (λ (q : Past). record_at v q (ahead_of now p.left) ≡ Ok (x, ahead_of new new_left)) f.past (h (f.known k)).0 in
+next_takes v text now new start new_left records p x f h k =
+    let own = subst (λ (w : Version). record_at w (seen p.so_far) (ahead_of now p.left) ≡ Ok (x, ahead_of new new_left)) f.version (h (f.known k)).0 in
+    let read = subst (λ (q : Past). record_at v q (ahead_of now p.left) ≡ Ok (x, ahead_of new new_left)) f.past own in
     let small : length records < 2 ^ 64 - 1 = let r = f.room in omega arith in
-    record_takes v (past_of records) (ahead_of now p.left) (ahead_of new new_left) x few small read
+    record_takes v (past_of records) (ahead_of now p.left) (ahead_of new new_left) x small read
 
 -- a text and what was taken behind it
 front_then : (text before taken now new : List ℕ) → text ≡ before ++ now → now ≡ taken ++ new → text ≡ (before ++ taken) ++ new
 front_then text before taken now new a b = a ∙ (ap (λ w. before ++ w) b ∙ sym (append_assoc before taken new))
 
-pub fits_goes_on : (v : Version) (text now new : Option (List ℕ)) (start : ℕ) (records : List Record) (p q : Progress) (x : Option Record) (r : Record) → v.last_connection < 2 ^ 64 - 1 → x ≡ Some r
-    → Fits v text start records p now → Follows v (seen p.so_far) r → size_of r + 1 + q.room ≡ p.room
-    → (p.so_far.count < 2 ^ 64 - 1 → seen q.so_far ≡ after (seen p.so_far) r) → q.start ≡ p.start → q.stage ≡ p.stage
-    → (is_some now ≡ true → (record_at v (seen p.so_far) (ahead_of now p.left) ≡ Ok (x, ahead_of new q.left)) × (is_some new ≡ true))
+pub fits_goes_on : (v : Version) (text now new : Option (List ℕ)) (start : ℕ) (records : List Record) (p q : Progress) (x : Option Record) (r : Record) → x ≡ Some r
+    → Fits v text start records p now → Follows p.version (seen p.so_far) r → size_of r + 1 + q.room ≡ p.room
+    → (p.so_far.count < 2 ^ 64 - 1 → seen q.so_far ≡ after (seen p.so_far) r) → q.version ≡ p.version → q.start ≡ p.start → q.stage ≡ p.stage
+    → (is_some now ≡ true → (record_at p.version (seen p.so_far) (ahead_of now p.left) ≡ Ok (x, ahead_of new q.left)) × (is_some new ≡ true))
     → Fits v text start (records ++ r ∷ []) q new
-fits_goes_on v text now new start records p q x r few some f follows room more same_start same_stage h =
+fits_goes_on v text now new start records p q x r some f follows room more same_version same_start same_stage h =
     let count : p.so_far.count ≡ length records = ap (λ (s : Past). s.count) f.past in
-    let took = λ (k : is_some text ≡ true). subst (λ (o : Option Record). TakesAhead (ahead_of now p.left) (next_text (past_of records) o) (ahead_of new q.left)) some (next_takes v text now new start q.left records p x few f h k).0 in
+    let took = λ (k : is_some text ≡ true). subst (λ (o : Option Record). TakesAhead (ahead_of now p.left) (next_text (past_of records) o) (ahead_of new q.left)) some (next_takes v text now new start q.left records p x f h k).0 in
     let longer : text_before_stop v start records ++ record_text r ≡ text_before_stop v start (records ++ r ∷ []) = flat_map_more record_text (first_line v start ++ feed ∷ []) records r in
     record {
       stage = same_stage ∙ f.stage;
+      version = same_version ∙ f.version;
       begun = same_start ∙ f.begun;
-      rules = rules_more v start records r f.rules (subst (λ (s : Past). Follows v s r) f.past follows);
+      rules = rules_more v start records r f.rules (subst (λ (s : Past). Follows v s r) f.past (subst (λ (w : Version). Follows w (seen p.so_far) r) f.version follows));
       past = more (let r = f.room in omega arith) ∙ (ap (λ s. after s r) f.past ∙ sym (past_more records r));
       room = let before = f.room in omega (arith, length_push records r, sum_by_push size_of records r);
       front = λ k. front_then (unwrap_or text []) (text_before_stop v start records) (record_text r) (unwrap_or now []) (unwrap_or new []) (f.front k) (took k).bytes ∙ ap (λ w. w ++ unwrap_or new []) longer;
@@ -125,12 +145,12 @@ fits_goes_on v text now new start records p q x r few some f follows room more s
       known = λ k. (h (f.known k)).1;
     }
 
-pub fits_ends : (v : Version) (text now new : Option (List ℕ)) (start new_left : ℕ) (records : List Record) (p : Progress) (x : Option Record) → v.last_connection < 2 ^ 64 - 1 → x ≡ None
+pub fits_ends : (v : Version) (text now new : Option (List ℕ)) (start new_left : ℕ) (records : List Record) (p : Progress) (x : Option Record) → x ≡ None
     → Fits v text start records p now
-    → (is_some now ≡ true → (record_at v (seen p.so_far) (ahead_of now p.left) ≡ Ok (x, ahead_of new new_left)) × (is_some new ≡ true))
+    → (is_some now ≡ true → (record_at p.version (seen p.so_far) (ahead_of now p.left) ≡ Ok (x, ahead_of new new_left)) × (is_some new ≡ true))
     → is_some text ≡ true → IsCaptureText v (unwrap_or text []) start records
-fits_ends v text now new start new_left records p x few none f h k =
-    let both = subst (λ (o : Option Record). TakesAhead (ahead_of now p.left) (next_text (past_of records) o) (ahead_of new new_left) × EndsIfNone o (ahead_of new new_left)) none (next_takes v text now new start new_left records p x few f h k) in
+fits_ends v text now new start new_left records p x none f h k =
+    let both = subst (λ (o : Option Record). TakesAhead (ahead_of now p.left) (next_text (past_of records) o) (ahead_of new new_left) × EndsIfNone o (ahead_of new new_left)) none (next_takes v text now new start new_left records p x f h k) in
     let end : unwrap_or new [] ≡ [] = both.1 in
     let last = next_text (past_of records) None in
     let text_is : unwrap_or text [] ≡ text_before_stop v start records ++ last =
@@ -143,7 +163,7 @@ fits_ends v text now new start new_left records p x few none f h k =
     }
 
 pub fits_faults : (v : Version) (text now : Option (List ℕ)) (start at : ℕ) (records : List Record) (p : Progress) (kind : CaptureFaultKind) → at ≡ length records + 1 → Fits v text start records p now
-    → (is_some now ≡ true → is_unforeseen_kind kind ≡ false → record_at v (seen p.so_far) (ahead_of now p.left) ≡ Err kind)
+    → (is_some now ≡ true → is_unforeseen_kind kind ≡ false → record_at p.version (seen p.so_far) (ahead_of now p.left) ≡ Err kind)
     → IsForeseen (λ bytes. IsFaultBehind v bytes start records) text (record { at = at; kind = kind })
 fits_faults v text now start at records p kind is f h = λ k foreseen.
     let left : p.left ≡ longest_text - length (text_before_stop v start records) = let all = f.left k in omega arith in (
@@ -154,17 +174,18 @@ fits_faults v text now start at records p kind is f h = λ k foreseen.
         size = let all = f.left k in omega arith;
         at = is;
         kind = subst (λ (l : ℕ). record_at v (past_of records) (record { bytes = unwrap_or now []; left = l }) ≡ Err kind) left
-            (subst (λ (q : Past). record_at v q (ahead_of now p.left) ≡ Err kind) f.past (h (f.known k) foreseen));
+            (subst (λ (q : Past). record_at v q (ahead_of now p.left) ≡ Err kind) f.past
+            (subst (λ (w : Version). record_at w (seen p.so_far) (ahead_of now p.left) ≡ Err kind) f.version (h (f.known k) foreseen)));
       },
     )
 
 -- there is room for each record of a text
-pub fits_has_room : (v : Version) (text now new : Option (List ℕ)) (start new_left : ℕ) (records : List Record) (p : Progress) (x : Option Record) (r : Record) → v.last_connection < 2 ^ 64 - 1 → x ≡ Some r
+pub fits_has_room : (v : Version) (text now new : Option (List ℕ)) (start new_left : ℕ) (records : List Record) (p : Progress) (x : Option Record) (r : Record) → x ≡ Some r
     → Fits v text start records p now → p.room ≤ size_of r
-    → (is_some now ≡ true → (record_at v (seen p.so_far) (ahead_of now p.left) ≡ Ok (x, ahead_of new new_left)) × (is_some new ≡ true))
+    → (is_some now ≡ true → (record_at p.version (seen p.so_far) (ahead_of now p.left) ≡ Ok (x, ahead_of new new_left)) × (is_some new ≡ true))
     → is_some text ≡ true → ⊥
-fits_has_room v text now new start new_left records p x r few some f full h k =
-    let took = subst (λ (o : Option Record). TakesAhead (ahead_of now p.left) (next_text (past_of records) o) (ahead_of new new_left)) some (next_takes v text now new start new_left records p x few f h k).0 in
+fits_has_room v text now new start new_left records p x r some f full h k =
+    let took = subst (λ (o : Option Record). TakesAhead (ahead_of now p.left) (next_text (past_of records) o) (ahead_of new new_left)) some (next_takes v text now new start new_left records p x f h k).0 in
     let all = f.left k in
     let room = f.room in
     let now_left = took.left in
@@ -175,3 +196,9 @@ pub fits_at : (v : Version) (text now : Option (List ℕ)) (start : ℕ) (record
 fits_at v text now start records p f =
     let count : p.so_far.count ≡ length records = ap (λ (s : Past). s.count) f.past in
     (count, let r = f.room in omega arith)
+
+-- a record that may come is within the limits
+pub follows_limits : (v : Version) (past : Past) (r : Record) → Follows v past r → IsRecord v r
+follows_limits v past (Piece tick conn bytes) f = f.2
+follows_limits v past (End tick conn) f = f.2
+follows_limits v past (Tier conn tier) f = f.2

@@ -7,3 +7,8 @@ pub mod Again
 pub mod Agree
 pub mod Each
 pub mod PartLemmas
+pub mod Tiers
+pub mod Sets
+pub mod WritingLemmas
+pub mod UpgradeLemmas
+pub mod UpgradeLaws

@@ -1,5 +1,5 @@
 -- What stands in a line of a capture that was read.
-use Rattle.std.proofs.Common.{◌≡◌, ℕ, ◌-◌, ◌^◌, ◌<◌, ◌≤◌, ◌⊎◌, inl, inr, cond, nat_lt, Bool, true, false, List, [], ◌∷◌, ◌++◌, length, drop, Option, Some, None, Result, Ok, Err, refl, ap, ◌∙◌, subst, arith, codes, decimal, nat_eq}
+use Rattle.std.proofs.Common.{◌≡◌, ℕ, ◌-◌, ◌^◌, ◌<◌, ◌≤◌, ◌⊎◌, inl, inr, cond, nat_lt, ◌&&◌, Bool, true, false, List, [], ◌∷◌, ◌++◌, length, drop, Option, Some, None, Result, Ok, Err, refl, ap, ◌∙◌, subst, arith, codes, decimal, nat_eq}
 use Rattle.std.specs.List.{starts_with}
 use Rattle.std.proofs.lemmas.Bool.Decides.{nat_tests, Decides-eqb}
 use Rattle.std.proofs.lemmas.Slice.Eq.{starts_is}
@@ -8,9 +8,12 @@ use Rattle.paths.specs.Numbers.{◌>>=◌ as ◌>?=◌}
 use Rattle.paths.specs.Texts.{Ahead, line_at}
 use Rattle.paths.specs.declared.stop.Stop.{Stop}
 use Rattle.paths.proofs.Inverse.{TakesAhead, unless_ok, when_ok, ok_is, line_inverse, number_inverse, rest_inverse, three_inverse}
-use Rattle.captures.specs.Captures.{Version, feed, first_line, latest_start}
-use Rattle.captures.specs.CaptureFaults.{named, ◌>>=◌, header_kind_of, start_heading, start_of, header_at, two_numbers, piece_heading, end_heading, stop_heading, heading_of}
+use Rattle.captures.specs.Captures.{front, last_connection, has_tiers, feed, first_line, latest_start}
+use Rattle.captures.specs.CaptureFaults.{named, ◌>>=◌, header_kind_of, start_heading, start_of, header_at, two_numbers, piece_heading, end_heading, tier_heading, stop_heading, heading_of, IsHeadingOf}
+use Rattle.captures.specs.declared.version.Version.{Version}
+use Rattle.captures.specs.declared.version.Version.TheVariants.{One, Two}
 use Rattle.captures.specs.declared.heading.PieceLine.{PieceLine}
+use Rattle.captures.specs.declared.heading.TierLine.{TierLine}
 use Rattle.captures.specs.declared.heading.EndLine.{EndLine}
 use Rattle.captures.specs.declared.heading.Heading.{Heading}
 use Rattle.captures.specs.declared.heading.Heading.TheVariants as headings
@@ -44,30 +47,44 @@ begins line word h = (starts_is Decides-eqb line word (starts_with nat_eq line w
 
 -- ---- the first line
 
-start_heading_is : (o : Option ℕ) (n : ℕ) → start_heading o ≡ Ok n → (o ≡ Some n) × (n ≤ latest_start)
-start_heading_is None n h = absurd cc
-start_heading_is (Some m) n h =
-    let in_time = unless_ok (nat_lt latest_start m) Header (Ok m) n h in
-    let same : m ≡ n = ok_is {A = ℕ} {E = CaptureFaultKind} _ _ _ _ refl refl in_time.1 in
-    (ap (λ k. Some k) same, let t = in_time.0 in grind (arith, nat_tests))
+start_heading_is : (v w : Version) (o : Option ℕ) (n : ℕ) → start_heading w o ≡ Ok (v, n) → (w ≡ v) × (o ≡ Some n) × (n ≤ latest_start)
+start_heading_is v w None n h = absurd cc
+start_heading_is v w (Some m) n h =
+    let in_time = unless_ok (nat_lt latest_start m) Header (Ok (w, m)) (v, n) h in
+    let same : (w, m) ≡ (v, n) = ok_is {A = Version × ℕ} {E = CaptureFaultKind} _ _ _ _ refl refl in_time.1 in
+    let number : m ≡ n = ap (λ (p : Version × ℕ). p.1) same in
+    let late : nat_lt latest_start m ≡ false = in_time.0 in
+    let small : m ≤ latest_start = grind (arith, nat_tests) in
+    (ap (λ (p : Version × ℕ). p.0) same, ap (λ k. Some k) number, omega (arith, number, small))
 
-start_inverse : (v : Version) (line : List ℕ) (n : ℕ) → start_of v line ≡ Ok n → (line ≡ first_line v n) × (n ≤ latest_start)
-start_inverse v line n h =
-    let front = when_ok (starts_with nat_eq line v.front) Header (start_heading (number_of (drop (length v.front) line))) n h in
-    let is = start_heading_is (number_of (drop (length v.front) line)) n front.1 in (
-      begins line v.front front.0 ∙ ap (λ w. v.front ++ w) (number_inverse (drop (length v.front) line) n is.0 (let x = is.1 in omega arith)),
-      is.1,
-    )
+-- a line of this version
+start_at : (v w : Version) (line : List ℕ) (n : ℕ) → starts_with nat_eq line (front w) ≡ true → start_heading w (number_of (drop (length (front w)) line)) ≡ Ok (v, n)
+    → (line ≡ first_line v n) × (n ≤ latest_start)
+start_at v w line n h e =
+    let is = start_heading_is v w (number_of (drop (length (front w)) line)) n e in
+    let whole : line ≡ first_line w n = begins line (front w) h ∙ ap (λ t. front w ++ t) (number_inverse (drop (length (front w)) line) n is.1 (let x = is.2 in omega arith)) in
+    (whole ∙ ap (λ (x : Version). first_line x n) is.0, is.2)
 
-pub header_inverse : (v : Version) (a b : Ahead) (n : ℕ) → header_at v a ≡ Ok (n, b) → TakesAhead a (first_line v n ++ feed ∷ []) b × (n ≤ latest_start)
+start_inverse : (v : Version) (line : List ℕ) (n : ℕ) → start_of line ≡ Ok (v, n) → (line ≡ first_line v n) × (n ≤ latest_start)
+start_inverse v line n h = elim (chosen (starts_with nat_eq line (front One)) _ _ _ h) [
+  | inl a ↦ start_at v One line n a.0 a.1
+  | inr b ↦ let two = when_ok (starts_with nat_eq line (front Two)) Header (start_heading Two (number_of (drop (length (front Two)) line))) (v, n) b.1 in start_at v Two line n two.0 two.1
+]
+
+pub header_inverse : (v : Version) (a b : Ahead) (n : ℕ) → header_at a ≡ Ok ((v, n), b) → TakesAhead a (first_line v n ++ feed ∷ []) b × (n ≤ latest_start)
 header_inverse v a b n h =
     let line = bind_ok (named header_kind_of (line_at a)) _ _ h in
     let read = named_ok header_kind_of (line_at a) line.0 line.1 in
-    let start = bind_ok (start_of v line.0.0) _ _ line.2 in
-    let pair : (start.0, line.0.1) ≡ (n, b) = ok_is {A = ℕ × Ahead} {E = CaptureFaultKind} _ _ _ _ refl refl start.2 in
-    let is = start_inverse v line.0.0 start.0 start.1 in
-    let took : TakesAhead a (first_line v start.0 ++ feed ∷ []) line.0.1 = subst (λ (w : List ℕ). TakesAhead a (w ++ feed ∷ []) line.0.1) is.0 (line_inverse a line.0.1 line.0.0 read) in
-    subst (λ (p : ℕ × Ahead). TakesAhead a (first_line v p.0 ++ feed ∷ []) p.1 × (p.0 ≤ latest_start)) pair (took, is.1)
+    let start = bind_ok (start_of line.0.0) _ _ line.2 in
+    let pair : (start.0, line.0.1) ≡ ((v, n), b) = ok_is {A = (Version × ℕ) × Ahead} {E = CaptureFaultKind} _ _ _ _ refl refl start.2 in
+    let is = start_inverse start.0.0 line.0.0 start.0.1 start.1 in
+    let took : TakesAhead a (first_line start.0.0 start.0.1 ++ feed ∷ []) line.0.1 = subst (λ (w : List ℕ). TakesAhead a (w ++ feed ∷ []) line.0.1) is.0 (line_inverse a line.0.1 line.0.0 read) in
+    subst (λ (p : (Version × ℕ) × Ahead). TakesAhead a (first_line p.0.0 p.0.1 ++ feed ∷ []) p.1 × (p.0.1 ≤ latest_start)) pair (took, is.1)
+
+-- each version has few connections
+pub few_connections : (v : Version) → last_connection v ≤ 65535
+few_connections One = omega arith
+few_connections Two = omega arith
 
 -- ---- the other lines
 
@@ -89,78 +106,153 @@ end_heading_is : (o : Option (ℕ × ℕ)) (l : EndLine) → end_heading o ≡ O
 end_heading_is None l h = absurd cc
 end_heading_is (Some n) l h = let e : record { tick = n.0; conn = n.1 } ≡ l = cc in ap (λ (k : EndLine). Some (k.tick, k.conn)) e
 
+tier_heading_is : (o : Option (ℕ × ℕ)) (l : TierLine) → tier_heading o ≡ Ok (headings.Tier l) → o ≡ Some (l.conn, l.tier)
+tier_heading_is None l h = absurd cc
+tier_heading_is (Some n) l h = let e : record { conn = n.0; tier = n.1 } ≡ l = cc in ap (λ (k : TierLine). Some (k.conn, k.tier)) e
+
 stop_heading_is : (o : Option ℕ) (n : ℕ) → stop_heading o ≡ Ok (headings.Stop n) → o ≡ Some n
 stop_heading_is None n h = absurd cc
 stop_heading_is (Some m) n h = let e : m ≡ n = cc in ap (λ k. Some k) e
 
--- which of the three kinds of line a heading comes from
-Announces : List ℕ → Heading → Type 0
-Announces line heading = ((line ≡ codes "piece " ++ drop 6 line) × (piece_heading (three_numbers (drop 6 line)) ≡ Ok heading))
-    ⊎ (((line ≡ codes "end " ++ drop 4 line) × (end_heading (two_numbers (drop 4 line)) ≡ Ok heading))
-    ⊎ ((line ≡ codes "stop " ++ drop 5 line) × (stop_heading (number_of (drop 5 line)) ≡ Ok heading)))
+both_true : (a b : Bool) → (a && b) ≡ true → (a ≡ true) × (b ≡ true)
+both_true true b h = (refl, h)
+both_true false b h = absurd cc
 
-announces : (line : List ℕ) (heading : Heading) → heading_of line ≡ Ok heading → Announces line heading
+-- which of the four kinds of line a heading comes from
+Announces : Version → List ℕ → Heading → Type 0
+Announces v line heading = ((line ≡ codes "piece " ++ drop 6 line) × (piece_heading (three_numbers (drop 6 line)) ≡ Ok heading))
+    ⊎ (((line ≡ codes "end " ++ drop 4 line) × (end_heading (two_numbers (drop 4 line)) ≡ Ok heading))
+    ⊎ (((line ≡ codes "tier " ++ drop 5 line) × (has_tiers v ≡ true) × (tier_heading (two_numbers (drop 5 line)) ≡ Ok heading))
+    ⊎ ((line ≡ codes "stop " ++ drop 5 line) × (stop_heading (number_of (drop 5 line)) ≡ Ok heading))))
+
+announces : (v : Version) (line : List ℕ) (heading : Heading) → heading_of v line ≡ Ok heading → Announces v line heading
 unfolding Announces
-announces line heading h = elim (chosen (starts_with nat_eq line (codes "piece ")) _ _ _ h) [
+announces v line heading h = elim (chosen (starts_with nat_eq line (codes "piece ")) _ _ _ h) [
   | inl p ↦ inl (begins line (codes "piece ") p.0, p.1)
   | inr n ↦ elim (chosen (starts_with nat_eq line (codes "end ")) _ _ _ n.1) [
     | inl e ↦ inr (inl (begins line (codes "end ") e.0, e.1))
-    | inr m ↦ elim (chosen (starts_with nat_eq line (codes "stop ")) _ _ _ m.1) [
-      | inl s ↦ inr (inr (begins line (codes "stop ") s.0, s.1))
-      | inr k ↦ absurd (let bad = k.1 in cc)
+    | inr m ↦ elim (chosen (starts_with nat_eq line (codes "tier ") && has_tiers v) _ _ _ m.1) [
+      | inl t ↦ let both = both_true _ _ t.0 in inr (inr (inl (begins line (codes "tier ") both.0, both.1, t.1)))
+      | inr o ↦ elim (chosen (starts_with nat_eq line (codes "stop ")) _ _ _ o.1) [
+        | inl s ↦ inr (inr (inr (begins line (codes "stop ") s.0, s.1)))
+        | inr k ↦ absurd (let bad = k.1 in cc)
+      ]
     ]
   ]
 ]
 
-piece_not_end : (o : Option (ℕ × ℕ × ℕ)) (l : EndLine) → piece_heading o ≡ Ok (headings.End l) → ⊥
-piece_not_end None l h = absurd cc
-piece_not_end (Some n) l h = absurd cc
+-- a heading, told apart
+abbrev is_piece : Heading → Bool
+is_piece (headings.Piece l) = true
+is_piece (headings.End l) = false
+is_piece (headings.Tier l) = false
+is_piece (headings.Stop n) = false
 
-piece_not_stop : (o : Option (ℕ × ℕ × ℕ)) (n : ℕ) → piece_heading o ≡ Ok (headings.Stop n) → ⊥
-piece_not_stop None n h = absurd cc
-piece_not_stop (Some m) n h = absurd cc
+abbrev is_end : Heading → Bool
+is_end (headings.Piece l) = false
+is_end (headings.End l) = true
+is_end (headings.Tier l) = false
+is_end (headings.Stop n) = false
 
-end_not_piece : (o : Option (ℕ × ℕ)) (l : PieceLine) → end_heading o ≡ Ok (headings.Piece l) → ⊥
-end_not_piece None l h = absurd cc
-end_not_piece (Some n) l h = absurd cc
+abbrev is_tier : Heading → Bool
+is_tier (headings.Piece l) = false
+is_tier (headings.End l) = false
+is_tier (headings.Tier l) = true
+is_tier (headings.Stop n) = false
 
-end_not_stop : (o : Option (ℕ × ℕ)) (n : ℕ) → end_heading o ≡ Ok (headings.Stop n) → ⊥
-end_not_stop None n h = absurd cc
-end_not_stop (Some m) n h = absurd cc
+abbrev is_stop : Heading → Bool
+is_stop (headings.Piece l) = false
+is_stop (headings.End l) = false
+is_stop (headings.Tier l) = false
+is_stop (headings.Stop n) = true
 
-stop_not_piece : (o : Option ℕ) (l : PieceLine) → stop_heading o ≡ Ok (headings.Piece l) → ⊥
-stop_not_piece None l h = absurd cc
-stop_not_piece (Some n) l h = absurd cc
+piece_apart : (o : Option (ℕ × ℕ × ℕ)) (h : Heading) → piece_heading o ≡ Ok h → is_piece h ≡ false → ⊥
+piece_apart None h e k = absurd cc
+piece_apart (Some n) h e k =
+    let same : headings.Piece (record { tick = n.0; conn = n.1; len = n.2 }) ≡ h = cc in
+    let bad : true ≡ false = ap is_piece same ∙ k in
+    absurd cc
 
-stop_not_end : (o : Option ℕ) (l : EndLine) → stop_heading o ≡ Ok (headings.End l) → ⊥
-stop_not_end None l h = absurd cc
-stop_not_end (Some n) l h = absurd cc
+end_apart : (o : Option (ℕ × ℕ)) (h : Heading) → end_heading o ≡ Ok h → is_end h ≡ false → ⊥
+end_apart None h e k = absurd cc
+end_apart (Some n) h e k =
+    let same : headings.End (record { tick = n.0; conn = n.1 }) ≡ h = cc in
+    let bad : true ≡ false = ap is_end same ∙ k in
+    absurd cc
 
-pub piece_line_inverse : (line : List ℕ) (l : PieceLine) → heading_of line ≡ Ok (headings.Piece l) → l.tick < 2 ^ 64 - 1 → l.conn < 2 ^ 64 - 1 → l.len < 2 ^ 64 - 1
+tier_apart : (o : Option (ℕ × ℕ)) (h : Heading) → tier_heading o ≡ Ok h → is_tier h ≡ false → ⊥
+tier_apart None h e k = absurd cc
+tier_apart (Some n) h e k =
+    let same : headings.Tier (record { conn = n.0; tier = n.1 }) ≡ h = cc in
+    let bad : true ≡ false = ap is_tier same ∙ k in
+    absurd cc
+
+stop_apart : (o : Option ℕ) (h : Heading) → stop_heading o ≡ Ok h → is_stop h ≡ false → ⊥
+stop_apart None h e k = absurd cc
+stop_apart (Some n) h e k =
+    let same : headings.Stop n ≡ h = cc in
+    let bad : true ≡ false = ap is_stop same ∙ k in
+    absurd cc
+
+pub piece_line_inverse : (v : Version) (line : List ℕ) (l : PieceLine) → heading_of v line ≡ Ok (headings.Piece l) → l.tick < 2 ^ 64 - 1 → l.conn < 2 ^ 64 - 1 → l.len < 2 ^ 64 - 1
     → line ≡ codes "piece " ++ (decimal l.tick ++ 32 ∷ (decimal l.conn ++ 32 ∷ decimal l.len))
 unfolding Announces
-piece_line_inverse line l h st sc sl = elim (announces line (headings.Piece l) h) [
-  | inl p ↦ p.0 ∙ ap (λ v. codes "piece " ++ v) (three_inverse (drop 6 line) l.tick l.conn l.len (piece_heading_is _ l p.1) st sc sl)
-  | inr n ↦ elim n [ inl e ↦ absurd (end_not_piece _ l e.1) | inr s ↦ absurd (stop_not_piece _ l s.1) ]
-]
-
-pub end_line_inverse : (line : List ℕ) (l : EndLine) → heading_of line ≡ Ok (headings.End l) → l.tick < 2 ^ 64 - 1 → l.conn < 2 ^ 64 - 1
-    → line ≡ codes "end " ++ (decimal l.tick ++ 32 ∷ decimal l.conn)
-unfolding Announces
-end_line_inverse line l h st sc = elim (announces line (headings.End l) h) [
-  | inl p ↦ absurd (piece_not_end _ l p.1)
+piece_line_inverse v line l h st sc sl = elim (announces v line (headings.Piece l) h) [
+  | inl p ↦ p.0 ∙ ap (λ t. codes "piece " ++ t) (three_inverse (drop 6 line) l.tick l.conn l.len (piece_heading_is _ l p.1) st sc sl)
   | inr n ↦ elim n [
-    | inl e ↦ e.0 ∙ ap (λ v. codes "end " ++ v) (two_inverse (drop 4 line) l.tick l.conn (end_heading_is _ l e.1) st sc)
-    | inr s ↦ absurd (stop_not_end _ l s.1)
+    | inl e ↦ absurd (end_apart _ _ e.1 refl)
+    | inr m ↦ elim m [ inl t ↦ absurd (tier_apart _ _ t.2 refl) | inr s ↦ absurd (stop_apart _ _ s.1 refl) ]
   ]
 ]
 
-pub stop_line_inverse : (line : List ℕ) (n : ℕ) → heading_of line ≡ Ok (headings.Stop n) → n < 2 ^ 64 - 1 → line ≡ codes "stop " ++ decimal n
+pub end_line_inverse : (v : Version) (line : List ℕ) (l : EndLine) → heading_of v line ≡ Ok (headings.End l) → l.tick < 2 ^ 64 - 1 → l.conn < 2 ^ 64 - 1
+    → line ≡ codes "end " ++ (decimal l.tick ++ 32 ∷ decimal l.conn)
 unfolding Announces
-stop_line_inverse line n h small = elim (announces line (headings.Stop n) h) [
-  | inl p ↦ absurd (piece_not_stop _ n p.1)
+end_line_inverse v line l h st sc = elim (announces v line (headings.End l) h) [
+  | inl p ↦ absurd (piece_apart _ _ p.1 refl)
+  | inr n ↦ elim n [
+    | inl e ↦ e.0 ∙ ap (λ t. codes "end " ++ t) (two_inverse (drop 4 line) l.tick l.conn (end_heading_is _ l e.1) st sc)
+    | inr m ↦ elim m [ inl t ↦ absurd (tier_apart _ _ t.2 refl) | inr s ↦ absurd (stop_apart _ _ s.1 refl) ]
+  ]
+]
+
+pub tier_line_inverse : (v : Version) (line : List ℕ) (l : TierLine) → heading_of v line ≡ Ok (headings.Tier l) → l.conn < 2 ^ 64 - 1 → l.tier < 2 ^ 64 - 1
+    → line ≡ codes "tier " ++ (decimal l.conn ++ 32 ∷ decimal l.tier)
+unfolding Announces
+tier_line_inverse v line l h sc st = elim (announces v line (headings.Tier l) h) [
+  | inl p ↦ absurd (piece_apart _ _ p.1 refl)
+  | inr n ↦ elim n [
+    | inl e ↦ absurd (end_apart _ _ e.1 refl)
+    | inr m ↦ elim m [
+      | inl t ↦ t.0 ∙ ap (λ w. codes "tier " ++ w) (two_inverse (drop 5 line) l.conn l.tier (tier_heading_is _ l t.2) sc st)
+      | inr s ↦ absurd (stop_apart _ _ s.1 refl)
+    ]
+  ]
+]
+
+pub stop_line_inverse : (v : Version) (line : List ℕ) (n : ℕ) → heading_of v line ≡ Ok (headings.Stop n) → n < 2 ^ 64 - 1 → line ≡ codes "stop " ++ decimal n
+unfolding Announces
+stop_line_inverse v line n h small = elim (announces v line (headings.Stop n) h) [
+  | inl p ↦ absurd (piece_apart _ _ p.1 refl)
   | inr m ↦ elim m [
-    | inl e ↦ absurd (end_not_stop _ n e.1)
-    | inr s ↦ s.0 ∙ ap (λ v. codes "stop " ++ v) (number_inverse (drop 5 line) n (stop_heading_is _ n s.1) small)
+    | inl e ↦ absurd (end_apart _ _ e.1 refl)
+    | inr o ↦ elim o [
+      | inl t ↦ absurd (tier_apart _ _ t.2 refl)
+      | inr s ↦ s.0 ∙ ap (λ t. codes "stop " ++ t) (number_inverse (drop 5 line) n (stop_heading_is _ n s.1) small)
+    ]
+  ]
+]
+
+-- a line announces only what its version has
+pub heading_has : (v : Version) (line : List ℕ) (heading : Heading) → heading_of v line ≡ Ok heading → IsHeadingOf v heading
+unfolding Announces
+heading_has v line (headings.Piece l) h = tt
+heading_has v line (headings.End l) h = tt
+heading_has v line (headings.Stop n) h = tt
+heading_has v line (headings.Tier l) h = elim (announces v line (headings.Tier l) h) [
+  | inl p ↦ absurd (piece_apart _ _ p.1 refl)
+  | inr n ↦ elim n [
+    | inl e ↦ absurd (end_apart _ _ e.1 refl)
+    | inr m ↦ elim m [ inl t ↦ t.1 | inr s ↦ absurd (stop_apart _ _ s.1 refl) ]
   ]
 ]

@@ -4,16 +4,18 @@ use Rattle.std.proofs.lemmas.Bool.Decides.{nat_tests, Decides-eqb}
 use Rattle.std.proofs.lemmas.List.{append_assoc, append-nil, length-append}
 use Rattle.paths.specs.Texts.{Ahead, line_at, run_at, byte_at}
 use Rattle.paths.proofs.Inverse.{TakesAhead, ahead_then, unless_ok, when_ok, ok_is, line_inverse, run_inverse, byte_takes}
-use Rattle.captures.specs.Captures.{Version, Past, feed, piece_line, record_text, latest_tick, most_bytes, size_of, Follows}
-use Rattle.captures.specs.CaptureFaults.{kind_of, named, heading_of, allowed, body_at, piece_at, close_at, announced, record_at}
+use Rattle.captures.specs.Captures.{last_connection, has_tiers, Past, feed, piece_line, record_text, latest_tick, most_bytes, last_tier, size_of, Follows}
+use Rattle.captures.specs.declared.version.Version.{Version}
+use Rattle.captures.specs.CaptureFaults.{kind_of, named, heading_of, IsHeadingOf, open_connection, allowed, body_at, piece_at, tier_record, close_at, announced, record_at}
 use Rattle.captures.specs.declared.record.Record.{Record}
-use Rattle.captures.specs.declared.record.Record.TheVariants.{Piece, End}
+use Rattle.captures.specs.declared.record.Record.TheVariants.{Piece, End, Tier}
 use Rattle.captures.specs.declared.heading.PieceLine.{PieceLine}
+use Rattle.captures.specs.declared.heading.TierLine.{TierLine}
 use Rattle.captures.specs.declared.heading.Heading.{Heading}
 use Rattle.captures.specs.declared.heading.Heading.TheVariants as headings
 use Rattle.captures.specs.declared.capture_fault.CaptureFaultKind.{CaptureFaultKind}
-use Rattle.captures.specs.declared.capture_fault.CaptureFaultKind.TheVariants.{Tick, Connection, Ended, Length, Count, Trailing}
-use Rattle.captures.proofs.Lines.{bind_ok, named_ok, piece_line_inverse, end_line_inverse, stop_line_inverse}
+use Rattle.captures.specs.declared.capture_fault.CaptureFaultKind.TheVariants.{Tick, Connection, Ended, Tier as LateTier, Length, Count, Trailing}
+use Rattle.captures.proofs.Lines.{bind_ok, named_ok, piece_line_inverse, end_line_inverse, tier_line_inverse, stop_line_inverse, heading_has, few_connections}
 
 -- the last line behind so many records
 abbrev pub stop_text : ℕ → List ℕ
@@ -32,19 +34,48 @@ either_false : (b c : Bool) → (b || c) ≡ false → (b ≡ false) × (c ≡ f
 either_false true c h = absurd cc
 either_false false c h = (refl, h)
 
-allowed_inverse : (v : Version) (past : Past) (tick conn c : ℕ) → allowed v past tick conn ≡ Ok c → (c ≡ conn) × (tick ≤ latest_tick) × (conn ≤ v.last_connection) × (past.tick ≤ tick) × (past.ended conn ≡ false)
-allowed_inverse v past tick conn c h =
-    let time = unless_ok (nat_lt latest_tick tick || nat_lt tick past.tick) Tick _ _ h in
-    let limit = unless_ok (nat_lt v.last_connection conn) Connection _ _ time.1 in
+open_inverse : (v : Version) (past : Past) (conn c : ℕ) → open_connection v past conn ≡ Ok c → (c ≡ conn) × (conn ≤ last_connection v) × (past.ended conn ≡ false)
+open_inverse v past conn c h =
+    let limit = unless_ok (nat_lt (last_connection v) conn) Connection _ _ h in
     let last = unless_ok (past.ended conn) Ended _ _ limit.1 in
     let same : conn ≡ c = ok_is {A = ℕ} {E = CaptureFaultKind} _ _ _ _ refl refl last.1 in
+    (sym same, let t = limit.0 in grind (arith, nat_tests), last.0)
+
+allowed_inverse : (v : Version) (past : Past) (tick conn c : ℕ) → allowed v past tick conn ≡ Ok c → (c ≡ conn) × (tick ≤ latest_tick) × (conn ≤ last_connection v) × (past.tick ≤ tick) × (past.ended conn ≡ false)
+allowed_inverse v past tick conn c h =
+    let time = unless_ok (nat_lt latest_tick tick || nat_lt tick past.tick) Tick _ _ h in
+    let names = open_inverse v past conn c time.1 in
     let late = either_false (nat_lt latest_tick tick) (nat_lt tick past.tick) time.0 in (
-      sym same,
+      names.0,
       let t = late.0 in grind (arith, nat_tests),
-      let t = limit.0 in grind (arith, nat_tests),
+      names.1,
       let t = late.1 in grind (arith, nat_tests),
-      last.0,
+      names.2,
     )
+
+-- what a tier's line said
+record GivesTier (v : Version) (past : Past) (l : TierLine) (r : Record) : Type 0 where
+  is : r ≡ Tier l.conn l.tier
+  in_conn : l.conn ≤ last_connection v
+  in_tier : l.tier ≤ last_tier
+  follows : has_tiers v ≡ true → Follows v past r
+
+tier_inverse : (v : Version) (past : Past) (l : TierLine) (r : Record) → tier_record v past l ≡ Ok r → GivesTier v past l r
+tier_inverse v past l r h =
+    let conn = bind_ok (open_connection v past l.conn) _ _ h in
+    let names = open_inverse v past l.conn conn.0 conn.1 in
+    let good = unless_ok (nat_lt last_tier l.tier || past.used conn.0) LateTier _ _ conn.2 in
+    let parts = either_false (nat_lt last_tier l.tier) (past.used conn.0) good.0 in
+    let made : Tier conn.0 l.tier ≡ r = ok_is {A = Record} {E = CaptureFaultKind} _ _ _ _ refl refl good.1 in
+    let is : r ≡ Tier l.conn l.tier = sym made ∙ ap (λ c. Tier c l.tier) names.0 in
+    let in_tier : l.tier ≤ last_tier = let t = parts.0 in grind (arith, nat_tests) in
+    let unused : past.used l.conn ≡ false = sym (ap past.used names.0) ∙ parts.1 in
+    record {
+      is = is;
+      in_conn = names.1;
+      in_tier = in_tier;
+      follows = λ has. subst (λ (q : Record). Follows v past q) (sym is) (names.2, unused, (has, names.1, in_tier));
+    }
 
 body_inverse : (n : ℕ) (a b : Ahead) (bytes : List ℕ) → body_at n a ≡ Ok (bytes, b) → TakesAhead a (bytes ++ feed ∷ []) b × (length bytes ≡ n)
 body_inverse n a b bytes h =
@@ -67,7 +98,7 @@ record TakesPiece (v : Version) (past : Past) (a : Ahead) (l : PieceLine) (r : R
   took : TakesAhead a (bytes ++ feed ∷ []) b
   len : length bytes ≡ l.len
   in_tick : l.tick ≤ latest_tick
-  in_conn : l.conn ≤ v.last_connection
+  in_conn : l.conn ≤ last_connection v
   in_len : l.len ≤ most_bytes
   follows : Follows v past r
 
@@ -100,33 +131,45 @@ piece_parts w a b c bytes = simp append_assoc
 end_parts : (w a b : List ℕ) → ((w ++ (a ++ 32 ∷ b)) ++ 10 ∷ []) ++ [] ≡ (w ++ a ++ (32 ∷ []) ++ b) ++ 10 ∷ []
 end_parts w a b = append-nil _ ∙ simp append_assoc
 
+tier_parts : (w a b : List ℕ) → ((w ++ (a ++ 32 ∷ b)) ++ 10 ∷ []) ++ [] ≡ (w ++ a ++ (32 ∷ []) ++ b) ++ 10 ∷ []
+tier_parts w a b = end_parts w a b
+
 -- what a heading announced takes, behind its line
 Takes : List ℕ → Past → Option Record → Ahead → Ahead → Type 0
 Takes line past o a b = (rest : List ℕ) × TakesAhead a rest b × ((line ++ feed ∷ []) ++ rest ≡ next_text past o) × EndsIfNone o b
 
-announced_takes : (v : Version) (past : Past) (line : List ℕ) (heading : Heading) (a b : Ahead) (o : Option Record) → v.last_connection < 2 ^ 64 - 1 → past.count < 2 ^ 64 - 1
-    → heading_of line ≡ Ok heading → announced v past heading a ≡ Ok (o, b) → Takes line past o a b
+announced_takes : (v : Version) (past : Past) (line : List ℕ) (heading : Heading) (a b : Ahead) (o : Option Record) → past.count < 2 ^ 64 - 1
+    → heading_of v line ≡ Ok heading → announced v past heading a ≡ Ok (o, b) → Takes line past o a b
 unfolding Takes
-announced_takes v past line (headings.Piece l) a b o few small is h =
+announced_takes v past line (headings.Piece l) a b o small is h =
     let piece = bind_ok (piece_at v past l a) _ _ h in
     let t = piece_inverse v past l a piece.0.1 piece.0.0 piece.1 in
     let pair : (Some piece.0.0, piece.0.1) ≡ (o, b) = ok_is {A = Option Record × Ahead} {E = CaptureFaultKind} _ _ _ _ refl refl piece.2 in
-    let text = piece_line_inverse line l is (let x = t.in_tick in omega arith) (let x = t.in_conn in omega arith) (let x = t.in_len in omega arith) in
+    let text = piece_line_inverse v line l is (let x = t.in_tick in omega arith) (let x = t.in_conn in omega (arith, few_connections v)) (let x = t.in_len in omega arith) in
     let whole : (line ++ feed ∷ []) ++ (t.bytes ++ feed ∷ []) ≡ record_text (Piece l.tick l.conn t.bytes) =
     ap (λ w. (w ++ feed ∷ []) ++ (t.bytes ++ feed ∷ [])) text ∙ (ap (λ n. ((codes "piece " ++ (decimal l.tick ++ 32 ∷ (decimal l.conn ++ 32 ∷ decimal n))) ++ feed ∷ []) ++ (t.bytes ++ feed ∷ [])) (sym t.len)
     ∙ piece_parts (codes "piece ") (decimal l.tick) (decimal l.conn) (decimal (length t.bytes)) t.bytes) in
     subst (λ (p : Option Record × Ahead). (rest : List ℕ) × TakesAhead a rest p.1 × ((line ++ feed ∷ []) ++ rest ≡ next_text past p.0) × EndsIfNone p.0 p.1) pair
     (t.bytes ++ feed ∷ [], t.took, whole ∙ ap record_text (sym t.is), tt)
-announced_takes v past line (headings.End l) a b o few small is h =
+announced_takes v past line (headings.End l) a b o small is h =
     let conn = bind_ok (allowed v past l.tick l.conn) _ _ h in
     let within = allowed_inverse v past l.tick l.conn conn.0 conn.1 in
     let pair : (Some (End l.tick conn.0), a) ≡ (o, b) = ok_is {A = Option Record × Ahead} {E = CaptureFaultKind} _ _ _ _ refl refl conn.2 in
-    let text = end_line_inverse line l is (let x = within.1 in omega arith) (let x = within.2 in omega arith) in
+    let text = end_line_inverse v line l is (let x = within.1 in omega arith) (let x = within.2 in omega (arith, few_connections v)) in
     let whole : (line ++ feed ∷ []) ++ [] ≡ record_text (End l.tick l.conn) =
     ap (λ w. (w ++ feed ∷ []) ++ []) text ∙ end_parts (codes "end ") (decimal l.tick) (decimal l.conn) in
     subst (λ (p : Option Record × Ahead). (rest : List ℕ) × TakesAhead a rest p.1 × ((line ++ feed ∷ []) ++ rest ≡ next_text past p.0) × EndsIfNone p.0 p.1) pair
     ([], record { bytes = refl; left = omega arith }, whole ∙ ap (λ c. record_text (End l.tick c)) (sym within.0), tt)
-announced_takes v past line (headings.Stop count) a b o few small is h =
+announced_takes v past line (headings.Tier l) a b o small is h =
+    let tier = bind_ok (tier_record v past l) _ _ h in
+    let t = tier_inverse v past l tier.0 tier.1 in
+    let pair : (Some tier.0, a) ≡ (o, b) = ok_is {A = Option Record × Ahead} {E = CaptureFaultKind} _ _ _ _ refl refl tier.2 in
+    let text = tier_line_inverse v line l is (let x = t.in_conn in omega (arith, few_connections v)) (let x = t.in_tier in omega arith) in
+    let whole : (line ++ feed ∷ []) ++ [] ≡ record_text (Tier l.conn l.tier) =
+    ap (λ w. (w ++ feed ∷ []) ++ []) text ∙ tier_parts (codes "tier ") (decimal l.conn) (decimal l.tier) in
+    subst (λ (p : Option Record × Ahead). (rest : List ℕ) × TakesAhead a rest p.1 × ((line ++ feed ∷ []) ++ rest ≡ next_text past p.0) × EndsIfNone p.0 p.1) pair
+    ([], record { bytes = refl; left = omega arith }, whole ∙ ap record_text (sym t.is), tt)
+announced_takes v past line (headings.Stop count) a b o small is h =
     let good = when_ok (count == past.count) Count _ _ h in
     let close = bind_ok (close_at a) _ _ good.1 in
     let empty = when_ok (length a.bytes == 0) Trailing _ _ close.1 in
@@ -134,7 +177,7 @@ announced_takes v past line (headings.Stop count) a b o few small is h =
     let pair : (None, close.0.1) ≡ (o, b) = ok_is {A = Option Record × Ahead} {E = CaptureFaultKind} _ _ _ _ refl refl close.2 in
     let here : (None, a) ≡ (o, b) = ap (λ (q : Unit {0} × Ahead). (None, q.1)) same_close ∙ pair in
     let same : count ≡ past.count = (Decides-eqb count past.count).0 good.0 in
-    let text = stop_line_inverse line count is (omega arith) in
+    let text = stop_line_inverse v line count is (omega arith) in
     let none : a.bytes ≡ [] = is_nil a.bytes ((Decides-eqb (length a.bytes) 0).0 empty.0) in
     subst (λ (p : Option Record × Ahead). (rest : List ℕ) × TakesAhead a rest p.1 × ((line ++ feed ∷ []) ++ rest ≡ next_text past p.0) × EndsIfNone p.0 p.1) here
     ([], record { bytes = refl; left = omega arith }, append-nil (line ++ feed ∷ []) ∙ ap (λ w. w ++ feed ∷ []) (text ∙ ap (λ n. codes "stop " ++ decimal n) same), none)
@@ -143,39 +186,44 @@ announced_takes v past line (headings.Stop count) a b o few small is h =
     is_nil [] e = refl
     is_nil (x ∷ xs) e = absurd (omega arith)
 
-pub record_takes : (v : Version) (past : Past) (a b : Ahead) (o : Option Record) → v.last_connection < 2 ^ 64 - 1 → past.count < 2 ^ 64 - 1
+pub record_takes : (v : Version) (past : Past) (a b : Ahead) (o : Option Record) → past.count < 2 ^ 64 - 1
     → record_at v past a ≡ Ok (o, b) → TakesAhead a (next_text past o) b × EndsIfNone o b
 unfolding Takes
-record_takes v past a b o few small h =
+record_takes v past a b o small h =
     let line = bind_ok (named kind_of (line_at a)) _ _ h in
     let read = line_inverse a line.0.1 line.0.0 (named_ok kind_of (line_at a) line.0 line.1) in
-    let heading = bind_ok (heading_of line.0.0) _ _ line.2 in
-    let t = announced_takes v past line.0.0 heading.0 line.0.1 b o few small heading.1 heading.2 in
+    let heading = bind_ok (heading_of v line.0.0) _ _ line.2 in
+    let t = announced_takes v past line.0.0 heading.0 line.0.1 b o small heading.1 heading.2 in
     (subst (λ (w : List ℕ). TakesAhead a w b) t.2 (ahead_then a line.0.1 b (line.0.0 ++ feed ∷ []) t.0 read t.1), t.3)
 
 -- a record's text is longer than what it brings
 pub size_below : (r : Record) → size_of r < length (record_text r)
 size_below (Piece tick conn bytes) = omega (arith, length-append (piece_line tick conn (length bytes)) (feed ∷ (bytes ++ feed ∷ [])), length-append bytes (feed ∷ []))
 size_below (End tick conn) = omega arith
+size_below (Tier conn tier) = omega arith
 
 -- a record that was read may stand there
 abbrev pub FollowsIfSome : Version → Past → Option Record → Type 0
 FollowsIfSome v past None = Unit {0}
 FollowsIfSome v past (Some r) = Follows v past r
 
-announced_follows : (v : Version) (past : Past) (heading : Heading) (a b : Ahead) (o : Option Record) → announced v past heading a ≡ Ok (o, b) → FollowsIfSome v past o
-announced_follows v past (headings.Piece l) a b o h =
+announced_follows : (v : Version) (past : Past) (heading : Heading) (a b : Ahead) (o : Option Record) → IsHeadingOf v heading → announced v past heading a ≡ Ok (o, b) → FollowsIfSome v past o
+announced_follows v past (headings.Piece l) a b o has h =
     let piece = bind_ok (piece_at v past l a) _ _ h in
     let t = piece_inverse v past l a piece.0.1 piece.0.0 piece.1 in
     let pair : (Some piece.0.0, piece.0.1) ≡ (o, b) = ok_is {A = Option Record × Ahead} {E = CaptureFaultKind} _ _ _ _ refl refl piece.2 in
     subst (λ (x : Option Record). FollowsIfSome v past x) (ap (λ (p : Option Record × Ahead). p.0) pair) t.follows
-announced_follows v past (headings.End l) a b o h =
+announced_follows v past (headings.End l) a b o has h =
     let conn = bind_ok (allowed v past l.tick l.conn) _ _ h in
     let within = allowed_inverse v past l.tick l.conn conn.0 conn.1 in
     let pair : (Some (End l.tick conn.0), a) ≡ (o, b) = ok_is {A = Option Record × Ahead} {E = CaptureFaultKind} _ _ _ _ refl refl conn.2 in
     let follows : Follows v past (End l.tick l.conn) = (within.3, within.4, (within.1, within.2)) in
     subst (λ (x : Option Record). FollowsIfSome v past x) (ap (λ (p : Option Record × Ahead). p.0) pair) (subst (λ (c : ℕ). Follows v past (End l.tick c)) (sym within.0) follows)
-announced_follows v past (headings.Stop count) a b o h =
+announced_follows v past (headings.Tier l) a b o has h =
+    let tier = bind_ok (tier_record v past l) _ _ h in
+    let pair : (Some tier.0, a) ≡ (o, b) = ok_is {A = Option Record × Ahead} {E = CaptureFaultKind} _ _ _ _ refl refl tier.2 in
+    subst (λ (x : Option Record). FollowsIfSome v past x) (ap (λ (p : Option Record × Ahead). p.0) pair) ((tier_inverse v past l tier.0 tier.1).follows has)
+announced_follows v past (headings.Stop count) a b o has h =
     let good = when_ok (count == past.count) Count _ _ h in
     let close = bind_ok (close_at a) _ _ good.1 in
     let pair : (None, close.0.1) ≡ (o, b) = ok_is {A = Option Record × Ahead} {E = CaptureFaultKind} _ _ _ _ refl refl close.2 in
@@ -184,5 +232,5 @@ announced_follows v past (headings.Stop count) a b o h =
 pub record_follows : (v : Version) (past : Past) (a b : Ahead) (o : Option Record) → record_at v past a ≡ Ok (o, b) → FollowsIfSome v past o
 record_follows v past a b o h =
     let line = bind_ok (named kind_of (line_at a)) _ _ h in
-    let heading = bind_ok (heading_of line.0.0) _ _ line.2 in
-    announced_follows v past heading.0 line.0.1 b o heading.2
+    let heading = bind_ok (heading_of v line.0.0) _ _ line.2 in
+    announced_follows v past heading.0 line.0.1 b o (heading_has v line.0.0 heading.0 heading.1) heading.2

@@ -1,20 +1,23 @@
 -- How a capture text is read, record by record, and its first fault.
-use Rattle.std.specs.Prelude.{◌≡◌, ℕ, ◌+◌, ◌-◌, ◌≤◌, ◌==◌, ◌||◌, ◌⊎◌, Bool, true, false, List, [], ◌++◌, drop, length, Option, Some, None, Result, Ok, Err, MatchResult, codes, nat_eq, nat_lt, if◌then◌else◌, is_some, unwrap_or}
+use Rattle.std.specs.Prelude.{◌≡◌, ℕ, ◌+◌, ◌-◌, ◌≤◌, ◌==◌, ◌||◌, ◌&&◌, ◌⊎◌, Bool, true, false, List, [], ◌++◌, drop, length, Option, Some, None, Result, Ok, Err, MatchResult, codes, nat_eq, nat_lt, if◌then◌else◌, is_some, unwrap_or}
 use Rattle.std.specs.List.{starts_with}
 use Rattle.paths.specs.Numbers.{number_of, number_and_rest, three_numbers}
 use Rattle.paths.specs.Numbers.{◌>>=◌ as ◌>?=◌}
 use Rattle.paths.specs.Texts.{Ahead, line_at, run_at, byte_at}
 use Rattle.paths.specs.declared.stop.Stop.{Stop}
 use Rattle.paths.specs.declared.stop.Stop.TheVariants as stops
-use Rattle.captures.specs.Captures.{Version, Past, past_of, feed, latest_start, latest_tick, most_bytes, longest_text, text_before_stop, IsCapture}
+use Rattle.captures.specs.Captures.{front, last_connection, has_tiers, feed, latest_start, latest_tick, most_bytes, longest_text, last_tier, Past, past_of, text_before_stop, IsCapture}
+use Rattle.captures.specs.declared.version.Version.{Version}
+use Rattle.captures.specs.declared.version.Version.TheVariants.{One, Two}
 use Rattle.captures.specs.declared.record.Record.{Record}
-use Rattle.captures.specs.declared.record.Record.TheVariants.{Piece, End}
+use Rattle.captures.specs.declared.record.Record.TheVariants.{Piece, End, Tier}
 use Rattle.captures.specs.declared.heading.PieceLine.{PieceLine}
+use Rattle.captures.specs.declared.heading.TierLine.{TierLine}
 use Rattle.captures.specs.declared.heading.Heading.{Heading}
 use Rattle.captures.specs.declared.heading.Heading.TheVariants as headings
 use Rattle.captures.specs.declared.capture_fault.CaptureFault.{CaptureFault}
 use Rattle.captures.specs.declared.capture_fault.CaptureFaultKind.{CaptureFaultKind}
-use Rattle.captures.specs.declared.capture_fault.CaptureFaultKind.TheVariants.{Cut, Header, Kind, Number, Tick, Connection, Ended, Length, Count, Trailing, TooLarge, Read, Memory}
+use Rattle.captures.specs.declared.capture_fault.CaptureFaultKind.TheVariants.{Cut, Header, Kind, Number, Tick, Connection, Ended, Tier as LateTier, Length, Count, Trailing, TooLarge, Read, Memory}
 
 -- the fault of a record, a part of which could not be read
 abbrev pub kind_of : Stop → CaptureFaultKind
@@ -41,28 +44,30 @@ abbrev pub ◌>>=◌ : {A B : Type 0} → Result A CaptureFaultKind → (A → R
 (Ok x) >>= f = f x
 (Err e) >>= f = Err e
 
--- the start that the first line gives
-abbrev pub start_heading : Option ℕ → Result ℕ CaptureFaultKind
-start_heading (Some start) = if nat_lt latest_start start then Err Header else Ok start
-start_heading None = Err Number
+-- the version and the start that the first line gives
+abbrev pub start_heading : Version → Option ℕ → Result (Version × ℕ) CaptureFaultKind
+start_heading v (Some start) = if nat_lt latest_start start then Err Header else Ok (v, start)
+start_heading v None = Err Number
 
-abbrev pub start_of : Version → List ℕ → Result ℕ CaptureFaultKind
-start_of v line =
-    if starts_with nat_eq line v.front then start_heading (number_of (drop (length v.front) line))
+abbrev pub start_of : List ℕ → Result (Version × ℕ) CaptureFaultKind
+start_of line =
+    if starts_with nat_eq line (front One) then start_heading One (number_of (drop (length (front One)) line))
+    else if starts_with nat_eq line (front Two) then start_heading Two (number_of (drop (length (front Two)) line))
     else Err Header
 
--- the first line: its start, behind it the records
-abbrev pub header_at : Version → Ahead → Result (ℕ × Ahead) CaptureFaultKind
-header_at v a = do
+-- the first line: its version and its start, behind it the records
+abbrev pub header_at : Ahead → Result ((Version × ℕ) × Ahead) CaptureFaultKind
+header_at a = do
   line ← named header_kind_of (line_at a)
-  start ← start_of v line.0
-  Ok (start, line.1)
+  heading ← start_of line.0
+  Ok (heading, line.1)
 
 -- just two numbers
 abbrev pub two_numbers : List ℕ → Option (ℕ × ℕ)
 two_numbers text = number_and_rest text >?= λ first. number_of first.1 >?= λ second. Some (first.0, second)
 
--- what a line announces: a piece's tick, connection and length, an end's tick and connection, or the number of records
+-- what a line announces: a piece's tick, connection and length, an end's tick and connection, a tier's connection and
+-- number, or the number of records
 abbrev pub piece_heading : Option (ℕ × ℕ × ℕ) → Result Heading CaptureFaultKind
 piece_heading (Some n) = Ok (headings.Piece (record { tick = n.0; conn = n.1; len = n.2 }))
 piece_heading None = Err Number
@@ -71,24 +76,41 @@ abbrev pub end_heading : Option (ℕ × ℕ) → Result Heading CaptureFaultKind
 end_heading (Some n) = Ok (headings.End (record { tick = n.0; conn = n.1 }))
 end_heading None = Err Number
 
+abbrev pub tier_heading : Option (ℕ × ℕ) → Result Heading CaptureFaultKind
+tier_heading (Some n) = Ok (headings.Tier (record { conn = n.0; tier = n.1 }))
+tier_heading None = Err Number
+
 abbrev pub stop_heading : Option ℕ → Result Heading CaptureFaultKind
 stop_heading (Some n) = Ok (headings.Stop n)
 stop_heading None = Err Number
 
-abbrev pub heading_of : List ℕ → Result Heading CaptureFaultKind
-heading_of line =
+abbrev pub heading_of : Version → List ℕ → Result Heading CaptureFaultKind
+heading_of v line =
     if starts_with nat_eq line (codes "piece ") then piece_heading (three_numbers (drop 6 line))
     else if starts_with nat_eq line (codes "end ") then end_heading (two_numbers (drop 4 line))
+    else if starts_with nat_eq line (codes "tier ") && has_tiers v then tier_heading (two_numbers (drop 5 line))
     else if starts_with nat_eq line (codes "stop ") then stop_heading (number_of (drop 5 line))
     else Err Kind
+
+-- what a line of this version may announce
+abbrev pub IsHeadingOf : Version → Heading → Type 0
+IsHeadingOf v (headings.Piece line) = Unit {0}
+IsHeadingOf v (headings.End line) = Unit {0}
+IsHeadingOf v (headings.Tier line) = has_tiers v ≡ true
+IsHeadingOf v (headings.Stop count) = Unit {0}
+
+-- the connection that a record behind this past may name
+abbrev pub open_connection : Version → Past → ℕ → Result ℕ CaptureFaultKind
+open_connection v past conn =
+    if nat_lt (last_connection v) conn then Err Connection
+    else if past.ended conn then Err Ended
+    else Ok conn
 
 -- the connection of a piece or an end, whose tick and connection may stand behind this past
 abbrev pub allowed : Version → Past → ℕ → ℕ → Result ℕ CaptureFaultKind
 allowed v past tick conn =
     if nat_lt latest_tick tick || nat_lt tick past.tick then Err Tick
-    else if nat_lt v.last_connection conn then Err Connection
-    else if past.ended conn then Err Ended
-    else Ok conn
+    else open_connection v past conn
 
 -- the bytes of a piece, so many
 abbrev pub body_at : ℕ → Ahead → Result (List ℕ × Ahead) CaptureFaultKind
@@ -106,6 +128,12 @@ piece_at v past line a = do
         bytes ← body_at line.len a
         Ok (Piece line.tick conn bytes.0, bytes.1))
 
+-- the tier that a line gives
+abbrev pub tier_record : Version → Past → TierLine → Result Record CaptureFaultKind
+tier_record v past line = do
+  conn ← open_connection v past line.conn
+  if nat_lt last_tier line.tier || past.used conn then Err LateTier else Ok (Tier conn line.tier)
+
 -- the end of the input
 abbrev pub close_at : Ahead → Result (Unit {0} × Ahead) CaptureFaultKind
 close_at a = if length a.bytes == 0 then Ok (tt, a) else Err Trailing
@@ -118,6 +146,9 @@ announced v past (headings.Piece line) a = do
 announced v past (headings.End line) a = do
   conn ← allowed v past line.tick line.conn
   Ok (Some (End line.tick conn), a)
+announced v past (headings.Tier line) a = do
+  tier ← tier_record v past line
+  Ok (Some tier, a)
 announced v past (headings.Stop count) a =
     if count == past.count then (do
       end ← close_at a
@@ -128,7 +159,7 @@ announced v past (headings.Stop count) a =
 abbrev pub record_at : Version → Past → Ahead → Result (Option Record × Ahead) CaptureFaultKind
 record_at v past a = do
   line ← named kind_of (line_at a)
-  heading ← heading_of line.0
+  heading ← heading_of v line.0
   announced v past heading line.1
 
 -- a failed device and want of memory come where they happen: no definition foresees them
@@ -150,16 +181,16 @@ pub record FaultsBehind (v : Version) (text : List ℕ) (start : ℕ) (records :
   pub kind : record_at v (past_of records) (record { bytes = rest; left = longest_text - length (text_before_stop v start records) }) ≡ Err f.kind
 
 -- The first fault of bytes that are no capture text: that of the first line, which is record 0, or of the record behind
--- those that stand whole.
-abbrev pub IsHeaderFault : Version → List ℕ → CaptureFault → Type 0
-IsHeaderFault v text f = (f.at ≡ 0) × (header_at v (record { bytes = text; left = longest_text }) ≡ Err f.kind)
+-- those that stand whole, by the rules of the version that the first line gave.
+abbrev pub IsHeaderFault : List ℕ → CaptureFault → Type 0
+IsHeaderFault text f = (f.at ≡ 0) × (header_at (record { bytes = text; left = longest_text }) ≡ Err f.kind)
 
 abbrev pub IsFaultBehind : Version → List ℕ → ℕ → List Record → CaptureFault → Type 0
 IsFaultBehind v text start records f = (rest : List ℕ) × FaultsBehind v text start records f rest
 
-abbrev pub IsFirstFault : Version → List ℕ → CaptureFault → Type 0
-IsFirstFault v text f = IsHeaderFault v text f
-    ⊎ ((start : ℕ) × (records : List Record) × IsFaultBehind v text start records f)
+abbrev pub IsFirstFault : List ℕ → CaptureFault → Type 0
+IsFirstFault text f = IsHeaderFault text f
+    ⊎ ((v : Version) × (start : ℕ) × (records : List Record) × IsFaultBehind v text start records f)
 
 -- where the bytes of the input are known, and the fault is none that comes where it happens, it is the one of the text
 abbrev pub IsForeseen : (List ℕ → CaptureFault → Type 0) → Option (List ℕ) → CaptureFault → Type 0

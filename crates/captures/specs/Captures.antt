@@ -1,22 +1,29 @@
--- The text of a capture.
-use Rattle.std.specs.Prelude.{◌≡◌, ℕ, ◌-◌, ◌<◌, ◌≤◌, ◌==◌, Bool, false, List, [], ◌∷◌, ◌++◌, length, All, codes, decimal, slice_index, flat_map, sum_by}
+-- The text of a capture, in either version of the format.
+use Rattle.std.specs.Prelude.{◌≡◌, ℕ, ◌-◌, ◌<◌, ◌≤◌, ◌==◌, Bool, true, false, List, [], ◌∷◌, ◌++◌, length, All, codes, decimal, slice_index, flat_map, sum_by, if◌then◌else◌}
 use Rattle.std.specs.List.{list_any, AllPairs}
+use Rattle.captures.specs.declared.version.Version.{Version}
+use Rattle.captures.specs.declared.version.Version.TheVariants.{One, Two}
 use Rattle.captures.specs.declared.record.Record.{Record}
-use Rattle.captures.specs.declared.record.Record.TheVariants.{Piece, End}
+use Rattle.captures.specs.declared.record.Record.TheVariants.{Piece, End, Tier}
 
--- what one version of the format sets: the first line up to the start, and the greatest number of a connection
-pub record Version : Type 0 where
-  pub front : List ℕ
-  pub last_connection : ℕ
+-- What a version sets: the first line up to the start, the greatest number of a connection, and whether there are tiers.
+abbrev pub front : Version → List ℕ
+front One = codes "haboob-capture 1 "
+front Two = codes "haboob-capture 2 "
 
-abbrev pub version_one : Version
-version_one = record { front = codes "haboob-capture 1 "; last_connection = 4095 }
+abbrev pub last_connection : Version → ℕ
+last_connection One = 4095
+last_connection Two = 65535
+
+abbrev pub has_tiers : Version → Bool
+has_tiers One = false
+has_tiers Two = true
 
 -- a line feed
 abbrev pub feed : ℕ
 feed = 10
 
--- the latest start (seconds since 1970-01-01), the latest tick, the most bytes of a piece and of a text
+-- the latest start (seconds since 1970-01-01), the latest tick, the most bytes of a piece and of a text, the last tier
 abbrev pub latest_start : ℕ
 latest_start = 4102444800
 
@@ -29,23 +36,30 @@ most_bytes = 65536
 abbrev pub longest_text : ℕ
 longest_text = 1073741824
 
--- the line in front of a piece, the line of an end, the first and the last line, without their line feeds
+abbrev pub last_tier : ℕ
+last_tier = 3
+
+-- the line in front of a piece, the line of an end and of a tier, the first and the last line, without their line feeds
 abbrev pub piece_line : ℕ → ℕ → ℕ → List ℕ
 piece_line tick conn len = codes "piece " ++ decimal tick ++ codes " " ++ decimal conn ++ codes " " ++ decimal len
 
 abbrev pub end_line : ℕ → ℕ → List ℕ
 end_line tick conn = codes "end " ++ decimal tick ++ codes " " ++ decimal conn
 
+abbrev pub tier_line : ℕ → ℕ → List ℕ
+tier_line conn tier = codes "tier " ++ decimal conn ++ codes " " ++ decimal tier
+
 abbrev pub first_line : Version → ℕ → List ℕ
-first_line v start = v.front ++ decimal start
+first_line v start = front v ++ decimal start
 
 abbrev pub last_line : List Record → List ℕ
 last_line records = codes "stop " ++ decimal (length records)
 
--- a piece: its line and its bytes, each with a line feed; an end: its line
+-- a piece: its line and its bytes, each with a line feed; an end and a tier: the line
 abbrev pub record_text : Record → List ℕ
 record_text (Piece tick conn bytes) = piece_line tick conn (length bytes) ++ feed ∷ (bytes ++ feed ∷ [])
 record_text (End tick conn) = end_line tick conn ++ feed ∷ []
+record_text (Tier conn tier) = tier_line conn tier ++ feed ∷ []
 
 -- the text up to the last line, and the whole text
 abbrev pub text_before_stop : Version → ℕ → List Record → List ℕ
@@ -54,35 +68,66 @@ text_before_stop v start records = (first_line v start ++ feed ∷ []) ++ flat_m
 abbrev pub capture_text : Version → ℕ → List Record → List ℕ
 capture_text v start records = text_before_stop v start records ++ (last_line records ++ feed ∷ [])
 
--- the connection of a record, and whether the record ends this connection
+-- the connection of a record
 abbrev pub connection_of : Record → ℕ
 connection_of (Piece tick conn bytes) = conn
 connection_of (End tick conn) = conn
+connection_of (Tier conn tier) = conn
 
+-- whether the record ends this connection; whether it is a piece of it, or gives it a tier
 abbrev pub is_end_of : ℕ → Record → Bool
 is_end_of c (Piece tick conn bytes) = false
 is_end_of c (End tick conn) = conn == c
+is_end_of c (Tier conn tier) = false
+
+abbrev pub is_use_of : ℕ → Record → Bool
+is_use_of c (Piece tick conn bytes) = conn == c
+is_use_of c (End tick conn) = false
+is_use_of c (Tier conn tier) = conn == c
+
+-- the last number, or 0 where there is none
+abbrev pub last_of : List ℕ → ℕ
+last_of xs = slice_index xs (length xs - 1)
 
 -- the tick that a record gives, and the ticks of all records, in their order
 abbrev pub tick_of : Record → List ℕ
 tick_of (Piece tick conn bytes) = tick ∷ []
 tick_of (End tick conn) = tick ∷ []
+tick_of (Tier conn tier) = []
 
 abbrev pub ticks_of : List Record → List ℕ
 ticks_of records = flat_map tick_of records
 
+-- the tier that a record gives a connection, and the tier of a connection: 0 where no record gives it one
+abbrev pub tier_given : ℕ → Record → List ℕ
+tier_given c (Piece tick conn bytes) = []
+tier_given c (End tick conn) = []
+tier_given c (Tier conn tier) = if conn == c then tier ∷ [] else []
+
+abbrev pub tier_of : ℕ → List Record → ℕ
+tier_of c records = last_of (flat_map (tier_given c) records)
+
 -- a record within the limits
 abbrev pub IsRecord : Version → Record → Type 0
 IsRecord v (Piece tick conn bytes) =
-    (tick ≤ latest_tick) × (conn ≤ v.last_connection) × (0 < length bytes) × (length bytes ≤ most_bytes)
-IsRecord v (End tick conn) = (tick ≤ latest_tick) × (conn ≤ v.last_connection)
+    (tick ≤ latest_tick) × (conn ≤ last_connection v) × (0 < length bytes) × (length bytes ≤ most_bytes)
+IsRecord v (End tick conn) = (tick ≤ latest_tick) × (conn ≤ last_connection v)
+IsRecord v (Tier conn tier) = (has_tiers v ≡ true) × (conn ≤ last_connection v) × (tier ≤ last_tier)
 
--- The rules of a capture: ticks don't fall, and nothing of a connection comes after its end. (An end may come first.)
+-- a tier comes before each piece of its connection, and once
+abbrev pub LetsFollow : Record → Record → Type 0
+LetsFollow r (Piece tick conn bytes) = Unit {0}
+LetsFollow r (End tick conn) = Unit {0}
+LetsFollow r (Tier conn tier) = is_use_of conn r ≡ false
+
+-- The rules of a capture: ticks don't fall, nothing of a connection comes after its end, and its tier comes first. (An end
+-- may come without a piece.)
 pub record IsCapture (v : Version) (start : ℕ) (records : List Record) : Type 0 where
   pub in_time : start ≤ latest_start
   pub each : All (IsRecord v) records
   pub rising : AllPairs (λ s t. s ≤ t) (ticks_of records)
   pub ends_last : AllPairs (λ r s. is_end_of (connection_of s) r ≡ false) records
+  pub tiers_first : AllPairs LetsFollow records
 
 -- the bytes are the text of a capture with this start and these records
 pub record IsCaptureText (v : Version) (bytes : List ℕ) (start : ℕ) (records : List Record) : Type 0 where
@@ -91,17 +136,19 @@ pub record IsCaptureText (v : Version) (bytes : List ℕ) (start : ℕ) (records
   pub size : length bytes ≤ longest_text
 
 -- What the rules ask of the records so far when one more comes: how many they are, the last tick (0 where none gave one),
--- and which connections have ended.
+-- which connections have ended, and which had a piece or a tier.
 pub record Past : Type 0 where
   pub count : ℕ
   pub tick : ℕ
   pub ended : ℕ → Bool
+  pub used : ℕ → Bool
 
 abbrev pub past_of : List Record → Past
 past_of records = record {
   count = length records;
-  tick = slice_index (ticks_of records) (length (ticks_of records) - 1);
+  tick = last_of (ticks_of records);
   ended = λ c. list_any (is_end_of c) records;
+  used = λ c. list_any (is_use_of c) records;
 }
 
 -- a record that may stand behind this past
@@ -109,11 +156,14 @@ abbrev pub Follows : Version → Past → Record → Type 0
 Follows v past (Piece tick conn bytes) =
     (past.tick ≤ tick) × (past.ended conn ≡ false) × IsRecord v (Piece tick conn bytes)
 Follows v past (End tick conn) = (past.tick ≤ tick) × (past.ended conn ≡ false) × IsRecord v (End tick conn)
+Follows v past (Tier conn tier) =
+    (past.ended conn ≡ false) × (past.used conn ≡ false) × IsRecord v (Tier conn tier)
 
 -- the bytes that a record brings, and how many all of these records bring
 abbrev pub size_of : Record → ℕ
 size_of (Piece tick conn bytes) = length bytes
 size_of (End tick conn) = 0
+size_of (Tier conn tier) = 0
 
 abbrev pub sizes_of : List Record → ℕ
 sizes_of records = sum_by size_of records

@@ -1,3 +1,5 @@
 pub mod CaptureFaults
 pub mod Captures
 pub mod Readers
+pub mod Upgrades
+pub mod Writing

@@ -1,30 +1,42 @@
 -- A reader of a capture, which gives record after record.
-use Rattle.std.specs.Prelude.{◌≡◌, ℕ, ◌+◌, ◌-◌, ◌≤◌, true, false, ◌||◌, ◌==◌, List, [], ◌∷◌, ◌++◌, length, Option, Some, None, Result, Ok, Err, MatchResult, IfErr, slice_index_or, is_some, unwrap_or}
-use Rattle.captures.specs.Captures.{Version, Past, past_of, longest_text, text_before_stop, IsCapture, IsCaptureText, sizes_of}
+use Rattle.std.specs.Prelude.{◌≡◌, ℕ, ◌+◌, ◌-◌, ◌≤◌, ◌/◌, ◌%◌, Bool, true, ◌||◌, ◌==◌, List, [], ◌∷◌, ◌++◌, length, Option, Some, None, Result, Ok, Err, MatchResult, IfErr, slice_index_or, is_some, unwrap_or}
+use Rattle.std.specs.Int.{bit_at}
+use Rattle.captures.specs.Captures.{Past, past_of, longest_text, text_before_stop, IsCapture, IsCaptureText, sizes_of}
 use Rattle.captures.specs.CaptureFaults.{IsFaultBehind, IsForeseen, IsUnfinished, record_at, failures_of}
+use Rattle.captures.specs.declared.version.Version.{Version}
 use Rattle.captures.specs.declared.record.Record.{Record}
-use Rattle.captures.specs.declared.record.Record.TheVariants.{Piece, End}
+use Rattle.captures.specs.declared.record.Record.TheVariants.{Piece, End, Tier}
 use Rattle.captures.specs.declared.capture_fault.CaptureFault.{CaptureFault}
 use Rattle.captures.specs.declared.capture_fault.CaptureFaultKind.{CaptureFaultKind}
 use Rattle.captures.specs.declared.capture_fault.CaptureFaultKind.TheVariants.{Read}
+use Rattle.captures.specs.declared.connection_set.ConnectionSet.{ConnectionSet}
 use Rattle.captures.specs.declared.so_far.SoFar.{SoFar}
 use Rattle.captures.specs.declared.stage.Stage.{Stage}
 use Rattle.captures.specs.declared.stage.Stage.TheVariants.{Reading, Ended, Failed}
 use Rattle.captures.specs.declared.progress.Progress.{Progress}
 
+-- whether a connection is in a set: its bit is 1
+abbrev pub is_in : ConnectionSet → ℕ → Bool
+is_in set c = bit_at (slice_index_or set.words (c / 64) 0) (c % 64) == 1
+
 -- what a reader keeps of the records so far
 abbrev pub seen : SoFar → Past
-seen s = record { count = s.count; tick = s.tick; ended = λ c. slice_index_or s.ended c false }
+seen s = record { count = s.count; tick = s.tick; ended = is_in s.ended; used = is_in s.used }
 
 -- the past behind one more record
 abbrev pub after : Past → Record → Past
-after past (Piece tick conn bytes) = record { count = past.count + 1; tick = tick; ended = past.ended }
-after past (End tick conn) = record { count = past.count + 1; tick = tick; ended = λ c. past.ended c || conn == c }
+after past (Piece tick conn bytes) =
+    record { count = past.count + 1; tick = tick; ended = past.ended; used = λ c. past.used c || conn == c }
+after past (End tick conn) =
+    record { count = past.count + 1; tick = tick; ended = λ c. past.ended c || conn == c; used = past.used }
+after past (Tier conn tier) =
+    record { count = past.count + 1; tick = past.tick; ended = past.ended; used = λ c. past.used c || conn == c }
 
 -- A reader has given these records of a text, and no others: they keep the rules, and where the bytes of the input are
 -- known, the first line and the texts of the records were taken from their front, and the rest is ahead.
 pub record Fits (v : Version) (text : Option (List ℕ)) (start : ℕ) (records : List Record) (p : Progress) (now : Option (List ℕ)) : Type 0 where
   pub stage : p.stage ≡ Reading
+  pub version : p.version ≡ v
   pub begun : p.start ≡ start
   pub rules : IsCapture v start records
   pub past : seen p.so_far ≡ past_of records

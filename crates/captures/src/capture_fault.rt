@@ -12,7 +12,7 @@ pub enum CaptureFaultKind {
     /// The first line is another than that of a capture, or the start is past its limit.
     #[error("Header")]
     Header,
-    /// A line announces no piece, no end and no stop, or is longer than 64 bytes.
+    /// A line announces no piece, no end, no tier and no stop, or a tier in version 1, or is longer than 64 bytes.
     #[error("Kind")]
     Kind,
     /// A line has the wrong number of fields, or a field is no decimal.
@@ -27,6 +27,9 @@ pub enum CaptureFaultKind {
     /// The connection had its end.
     #[error("Ended")]
     Ended,
+    /// A tier is above 3, or the connection has had a piece or a tier.
+    #[error("Tier")]
+    Tier,
     /// A piece has no bytes or too many, or no line feed follows its bytes.
     #[error("Length")]
     Length,
@@ -47,8 +50,8 @@ pub enum CaptureFaultKind {
     Memory,
 }
 
-/// The first fault of a capture. Record 0 is the first line, pieces and ends are records from 1 on, and the last line is
-/// the record after them.
+/// The first fault of a capture. Record 0 is the first line, pieces, ends and tiers are records from 1 on, and the last
+/// line is the record after them.
 #[derive(Clone, Copy, Debug, PartialEq, Eq, Error)]
 #[error("record {at}: {kind}")]
 pub struct CaptureFault {

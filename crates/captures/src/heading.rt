@@ -14,10 +14,19 @@ pub struct EndLine {
     pub conn: u64,
 }
 
-/// What a line of a capture announces: a piece, the end of a connection, or the end of the capture behind so many records.
+/// The line that gives a connection its tier.
+#[derive(Clone, Copy, Debug)]
+pub struct TierLine {
+    pub conn: u64,
+    pub tier: u64,
+}
+
+/// What a line of a capture announces: a piece, the end of a connection, its tier, or the end of the capture after so many
+/// records.
 #[derive(Clone, Copy, Debug)]
 pub enum Heading {
     Piece(PieceLine),
     End(EndLine),
+    Tier(TierLine),
     Stop(u64),
 }

@@ -1,25 +1,35 @@
 ghost use Rattle.std.specs.Prelude.{◌≡◌};
-ghost use Rattle.captures.specs.Captures.{version_one};
-ghost use Rattle.captures.specs.CaptureFaults.{two_numbers, heading_of, start_of};
+ghost use Rattle.paths.specs.Numbers.{number_of};
+ghost use Rattle.captures.specs.CaptureFaults.{two_numbers, heading_of, start_heading, start_of};
 
-use crate::CaptureFaultKind;
-use crate::heading::{EndLine, Heading, PieceLine};
+use crate::heading::{EndLine, Heading, PieceLine, TierLine};
+use crate::{CaptureFaultKind, Version};
 use paths::{number, number_and_rest, three_numbers};
 
 /// The latest start of a capture, in seconds since 1970-01-01.
 const LATEST_START: u64 = 4_102_444_800;
 
-/// The start that the first line gives.
-pub(crate) fn read_start(line: &[u8]) -> Result<u64, CaptureFaultKind>
-    ensures { result ≡ start_of version_one line.now }
+/// A version, and the start that a field gives.
+fn read_field(version: Version, field: &[u8]) -> Result<(Version, u64), CaptureFaultKind>
+    ensures { result ≡ start_heading version (number_of field.now) }
+{
+    match number(field) {
+        Some(start) if start <= LATEST_START => Ok((version, start)),
+        Some(_) => Err(CaptureFaultKind::Header),
+        None => Err(CaptureFaultKind::Number),
+    }
+}
+
+/// The version and the start that the first line gives.
+pub(crate) fn read_start(line: &[u8]) -> Result<(Version, u64), CaptureFaultKind>
+    ensures { result ≡ start_of line.now }
 {
     match line.strip_prefix(b"haboob-capture 1 ") {
-        Some(field) => match number(field) {
-            Some(start) if start <= LATEST_START => Ok(start),
-            Some(_) => Err(CaptureFaultKind::Header),
-            None => Err(CaptureFaultKind::Number),
+        Some(field) => read_field(Version::One, field),
+        None => match line.strip_prefix(b"haboob-capture 2 ") {
+            Some(field) => read_field(Version::Two, field),
+            None => Err(CaptureFaultKind::Header),
         },
-        None => Err(CaptureFaultKind::Header),
     }
 }
 
@@ -32,9 +42,9 @@ fn two_numbers(text: &[u8]) -> Option<(u64, u64)>
     Some((first, second))
 }
 
-/// What a line of a capture announces.
-pub(crate) fn read_heading(line: &[u8]) -> Result<Heading, CaptureFaultKind>
-    ensures { result ≡ heading_of line.now }
+/// What a line of a capture of this version announces.
+pub(crate) fn read_heading(version: Version, line: &[u8]) -> Result<Heading, CaptureFaultKind>
+    ensures { result ≡ heading_of version line.now }
 {
     if let Some(fields) = line.strip_prefix(b"piece ") {
         return match three_numbers(fields) {
@@ -47,6 +57,14 @@ pub(crate) fn read_heading(line: &[u8]) -> Result<Heading, CaptureFaultKind>
             Some((tick, conn)) => Ok(Heading::End(EndLine { tick, conn })),
             None => Err(CaptureFaultKind::Number),
         };
+    }
+    if let Some(fields) = line.strip_prefix(b"tier ") {
+        if version.has_tiers() {
+            return match two_numbers(fields) {
+                Some((conn, tier)) => Ok(Heading::Tier(TierLine { conn, tier })),
+                None => Err(CaptureFaultKind::Number),
+            };
+        }
     }
     match line.strip_prefix(b"stop ") {
         Some(field) => match number(field) {

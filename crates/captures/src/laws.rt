@@ -1,29 +1,49 @@
 //! What holds of each capture text, whoever reads it.
 ghost use Rattle.std.specs.Prelude.{◌≡◌, ℕ, List, ◌⊎◌};
-ghost use Rattle.captures.specs.Captures.{version_one, IsCaptureText};
+ghost use Rattle.captures.specs.Captures.{IsCapture, IsCaptureText};
+ghost use Rattle.captures.specs.Upgrades.{upgraded, IsUpgrade};
+ghost use Rattle.captures.specs.declared.version.Version.TheVariants.{One, Two};
 ghost use Rattle.captures.specs.CaptureFaults.{IsFirstFault};
 ghost use Rattle.captures.specs.declared.record.Record.{Record as ARecord};
+ghost use Rattle.captures.specs.declared.version.Version.{Version as AVersion};
 ghost use Rattle.captures.specs.declared.capture_fault.CaptureFault.{CaptureFault as AFault};
 
-/// A text has one start and one list of records.
+/// A text has one version, one start and one list of records.
 pub fn one_capture()
-    ensures { (bytes : List ℕ) (s t : ℕ) (rs ss : List ARecord)
-        → IsCaptureText version_one bytes s rs → IsCaptureText version_one bytes t ss → (s ≡ t) × (rs ≡ ss) }
+    ensures { (bytes : List ℕ) (v w : AVersion) (s t : ℕ) (rs ss : List ARecord)
+        → IsCaptureText v bytes s rs → IsCaptureText w bytes t ss → (v ≡ w) × (s ≡ t) × (rs ≡ ss) }
 {}
 
 /// A capture text has no fault.
 pub fn no_fault_of_a_capture()
-    ensures { (bytes : List ℕ) (start : ℕ) (records : List ARecord) (f : AFault)
-        → IsCaptureText version_one bytes start records → IsFirstFault version_one bytes f → ⊥ }
+    ensures { (bytes : List ℕ) (v : AVersion) (start : ℕ) (records : List ARecord) (f : AFault)
+        → IsCaptureText v bytes start records → IsFirstFault bytes f → ⊥ }
 {}
 
 /// A text has one first fault at most.
 pub fn one_first_fault()
-    ensures { (bytes : List ℕ) (f g : AFault) → IsFirstFault version_one bytes f → IsFirstFault version_one bytes g → f ≡ g }
+    ensures { (bytes : List ℕ) (f g : AFault) → IsFirstFault bytes f → IsFirstFault bytes g → f ≡ g }
 {}
 
 /// Each text is a capture's, or has a first fault.
 pub fn capture_or_fault()
-    ensures { (bytes : List ℕ) → ((start : ℕ) × (records : List ARecord) × IsCaptureText version_one bytes start records)
-        ⊎ ((f : AFault) × IsFirstFault version_one bytes f) }
+    ensures { (bytes : List ℕ)
+        → ((v : AVersion) × (start : ℕ) × (records : List ARecord) × IsCaptureText v bytes start records)
+        ⊎ ((f : AFault) × IsFirstFault bytes f) }
+{}
+
+/// What keeps the rules of version 1 keeps those of version 2.
+pub fn records_of_version_one()
+    ensures { (start : ℕ) (records : List ARecord) → IsCapture One start records → IsCapture Two start records }
+{}
+
+/// The upgraded text of a capture is one of version 2, with the same start and the same records.
+pub fn upgrade_of_a_capture()
+    ensures { (v : AVersion) (bytes : List ℕ) (start : ℕ) (records : List ARecord)
+        → IsCaptureText v bytes start records → IsCaptureText Two (upgraded start records) start records }
+{}
+
+/// An upgraded text given again comes out unchanged.
+pub fn upgrade_again()
+    ensures { (old new again : List ℕ) → IsUpgrade old new → IsUpgrade new again → again ≡ new }
 {}

@@ -1,7 +1,8 @@
-//! The capture format, read record by record.
+//! The capture format in both its versions: read record by record, and upgraded to the second.
 #![tactic(auto)]
 
 mod capture_fault;
+mod connection_set;
 mod heading;
 mod headings;
 mod laws;
@@ -9,12 +10,22 @@ mod progress;
 mod reader;
 mod reading;
 mod record;
+mod record_writer;
 mod so_far;
 mod stage;
 #[cfg(test)]
 mod tests;
+mod upgrade_fault;
+mod upgrading;
+mod version;
 
 pub use capture_fault::{CaptureFault, CaptureFaultKind};
-pub use laws::{capture_or_fault, no_fault_of_a_capture, one_capture, one_first_fault};
+pub use laws::{
+    capture_or_fault, no_fault_of_a_capture, one_capture, one_first_fault, records_of_version_one,
+    upgrade_again, upgrade_of_a_capture,
+};
 pub use reader::CaptureReader;
 pub use record::Record;
+pub use upgrade_fault::UpgradeFault;
+pub use upgrading::upgrade;
+pub use version::Version;

@@ -1,13 +1,14 @@
 ghost use Rattle.std.specs.Prelude.{◌≡◌, ◌+◌, ◌<◌, ◌≤◌, ◌-◌, ◌^◌, [], ℕ, List, Option, IfNone, IfOk, IfErr, IfSome, ◌≢◌};
-ghost use Rattle.captures.specs.Captures.{version_one, size_of};
+ghost use Rattle.captures.specs.Captures.{IsRecord, size_of};
 ghost use Rattle.captures.specs.CaptureFaults.{IsForeseen, IsHeaderFault, IsFaultBehind, CountsFault, CountsKind};
 ghost use Rattle.captures.specs.Readers.{Fits, Gave, GaveKind, FailsNext, FailsNextKind, stage_after, Repeats, CountsNext};
 ghost use Rattle.captures.specs.declared.record.Record.{Record as ARecord};
+ghost use Rattle.captures.specs.declared.version.Version.{Version as AVersion};
 
 use crate::reading::{read_header, read_record};
 use crate::so_far::SoFar;
 use crate::stage::Stage;
-use crate::{CaptureFault, CaptureFaultKind, Record};
+use crate::{CaptureFault, CaptureFaultKind, Record, Version};
 use paths::Input;
 use std::alloc::Global;
 use std::io::Read;
@@ -18,6 +19,7 @@ const LONGEST_TEXT: usize = 1_073_741_824;
 /// How far a capture was read.
 #[derive(Drop)]
 pub struct Progress {
+    pub version: Version,
     /// The start of the capture, in seconds since 1970-01-01.
     pub start: u64,
     /// How many bytes the text may still take.
@@ -46,16 +48,17 @@ impl Progress {
     /// Reads the first line.
     pub(crate) fn open<R: Read>(input: &mut Input<R>) -> Result<Progress, CaptureFault>
         requires { input.old.1 < 2 ^ 64 - 1 }
-        ensures ok { IfOk result (λ p. Fits version_one input.old.0 p.start [] p input.new.0) }
+        ensures ok { IfOk result (λ p. Fits p.version input.old.0 p.start [] p input.new.0) }
         ensures at { IfErr result (λ f. f.at ≡ 0) }
         // It takes no memory.
         ensures memory { IfErr result (λ f. f.kind ≢ CaptureFaultKind.Memory) }
-        ensures fault { IfErr result (IsForeseen (IsHeaderFault version_one) input.old.0) }
+        ensures fault { IfErr result (IsForeseen IsHeaderFault input.old.0) }
         ensures count { CountsFault input.old.1 input.new.1 result }
     {
         let mut left = LONGEST_TEXT;
         match read_header(input, &mut left) {
-            Ok(start) => Ok(Progress {
+            Ok((version, start)) => Ok(Progress {
+                version,
                 start,
                 left,
                 room: LONGEST_TEXT,
@@ -73,19 +76,22 @@ impl Progress {
         input: &mut Input<R>,
     ) -> Result<Option<Record>, CaptureFaultKind>
         requires { input.old.1 < 2 ^ 64 - 1 }
-        ensures next { (text : Option (List ℕ)) (start : ℕ) (records : List ARecord)
-            → Fits version_one text start records self.old input.old.0
-            → GaveKind version_one text start records result self.new input.new.0 }
+        ensures next { (version : AVersion) (text : Option (List ℕ)) (start : ℕ) (records : List ARecord)
+            → Fits version text start records self.old input.old.0
+            → GaveKind version text start records result self.new input.new.0 }
         // Where a read failed, no whole record behind these had been taken.
-        ensures failed { (text : Option (List ℕ)) (start : ℕ) (records : List ARecord)
-            → Fits version_one text start records self.old input.old.0
-            → FailsNextKind version_one text start records result input.new.0 }
+        ensures failed { (version : AVersion) (text : Option (List ℕ)) (start : ℕ) (records : List ARecord)
+            → Fits version text start records self.old input.old.0
+            → FailsNextKind version text start records result input.new.0 }
         ensures room { IfOk result (λ next. IfSome next (λ r. size_of r + 1 + self.new.room ≡ self.old.room)) }
+        // Whatever the bytes of the device are.
+        ensures limits { IfOk result (λ next. IfSome next (IsRecord self.old.version)) }
+        ensures version { self.new.version ≡ self.old.version }
         ensures start { self.new.start ≡ self.old.start }
         ensures stage { self.new.stage ≡ self.old.stage }
         ensures count { CountsKind input.old.1 input.new.1 result }
     {
-        match read_record(alloc, input, &mut self.left, &self.so_far) {
+        match read_record(alloc, input, &mut self.left, self.version, &self.so_far) {
             Ok(Some(record)) => match room_behind(self.room, &record) {
                 Some(room) => {
                     self.room = room;
@@ -106,14 +112,17 @@ impl Progress {
         input: &mut Input<R>,
     ) -> Result<Option<Record>, CaptureFault>
         requires { input.old.1 < 2 ^ 64 - 1 }
-        ensures next { (text : Option (List ℕ)) (start : ℕ) (records : List ARecord)
-            → Fits version_one text start records self.old input.old.0
-            → Gave version_one text start records result self.new input.new.0 }
+        ensures next { (version : AVersion) (text : Option (List ℕ)) (start : ℕ) (records : List ARecord)
+            → Fits version text start records self.old input.old.0
+            → Gave version text start records result self.new input.new.0 }
         // Where a read failed, no whole record behind these had been taken.
-        ensures failed { (text : Option (List ℕ)) (start : ℕ) (records : List ARecord)
-            → Fits version_one text start records self.old input.old.0
-            → FailsNext version_one text start records result input.new.0 }
+        ensures failed { (version : AVersion) (text : Option (List ℕ)) (start : ℕ) (records : List ARecord)
+            → Fits version text start records self.old input.old.0
+            → FailsNext version text start records result input.new.0 }
         ensures room { IfOk result (λ next. IfSome next (λ r. size_of r + 1 + self.new.room ≡ self.old.room)) }
+        // Whatever the bytes of the device are.
+        ensures limits { IfOk result (λ next. IfSome next (IsRecord self.old.version)) }
+        ensures version { self.new.version ≡ self.old.version }
         ensures start { self.new.start ≡ self.old.start }
         ensures stage { self.new.stage ≡ stage_after result }
         ensures again { Repeats self.old.stage result ((self.new ≡ self.old) × (input.new ≡ input.old)) }

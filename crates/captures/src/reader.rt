@@ -1,13 +1,14 @@
 ghost use Rattle.std.specs.Prelude.{◌≡◌, ◌+◌, ◌<◌, ◌≤◌, ◌-◌, ◌^◌, [], ℕ, List, Option, IfOk, IfErr, IfSome, ◌≢◌};
 ghost use Rattle.std.specs.Borrow.{sem, RestsIfErr};
 ghost use Rattle.paths.specs.contracts.device.Input.{the_row};
-ghost use Rattle.captures.specs.Captures.{version_one, size_of};
+ghost use Rattle.captures.specs.Captures.{IsRecord, size_of};
 ghost use Rattle.captures.specs.CaptureFaults.{IsForeseen, IsHeaderFault, CountsFault};
 ghost use Rattle.captures.specs.Readers.{Fits, Gave, FailsNext, stage_after, Repeats, CountsNext};
 ghost use Rattle.captures.specs.declared.record.Record.{Record as ARecord};
+ghost use Rattle.captures.specs.declared.version.Version.{Version as AVersion};
 
 use crate::progress::Progress;
-use crate::{CaptureFault, CaptureFaultKind, Record};
+use crate::{CaptureFault, CaptureFaultKind, Record, Version};
 use paths::Input;
 use std::alloc::Global;
 use std::io::Read;
@@ -23,17 +24,24 @@ impl<'a, R: Read> CaptureReader<'a, R> {
     /// Reads the first line.
     pub fn open(input: &'a mut Input<R>) -> Result<CaptureReader<'a, R>, CaptureFault>
         requires { input.old.1 < 2 ^ 64 - 1 }
-        ensures ok { IfOk result (λ reader. Fits version_one input.old.0 reader.progress.start [] reader.progress reader.input.now.0) }
+        ensures ok { IfOk result (λ reader. Fits reader.progress.version input.old.0 reader.progress.start [] reader.progress reader.input.now.0) }
         ensures at { IfErr result (λ f. f.at ≡ 0) }
         // It takes no memory.
         ensures memory { IfErr result (λ f. f.kind ≢ CaptureFaultKind.Memory) }
-        ensures fault { IfErr result (IsForeseen (IsHeaderFault version_one) input.old.0) }
+        ensures fault { IfErr result (IsForeseen IsHeaderFault input.old.0) }
         ensures count { IfOk result (λ reader. reader.input.now.1 ≡ input.old.1) }
         ensures same { IfOk result (λ reader. reader.input.ghost_name ≡ input.entry.ghost_name) }
         ensures* refused { sem 𝓛 (RestsIfErr (the_row R.row R.Read) input.entry (λ reader. reader.input.ghost_name) result (λ last. CountsFault input.old.1 last.1 result)) }
     {
         let progress = Progress::open(input)?;
         Ok(CaptureReader { input, progress })
+    }
+
+    /// The version of the format that the capture is in.
+    pub fn version(&self) -> Version
+        ensures { result ≡ self.now.progress.version }
+    {
+        self.progress.version
     }
 
     /// When the capture starts, in seconds since 1970-01-01.
@@ -43,18 +51,21 @@ impl<'a, R: Read> CaptureReader<'a, R> {
         self.progress.start
     }
 
-    /// Reads the next record, or answers `None` where the last line was read and the input ended behind it. From a fault
+    /// Reads the next record, or answers `None` where the last line was read and the input ended after it. From a fault
     /// on, that fault is answered, and nothing is read.
     pub fn next_record(&mut self, alloc: Global) -> Result<Option<Record>, CaptureFault>
         requires { self.old.input.now.1 < 2 ^ 64 - 1 }
-        ensures next { (text : Option (List ℕ)) (start : ℕ) (records : List ARecord)
-            → Fits version_one text start records self.old.progress self.old.input.now.0
-            → Gave version_one text start records result self.new.progress self.new.input.now.0 }
+        ensures next { (version : AVersion) (text : Option (List ℕ)) (start : ℕ) (records : List ARecord)
+            → Fits version text start records self.old.progress self.old.input.now.0
+            → Gave version text start records result self.new.progress self.new.input.now.0 }
         // Where a read failed, no whole record behind these had been taken.
-        ensures failed { (text : Option (List ℕ)) (start : ℕ) (records : List ARecord)
-            → Fits version_one text start records self.old.progress self.old.input.now.0
-            → FailsNext version_one text start records result self.new.input.now.0 }
+        ensures failed { (version : AVersion) (text : Option (List ℕ)) (start : ℕ) (records : List ARecord)
+            → Fits version text start records self.old.progress self.old.input.now.0
+            → FailsNext version text start records result self.new.input.now.0 }
         ensures room { IfOk result (λ next. IfSome next (λ r. size_of r + 1 + self.new.progress.room ≡ self.old.progress.room)) }
+        // Whatever the bytes of the device are.
+        ensures limits { IfOk result (λ next. IfSome next (IsRecord self.old.progress.version)) }
+        ensures version { self.new.progress.version ≡ self.old.progress.version }
         ensures start { self.new.progress.start ≡ self.old.progress.start }
         ensures stage { self.new.progress.stage ≡ stage_after result }
         ensures again { Repeats self.old.progress.stage result ((self.new.progress ≡ self.old.progress) × (self.new.input.now ≡ self.old.input.now)) }

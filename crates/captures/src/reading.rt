@@ -1,14 +1,14 @@
 ghost use Rattle.std.specs.Prelude.{◌≡◌, ◌<◌, ◌≤◌, ◌-◌, ◌^◌, length, IfOk, IfErr, IfSome, ◌≢◌};
 ghost use Rattle.paths.specs.Texts.{Gives};
 ghost use Rattle.paths.specs.Parts.{FailsAtOnce, FailsBehind, FailsWithin};
-ghost use Rattle.captures.specs.Captures.{version_one, Follows};
-ghost use Rattle.captures.specs.CaptureFaults.{CountsKind, IsUnfinished, is_unforeseen_kind, header_at, body_at, piece_at, close_at, announced, record_at};
+ghost use Rattle.captures.specs.Captures.{Follows};
+ghost use Rattle.captures.specs.CaptureFaults.{CountsKind, IsUnfinished, IsHeadingOf, is_unforeseen_kind, header_at, body_at, piece_at, close_at, announced, record_at};
 ghost use Rattle.captures.specs.Readers.{seen};
 
 use crate::heading::{Heading, PieceLine};
 use crate::headings::{read_heading, read_start};
 use crate::so_far::SoFar;
-use crate::{CaptureFaultKind, Record};
+use crate::{CaptureFaultKind, Record, Version};
 use paths::{Bytes, Input, Stop, read_byte_of, read_line, read_run};
 use std::alloc::Global;
 use std::io::Read;
@@ -16,14 +16,14 @@ use std::io::Read;
 /// The most bytes of a piece.
 const MOST_BYTES: u64 = 65_536;
 
-/// Reads the first line, and answers the start.
+/// Reads the first line, and answers its version and the start.
 pub(crate) fn read_header<R: Read>(
     input: &mut Input<R>,
     left: &mut usize,
-) -> Result<u64, CaptureFaultKind>
+) -> Result<(Version, u64), CaptureFaultKind>
     requires { input.old.1 < 2 ^ 64 - 1 }
-    ensures line { Gives is_unforeseen_kind (header_at version_one) input.old.0 left.old input.new.0 left.new result }
-    ensures limit { IfOk result (λ start. start ≤ 4102444800) }
+    ensures line { Gives is_unforeseen_kind header_at input.old.0 left.old input.new.0 left.new result }
+    ensures limit { IfOk result (λ first. first.1 ≤ 4102444800) }
     ensures count { CountsKind input.old.1 input.new.1 result }
     // It takes no memory.
     ensures memory { IfErr result (λ kind. kind ≢ CaptureFaultKind.Memory) }
@@ -63,18 +63,19 @@ fn read_piece<R: Read>(
     alloc: Global,
     input: &mut Input<R>,
     left: &mut usize,
+    version: Version,
     so_far: &SoFar,
     line: PieceLine,
 ) -> Result<Record, CaptureFaultKind>
     requires { input.old.1 < 2 ^ 64 - 1 }
-    ensures piece { Gives is_unforeseen_kind (piece_at version_one (seen so_far.now) line) input.old.0 left.old input.new.0 left.new result }
+    ensures piece { Gives is_unforeseen_kind (piece_at version (seen so_far.now) line) input.old.0 left.old input.new.0 left.new result }
     // Where a read failed, no whole piece had been taken.
-    ensures part { FailsWithin CaptureFaultKind.Read CaptureFaultKind.Cut (piece_at version_one (seen so_far.now) line)
+    ensures part { FailsWithin CaptureFaultKind.Read CaptureFaultKind.Cut (piece_at version (seen so_far.now) line)
         input.old.0 left.old input.new.0 left.new result }
-    ensures fits { IfOk result (Follows version_one (seen so_far.now)) }
+    ensures fits { IfOk result (Follows version (seen so_far.now)) }
     ensures count { CountsKind input.old.1 input.new.1 result }
 {
-    let conn = so_far.allow(line.tick, line.conn)?;
+    let conn = so_far.allow(version, line.tick, line.conn)?;
     if line.len == 0 || line.len > MOST_BYTES {
         return Err(CaptureFaultKind::Length);
     }
@@ -108,28 +109,34 @@ fn read_announced<R: Read>(
     alloc: Global,
     input: &mut Input<R>,
     left: &mut usize,
+    version: Version,
     so_far: &SoFar,
     heading: Heading,
 ) -> Result<Option<Record>, CaptureFaultKind>
-    requires { input.old.1 < 2 ^ 64 - 1 }
-    ensures record { Gives is_unforeseen_kind (announced version_one (seen so_far.now) heading) input.old.0 left.old input.new.0 left.new result }
+    requires failures { input.old.1 < 2 ^ 64 - 1 }
+    requires version { IsHeadingOf version heading }
+    ensures record { Gives is_unforeseen_kind (announced version (seen so_far.now) heading) input.old.0 left.old input.new.0 left.new result }
     // Where a read failed, no whole record had been taken.
     ensures part { FailsBehind CaptureFaultKind.Read
-        (λ part. IsUnfinished (announced version_one (seen so_far.now) heading (record { bytes = part; left = left.old })))
+        (λ part. IsUnfinished (announced version (seen so_far.now) heading (record { bytes = part; left = left.old })))
         input.old.0 left.old input.new.0 left.new result }
-    ensures fits { IfOk result (λ next. IfSome next (Follows version_one (seen so_far.now))) }
+    ensures fits { IfOk result (λ next. IfSome next (Follows version (seen so_far.now))) }
     ensures count { CountsKind input.old.1 input.new.1 result }
 {
     match heading {
-        Heading::Piece(line) => match read_piece(alloc, input, left, so_far, line) {
+        Heading::Piece(line) => match read_piece(alloc, input, left, version, so_far, line) {
             Ok(piece) => Ok(Some(piece)),
             Err(kind) => Err(kind),
         },
-        Heading::End(line) => match so_far.allow(line.tick, line.conn) {
+        Heading::End(line) => match so_far.allow(version, line.tick, line.conn) {
             Ok(conn) => Ok(Some(Record::End {
                 tick: line.tick,
                 conn,
             })),
+            Err(kind) => Err(kind),
+        },
+        Heading::Tier(line) => match so_far.allow_tier(version, line) {
+            Ok(tier) => Ok(Some(tier)),
             Err(kind) => Err(kind),
         },
         Heading::Stop(count) => {
@@ -149,18 +156,19 @@ pub(crate) fn read_record<R: Read>(
     alloc: Global,
     input: &mut Input<R>,
     left: &mut usize,
+    version: Version,
     so_far: &SoFar,
 ) -> Result<Option<Record>, CaptureFaultKind>
     requires { input.old.1 < 2 ^ 64 - 1 }
-    ensures record { Gives is_unforeseen_kind (record_at version_one (seen so_far.now)) input.old.0 left.old input.new.0 left.new result }
+    ensures record { Gives is_unforeseen_kind (record_at version (seen so_far.now)) input.old.0 left.old input.new.0 left.new result }
     // Where a read failed, no whole record had been taken.
     ensures part { FailsBehind CaptureFaultKind.Read
-        (λ part. IsUnfinished (record_at version_one (seen so_far.now) (record { bytes = part; left = left.old })))
+        (λ part. IsUnfinished (record_at version (seen so_far.now) (record { bytes = part; left = left.old })))
         input.old.0 left.old input.new.0 left.new result }
-    ensures fits { IfOk result (λ next. IfSome next (Follows version_one (seen so_far.now))) }
+    ensures fits { IfOk result (λ next. IfSome next (Follows version (seen so_far.now))) }
     ensures count { CountsKind input.old.1 input.new.1 result }
 {
     let line = read_line(input, left)?;
-    let heading = read_heading(line.as_slice())?;
-    read_announced(alloc, input, left, so_far, heading)
+    let heading = read_heading(version, line.as_slice())?;
+    read_announced(alloc, input, left, version, so_far, heading)
 }

@@ -3,7 +3,7 @@ ghost use Rattle.captures.specs.Captures.{size_of};
 
 use paths::Bytes;
 
-/// A record of a capture: something that came in on a connection.
+/// A record of a capture: something that came in on a connection, or its tier.
 #[derive(Debug, Drop)]
 pub enum Record {
     /// Bytes of the connection: 1 to 65,536 of them.
@@ -19,6 +19,12 @@ pub enum Record {
         tick: u64,
         conn: u16,
     },
+    /// The tier of the connection, before its first piece. A capture of version 1 has none.
+    Tier {
+        conn: u16,
+        /// 0 to 3. A connection without such a record is of tier 0.
+        tier: u8,
+    },
 }
 
 impl Record {
@@ -28,7 +34,7 @@ impl Record {
     {
         match self {
             Record::Piece { bytes, .. } => bytes.as_slice().len(),
-            Record::End { .. } => 0,
+            Record::End { .. } | Record::Tier { .. } => 0,
         }
     }
 }

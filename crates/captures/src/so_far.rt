@@ -1,14 +1,16 @@
 ghost use Rattle.std.specs.Prelude.{◌≡◌, ◌≤◌, ◌<◌, ◌-◌, ◌^◌, [], IfOk};
-ghost use Rattle.captures.specs.Captures.{Follows, past_of, version_one};
-ghost use Rattle.captures.specs.CaptureFaults.{allowed};
+ghost use Rattle.captures.specs.Captures.{Follows, past_of};
+ghost use Rattle.captures.specs.CaptureFaults.{allowed, open_connection, tier_record};
 ghost use Rattle.captures.specs.Readers.{seen, after};
 
-use crate::{CaptureFaultKind, Record};
+use crate::connection_set::ConnectionSet;
+use crate::heading::TierLine;
+use crate::{CaptureFaultKind, Record, Version};
 
 /// The latest tick, in microseconds.
 const LATEST_TICK: u64 = 1_000_000_000_000_000;
-/// The greatest number of a connection.
-const LAST_CONNECTION: u64 = 4_095;
+/// The last tier.
+const LAST_TIER: u64 = 3;
 
 /// What the rules ask of the records so far.
 #[derive(Drop)]
@@ -18,7 +20,9 @@ pub struct SoFar {
     /// The last tick, in microseconds.
     pub tick: u64,
     /// Which connections have ended.
-    pub ended: [bool; 4096],
+    pub ended: ConnectionSet,
+    /// Which connections had a piece or a tier.
+    pub used: ConnectionSet,
 }
 
 impl SoFar {
@@ -29,39 +33,75 @@ impl SoFar {
         SoFar {
             count: 0,
             tick: 0,
-            ended: [false; 4096],
+            ended: ConnectionSet::new(),
+            used: ConnectionSet::new(),
         }
     }
 
-    /// The connection of a record whose tick and connection may come next.
-    pub(crate) fn allow(&self, tick: u64, conn: u64) -> Result<u16, CaptureFaultKind>
-        ensures allowed { result ≡ allowed version_one (seen self.now) tick conn }
+    /// The connection that the next record may name.
+    fn open(&self, version: Version, conn: u64) -> Result<u16, CaptureFaultKind>
+        ensures open { result ≡ open_connection version (seen self.now) conn }
+        ensures same { IfOk result (λ c. c ≡ conn) }
+    {
+        if conn > version.last_connection() {
+            return Err(CaptureFaultKind::Connection);
+        }
+        let conn = conn as u16;
+        if self.ended.contains(conn) {
+            return Err(CaptureFaultKind::Ended);
+        }
+        Ok(conn)
+    }
+
+    /// The connection of a piece or an end whose tick and connection may come next.
+    pub(crate) fn allow(
+        &self,
+        version: Version,
+        tick: u64,
+        conn: u64,
+    ) -> Result<u16, CaptureFaultKind>
+        ensures allowed { result ≡ allowed version (seen self.now) tick conn }
         ensures same { IfOk result (λ c. c ≡ conn) }
     {
         if tick > LATEST_TICK || tick < self.tick {
             return Err(CaptureFaultKind::Tick);
         }
-        if conn > LAST_CONNECTION {
-            return Err(CaptureFaultKind::Connection);
+        self.open(version, conn)
+    }
+
+    /// The tier that may come next.
+    pub(crate) fn allow_tier(
+        &self,
+        version: Version,
+        line: TierLine,
+    ) -> Result<Record, CaptureFaultKind>
+        ensures { result ≡ tier_record version (seen self.now) line }
+    {
+        let conn = self.open(version, line.conn)?;
+        if line.tier > LAST_TIER || self.used.contains(conn) {
+            return Err(CaptureFaultKind::Tier);
         }
-        if self.ended[conn as usize] {
-            return Err(CaptureFaultKind::Ended);
-        }
-        Ok(conn as u16)
+        Ok(Record::Tier {
+            conn,
+            tier: line.tier as u8,
+        })
     }
 
     /// Takes one more record into account.
     pub(crate) fn add(&mut self, next: &Record)
-        requires { Follows version_one (seen self.old) next.now }
         ensures { self.old.count < 2 ^ 64 - 1 → seen self.new ≡ after (seen self.old) next.now }
     {
         self.count = self.count.saturating_add(1);
         match next {
-            Record::Piece { tick, .. } => self.tick = *tick,
+            Record::Piece { tick, conn, .. } => {
+                self.tick = *tick;
+                self.used.insert(*conn);
+            }
             Record::End { tick, conn } => {
                 self.tick = *tick;
-                self.ended[*conn as usize] = true;
+                self.ended.insert(*conn);
             }
+            Record::Tier { conn, .. } => self.used.insert(*conn),
         }
     }
 }

@@ -10,6 +10,8 @@ mod collecting;
 mod faults;
 mod memory;
 mod records;
+mod tiers;
+mod upgrades;
 
 /// A reader over memory that gives at most so many bytes a read, fails at one of its reads, and counts them all. The
 /// failure is an interruption: what tries a read again does so at that kind of failure first.
@@ -67,14 +69,22 @@ pub fn is_piece(record: &Record, want_tick: u64, want_conn: u16, want: &[u8]) ->
         Record::Piece { tick, conn, bytes } => {
             *tick == want_tick && *conn == want_conn && bytes.as_slice() == want
         }
-        Record::End { .. } => false,
+        Record::End { .. } | Record::Tier { .. } => false,
     }
 }
 
 /// Whether this is such an end.
 pub fn is_end(record: &Record, want_tick: u64, want_conn: u16) -> bool {
     match record {
-        Record::Piece { .. } => false,
+        Record::Piece { .. } | Record::Tier { .. } => false,
         Record::End { tick, conn } => *tick == want_tick && *conn == want_conn,
+    }
+}
+
+/// Whether this is such a tier.
+pub fn is_tier(record: &Record, want_conn: u16, want_tier: u8) -> bool {
+    match record {
+        Record::Tier { conn, tier } => *conn == want_conn && *tier == want_tier,
+        _ => false,
     }
 }

@@ -2,28 +2,29 @@
 //! the input were the text of just these records, or the fault is the first of the text.
 ghost use Rattle.std.specs.Prelude.{◌≡◌, ◌<◌, ◌-◌, ◌^◌, [], true, IfOk, IfErr};
 ghost use Rattle.std.specs.Option.{is_some, unwrap_or};
-ghost use Rattle.captures.specs.Captures.{version_one, IsCaptureText};
+ghost use Rattle.captures.specs.Captures.{IsCaptureText};
 ghost use Rattle.captures.specs.CaptureFaults.{IsForeseen, IsFirstFault, CountsFault};
 
-use crate::{CaptureFault, CaptureFaultKind, CaptureReader, Record};
+use crate::{CaptureFault, CaptureFaultKind, CaptureReader, Record, Version};
 use paths::Input;
 use std::alloc::Global;
 use std::io::Read;
 
-/// The start and the records of a whole capture.
+/// The version, the start and the records of a whole capture.
 pub fn collect<R: Read>(
     alloc: Global,
     input: &mut Input<R>,
-) -> Result<(u64, Vec<Record>), CaptureFault>
+) -> Result<(Version, u64, Vec<Record>), CaptureFault>
     requires { input.old.1 < 2 ^ 64 - 1 }
-    ensures ok { IfOk result (λ all. is_some input.old.0 ≡ true → IsCaptureText version_one (unwrap_or input.old.0 []) all.0 all.1.items) }
-    ensures fault { IfErr result (IsForeseen (IsFirstFault version_one) input.old.0) }
+    ensures ok { IfOk result (λ all. is_some input.old.0 ≡ true → IsCaptureText all.0 (unwrap_or input.old.0 []) all.1 all.2.items) }
+    ensures fault { IfErr result (IsForeseen IsFirstFault input.old.0) }
     ensures count { CountsFault input.old.1 input.new.1 result }
 {
     let mut reader = match CaptureReader::open(input) {
         Ok(reader) => reader,
         Err(fault) => return Err(fault),
     };
+    let version = reader.version();
     let start = reader.start();
     let mut records = Vec::new(alloc);
     loop {
@@ -36,7 +37,7 @@ pub fn collect<R: Read>(
                     return Err(CaptureFault { at, kind });
                 }
             },
-            Ok(None) => return Ok((start, records)),
+            Ok(None) => return Ok((version, start, records)),
             Err(fault) => return Err(fault),
         }
     }

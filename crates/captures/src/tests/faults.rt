@@ -37,7 +37,7 @@ fn capture_faults(rt: HostRuntime) {
             2,
             Kind::Ended,
         ),
-        (b"haboob-capture 2 784111777\nstop 0\n", 0, Kind::Header),
+        (b"haboob-capture 3 784111777\nstop 0\n", 0, Kind::Header),
     ];
     for (text, at, kind) in table {
         assert_eq!(rt; fault_of(rt.alloc(), text), fault(at, kind));
@@ -190,7 +190,7 @@ fn each_read_failing(rt: HostRuntime) {
         let mut device = Flaky::new(text, 3, good);
         let mut input = Input::new(&mut device);
         match collect(rt.alloc(), &mut input) {
-            Ok((_, records)) => {
+            Ok((_, _, records)) => {
                 assert_eq!(rt; records.len(), 2);
                 assert_eq!(rt; input.failures(), 0);
                 assert_eq!(rt; last, 3);

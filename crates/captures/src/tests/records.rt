@@ -1,7 +1,7 @@
 //! The records of a capture, one by one.
-use crate::CaptureReader;
 use crate::tests::collecting::collect;
 use crate::tests::{is_end, is_piece};
+use crate::{CaptureReader, Version};
 use paths::Input;
 use std::test::Fail;
 
@@ -31,7 +31,8 @@ fn first_run(rt: HostRuntime) -> Result<(), Fail> {
 #[test]
 fn empty_capture(rt: HostRuntime) -> Result<(), Fail> {
     let mut input = Input::new(b"haboob-capture 1 0\nstop 0\n".as_slice());
-    let (start, records) = collect(rt.alloc(), &mut input)?;
+    let (version, start, records) = collect(rt.alloc(), &mut input)?;
+    assert_eq!(rt; version, Version::One);
     assert_eq!(rt; start, 0);
     assert_eq!(rt; records.len(), 0);
     Ok(())
@@ -43,7 +44,8 @@ fn limits(rt: HostRuntime) -> Result<(), Fail> {
     let text =
         b"haboob-capture 1 4102444800\nend 0 7\npiece 0 4095 7\nstop 0\n\npiece 1000000000000000 0 1\n\n\nend 1000000000000000 4095\nstop 4\n";
     let mut input = Input::new(text.as_slice());
-    let (start, records) = collect(rt.alloc(), &mut input)?;
+    let (version, start, records) = collect(rt.alloc(), &mut input)?;
+    assert_eq!(rt; version, Version::One);
     assert_eq!(rt; start, 4_102_444_800);
     assert_eq!(rt; records.len(), 4);
     assert!(rt; is_end(&records[0], 0, 7));
@@ -62,7 +64,7 @@ fn longest_piece(rt: HostRuntime) -> Result<(), Fail> {
     text.extend_from_slice(&bytes)?;
     text.extend_from_slice(b"\nstop 1\n")?;
     let mut input = Input::new(text.as_slice());
-    let (_, records) = collect(rt.alloc(), &mut input)?;
+    let (_, _, records) = collect(rt.alloc(), &mut input)?;
     assert_eq!(rt; records.len(), 1);
     assert_eq!(rt; records[0].size(), 65_536);
     Ok(())

@@ -1,7 +1,5 @@
-use Rattle.std.proofs.Common.{arith}
-use Rattle.captures.specs.Captures.{version_one}
 use Rattle.captures.proofs.Each.{reads}
 use Rattle.captures.proofs.laws.capture_or_fault.Goals as goal
 
 pub returns : goal.returns
-returns c = λ bytes. reads version_one bytes (omega arith)
+returns c = λ bytes. reads bytes

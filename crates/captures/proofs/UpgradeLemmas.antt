@@ -1,0 +1,228 @@
+-- What an upgrade has written where it stops.
+use Rattle.std.proofs.Common.{◌≡◌, ℕ, ◌≤◌, ◌⊎◌, inl, inr, true, List, [], ◌∷◌, ◌++◌, length, Option, Some, None, Result, Ok, Err, refl, sym, ap, ◌∙◌, subst, arith, codes, decimal, is_some, unwrap_or, IfErr, OnOk, append-nil}
+use Rattle.std.specs.Result.{IsErrAnd}
+use Rattle.std.specs.Io.KnownBytes.{Appends}
+use Rattle.std.proofs.lemmas.List.{flat_map_more}
+use Rattle.captures.specs.declared.version.Version.{Version}
+use Rattle.captures.specs.declared.version.Version.TheVariants.{Two}
+use Rattle.captures.specs.declared.record.Record.{Record}
+use Rattle.captures.specs.declared.progress.Progress.{Progress}
+use Rattle.captures.specs.declared.capture_fault.CaptureFault.{CaptureFault}
+use Rattle.captures.specs.declared.capture_fault.CaptureFaultKind.{CaptureFaultKind}
+use Rattle.captures.specs.declared.capture_fault.CaptureFaultKind.TheVariants as kinds
+use Rattle.captures.specs.declared.upgrade_fault.UpgradeFault.{UpgradeFault}
+use Rattle.captures.specs.declared.upgrade_fault.UpgradeFault.TheVariants.{Capture, Memory, Write as Unwritten}
+use Rattle.captures.specs.Captures.{feed, first_line, last_line, record_text, text_before_stop, longest_text, IsCaptureText}
+use Rattle.captures.specs.CaptureFaults.{IsForeseen, IsHeaderFault, failures_of}
+use Rattle.captures.specs.Readers.{Fits, Gave, FailsNext}
+use Rattle.captures.specs.Writing.{AppendsPrefix, WritesPrefix}
+use Rattle.captures.specs.Upgrades.{upgraded, Upgrades, Stops, IsCutShort, told_as, upgrade_fault, IfCapture, IfCutShort, IsWriteOrMemory, reader_failures, writer_failures}
+use Rattle.captures.proofs.WritingLemmas.{appends_then, prefix_none, prefix_then}
+
+-- ---- what is told of a capture's fault
+
+tells : (f : CaptureFault) → ((f.kind ≡ kinds.Memory) × (upgrade_fault f ≡ Memory)) ⊎ ((f.kind ≡ kinds.Memory → ⊥) × (upgrade_fault f ≡ Capture f))
+tells f = go f.kind refl
+  where
+    go : (k : CaptureFaultKind) → f.kind ≡ k → ((f.kind ≡ kinds.Memory) × (told_as k f ≡ Memory)) ⊎ ((f.kind ≡ kinds.Memory → ⊥) × (told_as k f ≡ Capture f))
+    go kinds.Cut e = inr ((λ m. let x : kinds.Cut ≡ kinds.Memory = sym e ∙ m in absurd cc), refl)
+    go kinds.Header e = inr ((λ m. let x : kinds.Header ≡ kinds.Memory = sym e ∙ m in absurd cc), refl)
+    go kinds.Kind e = inr ((λ m. let x : kinds.Kind ≡ kinds.Memory = sym e ∙ m in absurd cc), refl)
+    go kinds.Number e = inr ((λ m. let x : kinds.Number ≡ kinds.Memory = sym e ∙ m in absurd cc), refl)
+    go kinds.Tick e = inr ((λ m. let x : kinds.Tick ≡ kinds.Memory = sym e ∙ m in absurd cc), refl)
+    go kinds.Connection e = inr ((λ m. let x : kinds.Connection ≡ kinds.Memory = sym e ∙ m in absurd cc), refl)
+    go kinds.Ended e = inr ((λ m. let x : kinds.Ended ≡ kinds.Memory = sym e ∙ m in absurd cc), refl)
+    go kinds.Tier e = inr ((λ m. let x : kinds.Tier ≡ kinds.Memory = sym e ∙ m in absurd cc), refl)
+    go kinds.Length e = inr ((λ m. let x : kinds.Length ≡ kinds.Memory = sym e ∙ m in absurd cc), refl)
+    go kinds.Count e = inr ((λ m. let x : kinds.Count ≡ kinds.Memory = sym e ∙ m in absurd cc), refl)
+    go kinds.Trailing e = inr ((λ m. let x : kinds.Trailing ≡ kinds.Memory = sym e ∙ m in absurd cc), refl)
+    go kinds.TooLarge e = inr ((λ m. let x : kinds.TooLarge ≡ kinds.Memory = sym e ∙ m in absurd cc), refl)
+    go kinds.Read e = inr ((λ m. let x : kinds.Read ≡ kinds.Memory = sym e ∙ m in absurd cc), refl)
+    go kinds.Memory e = inl (e, refl)
+
+pub told : (f : CaptureFault) (P : CaptureFault → Type 0) → P f → IfCapture (upgrade_fault f) P
+told f P h = elim (tells f) [
+  | inl m ↦ subst (λ (u : UpgradeFault). IfCapture u P) (sym m.1) tt
+  | inr c ↦ subst (λ (u : UpgradeFault). IfCapture u P) (sym c.1) h
+]
+
+pub told_short : (f : CaptureFault) (P : Type 0) → P → IfCutShort (upgrade_fault f) P
+told_short f P h = elim (tells f) [
+  | inl m ↦ subst (λ (u : UpgradeFault). IfCutShort u P) (sym m.1) h
+  | inr c ↦ subst (λ (u : UpgradeFault). IfCutShort u P) (sym c.1) tt
+]
+
+-- where memory can't have run out
+pub told_unless : (f : CaptureFault) (P : Type 0) → (f.kind ≡ kinds.Memory → ⊥) → IfCutShort (upgrade_fault f) P
+told_unless f P h = elim (tells f) [
+  | inl m ↦ absurd (h m.0)
+  | inr c ↦ subst (λ (u : UpgradeFault). IfCutShort u P) (sym c.1) tt
+]
+
+pub told_memory : (f : CaptureFault) → IfCapture (upgrade_fault f) (λ g. g.kind ≡ kinds.Memory → ⊥)
+told_memory f = elim (tells f) [
+  | inl m ↦ subst (λ (u : UpgradeFault). IfCapture u (λ g. g.kind ≡ kinds.Memory → ⊥)) (sym m.1) tt
+  | inr c ↦ subst (λ (u : UpgradeFault). IfCapture u (λ g. g.kind ≡ kinds.Memory → ⊥)) (sym c.1) c.0
+]
+
+pub told_reads : (f : CaptureFault) → reader_failures (upgrade_fault f) ≡ failures_of f.kind
+told_reads f = elim (tells f) [
+  | inl m ↦ ap reader_failures m.1 ∙ sym (ap failures_of m.0)
+  | inr c ↦ ap reader_failures c.1
+]
+
+pub told_writes : (f : CaptureFault) → writer_failures (upgrade_fault f) ≡ 0
+told_writes f = elim (tells f) [ inl m ↦ ap writer_failures m.1 | inr c ↦ ap writer_failures c.1 ]
+
+-- ---- what is said of the call's own faults
+
+pub own_capture : (f : UpgradeFault) (P : CaptureFault → Type 0) → IsWriteOrMemory f → IfCapture f P
+own_capture (Capture f) P h = absurd h
+own_capture Unwritten P h = tt
+own_capture Memory P h = tt
+
+pub own_reads : (f : UpgradeFault) → IsWriteOrMemory f → reader_failures f ≡ 0
+own_reads (Capture f) h = absurd h
+own_reads Unwritten h = refl
+own_reads Memory h = refl
+
+pub short : (f : UpgradeFault) (P : Type 0) → P → IfCutShort f P
+short (Capture f) P h = tt
+short Unwritten P h = h
+short Memory P h = h
+
+-- a fault that `?` has passed on
+pub passed_on : {T : Type 0} (r : Result T UpgradeFault) (Q P : UpgradeFault → Type 0) → ((f : UpgradeFault) → Q f → P f) → IsErrAnd r Q → IfErr r P
+passed_on (Ok x) Q P more h = tt
+passed_on (Err f) Q P more h = more f h
+
+-- ---- the reader
+
+-- a reader's version and start are its own
+pub fits_own : (v : Version) (text now : Option (List ℕ)) (start : ℕ) (records : List Record) (p : Progress) → Fits v text start records p now → Fits p.version text p.start records p now
+fits_own v text now start records p f =
+    subst (λ (q : Version × ℕ). Fits q.0 text q.1 records p now) (λ i. (sym f.version i, sym f.begun i)) f
+
+pub gave_more : (v : Version) (text now : Option (List ℕ)) (start : ℕ) (records : List Record) (p : Progress) (x : Option Record) (r : Record) → x ≡ Some r
+    → Gave v text start records (Ok x) p now → Fits v text start (records ++ r ∷ []) p now
+gave_more v text now start records p x r is h = subst (λ (o : Option Record). Gave v text start records (Ok o) p now) is h
+
+-- there are fewer records than 64 bits count
+pub fits_few : (v : Version) (text now : Option (List ℕ)) (start : ℕ) (records : List Record) (p : Progress) → Fits v text start records p now → length records ≤ longest_text
+fits_few v text now start records p f = let r = f.room in omega arith
+
+-- ---- what stands
+
+pub first_written : (start : ℕ) (old new : Option (List ℕ)) → Appends old new (first_line Two start ++ feed ∷ []) → Appends old new (text_before_stop Two start [])
+first_written start old new h = subst (λ (w : List ℕ). Appends old new w) (sym (append-nil (first_line Two start ++ feed ∷ []))) h
+
+pub first_prefix : (start : ℕ) (old new : Option (List ℕ)) → AppendsPrefix old new (first_line Two start ++ feed ∷ []) → AppendsPrefix old new (text_before_stop Two start [])
+first_prefix start old new h = subst (λ (w : List ℕ). AppendsPrefix old new w) (sym (append-nil (first_line Two start ++ feed ∷ []))) h
+
+longer : (start : ℕ) (records : List Record) (r : Record) → text_before_stop Two start records ++ record_text r ≡ text_before_stop Two start (records ++ r ∷ [])
+longer start records r = flat_map_more record_text (first_line Two start ++ feed ∷ []) records r
+
+pub more_written : (start : ℕ) (records : List Record) (r : Record) (old mid new : Option (List ℕ)) → Appends old mid (text_before_stop Two start records) → Appends mid new (record_text r)
+    → Appends old new (text_before_stop Two start (records ++ r ∷ []))
+more_written start records r old mid new before h =
+    subst (λ (w : List ℕ). Appends old new w) (longer start records r) (appends_then old mid new (text_before_stop Two start records) (record_text r) before h)
+
+pub more_prefix : (start : ℕ) (records : List Record) (r : Record) (old mid new : Option (List ℕ)) → Appends old mid (text_before_stop Two start records) → AppendsPrefix mid new (record_text r)
+    → AppendsPrefix old new (text_before_stop Two start (records ++ r ∷ []))
+more_prefix start records r old mid new before h =
+    subst (λ (w : List ℕ). AppendsPrefix old new w) (longer start records r) (prefix_then old mid new (text_before_stop Two start records) (record_text r) before h)
+
+-- ---- where it stops
+
+pub stops_first : (text rest old : Option (List ℕ)) (f : CaptureFault) → f.at ≡ 0 → IsForeseen IsHeaderFault text f → is_some text ≡ true → Stops (unwrap_or text []) rest old old f
+stops_first text rest old f at h known = inl (record { at = at; written = refl; fault = λ foreseen. h known foreseen })
+
+pub stops_behind : (v : Version) (text now rest old new : Option (List ℕ)) (start : ℕ) (records : List Record) (p q : Progress) (f : CaptureFault) → Fits v text start records p now
+    → Appends old new (text_before_stop Two start records) → Gave v text start records (Err f) q rest → FailsNext v text start records (Err f) rest → is_some text ≡ true
+    → Stops (unwrap_or text []) rest old new f
+stops_behind v text now rest old new start records p q f fits written gave fails known = inr (record {
+  version = v;
+  start = start;
+  records = records;
+  further = unwrap_or now [];
+  front = fits.front known;
+  rules = fits.rules;
+  at = gave.0;
+  written = written;
+  fault = λ foreseen. gave.1 known foreseen;
+  failed = λ read. fails read known;
+})
+
+pub short_none : (v : Version) (text now old : Option (List ℕ)) (start : ℕ) (records : List Record) (p : Progress) → Fits v text start records p now → is_some text ≡ true
+    → IsCutShort (unwrap_or text []) old old
+short_none v text now old start records p fits known = inl (record {
+  version = v;
+  start = start;
+  records = records;
+  further = unwrap_or now [];
+  front = fits.front known;
+  rules = fits.rules;
+  written = prefix_none old (text_before_stop Two start records);
+})
+
+pub short_among : (v : Version) (text now old new : Option (List ℕ)) (start : ℕ) (records : List Record) (p : Progress) → Fits v text start records p now
+    → AppendsPrefix old new (text_before_stop Two start records) → is_some text ≡ true → IsCutShort (unwrap_or text []) old new
+short_among v text now old new start records p fits written known = inl (record {
+  version = v;
+  start = start;
+  records = records;
+  further = unwrap_or now [];
+  front = fits.front known;
+  rules = fits.rules;
+  written = written;
+})
+
+-- the end was met
+pub all_read : (v : Version) (text now : Option (List ℕ)) (start : ℕ) (records : List Record) (p : Progress) (x : Option Record) → x ≡ None → Gave v text start records (Ok x) p now → is_some text ≡ true
+    → IsCaptureText v (unwrap_or text []) start records
+all_read v text now start records p x is h = subst (λ (o : Option Record). Gave v text start records (Ok o) p now) is h
+
+counted : (n : ℕ) (records : List Record) → n ≡ length records → (codes "stop " ++ decimal n) ++ feed ∷ [] ≡ last_line records ++ feed ∷ []
+counted n records e = ap (λ m. (codes "stop " ++ decimal m) ++ feed ∷ []) e
+
+pub short_end : (v : Version) (input : List ℕ) (old mid new : Option (List ℕ)) (start n : ℕ) (records : List Record) → n ≡ length records → IsCaptureText v input start records
+    → Appends old mid (text_before_stop Two start records) → AppendsPrefix mid new ((codes "stop " ++ decimal n) ++ feed ∷ []) → IsCutShort input old new
+short_end v input old mid new start n records is c before h = inr (
+  upgraded start records,
+  record { version = v; start = start; records = records; capture = c; text = refl },
+  prefix_then old mid new (text_before_stop Two start records) (last_line records ++ feed ∷ []) before (subst (λ (w : List ℕ). AppendsPrefix mid new w) (counted n records is) h),
+)
+
+pub whole : (v : Version) (input : List ℕ) (old mid new : Option (List ℕ)) (start n : ℕ) (records : List Record) → n ≡ length records → IsCaptureText v input start records
+    → Appends old mid (text_before_stop Two start records) → Appends mid new ((codes "stop " ++ decimal n) ++ feed ∷ []) → Upgrades input old new
+whole v input old mid new start n records is c before h = (
+  upgraded start records,
+  record { version = v; start = start; records = records; capture = c; text = refl },
+  appends_then old mid new (text_before_stop Two start records) (last_line records ++ feed ∷ []) before (subst (λ (w : List ℕ). Appends mid new w) (counted n records is) h),
+)
+
+-- the same of what another name has
+pub moved : (X : Option (List ℕ) → Type 0) (a b : Option (List ℕ)) → X b → a ≡ b → X a
+moved X a b h e = subst X (sym e) h
+
+-- a fault of the call itself
+pub own_errs : (r : Result Unit UpgradeFault) (P : CaptureFault → Type 0) → IfErr r IsWriteOrMemory → IfErr r (λ f. IfCapture f P)
+own_errs (Ok x) P h = tt
+own_errs (Err f) P h = own_capture f P h
+
+pub short_errs : (r : Result Unit UpgradeFault) (P : Type 0) → P → IfErr r (λ f. IfCutShort f P)
+short_errs (Ok x) P h = tt
+short_errs (Err f) P h = short f P h
+
+-- the last line was written, or a prefix of it
+pub part_end : (r : Result Unit UpgradeFault) (v : Version) (text old mid new : Option (List ℕ)) (start n : ℕ) (records : List Record) → n ≡ length records → Appends old mid (text_before_stop Two start records)
+    → (is_some text ≡ true → IsCaptureText v (unwrap_or text []) start records) → WritesPrefix mid new r ((codes "stop " ++ decimal n) ++ feed ∷ [])
+    → IfErr r (λ f. IfCutShort f (is_some text ≡ true → IsCutShort (unwrap_or text []) old new))
+part_end (Ok x) v text old mid new start n records is before c h = tt
+part_end (Err f) v text old mid new start n records is before c h = short f _ (λ known. short_end v (unwrap_or text []) old mid new start n records is (c known) before h)
+
+pub ok_end : (r : Result Unit UpgradeFault) (v : Version) (text old mid new : Option (List ℕ)) (start n : ℕ) (records : List Record) → n ≡ length records → Appends old mid (text_before_stop Two start records)
+    → (is_some text ≡ true → IsCaptureText v (unwrap_or text []) start records) → WritesPrefix mid new r ((codes "stop " ++ decimal n) ++ feed ∷ [])
+    → OnOk r (is_some text ≡ true → Upgrades (unwrap_or text []) old new)
+ok_end (Ok x) v text old mid new start n records is before c h = λ known. whole v (unwrap_or text []) old mid new start n records is (c known) before h
+ok_end (Err f) v text old mid new start n records is before c h = tt

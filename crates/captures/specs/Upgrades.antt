@@ -1,0 +1,109 @@
+-- A capture of either version becomes one of version 2, and what has been written of it where the call stops.
+use Rattle.std.specs.Prelude.{◌≡◌, ℕ, ◌+◌, ◌⊎◌, false, List, [], ◌++◌, length, Option, Result, MatchResult, unwrap_or}
+use Rattle.std.specs.Io.KnownBytes.{Appends}
+use Rattle.captures.specs.declared.version.Version.{Version}
+use Rattle.captures.specs.declared.version.Version.TheVariants.{Two}
+use Rattle.captures.specs.declared.record.Record.{Record}
+use Rattle.captures.specs.declared.capture_fault.CaptureFault.{CaptureFault}
+use Rattle.captures.specs.declared.capture_fault.CaptureFaultKind.{CaptureFaultKind}
+use Rattle.captures.specs.declared.capture_fault.CaptureFaultKind.TheVariants as kinds
+use Rattle.captures.specs.declared.upgrade_fault.UpgradeFault.{UpgradeFault}
+use Rattle.captures.specs.declared.upgrade_fault.UpgradeFault.TheVariants.{Capture, Memory, Write as Unwritten}
+use Rattle.captures.specs.Captures.{text_before_stop, capture_text, IsCapture, IsCaptureText}
+use Rattle.captures.specs.CaptureFaults.{is_unforeseen_kind, IsHeaderFault, IsFaultBehind, failures_of}
+use Rattle.captures.specs.Readers.{FailsInRecord}
+use Rattle.captures.specs.Writing.{AppendsPrefix}
+
+-- The upgraded text of a capture is that of version 2 with the same start and the same records.
+abbrev pub upgraded : ℕ → List Record → List ℕ
+upgraded start records = capture_text Two start records
+
+-- the one text is the upgraded text of the other
+pub record IsUpgrade (old new : List ℕ) : Type 0 where
+  pub version : Version
+  pub start : ℕ
+  pub records : List Record
+  pub capture : IsCaptureText version old start records
+  pub text : new ≡ upgraded start records
+
+-- The input is a capture's text, and its upgraded text was written.
+abbrev pub Upgrades : List ℕ → Option (List ℕ) → Option (List ℕ) → Type 0
+Upgrades input old new = (text : List ℕ) × IsUpgrade input text × Appends old new text
+
+-- The upgrade stopped at the first line: it has written nothing.
+pub record StopsFirst (input : List ℕ) (old new : Option (List ℕ)) (f : CaptureFault) : Type 0 where
+  pub at : f.at ≡ 0
+  pub written : new ≡ old
+  pub fault : is_unforeseen_kind f.kind ≡ false → IsHeaderFault input f
+
+-- The upgrade stopped after these records, which stand whole before the fault, at the record that comes next: it has
+-- written the first line and these records, and no last line. Where a read failed, this rest is still ahead of the
+-- reader, and no whole record more was taken.
+pub record StopsBehind (input : List ℕ) (rest : Option (List ℕ)) (old new : Option (List ℕ)) (f : CaptureFault) : Type 0 where
+  pub version : Version
+  pub start : ℕ
+  pub records : List Record
+  pub further : List ℕ
+  pub front : input ≡ text_before_stop version start records ++ further
+  pub rules : IsCapture version start records
+  pub at : f.at ≡ length records + 1
+  pub written : Appends old new (text_before_stop Two start records)
+  pub fault : is_unforeseen_kind f.kind ≡ false → IsFaultBehind version input start records f
+  pub failed : f.kind ≡ kinds.Read → (part : List ℕ) × FailsInRecord version input start records part (unwrap_or rest [])
+
+-- a fault of the capture that isn't a failed read is its first
+abbrev pub Stops : List ℕ → Option (List ℕ) → Option (List ℕ) → Option (List ℕ) → CaptureFault → Type 0
+Stops input rest old new f = StopsFirst input old new f ⊎ StopsBehind input rest old new f
+
+-- A prefix was written of the first line and these records, with which the input begins.
+pub record StopsAmong (input : List ℕ) (old new : Option (List ℕ)) : Type 0 where
+  pub version : Version
+  pub start : ℕ
+  pub records : List Record
+  pub further : List ℕ
+  pub front : input ≡ text_before_stop version start records ++ further
+  pub rules : IsCapture version start records
+  pub written : AppendsPrefix old new (text_before_stop Two start records)
+
+-- an upgrade that was cut short has written a prefix of what was due: of the last line only where the input is a
+-- capture's text
+abbrev pub IsCutShort : List ℕ → Option (List ℕ) → Option (List ℕ) → Type 0
+IsCutShort input old new = StopsAmong input old new ⊎ ((text : List ℕ) × IsUpgrade input text × AppendsPrefix old new text)
+
+-- where the reader is out of memory, the call is
+abbrev pub told_as : CaptureFaultKind → CaptureFault → UpgradeFault
+told_as kinds.Memory f = Memory
+told_as other f = Capture f
+
+abbrev pub upgrade_fault : CaptureFault → UpgradeFault
+upgrade_fault f = told_as f.kind f
+
+-- what a capture's fault has to say; the other faults say it of none
+abbrev pub IfCapture : UpgradeFault → (CaptureFault → Type 0) → Type 0
+IfCapture (Capture f) P = P f
+IfCapture other P = Unit {0}
+
+-- what a failed write and want of memory have to say
+abbrev pub IfCutShort : UpgradeFault → Type 0 → Type 0
+IfCutShort Unwritten P = P
+IfCutShort Memory P = P
+IfCutShort other P = Unit {0}
+
+-- a failed write, or out of memory
+abbrev pub IsWriteOrMemory : UpgradeFault → Type 0
+IsWriteOrMemory Unwritten = Unit {0}
+IsWriteOrMemory Memory = Unit {0}
+IsWriteOrMemory other = ⊥
+
+-- how often the reader and the writer failed in a call that answered this fault
+abbrev pub reader_failures : UpgradeFault → ℕ
+reader_failures (Capture f) = failures_of f.kind
+reader_failures other = 0
+
+abbrev pub writer_failures : UpgradeFault → ℕ
+writer_failures Unwritten = 1
+writer_failures other = 0
+
+-- a device's count rose by one exactly where the fault is its own
+abbrev pub CountsBy : {X : Type 0} → (UpgradeFault → ℕ) → ℕ → ℕ → Result X UpgradeFault → Type 0
+CountsBy failures old new r = MatchResult r (λ _. new ≡ old) (λ f. new ≡ old + failures f)

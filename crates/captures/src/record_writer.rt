@@ -1,0 +1,146 @@
+ghost use Rattle.std.specs.Prelude.{◌≡◌, ◌<◌, ◌-◌, ◌^◌, ◌++◌, ◌∷◌, [], codes, decimal, IfOk, IfErr};
+ghost use Rattle.std.specs.String.{string_bytes};
+ghost use Rattle.captures.specs.Captures.{first_line, piece_line, record_text};
+ghost use Rattle.captures.specs.Upgrades.{CountsBy, writer_failures, IsWriteOrMemory};
+ghost use Rattle.captures.specs.Writing.{WritesPrefix, line_of, rest_of};
+ghost use Rattle.captures.specs.declared.version.Version.TheVariants.{Two};
+
+use crate::{Record, UpgradeFault};
+use paths::{Failed, Output};
+use std::alloc::{AllocError, Global};
+use std::io::Write;
+
+/// Writes all the bytes, in as many writes as it takes. At an `Err` a prefix of them was written.
+fn write_all<W: Write>(output: &mut Output<W>, bytes: &[u8]) -> Result<(), UpgradeFault>
+    requires { output.old.1 < 2 ^ 64 - 1 }
+    ensures prefix { WritesPrefix output.old.0 output.new.0 result bytes.now }
+    ensures count { CountsBy writer_failures output.old.1 output.new.1 result }
+    ensures own { IfErr result IsWriteOrMemory }
+{
+    let mut written = 0;
+    while written < bytes.len() {
+        match output.write_some(&bytes[written..]) {
+            Ok(more) => written += more,
+            Err(Failed) => return Err(UpgradeFault::Write),
+        }
+    }
+    Ok(())
+}
+
+/// Writes one text and then another.
+fn write_both<W: Write>(
+    output: &mut Output<W>,
+    first: &[u8],
+    second: &[u8],
+) -> Result<(), UpgradeFault>
+    requires { output.old.1 < 2 ^ 64 - 1 }
+    ensures prefix { WritesPrefix output.old.0 output.new.0 result (first.now ++ second.now) }
+    ensures count { CountsBy writer_failures output.old.1 output.new.1 result }
+    ensures own { IfErr result IsWriteOrMemory }
+{
+    match write_all(output, first) {
+        Ok(()) => write_all(output, second),
+        Err(fault) => Err(fault),
+    }
+}
+
+/// Writes the first line of a capture of version 2.
+pub(crate) fn write_first_line<W: Write>(
+    alloc: Global,
+    output: &mut Output<W>,
+    start: u64,
+) -> Result<(), UpgradeFault>
+    requires { output.old.1 < 2 ^ 64 - 1 }
+    ensures prefix { WritesPrefix output.old.0 output.new.0 result (first_line Two start ++ 10 ∷ []) }
+    ensures count { CountsBy writer_failures output.old.1 output.new.1 result }
+    ensures own { IfErr result IsWriteOrMemory }
+{
+    match format!(in alloc; "haboob-capture 2 {start}\n") {
+        Ok(line) => write_all(output, line.as_bytes()),
+        Err(_) => Err(UpgradeFault::Memory),
+    }
+}
+
+/// The line in front of the bytes of a piece.
+fn piece_line(alloc: Global, tick: u64, conn: u16, len: usize) -> Result<String, AllocError>
+    ensures { IfOk result (λ line. string_bytes line ≡ piece_line tick conn len ++ 10 ∷ []) }
+{
+    format!(in alloc; "piece {tick} {conn} {len}\n")
+}
+
+/// The line of a record, or the one in front of its bytes.
+fn record_line(alloc: Global, next: &Record) -> Result<String, AllocError>
+    ensures { IfOk result (λ line. string_bytes line ≡ line_of next.now) }
+{
+    match next {
+        Record::Piece { tick, conn, bytes } => {
+            piece_line(alloc, *tick, *conn, bytes.as_slice().len())
+        }
+        Record::End { tick, conn } => format!(in alloc; "end {tick} {conn}\n"),
+        Record::Tier { conn, tier } => format!(in alloc; "tier {conn} {tier}\n"),
+    }
+}
+
+/// Writes the line of a record.
+fn write_line<W: Write>(
+    alloc: Global,
+    output: &mut Output<W>,
+    next: &Record,
+) -> Result<(), UpgradeFault>
+    requires { output.old.1 < 2 ^ 64 - 1 }
+    ensures prefix { WritesPrefix output.old.0 output.new.0 result (line_of next.now) }
+    ensures count { CountsBy writer_failures output.old.1 output.new.1 result }
+    ensures own { IfErr result IsWriteOrMemory }
+{
+    match record_line(alloc, next) {
+        Ok(line) => write_all(output, line.as_bytes()),
+        Err(_) => Err(UpgradeFault::Memory),
+    }
+}
+
+/// Writes what comes after the line of a record: the bytes of a piece, with a line feed.
+fn write_rest<W: Write>(output: &mut Output<W>, next: &Record) -> Result<(), UpgradeFault>
+    requires { output.old.1 < 2 ^ 64 - 1 }
+    ensures prefix { WritesPrefix output.old.0 output.new.0 result (rest_of next.now) }
+    ensures count { CountsBy writer_failures output.old.1 output.new.1 result }
+    ensures own { IfErr result IsWriteOrMemory }
+{
+    match next {
+        Record::Piece { bytes, .. } => write_both(output, bytes.as_slice(), b"\n"),
+        Record::End { .. } | Record::Tier { .. } => Ok(()),
+    }
+}
+
+/// Writes a record.
+pub(crate) fn write_record<W: Write>(
+    alloc: Global,
+    output: &mut Output<W>,
+    next: &Record,
+) -> Result<(), UpgradeFault>
+    requires { output.old.1 < 2 ^ 64 - 1 }
+    ensures prefix { WritesPrefix output.old.0 output.new.0 result (record_text next.now) }
+    ensures count { CountsBy writer_failures output.old.1 output.new.1 result }
+    ensures own { IfErr result IsWriteOrMemory }
+{
+    match write_line(alloc, output, next) {
+        Ok(()) => write_rest(output, next),
+        Err(fault) => Err(fault),
+    }
+}
+
+/// Writes the last line of a capture of so many records.
+pub(crate) fn write_last_line<W: Write>(
+    alloc: Global,
+    output: &mut Output<W>,
+    count: usize,
+) -> Result<(), UpgradeFault>
+    requires { output.old.1 < 2 ^ 64 - 1 }
+    ensures prefix { WritesPrefix output.old.0 output.new.0 result ((codes "stop " ++ decimal count) ++ 10 ∷ []) }
+    ensures count { CountsBy writer_failures output.old.1 output.new.1 result }
+    ensures own { IfErr result IsWriteOrMemory }
+{
+    match format!(in alloc; "stop {count}\n") {
+        Ok(line) => write_all(output, line.as_bytes()),
+        Err(_) => Err(UpgradeFault::Memory),
+    }
+}

@@ -1,0 +1,56 @@
+ghost use Rattle.std.specs.Prelude.{◌≡◌, ◌≢◌, ◌<◌, ◌-◌, ◌^◌, [], true, is_some, unwrap_or, OnOk, IfErr};
+ghost use Rattle.captures.specs.Upgrades.{Upgrades, Stops, IsCutShort, IfCapture, IfCutShort};
+ghost use Rattle.captures.specs.Upgrades.{CountsBy, reader_failures, writer_failures};
+
+use crate::record_writer::{write_first_line, write_last_line, write_record};
+use crate::{CaptureFaultKind, CaptureReader, UpgradeFault};
+use paths::{Input, Output};
+use std::alloc::Global;
+use std::io::{Read, Write};
+
+/// Writes a capture of either version as one of version 2, with the same start and the same records: it reads a record,
+/// writes it, and goes on. The last line is written after the end of the input was met.
+///
+/// # Errors
+///
+/// `Capture` with the capture's first fault, or where its reader failed: the first line and the whole records before the
+/// fault stand then, or nothing where the fault is in the first line. `Write` where the writer failed, and `Memory`: a
+/// prefix stands.
+pub fn upgrade<R: Read, W: Write>(
+    alloc: Global,
+    reader: &mut Input<R>,
+    writer: &mut Output<W>,
+) -> Result<(), UpgradeFault>
+    requires reading { reader.old.1 < 2 ^ 64 - 1 }
+    requires writing { writer.old.1 < 2 ^ 64 - 1 }
+    ensures ok { OnOk result (is_some reader.old.0 ≡ true
+        → Upgrades (unwrap_or reader.old.0 []) writer.old.0 writer.new.0) }
+    // After a capture's fault, the first line and the whole records before it stand.
+    ensures stops { IfErr result (λ f. IfCapture f (λ fault. is_some reader.old.0 ≡ true
+        → Stops (unwrap_or reader.old.0 []) reader.new.0 writer.old.0 writer.new.0 fault)) }
+    // After a failed write and out of memory, a prefix of what was due stands.
+    ensures part { IfErr result (λ f. IfCutShort f (is_some reader.old.0 ≡ true
+        → IsCutShort (unwrap_or reader.old.0 []) writer.old.0 writer.new.0)) }
+    // Out of memory has a name of its own.
+    ensures memory { IfErr result (λ f. IfCapture f (λ fault. fault.kind ≢ CaptureFaultKind.Memory)) }
+    // A device is blamed only where it failed in this call.
+    ensures reads { CountsBy reader_failures reader.old.1 reader.new.1 result }
+    ensures writes { CountsBy writer_failures writer.old.1 writer.new.1 result }
+{
+    let mut capture = match CaptureReader::open(reader) {
+        Ok(capture) => capture,
+        Err(fault) => return Err(UpgradeFault::from(fault)),
+    };
+    write_first_line(alloc, writer, capture.start())?;
+    let mut count = 0;
+    loop {
+        let next = match capture.next_record(alloc) {
+            Ok(Some(next)) => next,
+            Ok(None) => break,
+            Err(fault) => return Err(UpgradeFault::from(fault)),
+        };
+        write_record(alloc, writer, &next)?;
+        count += 1;
+    }
+    write_last_line(alloc, writer, count)
+}
