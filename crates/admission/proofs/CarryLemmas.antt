@@ -1,18 +1,18 @@
 -- The laws of what is carried from offer to offer.
 use Rattle.std.proofs.Common.{◌≡◌, ℕ, ◌+◌, ◌-◌, ◌*◌, ◌<◌, ◌≤◌, min, max, List, [], ◌∷◌, ◌++◌, map, Bool, true, false, cond, nat_le, refl, sym, ◌∙◌, ap, arith, append-nil, inl, inr, if◌then◌else◌}
-use Rattle.std.proofs.lemmas.Bool.{le-leb, lt-leb, cases_lt}
+use Rattle.std.proofs.lemmas.Bool.{le-leb, lt-leb, cases_lt, cases_eq}
 use Rattle.std.proofs.lemmas.List.{map-append}
 use Rattle.token_bucket.specs.declared.TheConstants.{TOKEN}
 use Rattle.token_bucket.specs.Accrual.{accrual}
 use Rattle.token_bucket.proofs.AccrualLemmas.{accrual-split}
 use Rattle.admission.specs.declared.control.Decision.TheVariants.{Admitted, Rejected}
-use Rattle.admission.specs.Rules.{Rules}
-use Rattle.admission.specs.Requests.{Offer, Decided, Served, is_admitted, served, last_finish, finish_behind}
+use Rattle.admission.specs.Rules.{Rules, rules_of}
+use Rattle.admission.specs.Requests.{Offer, Decided, Served, of_tier, is_admitted, served, last_finish, finish_behind}
 use Rattle.admission.specs.Controls.{control_at, rate_at}
 use Rattle.admission.specs.Decisions.{least_balance, credit, decide, decided_next, decided_from, decided}
 use Rattle.admission.specs.Fits.{tick_from, AllCovered}
-use Rattle.admission.specs.Laws.{AreOffered, RunsTo, FinishFromFinish, FirstCredit, CreditFromCredit, AccrualSplitsAtControl, RateFromOffersBefore}
-use Rattle.admission.proofs.RequestLemmas.{decided_from-push, served-push, last_finish-push}
+use Rattle.admission.specs.Laws.{AreOffered, AreOfOthers, RunsTo, FinishFromFinish, FirstCredit, CreditFromCredit, AccrualSplitsAtControl, RateFromOffersBefore}
+use Rattle.admission.proofs.RequestLemmas.{decided_from-push, of_tier-same, of_tier-other, of_tier-none, served-push, last_finish-push}
 use Rattle.admission.proofs.CreditLemmas.{token_of, least_balance-none, least_balance-later, least_balance-push, covered-later, covered-push}
 use Rattle.admission.proofs.LawLemmas.{decided_from-append}
 use Rattle.admission.proofs.OfferLemmas as offers
@@ -52,17 +52,17 @@ runs_next past offer true runs =
     (last_finish-push (map (λ (r : Served). r.offer) (served past)) offer))
 runs_next past offer false runs = rw (served_rejected past offer (finish_behind (served past) offer)) runs
 
-runs_from : (rules : Rules) (past : List Decided) (offers : List Offer) → Runs (served past)
-    → Runs (served (decided_from rules past offers))
+runs_from : (policies : List Rules) (past : List Decided) (offers : List Offer) → Runs (served past)
+    → Runs (served (decided_from policies past offers))
 unfolding decided_from
-runs_from rules past [] runs = runs
-runs_from rules past (offer ∷ offers) runs =
-    runs_from rules (past ++ decided_next rules past offer ∷ []) offers
-    (runs_next past offer (nat_le TOKEN (credit rules past offer.tick)) runs)
+runs_from policies past [] runs = runs
+runs_from policies past (offer ∷ offers) runs =
+    runs_from policies (past ++ decided_next policies past offer ∷ []) offers
+    (runs_next past offer (nat_le TOKEN (credit (rules_of policies offer.tier) (of_tier offer.tier past) offer.tick)) runs)
 
 pub finish_from_finish : FinishFromFinish
 unfolding RunsTo served last_finish
-finish_from_finish rules offers = runs_from rules [] offers refl
+finish_from_finish policies offers = runs_from policies [] offers refl
 
 -- ---- rates
 
@@ -78,29 +78,49 @@ finish_later : (requests : List Served) (offer : Offer) (u : ℕ) → 1 ≤ offe
 finish_later requests offer u longer before =
     omega (arith, last_finish-push (map (λ (r : Served). r.offer) requests) offer)
 
-rate_next : (rules : Rules) (past : List Decided) (offer : Offer) (u : ℕ) → 0 < rules.every → 1 ≤ offer.service → u ≤ offer.tick
-    → rate_at rules (served (past ++ decided_next rules past offer ∷ [])) u ≡ rate_at rules (served past) u
-rate_next rules past offer u some longer before =
-    rate_chosen rules past offer (finish_behind (served past) offer) u (nat_le TOKEN (credit rules past offer.tick)) some
+-- the requests of a tier after one more offer: with that offer, or as they were
+tier_next : (policies : List Rules) (past : List Decided) (offer : Offer) (tier : ℕ) (P : List Decided → Type 0)
+    → (offer.tier ≡ tier → P (of_tier tier past ++ decided_next policies past offer ∷ [])) → P (of_tier tier past)
+    → P (of_tier tier (past ++ decided_next policies past offer ∷ []))
+tier_next policies past offer tier P own other =
+    elim (cases_eq offer.tier tier) [
+      | inl same ↦ rw (of_tier-same tier past (decided_next policies past offer) same) (own same)
+      | inr apart ↦ rw (of_tier-other tier past (decided_next policies past offer) apart) other
+    ]
+
+abbrev chooses : List Rules → List Decided → Offer → Bool
+chooses policies past offer = nat_le TOKEN (credit (rules_of policies offer.tier) (of_tier offer.tier past) offer.tick)
+
+rate_own : (rules : Rules) (policies : List Rules) (past own : List Decided) (offer : Offer) (u : ℕ) → 0 < rules.every → 1 ≤ offer.service
+    → u ≤ offer.tick → rate_at rules (served (own ++ decided_next policies past offer ∷ [])) u ≡ rate_at rules (served own) u
+rate_own rules policies past own offer u some longer before =
+    rate_chosen rules own offer (finish_behind (served past) offer) u (chooses policies past offer) some
     (finish_later (served past) offer u longer before)
+
+rate_next : (rules : Rules) (policies : List Rules) (past : List Decided) (offer : Offer) (tier u : ℕ) → 0 < rules.every → 1 ≤ offer.service
+    → u ≤ offer.tick
+    → rate_at rules (served (of_tier tier (past ++ decided_next policies past offer ∷ []))) u ≡ rate_at rules (served (of_tier tier past)) u
+rate_next rules policies past offer tier u some longer before =
+    tier_next policies past offer tier (λ ds. rate_at rules (served ds) u ≡ rate_at rules (served (of_tier tier past)) u)
+    (λ same. rate_own rules policies past (of_tier tier past) offer u some longer before) refl
 
 offered-lower : (u v : ℕ) (offers : List Offer) → u ≤ v → AreOffered v offers → AreOffered u offers
 unfolding AreOffered
 offered-lower u v [] lower offered = tt
 offered-lower u v (offer ∷ offers) lower offered = (omega (arith, offered.0), offered.1, offered.2)
 
-rate_from : (rules : Rules) (past : List Decided) (more : List Offer) (u : ℕ) → 0 < rules.every → AreOffered u more
-    → rate_at rules (served (decided_from rules past more)) u ≡ rate_at rules (served past) u
+rate_from : (rules : Rules) (policies : List Rules) (past : List Decided) (more : List Offer) (tier u : ℕ) → 0 < rules.every → AreOffered u more
+    → rate_at rules (served (of_tier tier (decided_from policies past more))) u ≡ rate_at rules (served (of_tier tier past)) u
 unfolding decided_from AreOffered
-rate_from rules past [] u some offered = refl
-rate_from rules past (offer ∷ more) u some offered =
-    rate_from rules (past ++ decided_next rules past offer ∷ []) more u some (offered-lower u offer.tick more offered.0 offered.2)
-    ∙ rate_next rules past offer u some offered.1 offered.0
+rate_from rules policies past [] tier u some offered = refl
+rate_from rules policies past (offer ∷ more) tier u some offered =
+    rate_from rules policies (past ++ decided_next policies past offer ∷ []) more tier u some (offered-lower u offer.tick more offered.0 offered.2)
+    ∙ rate_next rules policies past offer tier u some offered.1 offered.0
 
 pub rate_from_offers_before : RateFromOffersBefore
-rate_from_offers_before rules offers more tick range offered =
-    ap (λ (ds : List Decided). rate_at rules (served ds) tick) (decided_from-append rules [] offers more)
-    ∙ rate_from rules (decided rules offers) more tick (omega (arith, range.every.0)) offered
+rate_from_offers_before policies offers more tier tick range offered =
+    ap (λ (ds : List Decided). rate_at (rules_of policies tier) (served (of_tier tier ds)) tick) (decided_from-append policies [] offers more)
+    ∙ rate_from (rules_of policies tier) policies (decided policies offers) more tier tick (omega (arith, range.every.0)) offered
 
 -- ---- credits
 
@@ -116,22 +136,36 @@ taken_is : (b : Bool) → TOKEN * cond b 1 0 ≡ (if b then TOKEN else 0)
 taken_is true = omega arith
 taken_is false = omega arith
 
-covered_next : (rules : Rules) (past : List Decided) (offer : Offer) → 0 < rules.every → 1 ≤ offer.service
-    → AllCovered (rate_at rules (served past)) (rules.depth * TOKEN) offer.tick past
-    → AllCovered (rate_at rules (served (past ++ decided_next rules past offer ∷ []))) (rules.depth * TOKEN) offer.tick (past ++ decided_next rules past offer ∷ [])
-covered_next rules past offer some longer covered =
-    covered-push (rate_at rules (served past)) (rate_at rules (served (past ++ decided_next rules past offer ∷ []))) (rules.depth * TOKEN) offer.tick past
-    (decided_next rules past offer) covered refl (λ u below. sym (rate_next rules past offer u some longer (omega arith)))
-    (enough (credit rules past offer.tick) (finish_behind (served past) offer))
+abbrev Covers : Rules → ℕ → List Decided → Type 0
+Covers rules tick own = AllCovered (rate_at rules (served own)) (rules.depth * TOKEN) tick own
 
-covered_from : (rules : Rules) (past : List Decided) (offers : List Offer) (t : ℕ) → 0 < rules.every → AreOffered t offers
-    → AllCovered (rate_at rules (served past)) (rules.depth * TOKEN) t past
-    → AllCovered (rate_at rules (served (decided_from rules past offers))) (rules.depth * TOKEN) (tick_from t offers) (decided_from rules past offers)
+covered_own : (policies : List Rules) (past : List Decided) (offer : Offer) → 0 < (rules_of policies offer.tier).every → 1 ≤ offer.service
+    → Covers (rules_of policies offer.tier) offer.tick (of_tier offer.tier past)
+    → Covers (rules_of policies offer.tier) offer.tick (of_tier offer.tier past ++ decided_next policies past offer ∷ [])
+covered_own policies past offer some longer covered =
+    let rules : Rules = rules_of policies offer.tier in
+    let own : List Decided = of_tier offer.tier past in
+    covered-push (rate_at rules (served own)) (rate_at rules (served (own ++ decided_next policies past offer ∷ []))) (rules.depth * TOKEN) offer.tick own
+    (decided_next policies past offer) covered refl (λ u below. sym (rate_own rules policies past own offer u some longer (omega arith)))
+    (enough (credit rules own offer.tick) (finish_behind (served past) offer))
+
+covered_next : (policies : List Rules) (past : List Decided) (offer : Offer) (tier : ℕ) → 0 < (rules_of policies tier).every → 1 ≤ offer.service
+    → Covers (rules_of policies tier) offer.tick (of_tier tier past)
+    → Covers (rules_of policies tier) offer.tick (of_tier tier (past ++ decided_next policies past offer ∷ []))
+covered_next policies past offer tier some longer covered =
+    tier_next policies past offer tier (Covers (rules_of policies tier) offer.tick)
+    (λ same. rw (← same) (covered_own policies past offer (rw (← same) at some) longer (rw (← same) at covered))) covered
+
+covered_from : (policies : List Rules) (past : List Decided) (offers : List Offer) (tier t : ℕ) → 0 < (rules_of policies tier).every → AreOffered t offers
+    → Covers (rules_of policies tier) t (of_tier tier past)
+    → Covers (rules_of policies tier) (tick_from t offers) (of_tier tier (decided_from policies past offers))
 unfolding decided_from AreOffered tick_from
-covered_from rules past [] t some offered covered = covered
-covered_from rules past (offer ∷ offers) t some offered covered =
-    covered_from rules (past ++ decided_next rules past offer ∷ []) offers offer.tick some offered.2
-    (covered_next rules past offer some offered.1 (covered-later (rate_at rules (served past)) (rules.depth * TOKEN) t offer.tick past covered offered.0))
+covered_from policies past [] tier t some offered covered = covered
+covered_from policies past (offer ∷ offers) tier t some offered covered =
+    covered_from policies (past ++ decided_next policies past offer ∷ []) offers tier offer.tick some offered.2
+    (covered_next policies past offer tier some offered.1
+    (covered-later (rate_at (rules_of policies tier) (served (of_tier tier past))) ((rules_of policies tier).depth * TOKEN) t offer.tick
+    (of_tier tier past) covered offered.0))
 
 offered-parts : (t : ℕ) (offers : List Offer) (offer : Offer) → AreOffered t (offers ++ offer ∷ [])
     → AreOffered t offers × (tick_from t offers ≤ offer.tick) × (1 ≤ offer.service)
@@ -141,39 +175,54 @@ offered-parts t (first ∷ offers) offer offered =
     let rest = offered-parts first.tick offers offer offered.2 in
     ((offered.0, offered.1, rest.0), rest.1, rest.2)
 
+others_from : (policies : List Rules) (past : List Decided) (offers : List Offer) (tier : ℕ) → AreOfOthers tier offers
+    → of_tier tier (decided_from policies past offers) ≡ of_tier tier past
+unfolding decided_from AreOfOthers
+others_from policies past [] tier others = refl
+others_from policies past (offer ∷ offers) tier others =
+    others_from policies (past ++ decided_next policies past offer ∷ []) offers tier others.1
+    ∙ of_tier-other tier past (decided_next policies past offer) others.0
+
 pub first_credit : FirstCredit
-unfolding decided_from
-first_credit rules tick = least_balance-none (rate_at rules (served [])) (rules.depth * TOKEN) tick
+first_credit policies offers tier tick others =
+    ap (λ (ds : List Decided). credit (rules_of policies tier) ds tick) (others_from policies [] offers tier others ∙ of_tier-none tier)
+    ∙ least_balance-none (rate_at (rules_of policies tier) (served [])) ((rules_of policies tier).depth * TOKEN) tick
 
-credit_next : (rules : Rules) (past : List Decided) (offer : Offer) (tick : ℕ) → 0 < rules.every → 1 ≤ offer.service → offer.tick ≤ tick
-    → AllCovered (rate_at rules (served past)) (rules.depth * TOKEN) offer.tick past
-    → credit rules (past ++ decided_next rules past offer ∷ []) tick
-    ≡ min (rules.depth * TOKEN)
-    (credit rules past offer.tick - (if is_admitted (decide rules past offer) then TOKEN else 0)
-    + accrual (rate_at rules (served (past ++ decided_next rules past offer ∷ []))) offer.tick tick)
-credit_next rules past offer tick some longer later covered =
-    let request : Decided = decided_next rules past offer in
+credit_own : (policies : List Rules) (past : List Decided) (offer : Offer) (tick : ℕ) → 0 < (rules_of policies offer.tier).every → 1 ≤ offer.service
+    → offer.tick ≤ tick → Covers (rules_of policies offer.tier) offer.tick (of_tier offer.tier past)
+    → credit (rules_of policies offer.tier) (of_tier offer.tier past ++ decided_next policies past offer ∷ []) tick
+    ≡ min ((rules_of policies offer.tier).depth * TOKEN)
+    (credit (rules_of policies offer.tier) (of_tier offer.tier past) offer.tick - (if is_admitted (decide policies past offer) then TOKEN else 0)
+    + accrual (rate_at (rules_of policies offer.tier) (served (of_tier offer.tier past ++ decided_next policies past offer ∷ []))) offer.tick tick)
+credit_own policies past offer tick some longer later covered =
+    let rules : Rules = rules_of policies offer.tier in
+    let own : List Decided = of_tier offer.tier past in
+    let request : Decided = decided_next policies past offer in
     let full : ℕ = rules.depth * TOKEN in
-    let f : ℕ → ℕ = rate_at rules (served past) in
-    let g : ℕ → ℕ = rate_at rules (served (past ++ request ∷ [])) in
-    let there : least_balance g full offer.tick (past ++ request ∷ []) ≡ least_balance f full offer.tick past - TOKEN * token_of request =
-    least_balance-push f g full offer.tick past request covered refl (λ u below. sym (rate_next rules past offer u some longer (omega arith))) in
-    least_balance-later g full offer.tick tick (past ++ request ∷ []) (covered_next rules past offer some longer covered) later
+    let f : ℕ → ℕ = rate_at rules (served own) in
+    let g : ℕ → ℕ = rate_at rules (served (own ++ request ∷ [])) in
+    let there : least_balance g full offer.tick (own ++ request ∷ []) ≡ least_balance f full offer.tick own - TOKEN * token_of request =
+    least_balance-push f g full offer.tick own request covered refl (λ u below. sym (rate_own rules policies past own offer u some longer (omega arith))) in
+    least_balance-later g full offer.tick tick (own ++ request ∷ []) (covered_own policies past offer some longer covered) later
     ∙ ap (λ n. min full (n + accrual g offer.tick tick))
-    (there ∙ ap (λ n. least_balance f full offer.tick past - n) (taken_is (is_admitted (decide rules past offer))))
+    (there ∙ ap (λ n. least_balance f full offer.tick own - n) (taken_is (is_admitted (decide policies past offer))))
 
-first_covered : (rules : Rules) → AllCovered (rate_at rules (served [])) (rules.depth * TOKEN) 0 []
+first_covered : (rules : Rules) → Covers rules 0 []
 unfolding AllCovered
 first_covered rules = tt
 
 pub credit_from_credit : CreditFromCredit
-credit_from_credit rules xs offer tick range offered later =
+credit_from_credit policies xs offer tick range offered later =
     let parts = offered-parts 0 xs offer offered in
+    let rules : Rules = rules_of policies offer.tier in
     let some : 0 < rules.every = omega (arith, range.every.0) in
-    let covered = covered_from rules [] xs 0 some parts.0 (first_covered rules) in
-    rw (decided_from-push rules [] xs offer)
-    (credit_next rules (decided rules xs) offer tick some parts.2 later
-    (covered-later (rate_at rules (served (decided rules xs))) (rules.depth * TOKEN) (tick_from 0 xs) offer.tick (decided rules xs) covered parts.1))
+    let past : List Decided = decided policies xs in
+    let own : List Decided = of_tier offer.tier past in
+    let none : Covers rules 0 (of_tier offer.tier []) = rw (of_tier-none offer.tier) (first_covered rules) in
+    let covered : Covers rules (tick_from 0 xs) own = covered_from policies [] xs offer.tier 0 some parts.0 none in
+    rw (decided_from-push policies [] xs offer, of_tier-same offer.tier past (decided_next policies past offer) refl)
+    (credit_own policies past offer tick some parts.2 later
+    (covered-later (rate_at rules (served own)) (rules.depth * TOKEN) (tick_from 0 xs) offer.tick own covered parts.1))
 
 pub accrual_splits_at_control : AccrualSplitsAtControl
 accrual_splits_at_control rules requests k s t before behind =

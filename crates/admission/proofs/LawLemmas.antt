@@ -1,38 +1,47 @@
 -- The laws of the definitions.
-use Rattle.std.proofs.Common.{◌≡◌, ℕ, zero, suc, ◌+◌, ◌-◌, ◌*◌, ◌/◌, ◌≤◌, min, max, List, [], ◌∷◌, ◌++◌, refl, sym, ◌∙◌, arith, append-nil, append_assoc, nat_lt, if◌then◌else◌, Bool, true, false}
+use Rattle.std.proofs.Common.{◌≡◌, ℕ, zero, suc, ◌+◌, ◌-◌, ◌*◌, ◌/◌, ◌≤◌, min, max, List, [], ◌∷◌, ◌++◌, refl, sym, ◌∙◌, ap, arith, append-nil, append_assoc, nat_lt, nat_le, if◌then◌else◌, Bool, true, false, inl, inr}
+use Rattle.std.specs.Prelude.{◌⊎◌}
+use Rattle.std.proofs.lemmas.Bool.{cases_eq}
 use Rattle.std.proofs.Math.Nat.{div-le_of_le-mul}
 use Rattle.std.proofs.lemmas.List.Sums.{sum_by_push}
 use Rattle.token_bucket.specs.declared.TheConstants.{TOKEN}
 use Rattle.token_bucket.specs.Accrual.{accrual}
-use Rattle.admission.specs.declared.control.Decision.TheVariants.{Rejected}
-use Rattle.admission.specs.Rules.{Rules, IsInRange}
-use Rattle.admission.specs.Requests.{Offer, Decided, served, samples}
+use Rattle.admission.specs.declared.control.Decision.TheVariants.{Admitted, Rejected}
+use Rattle.admission.specs.Rules.{Rules, rules_of, IsInRange}
+use Rattle.admission.specs.Requests.{Offer, Decided, Served, of_tier, served, samples, finish_behind}
 use Rattle.admission.specs.Controls.{smoothed_at, adjusted, rate_after, rate_at}
-use Rattle.admission.specs.Decisions.{least_balance, decided_next, decided_from, decided}
-use Rattle.admission.specs.Laws.{DecisionsBegin, FinishRuns, RateBefore, RatesWithin, RejectedLeavesAll}
-use Rattle.admission.proofs.RequestLemmas.{last_finish-push, served-push}
+use Rattle.admission.specs.Decisions.{least_balance, credit, decided_next, decided_from, decided}
+use Rattle.admission.specs.Laws.{DecisionsBegin, FinishRuns, OtherTiersLeave, RateBefore, RatesWithin, RejectedLeavesAll, and_rejected}
+use Rattle.admission.proofs.RequestLemmas.{decided_from-push, last_finish-push, of_tier-same, of_tier-other, served-push}
 use Rattle.admission.proofs.CreditLemmas.{token_of, tokens_of}
 use Rattle.admission.proofs.OfferLemmas as offers
 
 -- ---- beginnings
 
-begins : (rules : Rules) (past : List Decided) (more : List Offer) → (rest : List Decided) × (decided_from rules past more ≡ past ++ rest)
+begins : (policies : List Rules) (past : List Decided) (more : List Offer) → (rest : List Decided) × (decided_from policies past more ≡ past ++ rest)
 unfolding decided_from
-begins rules past [] = ([], sym (append-nil past))
-begins rules past (offer ∷ more) =
-    let next = begins rules (past ++ decided_next rules past offer ∷ []) more in
-    (decided_next rules past offer ∷ next.0, next.1 ∙ append_assoc past (decided_next rules past offer ∷ []) next.0)
+begins policies past [] = ([], sym (append-nil past))
+begins policies past (offer ∷ more) =
+    let next = begins policies (past ++ decided_next policies past offer ∷ []) more in
+    (decided_next policies past offer ∷ next.0, next.1 ∙ append_assoc past (decided_next policies past offer ∷ []) next.0)
 
-pub decided_from-append : (rules : Rules) (past : List Decided) (xs ys : List Offer)
-    → decided_from rules past (xs ++ ys) ≡ decided_from rules (decided_from rules past xs) ys
+pub decided_from-append : (policies : List Rules) (past : List Decided) (xs ys : List Offer)
+    → decided_from policies past (xs ++ ys) ≡ decided_from policies (decided_from policies past xs) ys
 unfolding decided_from
-decided_from-append rules past [] ys = refl
-decided_from-append rules past (x ∷ xs) ys = decided_from-append rules (past ++ decided_next rules past x ∷ []) xs ys
+decided_from-append policies past [] ys = refl
+decided_from-append policies past (x ∷ xs) ys = decided_from-append policies (past ++ decided_next policies past x ∷ []) xs ys
 
 pub decisions_begin : DecisionsBegin
-decisions_begin rules xs ys =
-    let rest = begins rules (decided rules xs) ys in
-    (rest.0, decided_from-append rules [] xs ys ∙ rest.1)
+decisions_begin policies xs ys =
+    let rest = begins policies (decided policies xs) ys in
+    (rest.0, decided_from-append policies [] xs ys ∙ rest.1)
+
+-- ---- other tiers
+
+pub other_tiers_leave : OtherTiersLeave
+other_tiers_leave policies offers offer tier apart =
+    rw (decided_from-push policies [] offers offer)
+    (of_tier-other tier (decided policies offers) (decided_next policies (decided policies offers) offer) apart)
 
 -- ---- rejected offers
 
@@ -54,13 +63,47 @@ served_rejected : (past : List Decided) (rejected : Offer)
     → served (past ++ record { offer = rejected; decision = Rejected } ∷ []) ≡ served past
 served_rejected past rejected = served-push past (record { offer = rejected; decision = Rejected }) ∙ append-nil (served past)
 
+-- the same of one tier, where the rejected offer is of that tier or of another
+of_tier-rejected : (tier : ℕ) (past : List Decided) (rejected : Offer)
+    → (of_tier tier (and_rejected past rejected) ≡ and_rejected (of_tier tier past) rejected)
+    ⊎ (of_tier tier (and_rejected past rejected) ≡ of_tier tier past)
+of_tier-rejected tier past rejected =
+    elim (cases_eq rejected.tier tier) [
+      | inl same ↦ inl (of_tier-same tier past (record { offer = rejected; decision = Rejected }) same)
+      | inr apart ↦ inr (of_tier-other tier past (record { offer = rejected; decision = Rejected }) apart)
+    ]
+
+served_of-rejected : (tier : ℕ) (past : List Decided) (rejected : Offer)
+    → served (of_tier tier (and_rejected past rejected)) ≡ served (of_tier tier past)
+served_of-rejected tier past rejected =
+    elim (of_tier-rejected tier past rejected) [
+      | inl more ↦ ap served more ∙ served_rejected (of_tier tier past) rejected
+      | inr same ↦ ap served same
+    ]
+
+credit_rejected : (rules : Rules) (past : List Decided) (rejected : Offer) (tick : ℕ)
+    → credit rules (and_rejected past rejected) tick ≡ credit rules past tick
+credit_rejected rules past rejected tick =
+    ap (λ (rs : List Served). least_balance (rate_at rules rs) (rules.depth * TOKEN) tick (and_rejected past rejected)) (served_rejected past rejected)
+    ∙ least_rejected (rate_at rules (served past)) (rules.depth * TOKEN) tick past rejected
+
+credit_of-rejected : (rules : Rules) (tier : ℕ) (past : List Decided) (rejected : Offer) (tick : ℕ)
+    → credit rules (of_tier tier (and_rejected past rejected)) tick ≡ credit rules (of_tier tier past) tick
+credit_of-rejected rules tier past rejected tick =
+    elim (of_tier-rejected tier past rejected) [
+      | inl more ↦ ap (λ (ds : List Decided). credit rules ds tick) more ∙ credit_rejected rules (of_tier tier past) rejected tick
+      | inr same ↦ ap (λ (ds : List Decided). credit rules ds tick) same
+    ]
+
 pub rejected_leaves_all : RejectedLeavesAll
-rejected_leaves_all rules past rejected offer = (
+rejected_leaves_all policies past rejected offer tier tick = (
   served_rejected past rejected,
-  rw (
-    served_rejected past rejected,
-    least_rejected (rate_at rules (served past)) (rules.depth * TOKEN) offer.tick past rejected,
-  ) refl,
+  served_of-rejected tier past rejected,
+  credit_of-rejected (rules_of policies tier) tier past rejected tick,
+  ap (λ n. if nat_le TOKEN n then (Admitted (finish_behind (served (and_rejected past rejected)) offer)) else Rejected)
+      (credit_of-rejected (rules_of policies offer.tier) offer.tier past rejected offer.tick)
+      ∙ ap (λ (rs : List Served). if nat_le TOKEN (credit (rules_of policies offer.tier) (of_tier offer.tier past) offer.tick)
+      then (Admitted (finish_behind rs offer)) else Rejected) (served_rejected past rejected),
 )
 
 -- ---- rates

@@ -14,3 +14,5 @@ pub mod WalkLemmas
 pub mod WindowLemmas
 pub mod SoundLemmas
 pub mod UntilLemmas
+pub mod TierLemmas
+pub mod OneTierLemmas

@@ -1,10 +1,10 @@
--- One more offer: what is decided, and how the controller stands then.
-use Rattle.std.proofs.Common.{◌≡◌, ℕ, ◌+◌, ◌-◌, ◌*◌, ◌/◌, ◌<◌, ◌≤◌, min, max, List, [], ◌∷◌, ◌++◌, length, map, true, false, refl, sym, ◌∙◌, ap, arith, append-nil, length-append, inl, inr}
-use Rattle.std.specs.Prelude.{◌↔◌, IsTrue, nat_le}
+-- One more offer of a tier: what is decided, and how the tier stands then.
+use Rattle.std.proofs.Common.{◌≡◌, ℕ, ◌+◌, ◌-◌, ◌*◌, ◌/◌, ◌<◌, ◌≤◌, min, max, List, [], ◌∷◌, ◌++◌, length, true, false, refl, sym, ◌∙◌, ap, arith, append-nil, length-append, inl, inr}
+use Rattle.std.specs.Prelude.{◌↔◌, IsTrue, nat_le, count_by, cond}
 use Rattle.std.proofs.lemmas.Bool.{le-leb, lt-leb, cases_lt}
 use Rattle.std.proofs.lemmas.List.{map-append, length-map}
 use Rattle.std.proofs.lemmas.Grind.{common_steps}
-use Rattle.std.proofs.lemmas.List.Sums.{count_by-le-length}
+use Rattle.std.proofs.lemmas.List.Sums.{count_by-le-length, sum_by_push}
 use Rattle.circular_buffer.specs.Buffer.{keep_last}
 use Rattle.token_bucket.specs.declared.TheConstants.{TOKEN}
 use Rattle.token_bucket.specs.Calls.{Past, TryTake, and_then}
@@ -12,42 +12,29 @@ use Rattle.token_bucket.specs.Fits.{Fits as FitsCalls}
 use Rattle.token_bucket.specs.Running.{after}
 use Rattle.token_bucket.specs.Standing as bucket
 use Rattle.token_bucket.proofs.FitsLemmas.{standing_runs}
-use Rattle.admission.specs.declared.control.Decision.{Decision}
 use Rattle.admission.specs.declared.control.Decision.TheVariants.{Admitted, Rejected}
 use Rattle.admission.specs.declared.control.Control.{Control}
 use Rattle.admission.specs.Rules.{Rules}
 use Rattle.admission.specs.Window.{Window, window_of, with_sample}
-use Rattle.admission.specs.Requests.{Offer, Decided, Served, served, sample, samples, finishes, done, last_finish, finish_behind}
+use Rattle.admission.specs.Requests.{Offer, Decided, Served, is_rejected, served, sample, samples, finishes, done}
 use Rattle.admission.specs.Controls.{rate_after, rate_at, controls_of}
-use Rattle.admission.specs.Decisions.{least_balance, credit, decide, decided}
-use Rattle.admission.specs.Standing.{Standing}
-use Rattle.admission.specs.Running.{with_due, when_rejected, when_admitted, next_finish}
-use Rattle.admission.specs.Fits.{Stands, ServerFits, Fits}
+use Rattle.admission.specs.Decisions.{least_balance, credit}
+use Rattle.admission.specs.Standing.{TierStanding}
+use Rattle.admission.specs.Running.{with_due, when_rejected, when_admitted, decision_after}
+use Rattle.admission.specs.Fits.{Stands, TierFits}
 use Rattle.admission.proofs.CreditLemmas.{least_balance-le, least_balance-push, covered-push}
 use Rattle.admission.proofs.ControlLemmas.{quotient_fits, rate_after-more, controls_of-push}
-use Rattle.admission.proofs.RequestLemmas.{decided_from-push, served-push, tick_from-push, last_finish-push, upto-push_later, rising-push}
+use Rattle.admission.proofs.RequestLemmas.{served-push, upto-push_later, rising-push, rising-widen}
 
 -- ---- the bucket after `try_take`
 
 still_taken : (full credit rate i taken : ℕ) → credit ≤ full → min full (credit + rate * (i - i) - taken) ≡ credit - taken
 still_taken full credit rate i taken within = let none : i - i ≡ 0 = omega arith in rw none (omega arith)
 
--- the decided list with one more offer
-decided-push : (rules : Rules) (offers : List Offer) (offer : Offer) (decision : Decision)
-    → decide rules (decided rules offers) offer ≡ decision
-    → decided rules (offers ++ offer ∷ []) ≡ decided rules offers ++ record { offer = offer; decision = decision } ∷ []
-decided-push rules offers offer decision is =
-    decided_from-push rules [] offers offer
-    ∙ ap (λ (d : Decision). decided rules offers ++ record { offer = offer; decision = d } ∷ []) is
-
 -- ---- a rejected offer
 
 served_rejected : (past : List Decided) (offer : Offer) → served (past ++ record { offer = offer; decision = Rejected } ∷ []) ≡ served past
 served_rejected past offer = served-push past (record { offer = offer; decision = Rejected }) ∙ append-nil (served past)
-
-pub decide_rejected : (rules : Rules) (past : List Decided) (offer : Offer) → credit rules past offer.tick < TOKEN
-    → decide rules past offer ≡ Rejected
-decide_rejected rules past offer short = rw (lt-leb TOKEN (credit rules past offer.tick) short) refl
 
 -- a bucket that stands so holds no more than its depth
 within_depth : (rules : Rules) (past : List Decided) (b : bucket.Standing) (reached : ℕ) → Stands rules past b reached
@@ -82,40 +69,43 @@ stands_rejected rules past b next reached offer stands at is =
           (record { offer = offer; decision = Rejected }) stands.covered (sym at) agree (omega arith);
     })
 
-pub rejected_fits : (c : Standing) (b next : bucket.Standing) (reached : ℕ) (calls : Past) (offers : List Offer) (offer : Offer)
-    → Fits offers c → Stands c.rules (decided c.rules offers) b reached → b.tick ≡ offer.tick
-    → FitsCalls calls b → FitsCalls (and_then calls (TryTake false)) next → b.credit < TOKEN
-    → Fits (offers ++ offer ∷ []) (when_rejected c next reached)
-rejected_fits c b next reached calls offers offer fits stands at before now short =
+-- one more request, rejected or not
+rejected_push : (past : List Decided) (r : Decided)
+    → count_by (λ r. is_rejected r.decision) (past ++ r ∷ []) ≡ count_by (λ r. is_rejected r.decision) past + cond (is_rejected r.decision) 1 0
+rejected_push past r = sum_by_push (λ r. cond (is_rejected r.decision) 1 0) past r
+
+-- later finishes of other tiers leave a tier as it stands
+pub tier_later : (past : List Decided) (free later : ℕ) (t : TierStanding) → TierFits past free t → free ≤ later → TierFits past later t
+tier_later past free later t fits more = record {
+  bucket = fits.bucket;
+  admitted = fits.admitted;
+  rejected = fits.rejected;
+  rising = rising-widen 0 free later (finishes (served past)) fits.rising more;
+  window = fits.window;
+  controls = fits.controls;
+}
+
+pub tier_rejected : (t : TierStanding) (b next : bucket.Standing) (reached : ℕ) (calls : Past) (past : List Decided) (free : ℕ) (offer : Offer)
+    → TierFits past free t → Stands t.rules past b reached → b.tick ≡ offer.tick
+    → FitsCalls calls b → FitsCalls (and_then calls (TryTake false)) next
+    → TierFits (past ++ record { offer = offer; decision = Rejected } ∷ []) free (when_rejected t next reached)
+tier_rejected t b next reached calls past free offer fits stands at before now =
     let next_is : next ≡ after b (TryTake false) = standing_runs calls b next (TryTake false) before (omega arith) (omega arith) now in
-    let there : credit c.rules (decided c.rules offers) offer.tick ≡ b.credit =
-    credit_there c.rules (decided c.rules offers) b reached offer.tick stands at in
-    let longer : decided c.rules (offers ++ offer ∷ []) ≡ decided c.rules offers ++ record { offer = offer; decision = Rejected } ∷ [] =
-    decided-push c.rules offers offer Rejected (decide_rejected c.rules (decided c.rules offers) offer (rw there short)) in
-    let same : served (decided c.rules offers ++ record { offer = offer; decision = Rejected } ∷ []) ≡ served (decided c.rules offers) =
-    served_rejected (decided c.rules offers) offer in
+    let same : served (past ++ record { offer = offer; decision = Rejected } ∷ []) ≡ served past = served_rejected past offer in
     record {
-      offered = ap (λ n. n + 1) fits.offered ∙ sym (length-append offers (offer ∷ []));
-      tick = ap (λ (b : bucket.Standing). b.tick) next_is ∙ at ∙ sym (tick_from-push 0 offers offer);
-      bucket = rw longer (record {
+      bucket = record {
         past_calls = and_then calls (TryTake false);
         fits = now;
-        stands = stands_rejected c.rules (decided c.rules offers) b next reached offer stands at next_is;
-      });
-      server = rw (longer) (record {
-        admitted = fits.server.admitted ∙ sym (ap (λ (rs : List Served). length rs) same);
-        free = fits.server.free ∙ sym (ap (λ (rs : List Served). last_finish (map (λ (r : Served). r.offer) rs)) same);
-        rising = rw same fits.server.rising;
-        window = fits.server.window ∙ sym (ap (λ (rs : List Served). window_of c.rules.window (samples rs)) same);
-        controls = fits.server.controls ∙ sym (ap (controls_of c.rules) same);
-      });
+        stands = stands_rejected t.rules past b next reached offer stands at next_is;
+      };
+      admitted = fits.admitted ∙ sym (ap (λ (rs : List Served). length rs) same);
+      rejected = ap (λ n. n + 1) fits.rejected ∙ sym (rejected_push past (record { offer = offer; decision = Rejected }));
+      rising = rw same fits.rising;
+      window = fits.window ∙ sym (ap (λ (rs : List Served). window_of t.rules.window (samples rs)) same);
+      controls = fits.controls ∙ sym (ap (controls_of t.rules) same);
     }
 
 -- ---- an admitted offer
-
-pub decide_admitted : (rules : Rules) (past : List Decided) (offer : Offer) → TOKEN ≤ credit rules past offer.tick
-    → decide rules past offer ≡ Admitted (finish_behind (served past) offer)
-decide_admitted rules past offer enough = rw (le-leb TOKEN (credit rules past offer.tick) enough) refl
 
 keep_last_more : (size : ℕ) (xs : List ℕ) (x : ℕ) → keep_last size (keep_last size xs ++ x ∷ []) ≡ keep_last size (xs ++ x ∷ [])
 keep_last_more size xs x = grind (arith, common_steps)
@@ -194,61 +184,36 @@ stands_admitted rules past b next reached offer finish stands at is some later e
           (record { offer = offer; decision = Admitted finish }) stands.covered (sym at) agree enough_there;
     })
 
--- when an admitted request is finished
-pub finish_is : (c : Standing) (past : List Decided) (offer : Offer) → ServerFits past c
-    → finish_behind (served past) offer ≡ next_finish c offer.tick offer.service
-finish_is c past offer server =
-    last_finish-push (map (λ (r : Served). r.offer) (served past)) offer
-    ∙ ap (λ n. max n offer.tick + offer.service) (sym server.free)
-
-server_admitted : (c : Standing) (next : bucket.Standing) (reached : ℕ) (past : List Decided) (offer : Offer)
-    → ServerFits past c → 0 < c.rules.every → 1 ≤ offer.service
-    → ServerFits (past ++ record { offer = offer; decision = Admitted (next_finish c offer.tick offer.service) } ∷ [])
-    (when_admitted c next reached offer.tick offer.service)
-server_admitted c next reached past offer server some longer =
-    let finish : ℕ = next_finish c offer.tick offer.service in
+pub tier_admitted : (t : TierStanding) (b next : bucket.Standing) (reached : ℕ) (calls : Past) (past : List Decided) (free : ℕ) (offer : Offer)
+    (finish : ℕ)
+    → TierFits past free t → Stands t.rules past b reached → b.tick ≡ offer.tick → 0 < t.rules.every → offer.tick < finish → free < finish
+    → FitsCalls calls b → FitsCalls (and_then calls (TryTake true)) next → TOKEN ≤ b.credit
+    → TierFits (past ++ record { offer = offer; decision = Admitted finish } ∷ []) finish (when_admitted t next reached finish (finish - offer.tick))
+tier_admitted t b next reached calls past free offer finish fits stands at some later behind before now enough =
+    let next_is : next ≡ after b (TryTake true) = standing_runs calls b next (TryTake true) before (omega arith) enough now in
     let request : Served = record { offer = offer; finish = finish } in
     let more : served (past ++ record { offer = offer; decision = Admitted finish } ∷ []) ≡ served past ++ request ∷ [] =
     served_admitted past offer finish in
-    let window : with_sample c.window (finish - offer.tick) ≡ window_of c.rules.window (samples (served past) ++ sample request ∷ []) =
-    rw server.window (window_more c.rules.window (samples (served past)) (finish - offer.tick)) in
+    let window : with_sample t.window (finish - offer.tick) ≡ window_of t.rules.window (samples (served past) ++ sample request ∷ []) =
+    rw fits.window (window_more t.rules.window (samples (served past)) (finish - offer.tick)) in
     record {
-      admitted = rw more (ap (λ n. n + 1) server.admitted ∙ sym (length-append (served past) (request ∷ [])));
-      free = sym (rw (more, map-append (λ (r : Served). r.offer) (served past) (request ∷ [])) (finish_is c past offer server));
-      rising = rw (more, finishes-push (served past) request)
-          (rising-push 0 c.free finish (finishes (served past)) server.rising (omega arith));
-      window = rw (more, samples-push (served past) request) window;
-      controls =
-          ap (λ (controls : List Control). with_due c.rules controls (with_sample c.window (finish - offer.tick)).samples (c.admitted + 1) finish) server.controls
-          ∙ ap (λ (w : Window). with_due c.rules (controls_of c.rules (served past)) w.samples (c.admitted + 1) finish) window
-          ∙ ap (λ n. with_due c.rules (controls_of c.rules (served past))
-          (keep_last c.rules.window (samples (served past) ++ sample request ∷ [])) (n + 1) finish) server.admitted
-          ∙ sym (rw more (controls_of-push c.rules (served past) request some));
-    }
-
-pub admitted_fits : (c : Standing) (b next : bucket.Standing) (reached : ℕ) (calls : Past) (offers : List Offer) (offer : Offer)
-    → Fits offers c → Stands c.rules (decided c.rules offers) b reached → b.tick ≡ offer.tick → 0 < c.rules.every → 1 ≤ offer.service
-    → FitsCalls calls b → FitsCalls (and_then calls (TryTake true)) next → TOKEN ≤ b.credit
-    → Fits (offers ++ offer ∷ []) (when_admitted c next reached offer.tick offer.service)
-admitted_fits c b next reached calls offers offer fits stands at some longer before now enough =
-    let next_is : next ≡ after b (TryTake true) = standing_runs calls b next (TryTake true) before (omega arith) enough now in
-    let there : credit c.rules (decided c.rules offers) offer.tick ≡ b.credit =
-    credit_there c.rules (decided c.rules offers) b reached offer.tick stands at in
-    let finish : ℕ = next_finish c offer.tick offer.service in
-    let is : decide c.rules (decided c.rules offers) offer ≡ Admitted finish =
-    decide_admitted c.rules (decided c.rules offers) offer (rw there enough)
-    ∙ ap (λ f. Admitted f) (finish_is c (decided c.rules offers) offer fits.server) in
-    let more : decided c.rules (offers ++ offer ∷ []) ≡ decided c.rules offers ++ record { offer = offer; decision = Admitted finish } ∷ [] =
-    decided-push c.rules offers offer (Admitted finish) is in
-    record {
-      offered = ap (λ n. n + 1) fits.offered ∙ sym (length-append offers (offer ∷ []));
-      tick = ap (λ (b : bucket.Standing). b.tick) next_is ∙ at ∙ sym (tick_from-push 0 offers offer);
-      bucket = rw more (record {
+      bucket = record {
         past_calls = and_then calls (TryTake true);
         fits = now;
-        stands = stands_admitted c.rules (decided c.rules offers) b next reached offer finish stands at next_is some (omega arith) enough;
-      });
-      server = rw more (server_admitted c next reached (decided c.rules offers) offer fits.server some longer);
+        stands = stands_admitted t.rules past b next reached offer finish stands at next_is some later enough;
+      };
+      rejected =
+          (let one = rejected_push past (record { offer = offer; decision = Admitted finish }) in let own = fits.rejected in omega (arith, one, own));
+      admitted = rw more (ap (λ n. n + 1) fits.admitted ∙ sym (length-append (served past) (request ∷ [])));
+      rising = rw (more, finishes-push (served past) request)
+          (rising-push 0 free finish (finishes (served past)) fits.rising behind);
+      window = rw (more, samples-push (served past) request) window;
+      controls =
+          ap (λ (controls : List Control). with_due t.rules controls (with_sample t.window (finish - offer.tick)).samples (t.admitted + 1) finish) fits.controls
+          ∙ ap (λ (w : Window). with_due t.rules (controls_of t.rules (served past)) w.samples (t.admitted + 1) finish) window
+          ∙ ap (λ n. with_due t.rules (controls_of t.rules (served past))
+          (keep_last t.rules.window (samples (served past) ++ sample request ∷ [])) (n + 1) finish) fits.admitted
+          ∙ sym (rw more (controls_of-push t.rules (served past) request some));
     }
 
 -- what `try_take` said of the credit
@@ -259,13 +224,16 @@ short_of held credit taken is =
 pub enough_of : (held credit : ℕ) → (IsTrue true ↔ (TOKEN ≤ credit)) → held ≡ credit → TOKEN ≤ held
 enough_of held credit taken is = let enough : TOKEN ≤ credit = taken.0 refl in omega arith
 
--- the decision on an admitted offer
-pub admitted_decision : (c : Standing) (b : bucket.Standing) (reached : ℕ) (offers : List Offer) (offer : Offer) (finish : ℕ)
-    → Fits offers c → Stands c.rules (decided c.rules offers) b reached → b.tick ≡ offer.tick → TOKEN ≤ b.credit
-    → finish ≡ next_finish c offer.tick offer.service
-    → Admitted finish ≡ decide c.rules (decided c.rules offers) offer
-admitted_decision c b reached offers offer finish fits stands at enough is =
-    let there : credit c.rules (decided c.rules offers) offer.tick ≡ b.credit =
-    credit_there c.rules (decided c.rules offers) b reached offer.tick stands at in
-    sym (decide_admitted c.rules (decided c.rules offers) offer (rw there enough)
-    ∙ ap (λ f. Admitted f) (finish_is c (decided c.rules offers) offer fits.server ∙ sym is))
+-- the decision
+pub decision_rejected : (rules : Rules) (past : List Decided) (b : bucket.Standing) (reached free tick service : ℕ)
+    → Stands rules past b reached → b.tick ≡ tick → b.credit < TOKEN → Rejected ≡ decision_after rules past free tick service
+decision_rejected rules past b reached free tick service stands at short =
+    let there : credit rules past tick ≡ b.credit = credit_there rules past b reached tick stands at in
+    sym (rw (lt-leb TOKEN (credit rules past tick) (rw there short)) refl)
+
+pub decision_admitted : (rules : Rules) (past : List Decided) (b : bucket.Standing) (reached free tick service finish : ℕ)
+    → Stands rules past b reached → b.tick ≡ tick → TOKEN ≤ b.credit → finish ≡ max free tick + service
+    → Admitted finish ≡ decision_after rules past free tick service
+decision_admitted rules past b reached free tick service finish stands at enough is =
+    let there : credit rules past tick ≡ b.credit = credit_there rules past b reached tick stands at in
+    ap (λ f. Admitted f) is ∙ sym (rw (le-leb TOKEN (credit rules past tick) (rw there enough)) refl)

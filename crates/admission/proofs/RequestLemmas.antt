@@ -1,22 +1,23 @@
--- One more offer behind the offers so far.
-use Rattle.std.proofs.Common.{◌≡◌, ℕ, zero, suc, ◌+◌, ◌<◌, ◌≤◌, max, List, [], ◌∷◌, ◌++◌, length, cond, refl, sym, ◌∙◌, arith, append_assoc, append-nil, nat_le, inl, inr}
-use Rattle.std.specs.Prelude.{sum_by, count_by, slice_index}
+-- One more offer after the offers so far.
+use Rattle.std.proofs.Common.{◌≡◌, ℕ, zero, suc, ◌+◌, ◌<◌, ◌≤◌, max, List, [], ◌∷◌, ◌++◌, length, cond, refl, sym, ◌∙◌, arith, append_assoc, append-nil, nat_eq, nat_le, inl, inr}
+use Rattle.std.specs.Prelude.{filter, sum_by, count_by, slice_index}
 use Rattle.std.proofs.lemmas.List.Sums.{sum_by-cons, sum_by_push}
-use Rattle.std.proofs.lemmas.Bool.{le-leb, lt-leb, cases_lt}
+use Rattle.std.proofs.lemmas.List.Elements.{filter-append}
+use Rattle.std.proofs.lemmas.Bool.{le-leb, lt-leb, cases_lt, eq-eqb, ne_eqb}
 use Rattle.admission.specs.Rules.{Rules}
-use Rattle.admission.specs.Requests.{Offer, Decided, as_served, served, last_finish}
+use Rattle.admission.specs.Requests.{Offer, Decided, of_tier, as_served, served, last_finish}
 use Rattle.admission.specs.Decisions.{decided_next, decided_from}
 use Rattle.admission.specs.Fits.{tick_from, IsRising}
 
 -- ---- the lists
 
-pub decided_from-push : (rules : Rules) (past : List Decided) (offers : List Offer) (offer : Offer)
-    → decided_from rules past (offers ++ offer ∷ [])
-    ≡ decided_from rules past offers ++ decided_next rules (decided_from rules past offers) offer ∷ []
+pub decided_from-push : (policies : List Rules) (past : List Decided) (offers : List Offer) (offer : Offer)
+    → decided_from policies past (offers ++ offer ∷ [])
+    ≡ decided_from policies past offers ++ decided_next policies (decided_from policies past offers) offer ∷ []
 unfolding decided_from
-decided_from-push rules past [] offer = refl
-decided_from-push rules past (first ∷ offers) offer =
-    decided_from-push rules (past ++ decided_next rules past first ∷ []) offers offer
+decided_from-push policies past [] offer = refl
+decided_from-push policies past (first ∷ offers) offer =
+    decided_from-push policies (past ++ decided_next policies past first ∷ []) offers offer
 
 pub served-push : (past : List Decided) (request : Decided)
     → served (past ++ request ∷ []) ≡ served past ++ as_served request.offer request.decision
@@ -24,6 +25,26 @@ unfolding served
 served-push [] request = append-nil (as_served request.offer request.decision)
 served-push (first ∷ past) request =
     rw (served-push past request) (sym (append_assoc (as_served first.offer first.decision) (served past) (as_served request.offer request.decision)))
+
+-- a request is one of its tier's
+pub of_tier-same : (tier : ℕ) (past : List Decided) (request : Decided) → request.offer.tier ≡ tier
+    → of_tier tier (past ++ request ∷ []) ≡ of_tier tier past ++ request ∷ []
+unfolding of_tier
+of_tier-same tier past request same =
+    filter-append (λ (r : Decided). nat_eq r.offer.tier tier) past (request ∷ [])
+    ∙ rw (eq-eqb request.offer.tier tier same) refl
+
+-- and of no other's
+pub of_tier-other : (tier : ℕ) (past : List Decided) (request : Decided) → (request.offer.tier ≡ tier → ⊥)
+    → of_tier tier (past ++ request ∷ []) ≡ of_tier tier past
+unfolding of_tier
+of_tier-other tier past request apart =
+    filter-append (λ (r : Decided). nat_eq r.offer.tier tier) past (request ∷ [])
+    ∙ rw (ne_eqb request.offer.tier tier apart) (append-nil (filter (λ (r : Decided). nat_eq r.offer.tier tier) past))
+
+pub of_tier-none : (tier : ℕ) → of_tier tier [] ≡ []
+unfolding of_tier
+of_tier-none tier = refl
 
 pub tick_from-push : (tick : ℕ) (offers : List Offer) (offer : Offer) → tick_from tick (offers ++ offer ∷ []) ≡ offer.tick
 unfolding tick_from
@@ -76,6 +97,11 @@ pub rising-push : (lo hi x : ℕ) (xs : List ℕ) → IsRising lo hi xs → hi <
 unfolding IsRising
 rising-push lo hi x [] rising above = (omega arith, omega arith)
 rising-push lo hi x (y ∷ xs) rising above = (rising.0, rising-push y hi x xs rising.1 above)
+
+pub rising-widen : (lo hi higher : ℕ) (xs : List ℕ) → IsRising lo hi xs → hi ≤ higher → IsRising lo higher xs
+unfolding IsRising
+rising-widen lo hi higher [] rising above = omega arith
+rising-widen lo hi higher (x ∷ xs) rising above = (rising.0, rising-widen x hi higher xs rising.1 above)
 
 pub rising-le : (lo hi : ℕ) (xs : List ℕ) → IsRising lo hi xs → lo ≤ hi
 unfolding IsRising

@@ -1,15 +1,14 @@
--- What each controller keeps stays so at an offer.
-use Rattle.std.proofs.Common.{◌≡◌, ℕ, zero, suc, ◌+◌, ◌%◌, ◌<◌, ◌≤◌, max, List, [], ◌∷◌, ◌++◌, length, drop, Bool, true, false, refl, sym, ◌∙◌, arith, nat_eq, if◌then◌else◌, length-append}
+-- What each tier keeps stays so at an offer.
+use Rattle.std.proofs.Common.{◌≡◌, ℕ, zero, suc, ◌+◌, ◌%◌, ◌≤◌, List, [], ◌∷◌, ◌++◌, length, drop, Bool, true, false, refl, sym, ◌∙◌, arith, nat_eq, if◌then◌else◌, length-append}
 use Rattle.std.proofs.lemmas.List.Sums.{prefix_len-le-length}
 use Rattle.std.proofs.lemmas.List.{length-drop}
-use Rattle.std.specs.Prelude.{nat_le}
-use Rattle.token_bucket.specs.declared.TheConstants.{MAX_TICK}
+use Rattle.std.specs.Prelude.{nat_le, unwrap_or}
 use Rattle.token_bucket.specs.Standing as bucket
-use Rattle.admission.specs.declared.TheConstants.{MAX_OFFERS, MAX_SERVICE}
 use Rattle.admission.specs.declared.control.Control.{Control}
-use Rattle.admission.specs.Window.{Window}
-use Rattle.admission.specs.Standing.{Standing, RiseWithin, AllRates, IsSound}
-use Rattle.admission.specs.Running.{passed, next_control}
+use Rattle.admission.specs.Window.{Window, with_sample}
+use Rattle.admission.specs.Percentile.{percentile}
+use Rattle.admission.specs.Standing.{TierStanding, RiseWithin, AllRates, IsSoundTier, IsShare}
+use Rattle.admission.specs.Running.{passed, next_control, when_rejected, when_admitted}
 
 -- ---- the rates and the instants of the controls
 
@@ -58,44 +57,66 @@ length_due_most false controls control = omega arith
 
 -- ---- an admitted offer
 
-pub sound_admitted : (c : Standing) (b : bucket.Standing) (reached tick service : ℕ) (window : Window) (controls : List Control) (own : ℕ)
-    → IsSound c → b.tick ≡ tick → tick ≤ MAX_TICK → service ≤ MAX_SERVICE → c.offers < MAX_OFFERS
-    → reached ≤ length c.controls → RiseWithin b.tick c.free (drop reached c.controls)
-    → window.size ≡ c.window.size
-    → controls ≡ (if nat_eq ((c.admitted + 1) % c.rules.every) 0
-    then (c.controls ++ next_control c.rules c.controls (max c.free tick + service) own ∷ []) else c.controls)
+pub sound_admitted : (t : TierStanding) (b : bucket.Standing) (reached finish : ℕ) (window : Window) (controls : List Control) (own : ℕ)
+    → IsSoundTier t → reached ≤ length t.controls → window.size ≡ t.window.size
+    → controls ≡ (if nat_eq ((t.admitted + 1) % t.rules.every) 0
+    then (t.controls ++ next_control t.rules t.controls finish own ∷ []) else t.controls)
     → AllRates controls
-    → IsSound (record {
-      rules = c.rules;
+    → IsSoundTier (record {
+      rules = t.rules;
       bucket = b;
-      offers = c.offers + 1;
-      admitted = c.admitted + 1;
-      free = max c.free tick + service;
+      admitted = t.admitted + 1;
+      rejected = t.rejected;
       window = window;
       controls = controls;
       reached = reached;
     })
-sound_admitted c b reached tick service window controls own sound at within short room few rise size is rates = record {
-  offers = omega arith;
-  admitted = omega (arith, sound.admitted);
-  free = omega (arith, sound.free);
-  clock = omega arith;
+sound_admitted t b reached finish window controls own sound few size is rates = record {
   every = sound.every;
   size = size ∙ sound.size;
   made = rw is (omega (
     arith,
     sound.made,
-    length_due_most (nat_eq ((c.admitted + 1) % c.rules.every) 0) c.controls
-        (next_control c.rules c.controls (max c.free tick + service) own),
+    length_due_most (nat_eq ((t.admitted + 1) % t.rules.every) 0) t.controls (next_control t.rules t.controls finish own),
   ));
   reached = rw is (omega (
     arith,
-    length_due (nat_eq ((c.admitted + 1) % c.rules.every) 0) c.controls
-        (next_control c.rules c.controls (max c.free tick + service) own),
+    length_due (nat_eq ((t.admitted + 1) % t.rules.every) 0) t.controls (next_control t.rules t.controls finish own),
   ));
-  rising = rw is (rise_due (nat_eq ((c.admitted + 1) % c.rules.every) 0) b.tick c.free reached c.controls
-      (next_control c.rules c.controls (max c.free tick + service) own) rise (omega arith) (omega arith) few);
   rates = rates;
+}
+
+-- ---- beside the other tiers
+
+-- where others were offered
+pub share_later : (offers free tick offers' free' tick' : ℕ) (t : TierStanding) → IsShare offers free tick t
+    → offers ≤ offers' → free ≤ free' → tick ≤ tick' → IsShare offers' free' tick' t
+share_later offers free tick offers' free' tick' t share more longer later = record {
+  admitted = omega (arith, share.admitted);
+  rejected = omega (arith, share.rejected);
+  clock = omega (arith, share.clock);
+  rising = rise_widen t.bucket.tick free free' (drop t.reached t.controls) share.rising longer;
+}
+
+pub share_rejected : (offers free tick : ℕ) (t : TierStanding) (b : bucket.Standing) (reached : ℕ) → IsShare offers free tick t
+    → b.tick ≡ tick → RiseWithin tick free (drop reached t.controls)
+    → IsShare (offers + 1) free tick (when_rejected t b reached)
+share_rejected offers free tick t b reached share at rise = record {
+  admitted = omega (arith, share.admitted);
+  rejected = omega (arith, share.rejected);
+  clock = omega arith;
+  rising = rw at rise;
+}
+
+pub share_admitted : (offers free tick finish sample : ℕ) (t : TierStanding) (b : bucket.Standing) (reached : ℕ) → IsShare offers free tick t
+    → b.tick ≡ tick → RiseWithin tick free (drop reached t.controls) → reached ≤ length t.controls → free ≤ finish → tick ≤ finish
+    → IsShare (offers + 1) finish tick (when_admitted t b reached finish sample)
+share_admitted offers free tick finish sample t b reached share at rise few above later = record {
+  admitted = omega (arith, share.admitted);
+  rejected = omega (arith, share.rejected);
+  clock = omega arith;
+  rising = rw at (rise_due (nat_eq ((t.admitted + 1) % t.rules.every) 0) tick free reached t.controls
+      (next_control t.rules t.controls finish (unwrap_or (percentile (with_sample t.window sample).samples) 0)) rise above later few);
 }
 
 -- ---- the controls that a bucket passes

@@ -4,13 +4,13 @@ use Rattle.std.specs.Prelude.{filter, nat_le, slice_index}
 use Rattle.std.specs.List.{range_with_len}
 use Rattle.std.proofs.lemmas.Bool.{cases_lt, le-leb, lt-leb}
 use Rattle.std.proofs.lemmas.List.Sums.{count_by-le-length}
+use Rattle.token_bucket.specs.Standing as bucket
 use Rattle.admission.specs.declared.control.Control.{Control}
 use Rattle.admission.specs.Rules.{Rules}
-use Rattle.admission.specs.Requests.{Offer, Served, served, finishes, done}
-use Rattle.admission.specs.Decisions.{decided}
-use Rattle.admission.specs.Standing.{Standing}
+use Rattle.admission.specs.Requests.{Decided, Served, served, finishes, done}
+use Rattle.admission.specs.Standing.{TierStanding}
 use Rattle.admission.specs.Controls.{control_at, controls_of, controls_until}
-use Rattle.admission.specs.Fits.{tick_from, IsRising, Fits}
+use Rattle.admission.specs.Fits.{IsRising, BucketFits, TierFits}
 use Rattle.admission.proofs.ControlLemmas.{fits_quotient, quotient_fits, length-finishes}
 use Rattle.admission.proofs.RequestLemmas.{upto-before, upto-at}
 
@@ -72,8 +72,9 @@ until_is rules requests hi tick some rising =
     (λ k above below. le-leb _ tick (reached rules requests hi tick k some rising above (omega arith)))
     (λ k above below. lt-leb _ tick (ahead rules requests hi tick k some rising (omega arith) (omega arith)))
 
-pub until_fits : (offers : List Offer) (c : Standing) → 1 ≤ c.rules.every → Fits offers c
-    → take c.reached c.controls ≡ controls_until c.rules (served (decided c.rules offers)) (tick_from 0 offers)
-until_fits offers c some fits =
-    sym (until_is c.rules (served (decided c.rules offers)) c.free (tick_from 0 offers) some fits.server.rising
-    ∙ rw (fits.server.controls, fits.bucket.stands.in_force, fits.tick) refl)
+pub until_fits : (past : List Decided) (free tick : ℕ) (t : TierStanding) (b : bucket.Standing) (reached : ℕ) → 1 ≤ t.rules.every
+    → TierFits past free t → BucketFits t.rules past b reached → b.tick ≡ tick
+    → take reached t.controls ≡ controls_until t.rules (served past) tick
+until_fits past free tick t b reached some fits passed at =
+    sym (until_is t.rules (served past) free tick some fits.rising
+    ∙ rw (fits.controls, passed.stands.in_force, at) refl)

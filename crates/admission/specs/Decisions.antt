@@ -4,8 +4,8 @@ use Rattle.token_bucket.specs.declared.TheConstants.{TOKEN}
 use Rattle.token_bucket.specs.Accrual.{accrual}
 use Rattle.admission.specs.declared.control.Decision.{Decision}
 use Rattle.admission.specs.declared.control.Decision.TheVariants.{Admitted, Rejected}
-use Rattle.admission.specs.Rules.{Rules}
-use Rattle.admission.specs.Requests.{Offer, Decided, served, is_admitted, finish_behind}
+use Rattle.admission.specs.Rules.{Rules, rules_of}
+use Rattle.admission.specs.Requests.{Offer, Decided, served, of_tier, is_admitted, finish_behind}
 use Rattle.admission.specs.Controls.{rate_at}
 
 -- a full bucket's units, with what accrues from the first of these requests up to `tick`, without the tokens that they took
@@ -19,22 +19,25 @@ least_balance rate full tick [] = full
 least_balance rate full tick (request ∷ requests) =
     min (balance rate full tick request requests) (least_balance rate full tick requests)
 
--- the credit in units of a request that is offered at `tick` after these
+-- the credit in units of a request that is offered at `tick` after these of its tier
 abbrev pub credit : Rules → List Decided → ℕ → ℕ
 credit rules past tick = least_balance (rate_at rules (served past)) (rules.depth * TOKEN) tick past
 
--- a request is admitted exactly where its credit holds a token
-abbrev pub decide : Rules → List Decided → Offer → Decision
-decide rules past offer =
-    if nat_le TOKEN (credit rules past offer.tick) then (Admitted (finish_behind (served past) offer)) else Rejected
+-- a request is admitted exactly where its credit, by the rules of its tier over the requests of its tier, holds a token;
+-- it is served after the admitted requests of all tiers
+abbrev pub decide : List Rules → List Decided → Offer → Decision
+decide policies past offer =
+    if nat_le TOKEN (credit (rules_of policies offer.tier) (of_tier offer.tier past) offer.tick)
+    then (Admitted (finish_behind (served past) offer)) else Rejected
 
-abbrev pub decided_next : Rules → List Decided → Offer → Decided
-decided_next rules past offer = record { offer = offer; decision = decide rules past offer }
+abbrev pub decided_next : List Rules → List Decided → Offer → Decided
+decided_next policies past offer = record { offer = offer; decision = decide policies past offer }
 
 -- each offer in turn, decided by those before it
-unfoldable pub decided_from : Rules → List Decided → List Offer → List Decided
-decided_from rules past [] = past
-decided_from rules past (offer ∷ offers) = decided_from rules (past ++ decided_next rules past offer ∷ []) offers
+unfoldable pub decided_from : List Rules → List Decided → List Offer → List Decided
+decided_from policies past [] = past
+decided_from policies past (offer ∷ offers) =
+    decided_from policies (past ++ decided_next policies past offer ∷ []) offers
 
-abbrev pub decided : Rules → List Offer → List Decided
-decided rules offers = decided_from rules [] offers
+abbrev pub decided : List Rules → List Offer → List Decided
+decided policies offers = decided_from policies [] offers

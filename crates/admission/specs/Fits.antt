@@ -1,5 +1,5 @@
 -- What a controller keeps of the offers so far.
-use Rattle.std.specs.Prelude.{◌≡◌, ℕ, ◌+◌, ◌*◌, ◌/◌, ◌<◌, ◌≤◌, List, [], ◌∷◌, length, map, count_by}
+use Rattle.std.specs.Prelude.{◌≡◌, ℕ, ◌+◌, ◌*◌, ◌/◌, ◌<◌, ◌≤◌, List, [], ◌∷◌, length, map, count_by, Some, slice_get}
 use Rattle.token_bucket.specs.declared.TheConstants.{TOKEN}
 use Rattle.token_bucket.specs.Accrual.{accrual}
 use Rattle.token_bucket.specs.Calls.{Past}
@@ -7,10 +7,10 @@ use Rattle.token_bucket.specs.Fits as calls
 use Rattle.token_bucket.specs.Standing as bucket
 use Rattle.admission.specs.Rules.{Rules}
 use Rattle.admission.specs.Window.{window_of}
-use Rattle.admission.specs.Requests.{Offer, Decided, is_admitted, served, finishes, samples, last_finish, done}
+use Rattle.admission.specs.Requests.{Offer, Decided, of_tier, is_admitted, is_rejected, served, finishes, samples, last_finish, done}
 use Rattle.admission.specs.Controls.{controls_of, rate_after, rate_at}
 use Rattle.admission.specs.Decisions.{credit, decided}
-use Rattle.admission.specs.Standing.{Standing}
+use Rattle.admission.specs.Standing.{TierStanding, Standing, policies_of}
 
 -- the tick of the last offer
 unfoldable pub tick_from : ℕ → List Offer → ℕ
@@ -30,7 +30,7 @@ AllCovered rate full tick (request ∷ requests) =
     × (TOKEN * count_by (λ r. is_admitted r.decision) (request ∷ requests) ≤ full + accrual rate request.offer.tick tick)
     × AllCovered rate full tick requests
 
--- the bucket stands as these requests left it: the controls that its clock has reached are those in force, its rate
+-- the bucket of a tier stands as these requests of the tier left it: the controls that its clock has reached are those in force, its rate
 -- is theirs, and its credit that of a request which comes now
 pub record Stands (rules : Rules) (past : List Decided) (b : bucket.Standing) (reached : ℕ) : Type 0 where
   pub depth : b.depth ≡ rules.depth
@@ -45,17 +45,20 @@ pub record BucketFits (rules : Rules) (past : List Decided) (b : bucket.Standing
   pub fits : calls.Fits past_calls b
   pub stands : Stands rules past b reached
 
--- the server, the window and the controls are those of these requests
-pub record ServerFits (past : List Decided) (c : Standing) : Type 0 where
-  pub admitted : c.admitted ≡ length (served past)
-  pub free : c.free ≡ last_finish (map (λ r. r.offer) (served past))
-  pub rising : IsRising 0 c.free (finishes (served past))
-  pub window : c.window ≡ window_of c.rules.window (samples (served past))
-  pub controls : c.controls ≡ controls_of c.rules (served past)
+-- a tier whose bucket, window and controls are those of these requests of the tier, where all tiers' requests are
+-- finished when the server is free
+pub record TierFits (past : List Decided) (free : ℕ) (t : TierStanding) : Type 0 where
+  pub bucket : BucketFits t.rules past t.bucket t.reached
+  pub admitted : t.admitted ≡ length (served past)
+  pub rejected : t.rejected ≡ count_by (λ r. is_rejected r.decision) past
+  pub rising : IsRising 0 free (finishes (served past))
+  pub window : t.window ≡ window_of t.rules.window (samples (served past))
+  pub controls : t.controls ≡ controls_of t.rules (served past)
 
--- a controller that stands so after these offers
+-- a controller that stands so after these offers: each tier by its own requests, the server by those of all tiers
 pub record Fits (offers : List Offer) (c : Standing) : Type 0 where
   pub offered : c.offers ≡ length offers
-  pub tick : c.bucket.tick ≡ tick_from 0 offers
-  pub bucket : BucketFits c.rules (decided c.rules offers) c.bucket c.reached
-  pub server : ServerFits (decided c.rules offers) c
+  pub tick : c.tick ≡ tick_from 0 offers
+  pub free : c.free ≡ last_finish (map (λ r. r.offer) (served (decided (policies_of c) offers)))
+  pub tiers : (i : ℕ) (t : TierStanding) → slice_get c.tiers i ≡ Some t
+      → TierFits (of_tier i (decided (policies_of c) offers)) c.free t

@@ -3,21 +3,34 @@ use Rattle.std.specs.Prelude.{◌≡◌, ℕ, ◌+◌, ◌-◌, ◌*◌, ◌<◌
 use Rattle.token_bucket.specs.declared.TheConstants.{TOKEN}
 use Rattle.token_bucket.specs.Accrual.{accrual}
 use Rattle.admission.specs.declared.control.Decision.TheVariants.{Rejected}
-use Rattle.admission.specs.Rules.{Rules, IsInRange}
-use Rattle.admission.specs.Requests.{Offer, Decided, Served, served, last_finish, is_admitted}
+use Rattle.admission.specs.Rules.{Rules, rules_of, IsInRange}
+use Rattle.admission.specs.Requests.{Offer, Decided, Served, of_tier, served, last_finish, is_admitted}
 use Rattle.admission.specs.Controls.{control_at, rate_at}
 use Rattle.admission.specs.Decisions.{credit, decide, decided}
 
 -- the decisions on the first offers are the first decisions
 abbrev pub DecisionsBegin : Type 0
-DecisionsBegin = (rules : Rules) (offers more : List Offer)
-    → (rest : List Decided) × (decided rules (offers ++ more) ≡ decided rules offers ++ rest)
+DecisionsBegin = (policies : List Rules) (offers more : List Offer)
+    → (rest : List Decided) × (decided policies (offers ++ more) ≡ decided policies offers ++ rest)
 
--- a rejected offer changes nothing that a later one sees: no request is served, and no credit is another
+abbrev pub and_rejected : List Decided → Offer → List Decided
+and_rejected past rejected = past ++ record { offer = rejected; decision = Rejected } ∷ []
+
+-- a rejected offer, of whatever tier, changes nothing that a later one sees: no request is served, in any tier no
+-- sample, control or rate is another (they are those of its served requests) and no credit is, and so no decision is
 abbrev pub RejectedLeavesAll : Type 0
-RejectedLeavesAll = (rules : Rules) (past : List Decided) (rejected offer : Offer)
-    → (served (past ++ record { offer = rejected; decision = Rejected } ∷ []) ≡ served past)
-    × (decide rules (past ++ record { offer = rejected; decision = Rejected } ∷ []) offer ≡ decide rules past offer)
+RejectedLeavesAll = (policies : List Rules) (past : List Decided) (rejected offer : Offer) (tier tick : ℕ)
+    → (served (and_rejected past rejected) ≡ served past)
+    × (served (of_tier tier (and_rejected past rejected)) ≡ served (of_tier tier past))
+    × (credit (rules_of policies tier) (of_tier tier (and_rejected past rejected)) tick
+    ≡ credit (rules_of policies tier) (of_tier tier past) tick)
+    × (decide policies (and_rejected past rejected) offer ≡ decide policies past offer)
+
+-- an offer of another tier, whatever becomes of it, leaves the requests of this tier as they were, and with them each
+-- credit, rate, sample and control of this tier
+abbrev pub OtherTiersLeave : Type 0
+OtherTiersLeave = (policies : List Rules) (offers : List Offer) (offer : Offer) (tier : ℕ) → (offer.tier ≡ tier → ⊥)
+    → of_tier tier (decided policies (offers ++ offer ∷ [])) ≡ of_tier tier (decided policies offers)
 
 -- each rate lies between the least and the greatest
 abbrev pub RatesWithin : Type 0
@@ -44,6 +57,11 @@ unfoldable pub AreOffered : ℕ → List Offer → Type 0
 AreOffered tick [] = Unit {0}
 AreOffered tick (offer ∷ offers) = (tick ≤ offer.tick) × (1 ≤ offer.service) × AreOffered offer.tick offers
 
+-- none of these offers is of this tier
+unfoldable pub AreOfOthers : ℕ → List Offer → Type 0
+AreOfOthers tier [] = Unit {0}
+AreOfOthers tier (offer ∷ offers) = (offer.tier ≡ tier → ⊥) × AreOfOthers tier offers
+
 -- from one finish to another, each of these requests is finished its service after the later of the finish before it
 -- and its arrival
 unfoldable pub RunsTo : ℕ → List Served → ℕ → Type 0
@@ -51,24 +69,31 @@ RunsTo before [] last = before ≡ last
 RunsTo before (request ∷ requests) last =
     (request.finish ≡ max before request.offer.tick + request.offer.service) × RunsTo request.finish requests last
 
--- the finishes of the admitted requests run so from 0 to the finish behind which the next one is served
+-- the finishes of the admitted requests of all tiers run so from 0 to the finish after which the next one is served,
+-- of whatever tier it is
 abbrev pub FinishFromFinish : Type 0
-FinishFromFinish = (rules : Rules) (offers : List Offer)
-    → RunsTo 0 (served (decided rules offers)) (last_finish (map (λ r. r.offer) (served (decided rules offers))))
+FinishFromFinish = (policies : List Rules) (offers : List Offer)
+    → RunsTo 0 (served (decided policies offers)) (last_finish (map (λ r. r.offer) (served (decided policies offers))))
 
--- the first offered request finds a full bucket, whenever it comes
+-- the first offered request of a tier finds a full bucket, whenever it comes and whatever other tiers were offered
 abbrev pub FirstCredit : Type 0
-FirstCredit = (rules : Rules) (tick : ℕ) → credit rules (decided rules []) tick ≡ rules.depth * TOKEN
+FirstCredit = (policies : List Rules) (offers : List Offer) (tier tick : ℕ) → AreOfOthers tier offers
+    → credit (rules_of policies tier) (of_tier tier (decided policies offers)) tick ≡ (rules_of policies tier).depth * TOKEN
 
--- the credit behind an offer is that of the offer, without the token that it took, and with what accrues from it on,
--- up to the depth
-abbrev pub CreditFromCredit : Type 0
-CreditFromCredit = (rules : Rules) (offers : List Offer) (offer : Offer) (tick : ℕ)
-    → IsInRange rules → AreOffered 0 (offers ++ offer ∷ []) → offer.tick ≤ tick
-    → credit rules (decided rules (offers ++ offer ∷ [])) tick
+-- the credit of a tier after an offer of that tier, by the tier's rules
+abbrev pub CreditAfter : Rules → List Rules → List Offer → Offer → ℕ → Type 0
+CreditAfter rules policies offers offer tick =
+    credit rules (of_tier offer.tier (decided policies (offers ++ offer ∷ []))) tick
     ≡ min (rules.depth * TOKEN)
-    (credit rules (decided rules offers) offer.tick - (if is_admitted (decide rules (decided rules offers) offer) then TOKEN else 0)
-    + accrual (rate_at rules (served (decided rules (offers ++ offer ∷ [])))) offer.tick tick)
+    (credit rules (of_tier offer.tier (decided policies offers)) offer.tick
+    - (if is_admitted (decide policies (decided policies offers) offer) then TOKEN else 0)
+    + accrual (rate_at rules (served (of_tier offer.tier (decided policies (offers ++ offer ∷ []))))) offer.tick tick)
+
+-- it is that of the offer, without the token that it took, and with what accrues from it on, up to the depth
+abbrev pub CreditFromCredit : Type 0
+CreditFromCredit = (policies : List Rules) (offers : List Offer) (offer : Offer) (tick : ℕ)
+    → IsInRange (rules_of policies offer.tier) → AreOffered 0 (offers ++ offer ∷ []) → offer.tick ≤ tick
+    → CreditAfter (rules_of policies offer.tier) policies offers offer tick
 
 -- what accrues from one tick to another falls into what accrues up to a control between them and from it on
 abbrev pub AccrualSplitsAtControl : Type 0
@@ -78,7 +103,9 @@ AccrualSplitsAtControl = (rules : Rules) (requests : List Served) (k s t : ℕ)
     ≡ accrual (rate_at rules requests) s (control_at rules requests k).instant
     + accrual (rate_at rules requests) (control_at rules requests k).instant t
 
--- the rate in force at a tick that no further offer comes before depends on the offers so far alone
+-- the rate of a tier in force at a tick that no further offer of any tier comes before depends on the offers so far alone
 abbrev pub RateFromOffersBefore : Type 0
-RateFromOffersBefore = (rules : Rules) (offers more : List Offer) (tick : ℕ) → IsInRange rules → AreOffered tick more
-    → rate_at rules (served (decided rules (offers ++ more))) tick ≡ rate_at rules (served (decided rules offers)) tick
+RateFromOffersBefore = (policies : List Rules) (offers more : List Offer) (tier tick : ℕ)
+    → IsInRange (rules_of policies tier) → AreOffered tick more
+    → rate_at (rules_of policies tier) (served (of_tier tier (decided policies (offers ++ more)))) tick
+    ≡ rate_at (rules_of policies tier) (served (of_tier tier (decided policies offers))) tick

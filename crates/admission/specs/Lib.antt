@@ -4,8 +4,10 @@ pub mod Tally
 pub mod Window
 pub mod Controls
 pub mod Decisions
+pub mod OneTier
 pub mod Requests
 pub mod Standing
 pub mod Running
 pub mod Fits
+pub mod TierCalls
 pub mod Laws

@@ -1,10 +1,11 @@
 -- Requests that are offered, decided and served.
-use Rattle.std.specs.Prelude.{ℕ, ◌+◌, ◌-◌, max, Bool, true, false, List, [], ◌∷◌, ◌++◌, map, count_by, sum_by, nat_le}
+use Rattle.std.specs.Prelude.{ℕ, ◌+◌, ◌-◌, max, Bool, true, false, List, [], ◌∷◌, ◌++◌, map, filter, count_by, sum_by, nat_eq, nat_le}
 use Rattle.admission.specs.declared.control.Decision.{Decision}
 use Rattle.admission.specs.declared.control.Decision.TheVariants.{Admitted, Rejected}
 
--- an offered request: the tick that it comes at, and how long it takes
+-- an offered request: its tier, the tick that it comes at, and how long it takes
 pub record Offer : Type 0 where
+  pub tier : ℕ
   pub tick : ℕ
   pub service : ℕ
 
@@ -18,9 +19,17 @@ pub record Served : Type 0 where
   pub offer : Offer
   pub finish : ℕ
 
+-- the requests of this tier, in order
+unfoldable pub of_tier : ℕ → List Decided → List Decided
+of_tier tier requests = filter (λ r. nat_eq r.offer.tier tier) requests
+
 abbrev pub is_admitted : Decision → Bool
 is_admitted (Admitted finish) = true
 is_admitted Rejected = false
+
+abbrev pub is_rejected : Decision → Bool
+is_rejected (Admitted finish) = false
+is_rejected Rejected = true
 
 abbrev pub as_served : Offer → Decision → List Served
 as_served offer (Admitted finish) = record { offer = offer; finish = finish } ∷ []

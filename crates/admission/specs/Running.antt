@@ -1,16 +1,21 @@
--- What one more offer makes of a controller's standing.
-use Rattle.std.specs.Prelude.{ℕ, ◌+◌, ◌-◌, ◌%◌, max, List, [], ◌∷◌, ◌++◌, nat_le, nat_eq, if◌then◌else◌, unwrap_or, option_map}
+-- What one more offer makes of a tier's standing.
+use Rattle.std.specs.Prelude.{ℕ, ◌+◌, ◌%◌, max, List, [], ◌∷◌, ◌++◌, nat_le, nat_eq, if◌then◌else◌, unwrap_or, option_map}
 use Rattle.std.specs.List.{prefix_len}
 use Rattle.circular_buffer.specs.Buffer.{last_item}
+use Rattle.token_bucket.specs.declared.TheConstants.{TOKEN}
 use Rattle.token_bucket.specs.Calls.{Advance, SetRate}
 use Rattle.token_bucket.specs.Running.{after}
 use Rattle.token_bucket.specs.Standing as bucket
 use Rattle.admission.specs.declared.control.Control.{Control}
+use Rattle.admission.specs.declared.control.Decision.{Decision}
+use Rattle.admission.specs.declared.control.Decision.TheVariants.{Admitted, Rejected}
 use Rattle.admission.specs.Rules.{Rules}
+use Rattle.admission.specs.Requests.{Decided}
 use Rattle.admission.specs.Window.{with_sample}
 use Rattle.admission.specs.Percentile.{percentile}
 use Rattle.admission.specs.Controls.{smoother, adjusted}
-use Rattle.admission.specs.Standing.{Standing}
+use Rattle.admission.specs.Decisions.{credit}
+use Rattle.admission.specs.Standing.{TierStanding}
 
 -- the bucket at `tick`, where it took on the rates of the pending controls whose instant it passed
 unfoldable pub passing : bucket.Standing → List Control → ℕ → bucket.Standing
@@ -44,24 +49,28 @@ with_due rules controls samples admitted instant =
     if nat_eq (admitted % rules.every) 0 then (controls ++ next_control rules controls instant (unwrap_or (percentile samples) 0) ∷ [])
     else controls
 
--- after a rejected offer
-abbrev pub when_rejected : Standing → bucket.Standing → ℕ → Standing
-when_rejected c b reached = record c { bucket = b; offers = c.offers + 1; reached = reached }
+-- the tier after a rejected offer
+abbrev pub when_rejected : TierStanding → bucket.Standing → ℕ → TierStanding
+when_rejected t b reached = record t { bucket = b; rejected = t.rejected + 1; reached = reached }
 
--- when the server would finish a request
-abbrev pub next_finish : Standing → ℕ → ℕ → ℕ
-next_finish c tick service = max c.free tick + service
-
--- after an admitted one
-abbrev pub when_admitted : Standing → bucket.Standing → ℕ → ℕ → ℕ → Standing
-when_admitted c b reached tick service = record {
-  rules = c.rules;
+-- the tier after an admitted one, which is finished at this tick after this response time
+abbrev pub when_admitted : TierStanding → bucket.Standing → ℕ → ℕ → ℕ → TierStanding
+when_admitted t b reached finish sample = record {
+  rules = t.rules;
   bucket = b;
-  offers = c.offers + 1;
-  admitted = c.admitted + 1;
-  free = next_finish c tick service;
-  window = with_sample c.window (next_finish c tick service - tick);
-  controls = with_due c.rules c.controls (with_sample c.window (next_finish c tick service - tick)).samples (c.admitted + 1)
-      (next_finish c tick service);
+  admitted = t.admitted + 1;
+  rejected = t.rejected;
+  window = with_sample t.window sample;
+  controls = with_due t.rules t.controls (with_sample t.window sample).samples (t.admitted + 1) finish;
   reached = reached;
 }
+
+-- what becomes of a request after these of its tier, where the server is free from some tick on
+abbrev pub decision_after : Rules → List Decided → ℕ → ℕ → ℕ → Decision
+decision_after rules past free tick service =
+    if nat_le TOKEN (credit rules past tick) then (Admitted (max free tick + service)) else Rejected
+
+-- when the server is free after that
+abbrev pub free_after : ℕ → Decision → ℕ
+free_after free (Admitted finish) = finish
+free_after free Rejected = free

@@ -1,40 +1,28 @@
-ghost use Rattle.std.specs.Prelude.{◌≡◌, ◌+◌, ◌-◌, ◌<◌, ◌≤◌, ◌++◌, [], ◌∷◌, ℕ, List, length, drop, vec_len, vec_capacity, unwrap_or, IsTrue, IfOk, OnOk, OnErr};
-ghost use Rattle.std.specs.Option.{option_copied};
-ghost use Rattle.circular_buffer.specs.Buffer.{last_item};
-ghost use Rattle.token_bucket.specs.Calls.{Past};
-ghost use Rattle.token_bucket.specs.Fits.{Fits as FitsCalls};
-ghost use Rattle.admission.specs.Percentile.{percentile};
-ghost use Rattle.admission.specs.Requests.{Offer, served};
-ghost use Rattle.admission.specs.Controls.{controls_until, smoother, adjusted};
+ghost use Rattle.std.specs.Prelude.{◌≡◌, ◌+◌, ◌<◌, ◌≤◌, ◌++◌, [], ◌∷◌, ℕ, List, length, map, IfOk, OnOk, OnErr, count_by};
+ghost use Rattle.admission.specs.Rules.{rules_of};
+ghost use Rattle.admission.specs.Requests.{Offer, of_tier, served, is_rejected};
+ghost use Rattle.admission.specs.Controls.{controls_until};
 ghost use Rattle.admission.specs.Decisions.{decide, decided};
-ghost use Rattle.admission.specs.Standing.{last_tick, RiseWithin, AllRates};
-ghost use Rattle.admission.specs.Fits.{BucketFits, Fits, tick_from};
-ghost use Rattle.admission.specs.Window.{with_sample};
-ghost use Rattle.admission.specs.Running.{passing, passed, last_rate, next_control, with_due, when_rejected, when_admitted, next_finish};
+ghost use Rattle.admission.specs.Standing.{last_tick, policies_of};
+ghost use Rattle.admission.specs.Fits.{Fits, tick_from};
+ghost use Rattle.admission.specs.TierCalls.{AreNew};
+ghost use Rattle.admission.specs.Running.{free_after};
 
-use crate::{Control, Decision, MAX_OFFERS, MAX_RATE, MAX_SERVICE, MAX_TICK, Policy, SampleWindow};
+use crate::tier::Tier;
+use crate::{Control, Decision, MAX_OFFERS, MAX_SERVICE, MAX_TICK, Policy};
 use std::alloc::{AllocError, Global};
 use std::marker::Model;
-use token_bucket::Bucket;
 
-/// Decides which offered requests one virtual server takes.
+/// Decides which offered requests of four tiers one virtual server takes.
 #[derive(Drop)]
 pub struct Controller {
-    policy: Policy,
-    /// The bucket at the tick of the last offer.
-    bucket: Bucket,
-    /// How many requests were offered.
-    offers: u64,
-    /// How many of them were admitted.
-    admitted: u64,
-    /// When the server has finished all of them.
+    tiers: [Tier; 4],
+    /// When the server has finished the admitted requests of all tiers.
     free: u64,
-    /// The response times of the last ones.
-    window: SampleWindow,
-    /// The controls of the admitted requests, also those whose instant is still to come.
-    controls: Vec<Control>,
-    /// How many of them the bucket has taken on.
-    reached: usize,
+    /// How many requests were offered, of all tiers.
+    offers: u64,
+    /// The tick of the last one.
+    tick: u64,
 }
 
 impl Model for Controller {
@@ -42,237 +30,99 @@ impl Model for Controller {
 
     ghost Value = { Standing };
 
-    ghost view = { λ c. record { rules = c.policy; bucket = c.bucket; offers = c.offers; admitted = c.admitted; free = c.free; window = c.window; controls = c.controls.items; reached = c.reached } };
+    ghost view = { λ c. record { tiers = c.tiers; free = c.free; offers = c.offers; tick = c.tick } };
 
-    ghost invariant = { λ c. IsSound (record { rules = c.policy; bucket = c.bucket; offers = c.offers; admitted = c.admitted; free = c.free; window = c.window; controls = c.controls.items; reached = c.reached }) };
+    ghost invariant = { λ c. IsSound (record { tiers = c.tiers; free = c.free; offers = c.offers; tick = c.tick }) };
 }
 
-/// Lets time pass up to `tick`. The bucket takes on each pending control's rate at its instant, and what
-/// came before it is credited at the old rate. Returns how many controls were reached.
-fn pass(bucket: &mut Bucket, pending: &[Control], tick: u64) -> usize
-    requires rising { (hi : ℕ) × RiseWithin bucket.old.tick hi pending.now }
-    requires rates { AllRates pending.now }
-    requires forward { bucket.old.tick ≤ tick }
-    requires within { tick ≤ MAX_TICK }
-    ensures reached { result ≡ passed pending.now tick }
-    ensures tick { bucket.new.tick ≡ tick }
-    ensures passes { (past : Past) → FitsCalls past bucket.old → ((later : Past) × FitsCalls later bucket.new) × (bucket.new ≡ passing bucket.old pending.now tick) }
+/// When the server is free after a decision.
+fn free_after(free: u64, decision: Decision) -> u64
+    ensures { result ≡ free_after free decision }
 {
-    let mut reached = 0;
-    let mut rest = pending;
-    while let Some((control, later)) = rest.split_first() {
-        if control.instant > tick {
-            break;
-        }
-        bucket.advance(control.instant);
-        bucket.set_rate(control.rate);
-        reached += 1;
-        rest = later;
-    }
-    bucket.advance(tick);
-    reached
-}
-
-/// The smoothed percentile: `smoothing` thousandths of the one before, the rest of the new one, rounded down.
-fn smooth(policy: Policy, before: u64, own: u64) -> u64
-    ensures { result ≡ smoother policy before own }
-{
-    let weight = u128::from(policy.smoothing);
-    let sum = weight * u128::from(before) + (1000 - weight) * u128::from(own);
-    (sum / 1000) as u64
-}
-
-/// The rate after a control: lowered above the target, raised below the low mark.
-fn adjust(policy: Policy, smoothed: u64, rate: u64) -> u64
-    requires { (1 ≤ rate) × (rate ≤ MAX_RATE) }
-    ensures rate { result ≡ adjusted policy smoothed rate }
-    ensures range { (1 ≤ result) × (result ≤ MAX_RATE) }
-{
-    if smoothed > policy.target {
-        policy.rate_min.max(100 * rate / policy.down)
-    } else if 100 * u128::from(smoothed) < u128::from(policy.low * policy.target) {
-        policy.rate_max.min(rate + policy.up)
-    } else {
-        rate
+    match decision {
+        Decision::Admitted { finish } => finish,
+        Decision::Rejected => free,
     }
 }
 
-/// The rate of the last control, or the policy's where there is none.
-fn last_rate(policy: Policy, controls: &[Control]) -> u64
-    requires { AllRates controls.now }
-    ensures rate { result ≡ last_rate policy controls.now }
-    ensures range { (1 ≤ result) × (result ≤ MAX_RATE) }
+/// The tiers of these policies, which were offered nothing yet.
+fn tiers_of(alloc: Global, policies: &[Policy]) -> Result<[Tier; 4], AllocError>
+    requires { length policies.now ≡ 4 }
+    ensures policies { IfOk result (λ tiers. map (λ t. t.rules) tiers ≡ policies.now) }
+    ensures four { IfOk result (λ tiers. length tiers ≡ 4) }
+    ensures new { IfOk result (λ tiers. AreNew tiers) }
 {
-    match controls.last() {
-        Some(last) => last.rate,
-        None => policy.rate,
-    }
-}
-
-/// The control that follows these.
-fn next_control(policy: Policy, controls: &[Control], percentile: u64, instant: u64) -> Control
-    requires { AllRates controls.now }
-    ensures control { result ≡ next_control policy controls.now instant percentile }
-    ensures range { (1 ≤ result.rate) × (result.rate ≤ MAX_RATE) }
-{
-    let before = match controls.last() {
-        Some(last) => last.smoothed,
-        None => 0,
-    };
-    let smoothed = smooth(policy, before, percentile);
-    let rate = last_rate(policy, controls);
-    Control {
-        instant,
-        percentile,
-        smoothed,
-        rate: adjust(policy, smoothed, rate),
-    }
-}
-
-/// Makes a control where that many admitted requests make one due.
-fn note_control(
-    policy: Policy,
-    window: &SampleWindow,
-    controls: &mut Vec<Control>,
-    admitted: u64,
-    instant: u64,
-)
-    requires rates { AllRates controls.old.items }
-    requires room { vec_len controls.old < vec_capacity controls.old }
-    ensures controls { controls.new.items ≡ with_due policy controls.old.items window.now.samples admitted instant }
-    ensures rates { AllRates controls.new.items }
-{
-    if admitted % policy.every == 0 {
-        let percentile = window.percentile().unwrap_or(0);
-        let control = next_control(policy, controls, percentile, instant);
-        controls.push_reserved(control);
-    }
-}
-
-/// Makes all the growths of an admitted request: room for a control, and the sample in the window.
-fn grow(
-    window: &mut SampleWindow,
-    controls: &mut Vec<Control>,
-    sample: u64,
-) -> Result<(), AllocError>
-    ensures window { OnOk result (window.new ≡ with_sample window.old sample) }
-    ensures room { OnOk result (vec_len controls.new < vec_capacity controls.new) }
-    ensures controls { controls.new.items ≡ controls.old.items }
-    ensures err { OnErr result (window.new ≡ window.old) }
-{
-    controls.reserve(1)?;
-    window.add(sample)
+    Ok([
+        Tier::new(alloc, policies[0])?,
+        Tier::new(alloc, policies[1])?,
+        Tier::new(alloc, policies[2])?,
+        Tier::new(alloc, policies[3])?,
+    ])
 }
 
 impl Controller {
-    /// A controller that was offered nothing yet.
-    pub fn new(alloc: Global, policy: Policy) -> Result<Self, AllocError>
+    /// A controller that was offered nothing yet, with the policies of the tiers 0 to 3.
+    pub fn new(alloc: Global, policies: [Policy; 4]) -> Result<Self, AllocError>
         ensures fits { IfOk result (λ controller. Fits [] controller) }
-        ensures rules { IfOk result (λ controller. controller.rules ≡ policy) }
+        ensures policies { IfOk result (λ controller. policies_of controller ≡ policies) }
         ensures start { IfOk result (λ controller. (controller.offers ≡ 0) × (last_tick controller ≡ 0)) }
     {
+        let tiers = tiers_of(alloc, &policies)?;
         Ok(Controller {
-            policy,
-            bucket: Bucket::new(policy.depth, policy.rate),
-            offers: 0,
-            admitted: 0,
+            tiers,
             free: 0,
-            window: SampleWindow::new(alloc, policy.window as usize)?,
-            controls: Vec::new(alloc),
-            reached: 0,
+            offers: 0,
+            tick: 0,
         })
     }
 
-    /// Offers a request that comes at `tick` and takes `service` ticks.
-    pub fn offer(&mut self, tick: u64, service: u64) -> Result<Decision, AllocError>
+    /// Offers a request of a tier (0 to 3) that comes at `tick` and takes `service` ticks.
+    pub fn offer(&mut self, tier: u8, tick: u64, service: u64) -> Result<Decision, AllocError>
+        requires tier { tier < 4 }
         requires forward { (last_tick self.old ≤ tick) × (tick ≤ MAX_TICK) }
         requires service { (1 ≤ service) × (service ≤ MAX_SERVICE) }
         requires room { self.old.offers < MAX_OFFERS }
 
-        // The decision is that of the definitions for the offers so far followed by this one.
-        ensures decision { IfOk result (λ decision. (offers : List Offer) → Fits offers self.old → decision ≡ decide self.old.rules (decided self.old.rules offers) (record { tick = tick; service = service })) }
-        ensures fits { OnOk result ((offers : List Offer) → Fits offers self.old → Fits (offers ++ record { tick = tick; service = service } ∷ []) self.new) }
+        // The decision is that of the definitions for the offers of all tiers so far followed by this one.
+        ensures decision { IfOk result (λ decision. (offers : List Offer) → Fits offers self.old → decision ≡ decide (policies_of self.old) (decided (policies_of self.old) offers) (record { tier = tier; tick = tick; service = service })) }
+        ensures fits { OnOk result ((offers : List Offer) → Fits offers self.old → Fits (offers ++ record { tier = tier; tick = tick; service = service } ∷ []) self.new) }
 
         // What the next offer asks.
-        ensures next { OnOk result ((last_tick self.new ≡ tick) × (self.new.offers ≡ self.old.offers + 1) × (self.new.rules ≡ self.old.rules)) }
+        ensures next { OnOk result ((last_tick self.new ≡ tick) × (self.new.offers ≡ self.old.offers + 1) × (policies_of self.new ≡ policies_of self.old)) }
 
         // Without memory nothing has changed.
         ensures err { OnErr result (self.new ≡ self.old) }
     {
-        let (mut bucket, reached) = self.bucket_at(tick);
-        if !bucket.try_take() {
-            self.reject(bucket, reached);
-            return Ok(Decision::Rejected);
-        }
-        let finish = self.admit(bucket, reached, tick, service)?;
-        Ok(Decision::Admitted { finish })
-    }
-
-    /// The controls whose instant is at most the last offered tick.
-    pub fn controls(&self) -> &[Control]
-        ensures { (offers : List Offer) → Fits offers self.now → result.now ≡ controls_until self.now.rules (served (decided self.now.rules offers)) (tick_from 0 offers) }
-    {
-        &self.controls[..self.reached]
-    }
-
-    /// The bucket at a later tick, and how many controls it has taken on then.
-    fn bucket_at(&self, tick: u64) -> (Bucket, usize)
-        requires { (last_tick self.now ≤ tick) × (tick ≤ MAX_TICK) }
-        ensures tick { result.0.tick ≡ tick }
-        ensures reached { result.1 ≤ length self.now.controls }
-        ensures rising { RiseWithin tick self.now.free (drop result.1 self.now.controls) }
-        ensures every { 1 ≤ self.now.rules.every }
-        ensures fits { (offers : List Offer) → Fits offers self.now → BucketFits self.now.rules (decided self.now.rules offers) result.0 result.1 }
-    {
-        let mut bucket = self.bucket;
-        let passed = pass(&mut bucket, &self.controls[self.reached..], tick);
-        (bucket, self.reached + passed)
-    }
-
-    /// Keeps the bucket that turned an offer away.
-    fn reject(&mut self, bucket: Bucket, reached: usize)
-        requires clock { bucket.tick ≤ MAX_TICK }
-        requires reached { reached ≤ length self.old.controls }
-        requires rising { RiseWithin bucket.tick self.old.free (drop reached self.old.controls) }
-        requires room { self.old.offers < MAX_OFFERS }
-        ensures { self.new ≡ when_rejected self.old bucket reached }
-    {
-        self.bucket = bucket;
-        self.reached = reached;
+        let decision = self.tiers[usize::from(tier)].offer(self.free, tick, service)?;
+        self.free = free_after(self.free, decision);
         self.offers += 1;
+        self.tick = tick;
+        Ok(decision)
     }
 
-    /// Takes an offer for which `bucket` gave a token, and returns when it is finished.
-    fn admit(
-        &mut self,
-        bucket: Bucket,
-        reached: usize,
-        tick: u64,
-        service: u64,
-    ) -> Result<u64, AllocError>
-        requires clock { (bucket.tick ≡ tick) × (tick ≤ MAX_TICK) }
-        requires reached { reached ≤ length self.old.controls }
-        requires rising { RiseWithin bucket.tick self.old.free (drop reached self.old.controls) }
-        requires service { service ≤ MAX_SERVICE }
-        requires room { self.old.offers < MAX_OFFERS }
-        ensures finish { IfOk result (λ finish. finish ≡ next_finish self.old tick service) }
-        ensures ok { OnOk result (self.new ≡ when_admitted self.old bucket reached tick service) }
-        ensures err { OnErr result (self.new ≡ self.old) }
+    /// How many requests of a tier (0 to 3) were admitted.
+    pub fn admitted(&self, tier: u8) -> u64
+        requires { tier < 4 }
+        ensures { (offers : List Offer) → Fits offers self.now → result ≡ length (served (of_tier tier (decided (policies_of self.now) offers))) }
     {
-        let finish = self.free.max(tick) + service;
-        grow(&mut self.window, &mut self.controls, finish - tick)?;
-        self.bucket = bucket;
-        self.reached = reached;
-        self.offers += 1;
-        self.admitted += 1;
-        self.free = finish;
-        note_control(
-            self.policy,
-            &self.window,
-            &mut self.controls,
-            self.admitted,
-            finish,
-        );
-        Ok(finish)
+        let own = &self.tiers[usize::from(tier)];
+        own.admitted
+    }
+
+    /// How many requests of a tier (0 to 3) were turned away.
+    pub fn rejected(&self, tier: u8) -> u64
+        requires { tier < 4 }
+        ensures { (offers : List Offer) → Fits offers self.now → result ≡ count_by (λ r. is_rejected r.decision) (of_tier tier (decided (policies_of self.now) offers)) }
+    {
+        let own = &self.tiers[usize::from(tier)];
+        own.rejected
+    }
+
+    /// The controls of a tier (0 to 3) whose instant is at most the last offered tick of any tier.
+    pub fn controls(&self, tier: u8) -> &[Control]
+        requires { tier < 4 }
+        ensures { (offers : List Offer) → Fits offers self.now → result.now ≡ controls_until (rules_of (policies_of self.now) tier) (served (of_tier tier (decided (policies_of self.now) offers))) (tick_from 0 offers) }
+    {
+        self.tiers[usize::from(tier)].controls_until(self.tick)
     }
 }

@@ -1,15 +1,26 @@
 //! Laws of the definitions that the controller's contracts cite. Each function is there for its clause alone.
 
-ghost use Rattle.admission.specs.Laws.{AccrualSplitsAtControl, CreditFromCredit, DecisionsBegin, FinishFromFinish, FinishRuns, FirstCredit, RateBefore, RateFromOffersBefore, RatesWithin, RejectedLeavesAll};
+ghost use Rattle.admission.specs.Laws.{AccrualSplitsAtControl, CreditFromCredit, DecisionsBegin, FinishFromFinish, FinishRuns, FirstCredit, OtherTiersLeave, RateBefore, RateFromOffersBefore, RatesWithin, RejectedLeavesAll};
+ghost use Rattle.admission.specs.OneTier.{OneTierAsBefore};
 
 /// A decision depends on the offers before it alone.
 pub fn decisions_begin()
     ensures { DecisionsBegin }
 {}
 
-/// A rejected offer changes nothing that a later one sees.
+/// A rejected offer changes nothing of any tier that a later one sees.
 pub fn rejected_leaves_all()
     ensures { RejectedLeavesAll }
+{}
+
+/// An offer of another tier changes no credit, rate, sample or control of a tier.
+pub fn other_tiers_leave()
+    ensures { OtherTiersLeave }
+{}
+
+/// Offers of tier 0 alone are decided as they were where there was one policy and no tiers.
+pub fn one_tier_as_before()
+    ensures { OneTierAsBefore }
 {}
 
 /// Every rate in force lies between the policy's least and greatest.
@@ -17,7 +28,7 @@ pub fn rates_within()
     ensures { RatesWithin }
 {}
 
-/// The server's finish can be carried from request to request, and never falls.
+/// The server's finish can be carried from request to request over all tiers, and never falls.
 pub fn finish_runs()
     ensures { FinishRuns }
 {}
@@ -32,12 +43,12 @@ pub fn finish_from_finish()
     ensures { FinishFromFinish }
 {}
 
-/// The first credit is the whole depth.
+/// The first credit of a tier is the whole depth, whatever other tiers were offered.
 pub fn first_credit()
     ensures { FirstCredit }
 {}
 
-/// A credit needs the credit of the offer before it alone, whether that one was admitted, and what accrues between.
+/// A credit needs the credit of the tier's offer before it alone, whether that one was admitted, and what accrues between.
 pub fn credit_from_credit()
     ensures { CreditFromCredit }
 {}
@@ -47,7 +58,7 @@ pub fn accrual_splits_at_control()
     ensures { AccrualSplitsAtControl }
 {}
 
-/// The rate in force at a tick depends on the offers before that tick alone.
+/// The rate of a tier in force at a tick depends on the offers of all tiers before that tick alone.
 pub fn rate_from_offers_before()
     ensures { RateFromOffersBefore }
 {}

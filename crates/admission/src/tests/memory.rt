@@ -1,4 +1,4 @@
-//! Want of memory: `rt try --test --fail-alloc 1..` refuses each growth in turn.
+//! Out of memory: `rt try --test --fail-alloc 1..` refuses each growth in turn.
 use crate::{Controller, Decision, Policy};
 
 /// An offer whose growth is refused leaves the controller as it was: offered again, the request has the answer that it would
@@ -8,14 +8,16 @@ fn each_growth_refused(rt: HostRuntime) {
     let policy = Policy::new(2, 1, 700, 1000, 500, 2000, 10, 120, 1000, 90, 10).expect(
         &rt, "a policy",
     );
-    let Ok(mut controller) = Controller::new(rt.alloc(), policy) else {
+    let Ok(mut controller) = Controller::new(rt.alloc(), [policy; 4]) else {
         return;
     };
-    for place in 0..3u64 {
-        let service = if place == 0 { 5000 } else { 100 };
-        let answer = match controller.offer(5000 * place, service) {
+    // three requests of tier 0, and then the same three of tier 1
+    for place in 0..6u64 {
+        let tier = (place / 3) as u8;
+        let service = if place % 3 == 0 { 5000 } else { 100 };
+        let answer = match controller.offer(tier, 5000 * place, service) {
             Ok(decision) => Ok(decision),
-            Err(_) => controller.offer(5000 * place, service),
+            Err(_) => controller.offer(tier, 5000 * place, service),
         };
         let Ok(decision) = answer else {
             return;
@@ -27,6 +29,8 @@ fn each_growth_refused(rt: HostRuntime) {
             }
         );
     }
-    let rates = controller.controls().iter().map(|control| control.rate);
+    let rates = controller.controls(0).iter().map(|control| control.rate);
+    assert!(rt; rates.eq([833, 694, 578]));
+    let rates = controller.controls(1).iter().map(|control| control.rate);
     assert!(rt; rates.eq([833, 694]));
 }

@@ -1,5 +1,7 @@
-//! A slow program that follows the rules word for word: it keeps every request and works each answer out anew. The
-//! controller must agree with it at each of some hundred offers.
+//! A slow program that follows the rules word for word: it keeps every request of every tier and works each answer out
+//! anew. The controller must agree with it at each of some hundred offers.
+ghost use Rattle.std.specs.Prelude.{◌≤◌};
+
 use crate::{Control, Controller, Decision, Policy};
 use std::alloc::{AllocError, AllocGlobal, Global};
 use std::process::Abort;
@@ -11,6 +13,7 @@ const TOKEN: u64 = 1_000_000_000;
 /// A request that was offered, and when it is finished where it was admitted.
 #[derive(Drop)]
 struct Request {
+    tier: u8,
     tick: u64,
     service: u64,
     finish: Option<u64>,
@@ -50,11 +53,12 @@ fn rate_of(policy: Policy, smoothed: u64, rate: u64) -> u64 {
     }
 }
 
-/// All controls of the admitted requests.
+/// All controls of the admitted requests of a tier.
 fn controls_of(
     alloc: Global,
     policy: Policy,
     requests: &[Request],
+    tier: u8,
 ) -> Result<Vec<Control>, AllocError> {
     let mut samples = Vec::new(alloc);
     let mut controls = Vec::new(alloc);
@@ -63,6 +67,9 @@ fn controls_of(
         let Some(finish) = request.finish else {
             continue;
         };
+        if request.tier != tier {
+            continue;
+        }
         samples.push(finish.saturating_sub(request.tick))?;
         if (samples.len() as u64).checked_rem(policy.every) != Some(0) {
             continue;
@@ -103,12 +110,13 @@ fn accrued(policy: Policy, controls: &[Control], from: u64, to: u64) -> u64 {
     })
 }
 
-/// The credit of a request at this tick: the least over the requests so far of a full bucket at each, with what accrued from
-/// it on and without the tokens taken from it on.
-fn credit_of(policy: Policy, controls: &[Control], requests: &[Request], tick: u64) -> u64 {
+/// The credit of a request at this tick: the least over the requests of its tier so far of a full bucket at each, with what
+/// accrued from it on and without the tokens taken from it on.
+fn credit_of(policy: Policy, controls: &[Control], requests: &[Request], offer: (u8, u64)) -> u64 {
+    let (tier, tick) = offer;
     let full = policy.depth.saturating_mul(TOKEN);
     let (mut least, mut taken, mut gained, mut later) = (full, 0u64, 0u64, tick);
-    for request in requests.iter().rev() {
+    for request in requests.iter().rev().filter(|request| request.tier == tier) {
         gained = gained.saturating_add(accrued(policy, controls, request.tick, later));
         later = request.tick;
         if request.finish.is_some() {
@@ -119,15 +127,15 @@ fn credit_of(policy: Policy, controls: &[Control], requests: &[Request], tick: u
     least
 }
 
-/// What the plain program says of one more offer.
+/// What the plain program says of one more offer (tier, tick, service).
 fn decision_of(
     policy: Policy,
     controls: &[Control],
     requests: &[Request],
-    offer: (u64, u64),
+    offer: (u8, u64, u64),
 ) -> Decision {
-    let (tick, service) = offer;
-    if credit_of(policy, controls, requests, tick) < TOKEN {
+    let (tier, tick, service) = offer;
+    if credit_of(policy, controls, requests, (tier, tick)) < TOKEN {
         return Decision::Rejected;
     }
     Decision::Admitted {
@@ -150,30 +158,54 @@ fn next_number(number: u64) -> u64 {
         .wrapping_add(1_442_695_040_888_963_407)
 }
 
-/// Offers 200 requests up to 15 ticks apart, and compares each decision and the controls shown with those of the plain program.
-/// Returns how many were turned away.
-fn compare(rt: &(impl Abort + AllocGlobal), policy: Policy) -> Result<usize, Fail> {
+/// Compares the controls that a tier shows with those of the plain program up to this tick.
+fn compare_controls(
+    rt: &(impl Abort + AllocGlobal),
+    controller: &Controller,
+    policies: [Policy; 4],
+    requests: &[Request],
+    tick: u64,
+) -> Result<(), Fail> {
+    for tier in 0..4u8 {
+        let controls = controls_of(rt.alloc(), policies[usize::from(tier)], requests, tier)?;
+        let shown = controls
+            .iter()
+            .filter(|control| control.instant <= tick)
+            .count();
+        assert_eq!(rt; Some(controller.controls(tier)), controls.get(..shown));
+    }
+    Ok(())
+}
+
+/// Offers 200 requests up to 15 ticks apart in the first `tiers` tiers, and compares each decision and the controls of all
+/// tiers with those of the plain program. Returns how many were turned away.
+fn compare(
+    rt: &(impl Abort + AllocGlobal),
+    policies: [Policy; 4],
+    tiers: u64,
+) -> Result<usize, Fail>
+    requires { (1 ≤ tiers) × (tiers ≤ 4) }
+{
     let alloc = rt.alloc();
-    let mut controller = Controller::new(alloc, policy)?;
+    let mut controller = Controller::new(alloc, policies)?;
     let mut requests = Vec::new(alloc);
     let (mut number, mut tick) = (1u64, 0u64);
     for _ in 0..200u64 {
         number = next_number(number);
         tick += (number >> 33) % 16;
         let service = 1 + (number >> 40) % 12;
-        let controls = controls_of(alloc, policy, &requests)?;
-        let decision = decision_of(policy, &controls, &requests, (tick, service));
-        assert_eq!(rt; controller.offer(tick, service)?, decision);
-        let shown = controls
-            .iter()
-            .filter(|control| control.instant <= tick)
-            .count();
-        assert_eq!(rt; Some(controller.controls()), controls.get(..shown));
+        let tier = ((number >> 50) % tiers) as u8;
+        let policy = policies[usize::from(tier)];
+        let controls = controls_of(alloc, policy, &requests, tier)?;
+        let decision = decision_of(policy, &controls, &requests, (tier, tick, service));
+        assert_eq!(rt; controller.offer(tier, tick, service)?, decision);
         requests.push(Request {
+            tier,
             tick,
             service,
             finish: finish_in(decision),
         })?;
+        compare_controls(rt, &controller, policies, &requests, tick)?;
     }
     Ok(
         requests
@@ -200,7 +232,7 @@ fn a_window_longer_than_the_controls_are_apart(rt: HostRuntime) -> Result<(), Fa
         3,
     )
     .expect(&rt, "a policy");
-    assert_eq!(rt; compare(&rt, policy)?, 43);
+    assert_eq!(rt; compare(&rt, [policy; 4], 1)?, 43);
     Ok(())
 }
 
@@ -220,6 +252,25 @@ fn a_control_at_each_request(rt: HostRuntime) -> Result<(), Fail> {
         1,
     )
     .expect(&rt, "a policy");
-    assert_eq!(rt; compare(&rt, policy)?, 112);
+    assert_eq!(rt; compare(&rt, [policy; 4], 1)?, 112);
+    Ok(())
+}
+
+/// Four tiers of four policies, each with a bucket that is now and then empty.
+#[test]
+fn four_tiers(rt: HostRuntime) -> Result<(), Fail> {
+    let policy = |window: u64, every: u64, rate: u64, target: u64, depth: u64| {
+        Policy::new(
+            window, every, 700, rate, 5_000_000, 90_000_000, 2_000_000, 120, target, 90, depth,
+        )
+        .expect(&rt, "a policy")
+    };
+    let policies = [
+        policy(20, 7, 30_000_000, 12, 3),
+        policy(3, 1, 20_000_000, 9, 1),
+        policy(5, 2, 15_000_000, 20, 2),
+        policy(1, 4, 25_000_000, 6, 1),
+    ];
+    assert_eq!(rt; compare(&rt, policies, 4)?, 76);
     Ok(())
 }

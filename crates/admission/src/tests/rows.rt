@@ -18,11 +18,20 @@ fn finishes_follow_one_another(rt: HostRuntime) -> Result<(), Fail> {
         10, 10, 700, 1_000_000, 50_000, 5_000_000, 2000, 120, 100_000, 90, 100,
     )
     .expect(&rt, "a policy");
-    let mut controller = Controller::new(rt.alloc(), policy)?;
-    assert_eq!(rt; controller.offer(0, 5)?, Decision::Admitted { finish: 5 });
-    assert_eq!(rt; controller.offer(0, 5)?, Decision::Admitted { finish: 10 });
-    assert_eq!(rt; controller.offer(10, 5)?, Decision::Admitted { finish: 15 });
-    assert!(rt; controller.controls().is_empty());
+    let mut controller = Controller::new(rt.alloc(), [policy; 4])?;
+    assert_eq!(rt;
+        controller.offer(0, 0, 5)?,
+        Decision::Admitted { finish: 5 }
+    );
+    assert_eq!(rt;
+        controller.offer(0, 0, 5)?,
+        Decision::Admitted { finish: 10 }
+    );
+    assert_eq!(rt;
+        controller.offer(0, 10, 5)?,
+        Decision::Admitted { finish: 15 }
+    );
+    assert!(rt; controller.controls(0).is_empty());
     Ok(())
 }
 
@@ -31,15 +40,15 @@ fn a_tight_bucket_admits_one_request_a_second(rt: HostRuntime) -> Result<(), Fai
     let policy = Policy::new(100, 100, 700, 1000, 1000, 1000, 2000, 120, 100_000, 90, 1).expect(
         &rt, "a policy",
     );
-    let mut controller = Controller::new(rt.alloc(), policy)?;
+    let mut controller = Controller::new(rt.alloc(), [policy; 4])?;
     assert_eq!(rt;
-        controller.offer(0, 201)?,
+        controller.offer(0, 0, 201)?,
         Decision::Admitted { finish: 201 }
     );
-    assert_eq!(rt; controller.offer(0, 201)?, Decision::Rejected);
-    assert_eq!(rt; controller.offer(999_999, 201)?, Decision::Rejected);
+    assert_eq!(rt; controller.offer(0, 0, 201)?, Decision::Rejected);
+    assert_eq!(rt; controller.offer(0, 999_999, 201)?, Decision::Rejected);
     assert_eq!(rt;
-        controller.offer(1_000_000, 201)?,
+        controller.offer(0, 1_000_000, 201)?,
         Decision::Admitted { finish: 1_000_201 }
     );
     Ok(())
@@ -50,26 +59,26 @@ fn controls_lower_the_rate_and_raise_it(rt: HostRuntime) -> Result<(), Fail> {
     let policy = Policy::new(1, 1, 700, 1000, 500, 2000, 10, 120, 1000, 90, 10).expect(
         &rt, "a policy",
     );
-    let mut controller = Controller::new(rt.alloc(), policy)?;
+    let mut controller = Controller::new(rt.alloc(), [policy; 4])?;
     assert_eq!(rt;
-        controller.offer(0, 5000)?,
+        controller.offer(0, 0, 5000)?,
         Decision::Admitted { finish: 5000 }
     );
-    assert_eq!(rt; controller.controls(), [].as_slice());
+    assert_eq!(rt; controller.controls(0), [].as_slice());
     assert_eq!(rt;
-        controller.offer(5000, 100)?,
+        controller.offer(0, 5000, 100)?,
         Decision::Admitted { finish: 5100 }
     );
     assert_eq!(rt;
-        controller.controls(),
+        controller.controls(0),
         [control(5000, 5000, 1500, 833)].as_slice()
     );
     assert_eq!(rt;
-        controller.offer(5100, 100)?,
+        controller.offer(0, 5100, 100)?,
         Decision::Admitted { finish: 5200 }
     );
     assert_eq!(rt;
-        controller.offer(5200, 100)?,
+        controller.offer(0, 5200, 100)?,
         Decision::Admitted { finish: 5300 }
     );
     let shown = [
@@ -77,7 +86,7 @@ fn controls_lower_the_rate_and_raise_it(rt: HostRuntime) -> Result<(), Fail> {
         control(5100, 100, 1080, 694),
         control(5200, 100, 786, 704),
     ];
-    assert_eq!(rt; controller.controls(), shown.as_slice());
+    assert_eq!(rt; controller.controls(0), shown.as_slice());
     Ok(())
 }
 
@@ -86,11 +95,11 @@ fn a_rate_is_not_lowered_below_its_least(rt: HostRuntime) -> Result<(), Fail> {
     let policy = Policy::new(1, 1, 700, 1000, 900, 2000, 10, 120, 1000, 90, 10).expect(
         &rt, "a policy",
     );
-    let mut controller = Controller::new(rt.alloc(), policy)?;
-    let _ = controller.offer(0, 5000)?;
-    let _ = controller.offer(5000, 100)?;
+    let mut controller = Controller::new(rt.alloc(), [policy; 4])?;
+    let _ = controller.offer(0, 0, 5000)?;
+    let _ = controller.offer(0, 5000, 100)?;
     assert_eq!(rt;
-        controller.controls(),
+        controller.controls(0),
         [control(5000, 5000, 1500, 900)].as_slice()
     );
     Ok(())
@@ -101,12 +110,12 @@ fn a_rate_is_not_raised_above_its_greatest(rt: HostRuntime) -> Result<(), Fail> 
     let policy = Policy::new(1, 1, 0, 1000, 500, 1015, 10, 120, 1000, 90, 10).expect(
         &rt, "a policy",
     );
-    let mut controller = Controller::new(rt.alloc(), policy)?;
-    let _ = controller.offer(0, 1)?;
-    let _ = controller.offer(1, 1)?;
-    let _ = controller.offer(2, 1)?;
+    let mut controller = Controller::new(rt.alloc(), [policy; 4])?;
+    let _ = controller.offer(0, 0, 1)?;
+    let _ = controller.offer(0, 1, 1)?;
+    let _ = controller.offer(0, 2, 1)?;
     assert_eq!(rt;
-        controller.controls(),
+        controller.controls(0),
         [control(1, 1, 1, 1010), control(2, 1, 1, 1015)].as_slice()
     );
     Ok(())
@@ -118,15 +127,15 @@ fn a_gap_is_credited_at_the_old_rate_up_to_a_control(rt: HostRuntime) -> Result<
     let policy = Policy::new(1, 1, 700, 1000, 500, 2000, 10, 120, 1000, 90, 1).expect(
         &rt, "a policy",
     );
-    let mut controller = Controller::new(rt.alloc(), policy)?;
+    let mut controller = Controller::new(rt.alloc(), [policy; 4])?;
     assert_eq!(rt;
-        controller.offer(0, 5000)?,
+        controller.offer(0, 0, 5000)?,
         Decision::Admitted { finish: 5000 }
     );
-    assert_eq!(rt; controller.offer(1_199_477, 100)?, Decision::Rejected);
-    assert_eq!(rt; controller.offer(1_199_478, 100)?, ADMITTED_AT_LAST);
+    assert_eq!(rt; controller.offer(0, 1_199_477, 100)?, Decision::Rejected);
+    assert_eq!(rt; controller.offer(0, 1_199_478, 100)?, ADMITTED_AT_LAST);
     assert_eq!(rt;
-        controller.controls(),
+        controller.controls(0),
         [control(5000, 5000, 1500, 833)].as_slice()
     );
     Ok(())
@@ -139,11 +148,11 @@ fn a_window_longer_than_a_control_apart(rt: HostRuntime) -> Result<(), Fail> {
         10, 5, 700, 1_000_000, 50_000, 5_000_000, 2000, 120, 100_000, 90, 100,
     )
     .expect(&rt, "a policy");
-    let mut controller = Controller::new(rt.alloc(), policy)?;
+    let mut controller = Controller::new(rt.alloc(), [policy; 4])?;
     for j in 0..16u64 {
         let service = if j < 2 { 9 } else { 7 };
         assert_eq!(rt;
-            controller.offer(100 * j, service)?,
+            controller.offer(0, 100 * j, service)?,
             Decision::Admitted {
                 finish: 100 * j + service
             }
@@ -154,7 +163,7 @@ fn a_window_longer_than_a_control_apart(rt: HostRuntime) -> Result<(), Fail> {
         control(907, 9, 4, 1_004_000),
         control(1407, 7, 4, 1_006_000),
     ];
-    assert_eq!(rt; controller.controls(), shown.as_slice());
+    assert_eq!(rt; controller.controls(0), shown.as_slice());
     Ok(())
 }
 
@@ -164,7 +173,7 @@ fn many_offers(rt: HostRuntime) -> Result<(), Fail> {
     let policy = Policy::new(1000, 100, 700, 1000, 1000, 1000, 2000, 120, 100_000, 90, 1).expect(
         &rt, "a policy",
     );
-    let mut controller = Controller::new(rt.alloc(), policy)?;
+    let mut controller = Controller::new(rt.alloc(), [policy; 4])?;
     for j in 0..2400u64 {
         let wanted = if j % 2 == 0 {
             Decision::Admitted {
@@ -173,13 +182,96 @@ fn many_offers(rt: HostRuntime) -> Result<(), Fail> {
         } else {
             Decision::Rejected
         };
-        assert_eq!(rt; controller.offer(500_000 * j, 201)?, wanted);
+        assert_eq!(rt; controller.offer(0, 500_000 * j, 201)?, wanted);
     }
-    assert_eq!(rt; controller.controls().len(), 12);
+    assert_eq!(rt; controller.controls(0).len(), 12);
     assert_eq!(rt;
-        controller.controls().last().map(|control| control.instant),
+        controller.controls(0).last().map(|control| control.instant),
         Some(1_199_000_201)
     );
+    Ok(())
+}
+
+#[test]
+fn each_tier_has_a_bucket_and_all_share_the_server(rt: HostRuntime) -> Result<(), Fail> {
+    // one token in each bucket, two in that of tier 1, and all offers at tick 0
+    let single = Policy::new(100, 100, 700, 1000, 1000, 1000, 2000, 120, 100_000, 90, 1).expect(
+        &rt, "a policy",
+    );
+    let double = Policy::new(100, 100, 700, 1000, 1000, 1000, 2000, 120, 100_000, 90, 2).expect(
+        &rt, "a policy",
+    );
+    let mut controller = Controller::new(rt.alloc(), [single, double, single, single])?;
+    assert_eq!(rt;
+        controller.offer(0, 0, 201)?,
+        Decision::Admitted { finish: 201 }
+    );
+    assert_eq!(rt;
+        controller.offer(1, 0, 201)?,
+        Decision::Admitted { finish: 402 }
+    );
+    assert_eq!(rt; controller.offer(0, 0, 201)?, Decision::Rejected);
+    assert_eq!(rt;
+        controller.offer(1, 0, 201)?,
+        Decision::Admitted { finish: 603 }
+    );
+    assert_eq!(rt; controller.offer(1, 0, 201)?, Decision::Rejected);
+    for tier in 0..4u8 {
+        assert!(rt; controller.controls(tier).is_empty());
+    }
+    assert_eq!(rt; (controller.admitted(0), controller.rejected(0)), (1, 1));
+    assert_eq!(rt; (controller.admitted(1), controller.rejected(1)), (2, 1));
+    assert_eq!(rt; (controller.admitted(2), controller.rejected(3)), (0, 0));
+    Ok(())
+}
+
+#[test]
+fn controls_are_shown_up_to_the_last_offer_of_any_tier(rt: HostRuntime) -> Result<(), Fail> {
+    let policy = Policy::new(1, 1, 700, 1000, 500, 2000, 10, 120, 1000, 90, 10).expect(
+        &rt, "a policy",
+    );
+    let mut controller = Controller::new(rt.alloc(), [policy; 4])?;
+    let _ = controller.offer(2, 0, 5000)?;
+    assert!(rt; controller.controls(2).is_empty());
+    let _ = controller.offer(0, 5000, 100)?;
+    // tier 2 was offered nothing more, but its control is due at 5,000
+    let lowered = [control(5000, 5000, 1500, 833)];
+    assert_eq!(rt; controller.controls(2), lowered.as_slice());
+    assert!(rt; controller.controls(0).is_empty());
+    // the 100 ticks of tier 0 were served after the 5,000 of tier 2, and its rate begins at its own policy's
+    let _ = controller.offer(3, 5100, 100)?;
+    assert_eq!(rt;
+        controller.controls(0),
+        [control(5100, 100, 30, 1010)].as_slice()
+    );
+    assert_eq!(rt; controller.controls(2), lowered.as_slice());
+    assert!(rt; controller.controls(1).is_empty());
+    assert!(rt; controller.controls(3).is_empty());
+    Ok(())
+}
+
+#[test]
+fn the_gap_of_a_tier_is_credited_as_without_other_tiers(rt: HostRuntime) -> Result<(), Fail> {
+    // tier 1 by itself has its next token at 1,199,478, and none of the others' offers changes that
+    let policy = Policy::new(1, 1, 700, 1000, 500, 2000, 10, 120, 1000, 90, 1).expect(
+        &rt, "a policy",
+    );
+    let mut controller = Controller::new(rt.alloc(), [policy; 4])?;
+    assert_eq!(rt;
+        controller.offer(1, 0, 5000)?,
+        Decision::Admitted { finish: 5000 }
+    );
+    assert_eq!(rt;
+        controller.offer(0, 3000, 100)?,
+        Decision::Admitted { finish: 5100 }
+    );
+    assert_eq!(rt; controller.offer(0, 3000, 100)?, Decision::Rejected);
+    assert_eq!(rt; controller.offer(1, 1_199_477, 100)?, Decision::Rejected);
+    assert_eq!(rt;
+        controller.offer(2, 1_199_477, 1)?,
+        Decision::Admitted { finish: 1_199_478 }
+    );
+    assert_eq!(rt; controller.offer(1, 1_199_478, 100)?, ADMITTED_AT_LAST);
     Ok(())
 }
 

@@ -1,7 +1,15 @@
-use Rattle.admission.proofs.UntilLemmas.{until_fits}
+use Rattle.std.proofs.Common.{◌<◌, length, arith}
+use Rattle.admission.proofs.TierLemmas.{shared_at, shown_at}
 use Rattle.admission.proofs.controller.Controller.controls.Goals as goal
+
+pub controls_until-requires-clause-share : goal.controls_until-requires-clause-share
+controls_until-requires-clause-share c =
+    let within : c.from.result < length c.self.inside.tiers = omega (arith, c.self.invariant.four, c.from.ensures, c.requires) in
+    (c.self.inside.free, shared_at _ c.from.result c.index-self-from.result c.self.invariant within c.index-self-from.is)
 
 pub returns : goal.returns
 returns c offers fits =
-    rw (← c.self.view_is, c.deref.ensures.value)
-    (until_fits offers _ c.self.invariant.every (rw (← c.self.view_is) at fits))
+    let within : c.from.result < length c.self.inside.tiers = omega (arith, c.self.invariant.four, c.from.ensures, c.requires) in
+    rw (← c.self.view_is, ← c.from.ensures)
+    (shown_at _ c.from.result c.index-self-from.result offers c.controls_until.result.now within c.index-self-from.is
+    (rw (← c.self.view_is) at fits) c.controls_until.ensures)

@@ -1,12 +1,11 @@
-use Rattle.admission.proofs.NewLemmas.{start_sound, start_fits}
+use Rattle.admission.proofs.TierLemmas.{started_sound, started_fits, started_policies}
 use Rattle.admission.proofs.controller.Controller.new.Goals as goal
 
 pub invariant_of-result : goal.invariant_of-result
-invariant_of-result c =
-    rw (c.new-3.ensures.items, ← c.policy.view_is)
-    (start_sound _ c.new.result c.in_ok-new.field-0 c.new.ensures.tick c.policy.invariant.every.0 c.in_ok-new.ensures)
+invariant_of-result c = started_sound c.in_ok-tiers.tiers c.in_ok-tiers.ensures.four c.in_ok-tiers.ensures.new
 
 pub returns-clause-fits : goal.returns-clause-fits
-returns-clause-fits c =
-    rw (c.new-3.ensures.items, ← c.policy.view_is)
-    (start_fits _ c.new.result c.in_ok-new.field-0 c.new.ensures.fits c.new.ensures.tick c.in_ok-new.ensures)
+returns-clause-fits c = started_fits c.in_ok-tiers.tiers c.in_ok-tiers.ensures.new
+
+pub returns-clause-policies : goal.returns-clause-policies
+returns-clause-policies c = started_policies c.args.policies c.in_ok-tiers.tiers c.in_ok-tiers.ensures.policies

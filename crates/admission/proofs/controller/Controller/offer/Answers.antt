@@ -1,28 +1,48 @@
-use Rattle.admission.proofs.OfferLemmas.{short_of, enough_of, rejected_fits, admitted_fits, admitted_decision}
+use Rattle.std.proofs.Common.{◌<◌, length, refl, arith}
+use Rattle.admission.proofs.TierLemmas.{offered_at, offered_decision, offered_fits, offered_policies, offer_sound}
 use Rattle.admission.proofs.controller.Controller.offer.Goals as goal
 
-pub returns-then-not-try_take-clause-fits : goal.returns-then-not-try_take-clause-fits
-returns-then-not-try_take-clause-fits c offers fits =
-    let passed = c.bucket_at-bucket.ensures.fits offers fits in
-    rw c.reject.ensures
-    (rejected_fits c.args.self.now c.bucket_at-bucket.result.0 c.try_take.new.self c.bucket_at-bucket.result.1 passed.past_calls offers
-    (record { tick = c.args.tick; service = c.args.service }) fits passed.stands c.bucket_at-bucket.ensures.tick passed.fits
-    (c.if-not-try_take.ensures.fits passed.past_calls passed.fits)
-    (short_of _ _ (c.if-not-try_take.ensures.taken passed.past_calls passed.fits) passed.fits.credit))
+pub offer-requires-clause-share : goal.offer-requires-clause-share
+offer-requires-clause-share c =
+    let within : c.from.result < length c.self.inside.tiers = omega (arith, c.self.invariant.four, c.from.ensures, c.requires.tier) in (
+      c.self.inside.offers,
+      rw (← c.self.view_is) at c.requires.room,
+      offered_at _ c.from.result c.args.tick c.index-self-from.result c.self.invariant within c.index-self-from.is
+          (rw (← c.self.view_is) at c.requires.forward.0),
+    )
+
+pub invariant_of-self-2 : goal.invariant_of-self-2
+invariant_of-self-2 c =
+    let within : c.from.result < length c.self.inside.tiers = omega (arith, c.self.invariant.four, c.from.ensures, c.requires.tier) in
+    let forward = rw (← c.self.view_is) at c.requires.forward.0 in
+    rw c.free_after-self-inside.ensures
+    (offer_sound _ c.from.result _ c.args.tick c.args.service c.offer.new.self c.self.invariant within
+    (rw (← c.self.view_is) at c.requires.room) c.requires.forward.1 c.requires.service.1 forward
+    c.in_ok-decision.ensures.free.0 c.in_ok-decision.ensures.free.1
+    (c.in_ok-decision.ensures.share c.self.inside.offers
+    (offered_at _ c.from.result c.args.tick c.index-self-from.result c.self.invariant within c.index-self-from.is forward)))
 
 pub returns-clause-decision : goal.returns-clause-decision
 returns-clause-decision c offers fits =
-    let passed = c.bucket_at-bucket.ensures.fits offers fits in
-    admitted_decision c.args.self.now c.bucket_at-bucket.result.0 c.bucket_at-bucket.result.1 offers
-    (record { tick = c.args.tick; service = c.args.service }) c.in_ok-finish.finish fits passed.stands c.bucket_at-bucket.ensures.tick
-    (enough_of _ _ (c.if-not-try_take.ensures.taken passed.past_calls passed.fits) passed.fits.credit) c.in_ok-finish.ensures.finish
+    let within : c.from.result < length c.self.inside.tiers = omega (arith, c.self.invariant.four, c.from.ensures, c.requires.tier) in
+    rw (← c.self.view_is, ← c.from.ensures)
+    (offered_decision _ c.from.result c.args.tick c.args.service c.index-self-from.result offers c.in_ok-decision.decision within
+    c.index-self-from.is (rw (← c.self.view_is) at fits) c.in_ok-decision.ensures.decision)
 
 pub returns-clause-fits : goal.returns-clause-fits
 returns-clause-fits c offers fits =
-    let passed = c.bucket_at-bucket.ensures.fits offers fits in
-    rw c.in_ok-finish.ensures.ok
-    (admitted_fits c.args.self.now c.bucket_at-bucket.result.0 c.try_take.new.self c.bucket_at-bucket.result.1 passed.past_calls offers
-    (record { tick = c.args.tick; service = c.args.service }) fits passed.stands c.bucket_at-bucket.ensures.tick
-    c.bucket_at-bucket.ensures.every c.requires.service.0 passed.fits
-    (c.if-not-try_take.ensures.fits passed.past_calls passed.fits)
-    (enough_of _ _ (c.if-not-try_take.ensures.taken passed.past_calls passed.fits) passed.fits.credit))
+    let within : c.from.result < length c.self.inside.tiers = omega (arith, c.self.invariant.four, c.from.ensures, c.requires.tier) in
+    rw (c.free_after-self-inside.ensures, ← c.from.ensures)
+    (offered_fits _ c.from.result c.args.tick c.args.service c.index-self-from.result c.offer.new.self offers c.in_ok-decision.decision within
+    c.index-self-from.is (rw (← c.self.view_is) at fits) c.in_ok-decision.ensures.decision c.in_ok-decision.ensures.fits
+    c.in_ok-decision.ensures.rules)
+
+pub returns-clause-next : goal.returns-clause-next
+returns-clause-next c =
+    let within : c.from.result < length c.self.inside.tiers = omega (arith, c.self.invariant.four, c.from.ensures, c.requires.tier) in (
+      refl,
+      rw (← c.self.view_is) refl,
+      rw (← c.self.view_is)
+          (offered_policies _ c.from.result c.free_after-self-inside.result c.args.tick c.index-self-from.result c.offer.new.self within
+          c.index-self-from.is c.in_ok-decision.ensures.rules),
+    )

@@ -1,0 +1,270 @@
+-- The tiers beside one another: one of them takes one more offer.
+use Rattle.std.proofs.Common.{◌≡◌, ℕ, zero, suc, ◌+◌, ◌<◌, ◌≤◌, max, List, [], ◌∷◌, ◌++◌, length, map, Bool, true, false, nat_le, if◌then◌else◌, refl, sym, ◌∙◌, ap, arith, append-nil, length-append, Some, slice_get, slice_set, slice_index_or, inl, inr}
+use Rattle.std.proofs.Math.Seq.{map-set_same}
+use Rattle.std.proofs.lemmas.Bool.{cases_eq}
+use Rattle.std.proofs.lemmas.List.{map-append, length-set}
+use Rattle.std.proofs.lemmas.Option.{get_or_from_slice_get}
+use Rattle.token_bucket.specs.declared.TheConstants.{TOKEN, MAX_TICK}
+use Rattle.admission.specs.declared.TheConstants.{MAX_OFFERS, MAX_SERVICE}
+use Rattle.admission.specs.declared.control.Control.{Control}
+use Rattle.admission.specs.declared.control.Decision.{Decision}
+use Rattle.admission.specs.declared.control.Decision.TheVariants.{Admitted, Rejected}
+use Rattle.admission.specs.Rules.{Rules, no_rules, rules_of}
+use Rattle.admission.specs.Requests.{Offer, Decided, Served, of_tier, served, last_finish, finish_behind}
+use Rattle.admission.specs.Controls.{controls_until}
+use Rattle.admission.specs.Decisions.{credit, decide, decided_from, decided}
+use Rattle.admission.specs.Standing.{TierStanding, Standing, policies_of, IsShare, IsSound}
+use Rattle.admission.specs.Running.{decision_after, free_after}
+use Rattle.admission.specs.Fits.{tick_from, TierFits, Fits}
+use Rattle.admission.specs.TierCalls.{AreNew, Decides, Takes, Shows}
+use Rattle.admission.proofs.RequestLemmas.{decided_from-push, served-push, of_tier-same, of_tier-other, of_tier-none, tick_from-push, last_finish-push}
+use Rattle.admission.proofs.OfferLemmas.{tier_later}
+use Rattle.admission.proofs.SoundLemmas.{share_later}
+
+-- ---- one of the tiers
+
+pub get_at : (ts : List TierStanding) (i : ℕ) (t : TierStanding) → i < length ts → t ≡ slice_index_or ts i t → slice_get ts i ≡ Some t
+get_at [] i t within at = absurd (omega arith)
+get_at (first ∷ ts) zero t within at = ap (λ (t : TierStanding). Some t) (sym at)
+get_at (first ∷ ts) (suc i) t within at = get_at ts i t (omega arith) at
+
+same_some : (a b : TierStanding) → Some a ≡ Some b → a ≡ b
+same_some a b same = cc
+
+set_here : (ts : List TierStanding) (i : ℕ) (next t : TierStanding) → i < length ts → slice_get (slice_set ts i next) i ≡ Some t → t ≡ next
+set_here [] i next t within at = absurd (omega arith)
+set_here (first ∷ ts) zero next t within at = sym (same_some next t at)
+set_here (first ∷ ts) (suc i) next t within at = set_here ts i next t (omega arith) at
+
+set_there : (ts : List TierStanding) (i j : ℕ) (next t : TierStanding) → (j ≡ i → ⊥) → slice_get (slice_set ts i next) j ≡ Some t
+    → slice_get ts j ≡ Some t
+set_there [] i j next t apart at = at
+set_there (first ∷ ts) zero zero next t apart at = absurd (apart refl)
+set_there (first ∷ ts) zero (suc j) next t apart at = at
+set_there (first ∷ ts) (suc i) zero next t apart at = at
+set_there (first ∷ ts) (suc i) (suc j) next t apart at = set_there ts i j next t (λ same. apart (ap suc same)) at
+
+rules_in : (ts : List TierStanding) (i : ℕ) (t : TierStanding) → slice_get ts i ≡ Some t
+    → slice_index_or (map (λ (t : TierStanding). t.rules) ts) i no_rules ≡ t.rules
+rules_in [] i t at = absurd (cc)
+rules_in (first ∷ ts) zero t at = ap (λ (t : TierStanding). t.rules) (same_some first t at)
+rules_in (first ∷ ts) (suc i) t at = rules_in ts i t at
+
+pub rules_at : (c : Standing) (i : ℕ) (t : TierStanding) → slice_get c.tiers i ≡ Some t → rules_of (policies_of c) i ≡ t.rules
+unfolding rules_of policies_of
+rules_at c i t at = rules_in c.tiers i t at
+
+-- the controller with one tier changed
+abbrev pub with_tier : Standing → ℕ → TierStanding → ℕ → ℕ → Standing
+with_tier c i next free tick = record { tiers = slice_set c.tiers i next; free = free; offers = c.offers + 1; tick = tick }
+
+pub policies_kept : (c : Standing) (i : ℕ) (t next : TierStanding) (free tick : ℕ) → slice_get c.tiers i ≡ Some t → next.rules ≡ t.rules
+    → policies_of (with_tier c i next free tick) ≡ policies_of c
+unfolding policies_of
+policies_kept c i t next free tick at same =
+    map-set_same (λ (t : TierStanding). t.rules) c.tiers i next t
+    (same ∙ sym (ap (λ (t : TierStanding). t.rules) (get_or_from_slice_get c.tiers i t t at)))
+
+-- ---- the decision
+
+-- the decision of a tier is that of the definitions
+pub decide_is : (c : Standing) (offers : List Offer) (offer : Offer) (t : TierStanding) → Fits offers c → slice_get c.tiers offer.tier ≡ Some t
+    → decision_after t.rules (of_tier offer.tier (decided (policies_of c) offers)) c.free offer.tick offer.service
+    ≡ decide (policies_of c) (decided (policies_of c) offers) offer
+decide_is c offers offer t fits at =
+    let past : List Decided = decided (policies_of c) offers in
+    let finish : finish_behind (served past) offer ≡ max c.free offer.tick + offer.service =
+    last_finish-push (map (λ (r : Served). r.offer) (served past)) offer
+    ∙ ap (λ n. max n offer.tick + offer.service) (sym fits.free) in
+    rw (rules_at c offer.tier t at, finish) refl
+
+abbrev Chosen : ℕ → Bool → Decision
+Chosen finish b = if b then (Admitted finish) else Rejected
+
+grows : (free tick service : ℕ) (b : Bool) → free ≤ free_after free (Chosen (max free tick + service) b)
+grows free tick service true = omega arith
+grows free tick service false = omega arith
+
+-- when the server is free after one more offer
+free_chosen : (past : List Decided) (offer : Offer) (free : ℕ) (b : Bool) → free ≡ last_finish (map (λ (r : Served). r.offer) (served past))
+    → free_after free (Chosen (max free offer.tick + offer.service) b)
+    ≡ last_finish (map (λ (r : Served). r.offer) (served (past ++ record { offer = offer; decision = Chosen (max free offer.tick + offer.service) b } ∷ [])))
+free_chosen past offer free true is =
+    let finish : ℕ = max free offer.tick + offer.service in
+    let request : Served = record { offer = offer; finish = finish } in
+    let more : served (past ++ record { offer = offer; decision = Admitted finish } ∷ []) ≡ served past ++ request ∷ [] =
+    served-push past (record { offer = offer; decision = Admitted finish }) in
+    rw (more, map-append (λ (r : Served). r.offer) (served past) (request ∷ []))
+    (ap (λ n. max n offer.tick + offer.service) is ∙ sym (last_finish-push (map (λ (r : Served). r.offer) (served past)) offer))
+free_chosen past offer free false is =
+    let same : served (past ++ record { offer = offer; decision = Rejected } ∷ []) ≡ served past =
+    served-push past (record { offer = offer; decision = Rejected }) ∙ append-nil (served past) in
+    rw same is
+
+-- ---- the controller after one more offer
+
+-- the tiers after it
+tiers_after : (c : Standing) (past : List Decided) (request : Decided) (t next : TierStanding) (later : ℕ)
+    → ((i : ℕ) (t : TierStanding) → slice_get c.tiers i ≡ Some t → TierFits (of_tier i past) c.free t)
+    → request.offer.tier < length c.tiers → c.free ≤ later
+    → TierFits (of_tier request.offer.tier past ++ request ∷ []) later next
+    → (i : ℕ) (t : TierStanding) → slice_get (slice_set c.tiers request.offer.tier next) i ≡ Some t
+    → TierFits (of_tier i (past ++ request ∷ [])) later t
+tiers_after c past request t next later fits within longer own i found at =
+    elim (cases_eq i request.offer.tier) [
+      | inl same ↦
+          let is : found ≡ next = set_here c.tiers request.offer.tier next found within (rw same at at) in
+          rw (is, same, of_tier-same request.offer.tier past request refl) own
+      | inr apart ↦
+          rw (of_tier-other i past request (λ same. apart (sym same)))
+          (tier_later (of_tier i past) c.free later found
+          (fits i found (set_there c.tiers request.offer.tier i next found apart at)) longer)
+    ]
+
+pub offer_fits : (c : Standing) (offers : List Offer) (offer : Offer) (t next : TierStanding) (decision : Decision)
+    → Fits offers c → offer.tier < length c.tiers → slice_get c.tiers offer.tier ≡ Some t → next.rules ≡ t.rules
+    → decision ≡ decision_after t.rules (of_tier offer.tier (decided (policies_of c) offers)) c.free offer.tick offer.service
+    → TierFits (of_tier offer.tier (decided (policies_of c) offers) ++ record { offer = offer; decision = decision } ∷ [])
+    (free_after c.free decision) next
+    → Fits (offers ++ offer ∷ []) (with_tier c offer.tier next (free_after c.free decision) offer.tick)
+offer_fits c offers offer t next decision fits within at rules is own =
+    let past : List Decided = decided (policies_of c) offers in
+    let later : ℕ = free_after c.free decision in
+    let request : Decided = record { offer = offer; decision = decision } in
+    let chosen : Bool = nat_le TOKEN (credit t.rules (of_tier offer.tier past) offer.tick) in
+    let longer : c.free ≤ later = rw is (grows c.free offer.tick offer.service chosen) in
+    let kept : policies_of (with_tier c offer.tier next later offer.tick) ≡ policies_of c =
+    policies_kept c offer.tier t next later offer.tick at rules in
+    let more : decided (policies_of c) (offers ++ offer ∷ []) ≡ past ++ request ∷ [] =
+    decided_from-push (policies_of c) [] offers offer
+    ∙ ap (λ (d : Decision). past ++ record { offer = offer; decision = d } ∷ []) (sym (is ∙ decide_is c offers offer t fits at)) in
+    record {
+      offered = ap (λ n. n + 1) fits.offered ∙ sym (length-append offers (offer ∷ []));
+      tick = sym (tick_from-push 0 offers offer);
+      free = rw (kept, more, is) (free_chosen past offer c.free chosen fits.free);
+      tiers = rw (kept, more) (tiers_after c past request t next later fits.tiers within longer own);
+    }
+
+pub offer_sound : (c : Standing) (i free tick service : ℕ) (next : TierStanding)
+    → IsSound c → i < length c.tiers → c.offers < MAX_OFFERS → tick ≤ MAX_TICK → service ≤ MAX_SERVICE → c.tick ≤ tick
+    → c.free ≤ free → free ≤ max c.free tick + service → IsShare (c.offers + 1) free tick next
+    → IsSound (with_tier c i next free tick)
+offer_sound c i free tick service next sound within room most short forward longer bound share = record {
+  four = length-set c.tiers i next ∙ sound.four;
+  offers = omega arith;
+  free = omega (arith, sound.free);
+  tick = most;
+  tiers = λ j found at. elim (cases_eq j i) [
+    | inl same ↦
+        let is : found ≡ next = set_here c.tiers i next found within (rw same at at) in
+        rw is share
+    | inr apart ↦
+        share_later c.offers c.free c.tick (c.offers + 1) free tick found (sound.tiers j found (set_there c.tiers i j next found apart at))
+        (omega arith) longer forward
+  ];
+}
+
+-- ---- a controller that was offered nothing
+
+pub four_new : (a b c d : TierStanding) → TierFits [] 0 a × IsShare 0 0 0 a → TierFits [] 0 b × IsShare 0 0 0 b
+    → TierFits [] 0 c × IsShare 0 0 0 c → TierFits [] 0 d × IsShare 0 0 0 d → AreNew (a ∷ b ∷ c ∷ d ∷ [])
+four_new a b c d na nb nc nd zero t at = rw (sym (same_some a t at)) na
+four_new a b c d na nb nc nd (suc zero) t at = rw (sym (same_some b t at)) nb
+four_new a b c d na nb nc nd (suc (suc zero)) t at = rw (sym (same_some c t at)) nc
+four_new a b c d na nb nc nd (suc (suc (suc zero))) t at = rw (sym (same_some d t at)) nd
+four_new a b c d na nb nc nd (suc (suc (suc (suc i)))) t at = absurd (cc)
+
+pub four_rules : (policies : List Rules) (a b c d e f g h : Rules) → length policies ≡ 4
+    → a ≡ slice_index_or policies 0 e → b ≡ slice_index_or policies 1 f
+    → c ≡ slice_index_or policies 2 g → d ≡ slice_index_or policies 3 h
+    → a ∷ b ∷ c ∷ d ∷ [] ≡ policies
+four_rules (p ∷ q ∷ r ∷ s ∷ []) a b c d e f g h long pa pb pc pd = rw (pa, pb, pc, pd) refl
+four_rules [] a b c d e f g h long pa pb pc pd = absurd (omega arith)
+four_rules (p ∷ []) a b c d e f g h long pa pb pc pd = absurd (omega arith)
+four_rules (p ∷ q ∷ []) a b c d e f g h long pa pb pc pd = absurd (omega arith)
+four_rules (p ∷ q ∷ r ∷ []) a b c d e f g h long pa pb pc pd = absurd (omega arith)
+four_rules (p ∷ q ∷ r ∷ s ∷ t ∷ rest) a b c d e f g h long pa pb pc pd = absurd (omega arith)
+
+abbrev pub started : List TierStanding → Standing
+started ts = record { tiers = ts; free = 0; offers = 0; tick = 0 }
+
+pub started_sound : (ts : List TierStanding) → length ts ≡ 4 → AreNew ts → IsSound (started ts)
+started_sound ts long news = record {
+  four = long;
+  offers = omega arith;
+  free = omega arith;
+  tick = omega arith;
+  tiers = λ i t at. (news i t at).1;
+}
+
+pub started_fits : (ts : List TierStanding) → AreNew ts → Fits [] (started ts)
+unfolding decided_from served last_finish tick_from
+started_fits ts news = record {
+  offered = refl;
+  tick = refl;
+  free = refl;
+  tiers = λ i t at. rw (of_tier-none i) (news i t at).0;
+}
+
+pub started_policies : (policies : List Rules) (ts : List TierStanding) → map (λ (t : TierStanding). t.rules) ts ≡ policies
+    → policies_of (started ts) ≡ policies
+unfolding policies_of
+started_policies policies ts rules = rules
+
+-- ---- what the controller's calls ask of a tier, and what they get
+
+-- a tier of a sound controller, where it is offered nothing more
+pub shared_at : (c : Standing) (i : ℕ) (t : TierStanding) → IsSound c → i < length c.tiers → t ≡ slice_index_or c.tiers i t
+    → IsShare MAX_OFFERS c.free c.tick (slice_index_or c.tiers i t)
+shared_at c i t sound within at =
+    rw (← at) (share_later c.offers c.free c.tick MAX_OFFERS c.free c.tick t (sound.tiers i t (get_at c.tiers i t within at))
+    sound.offers (omega arith) (omega arith))
+
+-- the standing of a tier, and that it fits its own requests
+pub own_fits : (c : Standing) (i : ℕ) (t : TierStanding) (offers : List Offer) → i < length c.tiers
+    → t ≡ slice_index_or c.tiers i t → Fits offers c → TierFits (of_tier i (decided (policies_of c) offers)) c.free t
+own_fits c i t offers within at fits = fits.tiers i t (get_at c.tiers i t within at)
+
+-- the controls that a tier shows
+pub shown_at : (c : Standing) (i : ℕ) (t : TierStanding) (offers : List Offer) (shown : List Control) → i < length c.tiers
+    → t ≡ slice_index_or c.tiers i t → Fits offers c
+    → Shows (slice_index_or c.tiers i t) c.tick shown
+    → shown ≡ controls_until (rules_of (policies_of c) i) (served (of_tier i (decided (policies_of c) offers))) (tick_from 0 offers)
+shown_at c i t offers shown within at fits shows =
+    let found : slice_get c.tiers i ≡ Some t = get_at c.tiers i t within at in
+    rw (rules_at c i t found, ← fits.tick)
+    (rw (← at) at (shows (of_tier i (decided (policies_of c) offers)) c.free (rw (← at) (fits.tiers i t found))))
+
+-- a tier that is offered one more request
+pub offered_at : (c : Standing) (i tick : ℕ) (t : TierStanding) → IsSound c → i < length c.tiers → t ≡ slice_index_or c.tiers i t
+    → c.tick ≤ tick → IsShare c.offers c.free tick (slice_index_or c.tiers i t)
+offered_at c i tick t sound within at forward =
+    rw (← at) (share_later c.offers c.free c.tick c.offers c.free tick t (sound.tiers i t (get_at c.tiers i t within at))
+    (omega arith) (omega arith) forward)
+
+pub offered_decision : (c : Standing) (i tick service : ℕ) (t : TierStanding) (offers : List Offer) (decision : Decision) → i < length c.tiers
+    → t ≡ slice_index_or c.tiers i t → Fits offers c
+    → Decides (slice_index_or c.tiers i t) c.free tick service decision
+    → decision ≡ decide (policies_of c) (decided (policies_of c) offers) (record { tier = i; tick = tick; service = service })
+offered_decision c i tick service t offers decision within at fits decides =
+    let found : slice_get c.tiers i ≡ Some t = get_at c.tiers i t within at in
+    rw (← at) at (decides (of_tier i (decided (policies_of c) offers)) (rw (← at) (fits.tiers i t found)))
+    ∙ decide_is c offers (record { tier = i; tick = tick; service = service }) t fits found
+
+pub offered_fits : (c : Standing) (i tick service : ℕ) (t next : TierStanding) (offers : List Offer) (decision : Decision) → i < length c.tiers
+    → t ≡ slice_index_or c.tiers i t → Fits offers c
+    → Decides (slice_index_or c.tiers i t) c.free tick service decision
+    → Takes (slice_index_or c.tiers i t) c.free tick decision next
+    → next.rules ≡ (slice_index_or c.tiers i t).rules
+    → Fits (offers ++ record { tier = i; tick = tick; service = service } ∷ []) (with_tier c i next (free_after c.free decision) tick)
+offered_fits c i tick service t next offers decision within at fits decides stands rules =
+    let offer : Offer = record { tier = i; tick = tick; service = service } in
+    let past : List Decided = of_tier i (decided (policies_of c) offers) in
+    let found : slice_get c.tiers i ≡ Some t = get_at c.tiers i t within at in
+    let own : TierFits past c.free (slice_index_or c.tiers i t) = rw (← at) (fits.tiers i t found) in
+    offer_fits c offers offer t next decision fits within found (rw (← at) at rules) (rw (← at) at (decides past own)) (stands past offer refl own)
+
+pub offered_policies : (c : Standing) (i free tick : ℕ) (t next : TierStanding) → i < length c.tiers → t ≡ slice_index_or c.tiers i t
+    → next.rules ≡ (slice_index_or c.tiers i t).rules → policies_of (with_tier c i next free tick) ≡ policies_of c
+offered_policies c i free tick t next within at rules =
+    policies_kept c i t next free tick (get_at c.tiers i t within at) (rw (← at) at rules)

@@ -1,0 +1,11 @@
+use Rattle.std.proofs.Common.{◌<◌, ◌∙◌, length, sym, ap, arith}
+use Rattle.admission.specs.Standing.{TierStanding}
+use Rattle.admission.proofs.TierLemmas.{own_fits}
+use Rattle.admission.proofs.controller.Controller.rejected.Goals as goal
+
+pub returns : goal.returns
+returns c offers fits =
+    let within : c.from.result < length c.self.inside.tiers = omega (arith, c.self.invariant.four, c.from.ensures, c.requires) in
+    rw (← c.self.view_is, ← c.from.ensures)
+    (ap (λ (t : TierStanding). t.rejected) (c.own.view_is ∙ sym c.index-self-from.is)
+    ∙ (own_fits _ c.from.result c.index-self-from.result offers within c.index-self-from.is (rw (← c.self.view_is) at fits)).rejected)

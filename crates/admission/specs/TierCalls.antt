@@ -1,0 +1,42 @@
+-- What the calls on a tier say of it, whatever requests of the tier it stands for.
+use Rattle.std.specs.Prelude.{◌≡◌, ℕ, ◌+◌, List, [], ◌∷◌, ◌++◌, drop, Some, slice_get}
+use Rattle.token_bucket.specs.Standing as bucket
+use Rattle.admission.specs.declared.control.Control.{Control}
+use Rattle.admission.specs.declared.control.Decision.{Decision}
+use Rattle.admission.specs.Requests.{Offer, Decided, served}
+use Rattle.admission.specs.Controls.{controls_until}
+use Rattle.admission.specs.Standing.{TierStanding, RiseWithin, IsShare}
+use Rattle.admission.specs.Running.{decision_after, free_after}
+use Rattle.admission.specs.Fits.{BucketFits, TierFits}
+
+-- tiers that were offered nothing yet
+abbrev pub AreNew : List TierStanding → Type 0
+AreNew tiers = (i : ℕ) (t : TierStanding) → slice_get tiers i ≡ Some t → TierFits [] 0 t × IsShare 0 0 0 t
+
+-- the decision on an offer at this tick is that of the definitions
+abbrev pub Decides : TierStanding → ℕ → ℕ → ℕ → Decision → Type 0
+Decides t free tick service decision =
+    (past : List Decided) → TierFits past free t → decision ≡ decision_after t.rules past free tick service
+
+-- the tier then stands with that offer, of whatever tier and service it is, after its other requests
+abbrev pub Takes : TierStanding → ℕ → ℕ → Decision → TierStanding → Type 0
+Takes t free tick decision next = (past : List Decided) (offer : Offer) → offer.tick ≡ tick → TierFits past free t
+    → TierFits (past ++ record { offer = offer; decision = decision } ∷ []) (free_after free decision) next
+
+-- and stays beside the others
+abbrev pub StaysBeside : TierStanding → ℕ → ℕ → Decision → TierStanding → Type 0
+StaysBeside t free tick decision next =
+    (offers : ℕ) → IsShare offers free tick t → IsShare (offers + 1) (free_after free decision) tick next
+
+-- the bucket of the tier at a later tick, where it has taken on so many controls
+abbrev pub Passes : TierStanding → bucket.Standing → ℕ → Type 0
+Passes t b reached = (past : List Decided) (free : ℕ) → TierFits past free t → BucketFits t.rules past b reached
+
+-- the controls that it has not taken on then rise from there
+abbrev pub RisesFrom : TierStanding → ℕ → ℕ → Type 0
+RisesFrom t tick reached = (free : ℕ) → RiseWithin t.bucket.tick free (drop t.reached t.controls)
+    → RiseWithin tick free (drop reached t.controls)
+
+-- these are the controls of the tier up to this tick
+abbrev pub Shows : TierStanding → ℕ → List Control → Type 0
+Shows t tick shown = (past : List Decided) (free : ℕ) → TierFits past free t → shown ≡ controls_until t.rules (served past) tick
