@@ -194,6 +194,7 @@ stays records more a h =
     record {
       bytes = h.bytes;
       piece = get_first records more a.place (Piece a.origin.tick a.origin.conn h.bytes) h.piece;
+      tier = rw front h.tier;
       behind = rw front h.behind;
       within = rw front h.within;
     }

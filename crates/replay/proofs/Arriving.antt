@@ -10,7 +10,8 @@ use Rattle.std.proofs.lemmas.List.Quantifiers.{all_pairs_push}
 use Rattle.std.proofs.lemmas.Grind.{flat_map-append}
 use Rattle.std.proofs.Math.Seq.{take-append_seam}
 use Rattle.captures.specs.declared.record.Record.{Record}
-use Rattle.captures.specs.declared.record.Record.TheVariants.{Piece, End}
+use Rattle.captures.specs.declared.record.Record.TheVariants.{Piece, End, Tier}
+use Rattle.captures.specs.Captures.{tier_of}
 use Rattle.http_requests.specs.declared.messages.Message.{Message}
 use Rattle.http_requests.specs.Framing.{MessagesOf}
 use Rattle.http_requests.specs.Cutting.{EndBetween}
@@ -21,8 +22,8 @@ use Rattle.replay.specs.declared.origin.Origin.{Origin}
 use Rattle.replay.specs.declared.connection.Connection.{Connection}
 use Rattle.replay.specs.declared.connection.Connection.TheVariants.{Silent, Open, Closed}
 
-abbrev pub from_piece : ℕ → ℕ → Origin
-from_piece tick conn = record { conn = conn; tick = tick }
+abbrev pub from_piece : ℕ → ℕ → ℕ → Origin
+from_piece tier tick conn = record { conn = conn; tick = tick; tier = tier }
 
 -- ---- texts
 
@@ -55,18 +56,18 @@ other_bytes c tick conn bytes apart = elim (eqb_tells conn c) [
 pub messages_more : (c : ℕ) (came bs : List Arrival) → messages_of c (came ++ bs) ≡ messages_of c came ++ messages_of c bs
 messages_more c came bs = ap (map (λ a. a.message)) (filter-append (λ a. a.origin.conn == c) came bs) ∙ map-append (λ a. a.message) (filter (λ a. a.origin.conn == c) came) (filter (λ a. a.origin.conn == c) bs)
 
-pub own_messages : (place tick conn : ℕ) (ms : List Message) → messages_of conn (arrivals_with place (from_piece tick conn) ms) ≡ ms
-own_messages place tick conn [] = refl
-own_messages place tick conn (m ∷ ms) = elim (eqb_tells conn conn) [
-  | inl same ↦ rw same.0 (ap (λ l. m ∷ l) (own_messages place tick conn ms))
+pub own_messages : (place tier tick conn : ℕ) (ms : List Message) → messages_of conn (arrivals_with place (from_piece tier tick conn) ms) ≡ ms
+own_messages place tier tick conn [] = refl
+own_messages place tier tick conn (m ∷ ms) = elim (eqb_tells conn conn) [
+  | inl same ↦ rw same.0 (ap (λ l. m ∷ l) (own_messages place tier tick conn ms))
   | inr other ↦ absurd (other.1 refl)
 ]
 
-pub other_messages : (c place tick conn : ℕ) (ms : List Message) → c ≢ conn → messages_of c (arrivals_with place (from_piece tick conn) ms) ≡ []
-other_messages c place tick conn [] apart = refl
-other_messages c place tick conn (m ∷ ms) apart = elim (eqb_tells conn c) [
+pub other_messages : (c place tier tick conn : ℕ) (ms : List Message) → c ≢ conn → messages_of c (arrivals_with place (from_piece tier tick conn) ms) ≡ []
+other_messages c place tier tick conn [] apart = refl
+other_messages c place tier tick conn (m ∷ ms) apart = elim (eqb_tells conn c) [
   | inl same ↦ absurd (apart (sym same.1))
-  | inr other ↦ rw other.0 (other_messages c place tick conn ms apart)
+  | inr other ↦ rw other.0 (other_messages c place tier tick conn ms apart)
 ]
 
 -- ---- where messages arrive
@@ -88,31 +89,33 @@ arrived_stays records r a h =
     record {
       bytes = h.bytes;
       piece = get_front records (r ∷ []) a.place (Piece a.origin.tick a.origin.conn h.bytes) h.piece;
+      tier = rw front h.tier;
       behind = rw front h.behind;
       within = rw front h.within;
     }
 
-arrives_now : (records : List Record) (tick conn : ℕ) (bytes : List ℕ) (m : Message) → length (text_of conn records) < m.end
+arrives_now : (records : List Record) (tier tick conn : ℕ) (bytes : List ℕ) (m : Message) → tier ≡ tier_of conn records → length (text_of conn records) < m.end
     → m.end ≤ length (text_of conn records) + length bytes
-    → ArrivesWith (records ++ Piece tick conn bytes ∷ []) (record { origin = from_piece tick conn; place = length records; message = m })
-arrives_now records tick conn bytes m behind within =
+    → ArrivesWith (records ++ Piece tick conn bytes ∷ []) (record { origin = from_piece tier tick conn; place = length records; message = m })
+arrives_now records tier tick conn bytes m own behind within =
     let front : take (length records) (records ++ Piece tick conn bytes ∷ []) ≡ records = take-append_seam records (Piece tick conn bytes ∷ []) in
     record {
       bytes = bytes;
       piece = get_seam records (Piece tick conn bytes);
+      tier = rw front own;
       behind = rw front behind;
       within = rw front within;
     }
 
-pub all_arrive : (records : List Record) (tick conn from : ℕ) (bytes : List ℕ) (ms : List Message) → length (text_of conn records) ≤ from
+pub all_arrive : (records : List Record) (tier tick conn from : ℕ) (bytes : List ℕ) (ms : List Message) → tier ≡ tier_of conn records → length (text_of conn records) ≤ from
     → EndBetween from (length (text_of conn records) + length bytes) ms
-    → All (ArrivesWith (records ++ Piece tick conn bytes ∷ [])) (arrivals_with (length records) (from_piece tick conn) ms)
-all_arrive records tick conn from bytes [] le ends = λ k d lt. absurd (omega (arith, lt))
-all_arrive records tick conn from bytes (m ∷ ms) le ends =
+    → All (ArrivesWith (records ++ Piece tick conn bytes ∷ [])) (arrivals_with (length records) (from_piece tier tick conn) ms)
+all_arrive records tier tick conn from bytes [] own le ends = λ k d lt. absurd (omega (arith, lt))
+all_arrive records tier tick conn from bytes (m ∷ ms) own le ends =
     let after = ends.0 in
-    All-cons (ArrivesWith (records ++ Piece tick conn bytes ∷ [])) (record { origin = from_piece tick conn; place = length records; message = m }) (arrivals_with (length records) (from_piece tick conn) ms)
-    (arrives_now records tick conn bytes m (omega (arith, le, after)) ends.1)
-    (all_arrive records tick conn m.end bytes ms (omega (arith, le, after)) ends.2)
+    All-cons (ArrivesWith (records ++ Piece tick conn bytes ∷ [])) (record { origin = from_piece tier tick conn; place = length records; message = m }) (arrivals_with (length records) (from_piece tier tick conn) ms)
+    (arrives_now records tier tick conn bytes m own (omega (arith, le, after)) ends.1)
+    (all_arrive records tier tick conn m.end bytes ms own (omega (arith, le, after)) ends.2)
 
 -- ---- their order
 
@@ -128,15 +131,15 @@ not_later_more : (place from end : ℕ) (a : Arrival) → from < end → NotLate
 not_later_more place from end a lt (inl h) = inl h
 not_later_more place from end a lt (inr h) = inr (h.0, (let k = h.1 in omega (arith, lt, k)))
 
-pub order_more : (place tick conn from to : ℕ) (came : List Arrival) (ms : List Message) → AllPairs Precedes came → All (NotLater place from) came
-    → EndBetween from to ms → AllPairs Precedes (came ++ arrivals_with place (from_piece tick conn) ms)
-order_more place tick conn from to came [] pairs early ends = rw (append-nil came) pairs
-order_more place tick conn from to came (m ∷ ms) pairs early ends =
-    let a : Arrival = record { origin = from_piece tick conn; place = place; message = m } in
+pub order_more : (place tier tick conn from to : ℕ) (came : List Arrival) (ms : List Message) → AllPairs Precedes came → All (NotLater place from) came
+    → EndBetween from to ms → AllPairs Precedes (came ++ arrivals_with place (from_piece tier tick conn) ms)
+order_more place tier tick conn from to came [] pairs early ends = rw (append-nil came) pairs
+order_more place tier tick conn from to came (m ∷ ms) pairs early ends =
+    let a : Arrival = record { origin = from_piece tier tick conn; place = place; message = m } in
     let lt = ends.0 in
     let pushed : AllPairs Precedes (came ++ a ∷ []) = all_pairs_push Precedes came a pairs (λ k d below. precedes_later place from m.end (get_or came k d) a refl refl lt (early k d below)) in
     let later : All (NotLater place m.end) (came ++ a ∷ []) = All-push (NotLater place m.end) came a (λ k d below. not_later_more place from m.end (get_or came k d) lt (early k d below)) (inr (refl, omega arith)) in
-    subst (AllPairs Precedes) (append_assoc came (a ∷ []) (arrivals_with place (from_piece tick conn) ms)) (order_more place tick conn m.end to (came ++ a ∷ []) ms pushed later ends.2)
+    subst (AllPairs Precedes) (append_assoc came (a ∷ []) (arrivals_with place (from_piece tier tick conn) ms)) (order_more place tier tick conn m.end to (came ++ a ∷ []) ms pushed later ends.2)
 
 pub arrived_before : (records : List Record) (from : ℕ) (a : Arrival) → ArrivesWith records a → NotLater (length records) from a
 arrived_before records from a h = inl (slice_get_within records a.place (Piece a.origin.tick a.origin.conn h.bytes) h.piece)
@@ -159,20 +162,20 @@ arrives_none = record {
   order = λ i j d lt below. absurd (omega (arith, below));
 }
 
-pub reads_piece : (records : List Record) (came : List Arrival) (before after : List Connection) (tick conn : ℕ) (bytes : List ℕ) (ms : List Message)
+pub reads_piece : (records : List Record) (came : List Arrival) (before after : List Connection) (tier tick conn : ℕ) (bytes : List ℕ) (ms : List Message)
     → HaveRead records came before
     → ((text : List ℕ) (sofar : List Message) → HasRead (connection_at before conn) text sofar → ReadMore text sofar (connection_at after conn) bytes ms)
     → ((c : ℕ) → c ≢ conn → connection_at after c ≡ connection_at before c)
-    → HaveRead (records ++ Piece tick conn bytes ∷ []) (came ++ arrivals_with (length records) (from_piece tick conn) ms) after
-reads_piece records came before after tick conn bytes ms have own others = record { each = each }
+    → HaveRead (records ++ Piece tick conn bytes ∷ []) (came ++ arrivals_with (length records) (from_piece tier tick conn) ms) after
+reads_piece records came before after tier tick conn bytes ms have own others = record { each = each }
   where
     new : List Arrival
-    new = arrivals_with (length records) (from_piece tick conn) ms
+    new = arrivals_with (length records) (from_piece tier tick conn) ms
 
     each : (c : ℕ) → HasRead (connection_at after c) (text_of c (records ++ Piece tick conn bytes ∷ [])) (messages_of c (came ++ new))
     each c = elim (eqb_tells c conn) [
       | inl same ↦
-          rw (same.1, text_more conn records (Piece tick conn bytes), own_bytes tick conn bytes, messages_more conn came new, own_messages (length records) tick conn ms)
+          rw (same.1, text_more conn records (Piece tick conn bytes), own_bytes tick conn bytes, messages_more conn came new, own_messages (length records) tier tick conn ms)
           ((own (text_of conn records) (messages_of conn came) (have.each conn)).has)
       | inr other ↦
           rw (
@@ -181,7 +184,7 @@ reads_piece records came before after tick conn bytes ms have own others = recor
             other_bytes c tick conn bytes other.1,
             append-nil (text_of c records),
             messages_more c came new,
-            other_messages c (length records) tick conn ms other.1,
+            other_messages c (length records) tier tick conn ms other.1,
             append-nil (messages_of c came),
           )
           (have.each c)
@@ -191,16 +194,20 @@ pub reads_end : (records : List Record) (came : List Arrival) (connections : Lis
     → HaveRead records came connections → HaveRead (records ++ End tick conn ∷ []) came connections
 reads_end records came connections tick conn have = record { each = λ c. rw (text_more c records (End tick conn), append-nil (text_of c records)) (have.each c) }
 
-pub arrives_piece : (records : List Record) (came : List Arrival) (after : List Connection) (tick conn : ℕ) (bytes : List ℕ) (ms : List Message)
-    → AreArrivals records came → EndBetween (length (text_of conn records)) (length (text_of conn records) + length bytes) ms
-    → HaveRead (records ++ Piece tick conn bytes ∷ []) (came ++ arrivals_with (length records) (from_piece tick conn) ms) after
-    → AreArrivals (records ++ Piece tick conn bytes ∷ []) (came ++ arrivals_with (length records) (from_piece tick conn) ms)
-arrives_piece records came after tick conn bytes ms are ends have = record {
+pub reads_tier : (records : List Record) (came : List Arrival) (connections : List Connection) (conn tier : ℕ)
+    → HaveRead records came connections → HaveRead (records ++ Tier conn tier ∷ []) came connections
+reads_tier records came connections conn tier have = record { each = λ c. rw (text_more c records (Tier conn tier), append-nil (text_of c records)) (have.each c) }
+
+pub arrives_piece : (records : List Record) (came : List Arrival) (after : List Connection) (tier tick conn : ℕ) (bytes : List ℕ) (ms : List Message)
+    → tier ≡ tier_of conn records → AreArrivals records came → EndBetween (length (text_of conn records)) (length (text_of conn records) + length bytes) ms
+    → HaveRead (records ++ Piece tick conn bytes ∷ []) (came ++ arrivals_with (length records) (from_piece tier tick conn) ms) after
+    → AreArrivals (records ++ Piece tick conn bytes ∷ []) (came ++ arrivals_with (length records) (from_piece tier tick conn) ms)
+arrives_piece records came after tier tick conn bytes ms own are ends have = record {
   each = λ c. has_messages (connection_at after c) _ _ (have.each c);
-  with = All-append (ArrivesWith (records ++ Piece tick conn bytes ∷ [])) came (arrivals_with (length records) (from_piece tick conn) ms)
+  with = All-append (ArrivesWith (records ++ Piece tick conn bytes ∷ [])) came (arrivals_with (length records) (from_piece tier tick conn) ms)
       (λ k d lt. arrived_stays records (Piece tick conn bytes) _ (are.with k d lt))
-      (all_arrive records tick conn (length (text_of conn records)) bytes ms (omega arith) ends);
-  order = order_more (length records) tick conn (length (text_of conn records)) (length (text_of conn records) + length bytes) came ms are.order
+      (all_arrive records tier tick conn (length (text_of conn records)) bytes ms own (omega arith) ends);
+  order = order_more (length records) tier tick conn (length (text_of conn records)) (length (text_of conn records) + length bytes) came ms are.order
       (λ k d lt. arrived_before records (length (text_of conn records)) _ (are.with k d lt)) ends;
 }
 
@@ -209,5 +216,13 @@ pub arrives_end : (records : List Record) (came : List Arrival) (after : List Co
 arrives_end records came after tick conn are have = record {
   each = λ c. has_messages (connection_at after c) _ _ (have.each c);
   with = λ k d lt. arrived_stays records (End tick conn) _ (are.with k d lt);
+  order = are.order;
+}
+
+pub arrives_tier : (records : List Record) (came : List Arrival) (after : List Connection) (conn tier : ℕ)
+    → AreArrivals records came → HaveRead (records ++ Tier conn tier ∷ []) came after → AreArrivals (records ++ Tier conn tier ∷ []) came
+arrives_tier records came after conn tier are have = record {
+  each = λ c. has_messages (connection_at after c) _ _ (have.each c);
+  with = λ k d lt. arrived_stays records (Tier conn tier) _ (are.with k d lt);
   order = are.order;
 }

@@ -1,24 +1,27 @@
 -- A batch of records: how it is read, cut, and merged into arrivals.
-use Rattle.std.proofs.Common.{◌≡◌, ◌≢◌, ℕ, suc, zero, ◌+◌, ◌<◌, ◌≤◌, ◌==◌, ◌⊎◌, inl, inr, Bool, true, false, List, [], ◌∷◌, ◌++◌, length, map, get_or, All, Option, Some, None, refl, sym, ap, ◌∙◌, subst, arith, append-nil, append_assoc}
-use Rattle.std.specs.Prelude.{flat_map, slice_get, slice_index_or, if◌then◌else◌}
+use Rattle.std.proofs.Common.{◌≡◌, ◌≢◌, ℕ, suc, zero, ◌+◌, ◌<◌, ◌≤◌, ◌==◌, ◌⊎◌, inl, inr, Bool, true, false, List, [], ◌∷◌, ◌++◌, length, take, map, get_or, All, Option, Some, refl, sym, ap, ◌∙◌, subst, arith, append-nil, append_assoc}
+use Rattle.std.specs.Prelude.{flat_map, slice_get, if◌then◌else◌}
 use Rattle.std.specs.List.{AllPairs, AllZip}
 use Rattle.std.proofs.lemmas.Bool.Decides.{eqb_tells}
 use Rattle.std.proofs.lemmas.List.{length-append, length-map, map-append, get_or_append_left, get_or_default}
+use Rattle.std.proofs.lemmas.List.Elements.{All-take}
 use Rattle.std.proofs.lemmas.List.Sums.{sum_by-cons, sum_by-append}
 use Rattle.std.proofs.lemmas.Option.{slice_get_within, get_or_from_slice_get}
 use Rattle.std.proofs.Math.Seq.{get_or-append_seam}
 use Rattle.captures.specs.declared.record.Record.{Record}
-use Rattle.captures.specs.declared.record.Record.TheVariants.{Piece, End}
+use Rattle.captures.specs.declared.record.Record.TheVariants.{Piece, End, Tier}
+use Rattle.captures.specs.declared.version.Version.{Version}
+use Rattle.replay.proofs.Tiered.{tier_in_range}
 use Rattle.captures.specs.declared.progress.Progress.{Progress}
-use Rattle.captures.specs.Captures.{version_one, IsCapture, IsRecord, size_of, sizes_of, ticks_of}
+use Rattle.captures.specs.Captures.{IsCapture, IsRecord, size_of, sizes_of, ticks_of}
 use Rattle.captures.specs.Readers.{Fits}
 use Rattle.http_requests.specs.declared.messages.Message.{Message}
 use Rattle.replay.specs.Choices.{Terms}
 use Rattle.replay.specs.Arrivals.{Arrival, ArrivesWith, AreArrivals, Precedes, text_of, messages_of}
-use Rattle.replay.specs.Batches.{ReadsOn, pieces_to, origins_of, lists_to, arrivals_in, incoming_from, Stand}
-use Rattle.replay.specs.Connections.{HasRead, HaveRead, connection_at, arrivals_with}
+use Rattle.replay.specs.Batches.{ReadsOn, pieces_to, with_tier, tiers_of, origins_of, lists_to, arrivals_in, incoming_from, Stand}
+use Rattle.replay.specs.Connections.{HaveRead, connection_at, arrivals_with}
 use Rattle.replay.specs.Places.{Place, place_at, with_piece, with_lists, total, IsReady, IsCutOf, count_to}
-use Rattle.replay.specs.Serving.{Serves, AreBy}
+use Rattle.replay.specs.Serving.{Serves}
 use Rattle.replay.specs.Ticketing.{incoming_of, InTime}
 use Rattle.replay.specs.Waiting.{with_pieces, Adds, AddsOne, connections_of, Waiting, ComeNext, Upcoming}
 use Rattle.replay.specs.declared.connection.Connection.{Connection}
@@ -27,8 +30,8 @@ use Rattle.replay.specs.declared.incoming.Incoming.{Incoming}
 use Rattle.replay.specs.declared.origin.Origin.{Origin}
 use Rattle.replay.specs.declared.piece_messages.PieceMessages.{PieceMessages}
 use Rattle.replay.proofs.Arriving.{if_true, if_false}
-use Rattle.replay.proofs.Merging.{stand_batch}
-use Rattle.replay.proofs.Server.{text_below, tick_at}
+use Rattle.replay.proofs.Merging.{stand_batch, tiers_piece, tiers_end, tiers_tier}
+use Rattle.replay.proofs.Server.{text_below, tick_at, ticks_before, ticks_before_le}
 
 -- ---- reading
 
@@ -49,11 +52,26 @@ pieces_push c (Piece tick conn bytes ∷ rs) r = go (conn == c) (pieces_push c r
     go true e = ap (λ l. bytes ∷ l) e
     go false e = e
 pieces_push c (End tick conn ∷ rs) r = pieces_push c rs r
+pieces_push c (Tier conn tier ∷ rs) r = pieces_push c rs r
 
-pub origins_push : (rs : List Record) (r : Record) → origins_of (rs ++ r ∷ []) ≡ origins_of rs ++ origins_of (r ∷ [])
-origins_push [] r = refl
-origins_push (Piece tick conn bytes ∷ rs) r = ap (λ os. record { conn = conn; tick = tick } ∷ os) (origins_push rs r)
-origins_push (End tick conn ∷ rs) r = origins_push rs r
+pub adds_tier : (conn tier : ℕ) (r : Record) (places : List Place) → r ≡ Tier conn tier → AddsOne r places places
+adds_tier conn tier r places is = rw is (adds_none places)
+
+origins_from : (tiers : ℕ → ℕ) (records rs : List Record) (r : Record) → tiers ≡ tiers_of records
+    → origins_of tiers (rs ++ r ∷ []) ≡ origins_of tiers rs ++ origins_of (tiers_of (records ++ rs)) (r ∷ [])
+origins_from tiers records [] r are = ap (λ f. origins_of f (r ∷ [])) (are ∙ ap tiers_of (sym (append-nil records)))
+origins_from tiers records (Piece tick conn bytes ∷ rs) r are =
+    let rest = origins_from tiers (records ++ Piece tick conn bytes ∷ []) rs r (are ∙ sym (tiers_piece records tick conn bytes)) in
+    ap (λ os. record { conn = conn; tick = tick; tier = tiers conn } ∷ os) (rw (append_assoc records (Piece tick conn bytes ∷ []) rs) at rest)
+origins_from tiers records (End tick conn ∷ rs) r are =
+    let rest = origins_from tiers (records ++ End tick conn ∷ []) rs r (are ∙ sym (tiers_end records tick conn)) in
+    rw (append_assoc records (End tick conn ∷ []) rs) at rest
+origins_from tiers records (Tier conn tier ∷ rs) r are =
+    let rest = origins_from (with_tier conn tier tiers) (records ++ Tier conn tier ∷ []) rs r (ap (with_tier conn tier) are ∙ sym (tiers_tier records conn tier)) in
+    rw (append_assoc records (Tier conn tier ∷ []) rs) at rest
+
+pub origins_push : (records rs : List Record) (r : Record) → origins_of (tiers_of records) (rs ++ r ∷ []) ≡ origins_of (tiers_of records) rs ++ origins_of (tiers_of (records ++ rs)) (r ∷ [])
+origins_push records rs r = origins_from (tiers_of records) records rs r refl
 
 pub adds_more : (rs : List Record) (r : Record) (old mid new : List Place) → Adds rs old mid → AddsOne r mid new → Adds (rs ++ r ∷ []) old new
 adds_more rs r old mid new first second = λ c.
@@ -84,16 +102,17 @@ serves_same terms records arrivals old new desk same serves = record {
 }
 
 -- a batch was read
-pub come_next : (terms : Terms) (text ahead : Option (List ℕ)) (start : ℕ) (records rs : List Record) (arrivals : List Arrival) (old new : List Place) (origins : List Origin) (desk : Desk) (p : Progress)
-    → Serves terms records arrivals (connections_of old) desk → Waiting [] old → Adds rs old new → origins ≡ origins_of rs → Fits version_one text start (records ++ rs) p ahead → start ≡ desk.start
+pub come_next : (terms : Terms) (text ahead : Option (List ℕ)) (start : ℕ) (records rs : List Record) (arrivals : List Arrival) (old new : List Place) (origins : List Origin) (desk : Desk) (p : Progress) (v : Version)
+    → Serves terms records arrivals (connections_of old) desk → Waiting [] old → Adds rs old new → origins ≡ origins_of (tiers_of records) rs → Fits v text start (records ++ rs) p ahead → start ≡ desk.start
     → ComeNext terms records rs arrivals new origins desk
-come_next terms text ahead start records rs arrivals old new origins desk p serves idle adds from fits begun = record {
+come_next terms text ahead start records rs arrivals old new origins desk p v serves idle adds from fits begun = record {
   serves = serves_same terms records arrivals old new desk (λ c. ap (λ (q : Place). q.connection) (adds c)) serves;
   waiting = λ c. (
     ap (λ (q : Place). q.pieces) (adds c) ∙ ap (λ xs. xs ++ pieces_to c rs) (idle c).0,
     ap (λ (q : Place). q.lists) (adds c) ∙ (idle c).1,
   );
   origins_are = from;
+  version = v;
   rules = rw begun at fits.rules;
   small = (let h = fits.room in omega (arith, h));
 }
@@ -112,6 +131,7 @@ total_below c (Piece tick conn bytes ∷ rs) =
     go true more ih = let own = sum_by-cons length bytes (pieces_to c rs) in omega (arith, more, ih, own)
     go false more ih = omega (arith, more, ih)
 total_below c (End tick conn ∷ rs) = let more = sum_by-cons size_of (End tick conn) rs in let ih = total_below c rs in omega (arith, more, ih)
+total_below c (Tier conn tier ∷ rs) = let more = sum_by-cons size_of (Tier conn tier) rs in let ih = total_below c rs in omega (arith, more, ih)
 
 pub all_ready : (terms : Terms) (records rs : List Record) (arrivals : List Arrival) (places : List Place) (origins : List Origin) (desk : Desk)
     → ComeNext terms records rs arrivals places origins desk → All IsReady places
@@ -147,20 +167,21 @@ reads_count before after [] (ms ∷ mss) h = absurd h
 reads_count before after (p ∷ pieces) [] h = absurd h
 reads_count before after (p ∷ pieces) (ms ∷ mss) h = ap (λ n. suc n) (reads_count h.0 after pieces mss h.2)
 
-pieces_count : (c : ℕ) (rs : List Record) → length (pieces_to c rs) ≡ count_to c (origins_of rs)
-pieces_count c [] = refl
-pieces_count c (Piece tick conn bytes ∷ rs) = go (conn == c) (pieces_count c rs)
+pieces_count : (c : ℕ) (tiers : ℕ → ℕ) (rs : List Record) → length (pieces_to c rs) ≡ count_to c (origins_of tiers rs)
+pieces_count c tiers [] = refl
+pieces_count c tiers (Piece tick conn bytes ∷ rs) = go (conn == c) (pieces_count c tiers rs)
   where
-    go : (b : Bool) → length (pieces_to c rs) ≡ count_to c (origins_of rs) → length (if b then bytes ∷ pieces_to c rs else pieces_to c rs) ≡ (if b then count_to c (origins_of rs) + 1 else count_to c (origins_of rs))
+    go : (b : Bool) → length (pieces_to c rs) ≡ count_to c (origins_of tiers rs) → length (if b then bytes ∷ pieces_to c rs else pieces_to c rs) ≡ (if b then count_to c (origins_of tiers rs) + 1 else count_to c (origins_of tiers rs))
     go true e = omega (arith, e)
     go false e = e
-pieces_count c (End tick conn ∷ rs) = pieces_count c rs
+pieces_count c tiers (End tick conn ∷ rs) = pieces_count c tiers rs
+pieces_count c tiers (Tier conn tier ∷ rs) = pieces_count c (with_tier conn tier tiers) rs
 
 pub lists_count : (terms : Terms) (records rs : List Record) (arrivals : List Arrival) (places cut : List Place) (origins : List Origin) (desk : Desk)
     → ComeNext terms records rs arrivals places origins desk → AllZip IsCutOf places cut → (c : ℕ) → length (place_at cut c).lists ≡ count_to c origins
 lists_count terms records rs arrivals places cut origins desk next cuts c =
     let own = cut_at places cut c cuts in
-    reads_count _ _ (place_at places c).pieces (place_at cut c).lists own.reads ∙ ap length (next.waiting c).0 ∙ pieces_count c rs ∙ ap (count_to c) (sym next.origins_are)
+    reads_count _ _ (place_at places c).pieces (place_at cut c).lists own.reads ∙ ap length (next.waiting c).0 ∙ pieces_count c (tiers_of records) rs ∙ ap (count_to c) (sym next.origins_are)
 
 -- nothing waits once the lists were taken
 pub none_wait : (places cut after : List Place) → AllZip IsCutOf places cut → ((c : ℕ) → place_at after c ≡ with_lists [] (place_at cut c)) → Waiting [] after
@@ -171,18 +192,20 @@ none_wait places cut after cuts taken = λ c. (
 
 -- ---- messages in the order of their arrival
 
-incoming_are : (rs : List Record) (pieces : List PieceMessages) (place : ℕ) → map (λ p. p.origin) pieces ≡ origins_of rs
-    → map incoming_of (arrivals_in place rs (map (λ p. p.messages) pieces)) ≡ flat_map incoming_from pieces
-incoming_are [] [] place e = refl
-incoming_are [] (p ∷ pieces) place e = absurd (let z : ⊥ = cc in z)
-incoming_are (End tick conn ∷ rs) pieces place e = incoming_are rs pieces (place + 1) e
-incoming_are (Piece tick conn bytes ∷ rs) [] place e = absurd (let z : ⊥ = cc in z)
-incoming_are (Piece tick conn bytes ∷ rs) (p ∷ pieces) place e =
-    let own : p.origin ≡ record { conn = conn; tick = tick } = cc in
-    let rest : map (λ p. p.origin) pieces ≡ origins_of rs = cc in
-    map-append incoming_of (arrivals_with place (record { conn = conn; tick = tick }) p.messages) (arrivals_in (place + 1) rs (map (λ p. p.messages) pieces))
-    ∙ ap (λ xs. xs ++ map incoming_of (arrivals_in (place + 1) rs (map (λ p. p.messages) pieces))) (one (record { conn = conn; tick = tick }) p.messages ∙ ap (λ o. map (λ m. record { origin = o; what = m.what }) p.messages) (sym own))
-    ∙ ap (λ xs. incoming_from p ++ xs) (incoming_are rs pieces (place + 1) rest)
+incoming_are : (tiers : ℕ → ℕ) (rs : List Record) (pieces : List PieceMessages) (place : ℕ) → map (λ p. p.origin) pieces ≡ origins_of tiers rs
+    → map incoming_of (arrivals_in tiers place rs (map (λ p. p.messages) pieces)) ≡ flat_map incoming_from pieces
+incoming_are tiers [] [] place e = refl
+incoming_are tiers [] (p ∷ pieces) place e = absurd (let z : ⊥ = cc in z)
+incoming_are tiers (End tick conn ∷ rs) pieces place e = incoming_are tiers rs pieces (place + 1) e
+incoming_are tiers (Tier conn tier ∷ rs) pieces place e = incoming_are (with_tier conn tier tiers) rs pieces (place + 1) e
+incoming_are tiers (Piece tick conn bytes ∷ rs) [] place e = absurd (let z : ⊥ = cc in z)
+incoming_are tiers (Piece tick conn bytes ∷ rs) (p ∷ pieces) place e =
+    let origin : Origin = record { conn = conn; tick = tick; tier = tiers conn } in
+    let own : p.origin ≡ origin = cc in
+    let rest : map (λ p. p.origin) pieces ≡ origins_of tiers rs = cc in
+    map-append incoming_of (arrivals_with place origin p.messages) (arrivals_in tiers (place + 1) rs (map (λ p. p.messages) pieces))
+    ∙ ap (λ xs. xs ++ map incoming_of (arrivals_in tiers (place + 1) rs (map (λ p. p.messages) pieces))) (one origin p.messages ∙ ap (λ o. map (λ m. record { origin = o; what = m.what }) p.messages) (sym own))
+    ∙ ap (λ xs. incoming_from p ++ xs) (incoming_are tiers rs pieces (place + 1) rest)
   where
     one : (o : Origin) (ms : List Message) → map incoming_of (arrivals_with place o ms) ≡ map (λ m. record { origin = o; what = m.what }) ms
     one o [] = refl
@@ -210,9 +233,9 @@ place_le : (a b : Arrival) → Precedes a b → a.place ≤ b.place
 place_le a b (inl lt) = omega (arith, lt)
 place_le a b (inr e) = let same = e.0 in omega (arith, same)
 
-pub in_time : (start : ℕ) (records : List Record) (arrivals more : List Arrival) → IsCapture version_one start records → AreArrivals records (arrivals ++ more) → InTime arrivals more
-in_time start records arrivals [] rules arrived = tt
-in_time start records arrivals (a ∷ more) rules arrived = (
+pub in_time : (v : Version) (start : ℕ) (records : List Record) (arrivals more : List Arrival) → IsCapture v start records → AreArrivals records (arrivals ++ more) → InTime arrivals more
+in_time v start records arrivals [] rules arrived = tt
+in_time v start records arrivals (a ∷ more) rules arrived = (
   (λ k d lt.
       (let b = get_or arrivals k d in
       let len = length-append arrivals (a ∷ more) in
@@ -221,10 +244,11 @@ in_time start records arrivals (a ∷ more) rules arrived = (
       let before : Precedes b a = rw (first, second) at (arrived.order k (length arrivals) d lt (omega (arith, len))) in
       let own : ArrivesWith records b = rw first at (arrived.with k d (omega (arith, len, lt))) in
       let next : ArrivesWith records a = rw second at (arrived.with (length arrivals) d (omega (arith, len))) in
-      ticks_rise (ticks_of records) b.place a.place b.origin.tick a.origin.tick rules.rising (place_le b a before)
+      ticks_rise (ticks_of records) (ticks_before records b.place) (ticks_before records a.place) b.origin.tick a.origin.tick rules.rising (ticks_before_le records b.place a.place (place_le b a before))
       (tick_at records b.place b.origin.tick b.origin.conn own.bytes own.piece) (tick_at records a.place a.origin.tick a.origin.conn next.bytes next.piece))),
   latest,
-  in_time start records (arrivals ++ a ∷ []) more rules (rw (append_assoc arrivals (a ∷ []) more) arrived),
+  of_tier,
+  in_time v start records (arrivals ++ a ∷ []) more rules (rw (append_assoc arrivals (a ∷ []) more) arrived),
 )
   where
     latest : a.origin.tick ≤ 1000000000000000
@@ -234,8 +258,17 @@ in_time start records arrivals (a ∷ more) rules arrived = (
         let next : ArrivesWith records a = rw second at (arrived.with (length arrivals) a (omega (arith, len))) in
         let r = Piece a.origin.tick a.origin.conn next.bytes in
         let is : get_or records a.place r ≡ r = get_or_from_slice_get records a.place r r next.piece in
-        let ok : IsRecord version_one r = rw is at (rules.each a.place r (slice_get_within records a.place r next.piece)) in
+        let ok : IsRecord v r = rw is at (rules.each a.place r (slice_get_within records a.place r next.piece)) in
         ok.0
+
+    of_tier : a.origin.tier < 4
+    of_tier =
+        let len = length-append arrivals (a ∷ more) in
+        let second : get_or (arrivals ++ a ∷ more) (length arrivals) a ≡ a = get_or-append_seam arrivals a more a in
+        let next : ArrivesWith records a = rw second at (arrived.with (length arrivals) a (omega (arith, len))) in
+        let is = next.tier in
+        let most = tier_in_range v a.origin.conn (take a.place records) (All-take (IsRecord v) a.place records rules.each) in
+        omega (arith, is, most)
 
 -- ---- what a batch brings
 
@@ -255,8 +288,8 @@ brings terms records rs arrivals places cut after origins pieces messages desk n
   arrived = stand.arrived;
   up = record {
     stands = next.serves.stands;
-    are = incoming_are rs pieces (length records) (from ∙ next.origins_are) ∙ sym are;
-    timely = in_time desk.start (records ++ rs) arrivals more next.rules stand.arrived;
+    are = incoming_are (tiers_of records) rs pieces (length records) (from ∙ next.origins_are) ∙ sym are;
+    timely = in_time next.version desk.start (records ++ rs) arrivals more next.rules stand.arrived;
   };
 }
   where
@@ -264,16 +297,16 @@ brings terms records rs arrivals places cut after origins pieces messages desk n
     lists = map (λ p. p.messages) pieces
 
     more : List Arrival
-    more = arrivals_in (length records) rs lists
+    more = arrivals_in (tiers_of records) (length records) rs lists
 
-    count : length lists ≡ length (origins_of rs)
+    count : length lists ≡ length (origins_of (tiers_of records) rs)
     count = length-map pieces _ ∙ sym (length-map pieces (λ p. p.origin)) ∙ ap length (from ∙ next.origins_are)
 
-    reading : (c : ℕ) → ReadsOn (place_at places c).connection (pieces_to c rs) (lists_to c (origins_of rs) lists) (place_at cut c).connection
+    reading : (c : ℕ) → ReadsOn (place_at places c).connection (pieces_to c rs) (lists_to c (origins_of (tiers_of records) rs) lists) (place_at cut c).connection
     reading c = rw ((next.waiting c).0, found c, next.origins_are) at (cut_at places cut c cuts).reads
 
     stand : Stand (records ++ rs) (arrivals ++ more) (λ c. (place_at cut c).connection)
-    stand = stand_batch rs lists records arrivals (λ c. (place_at places c).connection) (λ c. (place_at cut c).connection) count
+    stand = stand_batch (tiers_of records) rs lists records arrivals (λ c. (place_at places c).connection) (λ c. (place_at cut c).connection) refl count
         (record { each = λ c. rw (← connection_of places c) (next.serves.reads.each c); arrived = next.serves.arrived }) reading
 
 -- no seat is taken yet

@@ -1,5 +1,5 @@
 -- What a connection reads of a batch.
-use Rattle.std.proofs.Common.{◌≡◌, ℕ, zero, suc, ◌+◌, ◌≤◌, List, [], ◌∷◌, ◌++◌, length, refl, sym, ap, ◌∙◌, subst, arith}
+use Rattle.std.proofs.Common.{◌≡◌, ℕ, ◌+◌, ◌≤◌, List, [], ◌∷◌, ◌++◌, length, refl, arith}
 use Rattle.std.proofs.lemmas.List.{length-append}
 use Rattle.std.proofs.lemmas.List.Sums.{sum_by-cons}
 use Rattle.std.specs.Prelude.{map, IfOk, MatchResult, Result, Ok, Err}
@@ -7,10 +7,9 @@ use Rattle.std.specs.List.{AllZip}
 use Rattle.std.specs.declared.alloc.AllocError.{AllocError}
 use Rattle.replay.specs.Places.{IsCutOf, Place}
 use Rattle.http_requests.specs.declared.messages.Message.{Message}
-use Rattle.http_requests.specs.Cutting.{Progress, Fits}
-use Rattle.replay.specs.Connections.{HasRead, HasRoom, ReadMore}
+use Rattle.replay.specs.Connections.{HasRead, HasRoom}
 use Rattle.replay.specs.Batches.{Reads, ReadsOn}
-use Rattle.replay.specs.Places.{total, CanRead}
+use Rattle.replay.specs.Places.{CanRead}
 use Rattle.replay.specs.declared.connection.Connection.{Connection}
 use Rattle.replay.specs.declared.connection.Connection.TheVariants.{Silent, Open, Closed}
 

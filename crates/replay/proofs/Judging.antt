@@ -8,10 +8,8 @@ use Rattle.admission.specs.declared.control.Decision.{Decision}
 use Rattle.admission.specs.declared.control.Decision.TheVariants.{Admitted, Rejected}
 use Rattle.admission.specs.Requests.{Offer, served}
 use Rattle.admission.specs.Decisions.{decide, decided, decided_from}
-use Rattle.admission.specs.Standing.{Standing}
-use Rattle.admission.specs.Fits.{Fits, tick_from}
-use Rattle.admission.specs.Controls.{controls_until}
-use Rattle.admission.specs.declared.control.Control.{Control}
+use Rattle.admission.specs.Standing.{Standing, policies_of}
+use Rattle.admission.specs.Fits.{Fits}
 use Rattle.responses.specs.declared.link.Link.{Link}
 use Rattle.responses.specs.declared.slip.Slip.{Slip}
 use Rattle.responses.specs.Replies.{status_of, reply_text}
@@ -35,14 +33,15 @@ use Rattle.replay.specs.declared.origin.Origin.{Origin}
 use Rattle.replay.specs.declared.replay_fault.ReplayFault.{ReplayFault}
 use Rattle.replay.specs.declared.replay_fault.ReplayFault.TheVariants.{Capture, TooMany, Memory, Write as Unwritten}
 use Rattle.replay.specs.Offers.{is_unmodified_file, length_given, offer_at, offers_of, is_turned_away, handled_next, handled_behind, handled}
-use Rattle.replay.specs.Counting.{bypassed_of, samples_of, controls_shown, breaks_a_rule, AreBelow}
-use Rattle.replay.specs.Tallies.{no_counts, tally_of, noted}
-use Rattle.replay.specs.Deciding.{decided_tally, Decides}
+use Rattle.replay.specs.Counting.{bypassed_of, samples_of, tally_of, breaks_a_rule, AreBelow}
+use Rattle.replay.specs.Totals.{no_counts, totals_of, noted}
+use Rattle.replay.specs.Deciding.{decided_totals, Decides}
 use Rattle.replay.specs.Serving.{Stands, AreBy, records_behind}
 use Rattle.http_requests.specs.declared.messages.Message.{Message}
 use Rattle.replay.specs.Connections.{arrivals_with}
 use Rattle.std.proofs.lemmas.List.Elements.{All-nil, All-cons, All-append}
-use Rattle.replay.specs.declared.tally.Tally.{Tally}
+use Rattle.replay.specs.declared.totals.Totals.{Totals}
+use Rattle.replay.specs.declared.summary.Tally.{Tally}
 use Rattle.replay.specs.declared.desk.Desk.{Desk}
 use Rattle.replay.proofs.Offering.{offers_more, handled_push, handled_count, samples_admitted, samples_rejected, is_admitted_one, is_rejected_one}
 use Rattle.replay.proofs.SameAnswer.{status_same, reply_is}
@@ -52,42 +51,42 @@ use Rattle.replay.proofs.CountMore.{counts_more, bypassed_more, bypassed_few, re
 -- ---- offers
 
 -- nothing is offered
-pub decides_none : (offers : List Offer) (desk : Desk) → Fits offers desk.controller → desk.tally.samples ≡ samples_of desk.controller.rules offers → Decides offers [] desk desk false
+pub decides_none : (offers : List Offer) (desk : Desk) → Fits offers desk.controller → desk.totals.samples ≡ samples_of (policies_of desk.controller) offers → Decides offers [] desk desk false
 decides_none offers desk fits samples = record {
-  rules = refl;
+  policies = refl;
   fits = rw (append-nil offers) fits;
   is_away = refl;
-  tally = rw (append-nil offers, ← samples, append-nil desk.tally.rejected) refl;
+  totals = rw (append-nil offers, ← samples, append-nil desk.totals.rejected) refl;
   start = refl;
 }
 
 pub decides_admitted : (offers : List Offer) (offer : Offer) (finish : ℕ) (decision : Decision) (old new : Desk) (controller : Standing) → decision ≡ Admitted finish
-    → decision ≡ decide old.controller.rules (decided old.controller.rules offers) offer
-    → controller.rules ≡ old.controller.rules → Fits (offers ++ offer ∷ []) controller → old.tally.samples ≡ samples_of old.controller.rules offers
-    → new ≡ record { start = old.start; controller = controller; tally = decided_tally old.tally (old.tally.samples ++ (finish - offer.tick) ∷ []) false }
+    → decision ≡ decide (policies_of old.controller) (decided (policies_of old.controller) offers) offer
+    → policies_of controller ≡ policies_of old.controller → Fits (offers ++ offer ∷ []) controller → old.totals.samples ≡ samples_of (policies_of old.controller) offers
+    → new ≡ record { start = old.start; controller = controller; totals = decided_totals old.totals (old.totals.samples ++ (finish - offer.tick) ∷ []) false }
     → Decides offers (offer ∷ []) old new false
 decides_admitted offers offer finish decision old new controller is e rules fits samples told =
-    let own : Admitted finish ≡ decide old.controller.rules (decided old.controller.rules offers) offer = sym is ∙ e in
+    let own : Admitted finish ≡ decide (policies_of old.controller) (decided (policies_of old.controller) offers) offer = sym is ∙ e in
     rw told (record {
-      rules = rules;
+      policies = rules;
       fits = fits;
-      is_away = is_admitted_one old.controller.rules offers offer finish own;
-      tally = ap (λ xs. decided_tally old.tally xs false) (ap (λ xs. xs ++ (finish - offer.tick) ∷ []) samples ∙ sym (samples_admitted old.controller.rules offers offer finish own));
+      is_away = is_admitted_one (policies_of old.controller) offers offer finish own;
+      totals = ap (λ xs. decided_totals old.totals xs false) (ap (λ xs. xs ++ (finish - offer.tick) ∷ []) samples ∙ sym (samples_admitted (policies_of old.controller) offers offer finish own));
       start = refl;
     })
 
 pub decides_rejected : (offers : List Offer) (offer : Offer) (decision : Decision) (old new : Desk) (controller : Standing) → decision ≡ Rejected
-    → decision ≡ decide old.controller.rules (decided old.controller.rules offers) offer
-    → controller.rules ≡ old.controller.rules → Fits (offers ++ offer ∷ []) controller → old.tally.samples ≡ samples_of old.controller.rules offers
-    → new ≡ record { start = old.start; controller = controller; tally = decided_tally old.tally old.tally.samples true }
+    → decision ≡ decide (policies_of old.controller) (decided (policies_of old.controller) offers) offer
+    → policies_of controller ≡ policies_of old.controller → Fits (offers ++ offer ∷ []) controller → old.totals.samples ≡ samples_of (policies_of old.controller) offers
+    → new ≡ record { start = old.start; controller = controller; totals = decided_totals old.totals old.totals.samples true }
     → Decides offers (offer ∷ []) old new true
 decides_rejected offers offer decision old new controller is e rules fits samples told =
-    let own : Rejected ≡ decide old.controller.rules (decided old.controller.rules offers) offer = sym is ∙ e in
+    let own : Rejected ≡ decide (policies_of old.controller) (decided (policies_of old.controller) offers) offer = sym is ∙ e in
     rw told (record {
-      rules = rules;
+      policies = rules;
       fits = fits;
-      is_away = is_rejected_one old.controller.rules offers offer own;
-      tally = ap (λ xs. decided_tally old.tally xs true) (samples ∙ sym (samples_rejected old.controller.rules offers offer own));
+      is_away = is_rejected_one (policies_of old.controller) offers offer own;
+      totals = ap (λ xs. decided_totals old.totals xs true) (samples ∙ sym (samples_rejected (policies_of old.controller) offers offer own));
       start = refl;
     })
 
@@ -96,26 +95,26 @@ abbrev pub desk_with : Desk → Standing → List ℕ → List ℕ → Desk
 desk_with desk controller rejected samples = record {
   start = desk.start;
   controller = controller;
-  tally = record { answered = desk.tally.answered; counts = desk.tally.counts; bypassed = desk.tally.bypassed; rejected = rejected; samples = samples };
+  totals = record { answered = desk.totals.answered; counts = desk.totals.counts; bypassed = desk.totals.bypassed; rejected = rejected; samples = samples };
 }
 
 abbrev pub desk_then : Desk → Standing → List ℕ → Bool → Desk
-desk_then desk controller samples away = record { start = desk.start; controller = controller; tally = decided_tally desk.tally samples away }
+desk_then desk controller samples away = record { start = desk.start; controller = controller; totals = decided_totals desk.totals samples away }
 
-pub desk_sampled : (desk : Desk) (controller : Standing) (samples more : List ℕ) → samples ≡ more → desk_with desk controller desk.tally.rejected samples ≡ desk_then desk controller more false
-desk_sampled desk controller samples more e = rw (e, append-nil desk.tally.rejected) refl
+pub desk_sampled : (desk : Desk) (controller : Standing) (samples more : List ℕ) → samples ≡ more → desk_with desk controller desk.totals.rejected samples ≡ desk_then desk controller more false
+desk_sampled desk controller samples more e = rw (e, append-nil desk.totals.rejected) refl
 
-pub desk_rejected : (desk : Desk) (controller : Standing) (rejected : List ℕ) → rejected ≡ desk.tally.rejected ++ desk.tally.answered ∷ []
-    → desk_with desk controller rejected desk.tally.samples ≡ desk_then desk controller desk.tally.samples true
+pub desk_rejected : (desk : Desk) (controller : Standing) (rejected : List ℕ) → rejected ≡ desk.totals.rejected ++ desk.totals.answered ∷ []
+    → desk_with desk controller rejected desk.totals.samples ≡ desk_then desk controller desk.totals.samples true
 desk_rejected desk controller rejected e = rw e refl
 
 -- a request is what was offered
-pub decides_request : (snapshot files : List File) (choice : Choice) (costs : CostTable) (offers : List Offer) (tick : ℕ) (what : Meaning) (method target : List ℕ) (version : Version) (closing : Bool) (since : Option ℕ)
+pub decides_request : (snapshot files : List File) (choice : Choice) (costs : CostTable) (offers : List Offer) (origin : Origin) (what : Meaning) (method target : List ℕ) (version : Version) (closing : Bool) (since : Option ℕ)
     (o : Outcome) (cost : ℕ) (head : Bool) (old new : Desk) (away : Bool) → snapshot ≡ files → costs ≡ choice.costs → what ≡ Request method target version closing since
     → o ≡ outcome snapshot (asked method target) → head ≡ answers_head what
     → cost ≡ service costs o head (is_unmodified_file snapshot since o) (length_given snapshot o)
-    → Decides offers (record { tick = tick; service = cost } ∷ []) old new away → Decides offers (offer_at (terms_of files choice) tick what) old new away
-decides_request snapshot files choice costs offers tick what method target version closing since o cost head old new away same table is found heads costing decides =
+    → Decides offers (record { tier = origin.tier; tick = origin.tick; service = cost } ∷ []) old new away → Decides offers (offer_at (terms_of files choice) origin what) old new away
+decides_request snapshot files choice costs offers origin what method target version closing since o cost head old new away same table is found heads costing decides =
     let own : head ≡ is_head method = heads ∙ ap answers_head is in
     let e : cost ≡ service choice.costs (outcome files (asked method target)) (is_head method) (is_unmodified_file files since (outcome files (asked method target))) (length_given files (outcome files (asked method target))) =
     rw (found, same, own, table) at costing in
@@ -139,11 +138,11 @@ if_ok (Err e) P Q f h = tt
 
 -- ---- messages
 
--- the tally of one more message
-tally_more : (terms : Terms) (arrivals : List Arrival) (a : Arrival) (away : Bool) → away ≡ is_turned_away terms arrivals a
-    → noted (decided_tally (tally_of terms arrivals) (samples_of terms.rules (offers_of terms arrivals ++ offer_at terms a.origin.tick a.message.what)) away) (status_of (given {X = Unit {0}} terms away a.message.what)) (breaks_a_rule a.message.what)
-    ≡ tally_of terms (arrivals ++ a ∷ [])
-tally_more terms arrivals a away e =
+-- the totals of one more message
+totals_more : (terms : Terms) (arrivals : List Arrival) (a : Arrival) (away : Bool) → away ≡ is_turned_away terms arrivals a
+    → noted (decided_totals (totals_of terms arrivals) (samples_of terms.policies (offers_of terms arrivals ++ offer_at terms a.origin a.message.what)) away) (status_of (given {X = Unit {0}} terms away a.message.what)) (breaks_a_rule a.message.what)
+    ≡ totals_of terms (arrivals ++ a ∷ [])
+totals_more terms arrivals a away e =
     let len : length (arrivals ++ a ∷ []) ≡ length arrivals + 1 = length-append arrivals (a ∷ []) in
     rw (
       e,
@@ -156,73 +155,73 @@ tally_more terms arrivals a away e =
     ) refl
 
 pub stands_more : (terms : Terms) (arrivals : List Arrival) (a : Arrival) (away : Bool) (old mid new : Desk) (status : ℕ) → Stands terms arrivals old
-    → Decides (offers_of terms arrivals) (offer_at terms a.origin.tick a.message.what) old mid away
+    → Decides (offers_of terms arrivals) (offer_at terms a.origin a.message.what) old mid away
     → status ≡ status_of (given {X = Unit {0}} terms away a.message.what)
-    → new.controller ≡ mid.controller → new.tally ≡ noted mid.tally status (breaks_a_rule a.message.what)
+    → new.controller ≡ mid.controller → new.totals ≡ noted mid.totals status (breaks_a_rule a.message.what)
     → length arrivals < 1048576 → Stands terms (arrivals ++ a ∷ []) new
 stands_more terms arrivals a away old mid new status stands decides told same counted few =
-    let away_is : away ≡ is_turned_away terms arrivals a = rw stands.rules at decides.is_away in
+    let away_is : away ≡ is_turned_away terms arrivals a = rw stands.policies at decides.is_away in
     record {
-      rules = ap (λ c. c.rules) same ∙ decides.rules ∙ stands.rules;
+      policies = ap policies_of same ∙ decides.policies ∙ stands.policies;
       fits = rw (same, offers_more terms arrivals a) decides.fits;
-      tally = counted ∙ rw (decides.tally, stands.tally, stands.rules, told) (tally_more terms arrivals a away away_is);
+      totals = counted ∙ rw (decides.totals, stands.totals, stands.policies, told) (totals_more terms arrivals a away away_is);
       few = let len = length-append arrivals (a ∷ []) in omega (arith, len, few);
     }
 
-pub stands_none : (terms : Terms) (desk : Desk) → desk.controller.rules ≡ terms.rules → Fits [] desk.controller
-    → desk.tally ≡ record { answered = 0; counts = no_counts; bypassed = 0; rejected = []; samples = [] } → Stands terms [] desk
+pub stands_none : (terms : Terms) (desk : Desk) → (policies_of desk.controller) ≡ terms.policies → Fits [] desk.controller
+    → desk.totals ≡ record { answered = 0; counts = no_counts; bypassed = 0; rejected = []; samples = [] } → Stands terms [] desk
 unfolding offers_of samples_of handled_behind served decided_from
-stands_none terms desk rules fits tally = record { rules = rules; fits = fits; tally = tally; few = omega arith }
+stands_none terms desk rules fits totals = record { policies = rules; fits = fits; totals = totals; few = omega arith }
 
 -- ---- what the desk's calls ask
 
-pub answered_is : (terms : Terms) (arrivals : List Arrival) (desk : Desk) → Stands terms arrivals desk → desk.tally.answered ≡ length arrivals
-answered_is terms arrivals desk stands = ap (λ t. t.answered) stands.tally
+pub answered_is : (terms : Terms) (arrivals : List Arrival) (desk : Desk) → Stands terms arrivals desk → desk.totals.answered ≡ length arrivals
+answered_is terms arrivals desk stands = ap (λ t. t.answered) stands.totals
 
-pub samples_are : (terms : Terms) (arrivals : List Arrival) (desk : Desk) → Stands terms arrivals desk → desk.tally.samples ≡ samples_of desk.controller.rules (offers_of terms arrivals)
-samples_are terms arrivals desk stands = rw stands.rules (ap (λ t. t.samples) stands.tally)
+pub samples_are : (terms : Terms) (arrivals : List Arrival) (desk : Desk) → Stands terms arrivals desk → desk.totals.samples ≡ samples_of (policies_of desk.controller) (offers_of terms arrivals)
+samples_are terms arrivals desk stands = rw stands.policies (ap (λ t. t.samples) stands.totals)
 
-pub counts_room : (terms : Terms) (arrivals : List Arrival) (desk : Desk) (n : ℕ) → Stands terms arrivals desk → length arrivals < n → AreBelow n desk.tally.counts
+pub counts_room : (terms : Terms) (arrivals : List Arrival) (desk : Desk) (n : ℕ) → Stands terms arrivals desk → length arrivals < n → AreBelow n desk.totals.counts
 counts_room terms arrivals desk n stands lt =
     let len : length (handled terms arrivals) ≡ length arrivals = handled_count terms [] arrivals in
-    rw (ap (λ t. t.counts) stands.tally) (counts_below terms (handled terms arrivals) n (omega (arith, len, lt)))
+    rw (ap (λ t. t.counts) stands.totals) (counts_below terms (handled terms arrivals) n (omega (arith, len, lt)))
 
-pub bypassed_room : (terms : Terms) (arrivals : List Arrival) (desk : Desk) (n : ℕ) → Stands terms arrivals desk → length arrivals < n → desk.tally.bypassed < n
+pub bypassed_room : (terms : Terms) (arrivals : List Arrival) (desk : Desk) (n : ℕ) → Stands terms arrivals desk → length arrivals < n → desk.totals.bypassed < n
 bypassed_room terms arrivals desk n stands lt =
-    let is : desk.tally.bypassed ≡ bypassed_of arrivals = ap (λ t. t.bypassed) stands.tally in
+    let is : desk.totals.bypassed ≡ bypassed_of arrivals = ap (λ t. t.bypassed) stands.totals in
     let few = bypassed_few arrivals in
     omega (arith, is, few, lt)
 
-pub controls_are : (terms : Terms) (arrivals : List Arrival) (desk : Desk) (controls : List Control) → Stands terms arrivals desk
-    → ((offers : List Offer) → Fits offers desk.controller → controls ≡ controls_until desk.controller.rules (served (decided desk.controller.rules offers)) (tick_from 0 offers))
-    → controls ≡ controls_shown terms.rules (offers_of terms arrivals)
-unfolding controls_shown
-controls_are terms arrivals desk controls stands told = rw stands.rules at (told (offers_of terms arrivals) stands.fits)
+-- what became of the requests of a tier
+pub tally_is : (terms : Terms) (arrivals : List Arrival) (desk : Desk) (tally : Tally) (tier : ℕ) → Stands terms arrivals desk
+    → ((offers : List Offer) → Fits offers desk.controller → tally ≡ tally_of (policies_of desk.controller) offers tier)
+    → tally ≡ tally_of terms.policies (offers_of terms arrivals) tier
+tally_is terms arrivals desk tally tier stands told = rw stands.policies at (told (offers_of terms arrivals) stands.fits)
 
 -- ---- one message at the desk
 
 -- the message may still be counted
-pub room_left : (terms : Terms) (arrivals : List Arrival) (desk : Desk) → Stands terms arrivals desk → desk.tally.answered ≢ 1048576 → desk.tally.answered < 1048576
+pub room_left : (terms : Terms) (arrivals : List Arrival) (desk : Desk) → Stands terms arrivals desk → desk.totals.answered ≢ 1048576 → desk.totals.answered < 1048576
 room_left terms arrivals desk stands full = let e = answered_is terms arrivals desk stands in let few = stands.few in omega (arith, e, few, full)
 
 -- what the desk has made of a message that is told this
 abbrev pub Judged : {X : Type 0} → Terms → List Offer → Origin → Meaning → Desk → Desk → Given X → Type 0
-Judged terms offers origin what old mid told = (away : Bool) × Decides offers (offer_at terms origin.tick what) old mid away × (told ≡ given terms away what)
+Judged terms offers origin what old mid told = (away : Bool) × Decides offers (offer_at terms origin what) old mid away × (told ≡ given terms away what)
 
 pub counts_kept : (X : Type 0) (terms : Terms) (arrivals : List Arrival) (origin : Origin) (what : Meaning) (old mid : Desk) (told : Given X) (n : ℕ) → Stands terms arrivals old
-    → Judged terms (offers_of terms arrivals) origin what old mid told → length arrivals < n → AreBelow n mid.tally.counts × (mid.tally.bypassed < n) × (mid.tally.answered ≡ old.tally.answered)
+    → Judged terms (offers_of terms arrivals) origin what old mid told → length arrivals < n → AreBelow n mid.totals.counts × (mid.totals.bypassed < n) × (mid.totals.answered ≡ old.totals.answered)
 counts_kept X terms arrivals origin what old mid told n stands judged lt =
-    let kept = judged.1.tally in (
+    let kept = judged.1.totals in (
       rw kept (counts_room terms arrivals old n stands lt),
       rw kept (bypassed_room terms arrivals old n stands lt),
       ap (λ t. t.answered) kept,
     )
 
-pub stands_after : (X : Type 0) (terms : Terms) (arrivals : List Arrival) (a : Arrival) (origin : Origin) (what : Meaning) (old mid : Desk) (tally : Tally) (told : Given X) → Stands terms arrivals old
-    → a.origin ≡ origin → a.message.what ≡ what → old.tally.answered < 1048576 → Judged terms (offers_of terms arrivals) origin what old mid told
-    → tally ≡ noted mid.tally (status_of told) (breaks_a_rule what)
-    → Stands terms (arrivals ++ a ∷ []) (record { start = mid.start; controller = mid.controller; tally = tally })
-stands_after X terms arrivals a origin what old mid tally told stands from meaning room judged counted =
+pub stands_after : (X : Type 0) (terms : Terms) (arrivals : List Arrival) (a : Arrival) (origin : Origin) (what : Meaning) (old mid : Desk) (totals : Totals) (told : Given X) → Stands terms arrivals old
+    → a.origin ≡ origin → a.message.what ≡ what → old.totals.answered < 1048576 → Judged terms (offers_of terms arrivals) origin what old mid told
+    → totals ≡ noted mid.totals (status_of told) (breaks_a_rule what)
+    → Stands terms (arrivals ++ a ∷ []) (record { start = mid.start; controller = mid.controller; totals = totals })
+stands_after X terms arrivals a origin what old mid totals told stands from meaning room judged counted =
     let e = answered_is terms arrivals old stands in
     let status : status_of told ≡ status_of (given {X = Unit {0}} terms judged.0 a.message.what) = rw (judged.2, meaning) (status_same X (Unit {0}) terms judged.0 what) in
     stands_more terms arrivals a judged.0 old mid _ (status_of told) stands (rw (from, meaning) judged.1) status refl (rw meaning counted) (omega (arith, e, room))
@@ -230,10 +229,10 @@ stands_after X terms arrivals a origin what old mid tally told stands from meani
 pub slip_is : (X : Type 0) (terms : Terms) (start : ℕ) (arrivals : List Arrival) (a : Arrival) (origin : Origin) (what : Meaning) (old mid : Desk) (told : Given X) (conn : ℕ) (head : Bool) (link : Link) (slip : Slip X)
     → Stands terms arrivals old → a.origin ≡ origin → a.message.what ≡ what → Judged terms (offers_of terms arrivals) origin what old mid told
     → conn ≡ origin.conn → head ≡ answers_head what → link ≡ link_of what
-    → slip ≡ record { number = old.tally.answered; conn = conn; date = start + origin.tick / 1000000; head = head; link = link; what = told }
+    → slip ≡ record { number = old.totals.answered; conn = conn; date = start + origin.tick / 1000000; head = head; link = link; what = told }
     → slip ≡ slip_of terms start (handled_next terms arrivals a)
 slip_is X terms start arrivals a origin what old mid told conn head link slip stands from meaning judged conns heads links slips =
-    let away_is : judged.0 ≡ is_turned_away terms arrivals a = rw (from, meaning) (rw stands.rules at judged.1.is_away) in
+    let away_is : judged.0 ≡ is_turned_away terms arrivals a = rw (from, meaning) (rw stands.policies at judged.1.is_away) in
     slips ∙ rw (answered_is terms arrivals old stands, conns, heads, links, judged.2, away_is, from, meaning) refl
 
 -- what a message's reply has written

@@ -15,4 +15,6 @@ pub mod CutBatches
 pub mod Merges
 pub mod Laid
 pub mod Upcoming
+pub mod Tiered
 pub mod ByBatch
+pub mod Former

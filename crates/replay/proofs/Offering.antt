@@ -15,20 +15,21 @@ use Rattle.admission.specs.Fits.{tick_from}
 use Rattle.admission.proofs.RequestLemmas.{decided_from-push, served-push, last_finish-push}
 use Rattle.replay.specs.Choices.{Terms}
 use Rattle.replay.specs.Arrivals.{Arrival}
+use Rattle.replay.specs.declared.origin.Origin.{Origin}
 use Rattle.replay.specs.Offers.{offer_at, offers_of, rejects, handled_next, handled_behind, handled}
 use Rattle.replay.specs.Counting.{samples_of}
 use Rattle.replay.specs.Serving.{AreBy}
 
 -- ---- offers
 
-pub offers_more : (terms : Terms) (arrivals : List Arrival) (a : Arrival) → offers_of terms (arrivals ++ a ∷ []) ≡ offers_of terms arrivals ++ offer_at terms a.origin.tick a.message.what
+pub offers_more : (terms : Terms) (arrivals : List Arrival) (a : Arrival) → offers_of terms (arrivals ++ a ∷ []) ≡ offers_of terms arrivals ++ offer_at terms a.origin a.message.what
 unfolding offers_of
 offers_more terms arrivals a =
-    flat_map-append (λ a. offer_at terms a.origin.tick a.message.what) arrivals (a ∷ []) ∙ ap (λ xs. offers_of terms arrivals ++ xs) (append-nil (offer_at terms a.origin.tick a.message.what))
+    flat_map-append (λ a. offer_at terms a.origin a.message.what) arrivals (a ∷ []) ∙ ap (λ xs. offers_of terms arrivals ++ xs) (append-nil (offer_at terms a.origin a.message.what))
 
-offer_few : (terms : Terms) (tick : ℕ) (what : Meaning) → length (offer_at terms tick what) ≤ 1
-offer_few terms tick (Request method target version closing since) = omega arith
-offer_few terms tick (Bad fault) = omega arith
+offer_few : (terms : Terms) (origin : Origin) (what : Meaning) → length (offer_at terms origin what) ≤ 1
+offer_few terms origin (Request method target version closing since) = omega arith
+offer_few terms origin (Bad fault) = omega arith
 
 pub offers_few : (terms : Terms) (arrivals : List Arrival) → length (offers_of terms arrivals) ≤ length arrivals
 unfolding offers_of
@@ -36,8 +37,8 @@ offers_few terms [] = omega arith
 offers_few terms (a ∷ arrivals) = omega (
   arith,
   offers_few terms arrivals,
-  offer_few terms a.origin.tick a.message.what,
-  length-append (offer_at terms a.origin.tick a.message.what) (offers_of terms arrivals),
+  offer_few terms a.origin a.message.what,
+  length-append (offer_at terms a.origin a.message.what) (offers_of terms arrivals),
 )
 
 offers_by : (terms : Terms) (arrivals : List Arrival) (first tick : ℕ) → first ≤ tick → AreBy tick arrivals → tick_from first (offers_of terms arrivals) ≤ tick
@@ -57,35 +58,35 @@ last_by terms arrivals tick by = offers_by terms arrivals 0 tick (omega arith) b
 
 -- ---- decisions
 
-decided_more : (rules : Rules) (offers : List Offer) (offer : Offer) → decided rules (offers ++ offer ∷ []) ≡ decided rules offers ++ decided_next rules (decided rules offers) offer ∷ []
-decided_more rules offers offer = decided_from-push rules [] offers offer
+decided_more : (policies : List Rules) (offers : List Offer) (offer : Offer) → decided policies (offers ++ offer ∷ []) ≡ decided policies offers ++ decided_next policies (decided policies offers) offer ∷ []
+decided_more policies offers offer = decided_from-push policies [] offers offer
 
 -- an admitted request has a sample, which is from its arrival to its finish
-pub samples_admitted : (rules : Rules) (offers : List Offer) (offer : Offer) (finish : ℕ) → Admitted finish ≡ decide rules (decided rules offers) offer
-    → samples_of rules (offers ++ offer ∷ []) ≡ samples_of rules offers ++ (finish - offer.tick) ∷ []
+pub samples_admitted : (policies : List Rules) (offers : List Offer) (offer : Offer) (finish : ℕ) → Admitted finish ≡ decide policies (decided policies offers) offer
+    → samples_of policies (offers ++ offer ∷ []) ≡ samples_of policies offers ++ (finish - offer.tick) ∷ []
 unfolding samples_of
-samples_admitted rules offers offer finish e =
-    let next = decided_next rules (decided rules offers) offer in
+samples_admitted policies offers offer finish e =
+    let next = decided_next policies (decided policies offers) offer in
     let own : as_served offer next.decision ≡ record { offer = offer; finish = finish } ∷ [] = rw (← e) refl in
-    rw (decided_more rules offers offer, served-push (decided rules offers) next, own)
-    (map-append (λ r. r.finish - r.offer.tick) (served (decided rules offers)) (record { offer = offer; finish = finish } ∷ []))
+    rw (decided_more policies offers offer, served-push (decided policies offers) next, own)
+    (map-append (λ r. r.finish - r.offer.tick) (served (decided policies offers)) (record { offer = offer; finish = finish } ∷ []))
 
 -- a rejected one has none
-pub samples_rejected : (rules : Rules) (offers : List Offer) (offer : Offer) → Rejected ≡ decide rules (decided rules offers) offer
-    → samples_of rules (offers ++ offer ∷ []) ≡ samples_of rules offers
+pub samples_rejected : (policies : List Rules) (offers : List Offer) (offer : Offer) → Rejected ≡ decide policies (decided policies offers) offer
+    → samples_of policies (offers ++ offer ∷ []) ≡ samples_of policies offers
 unfolding samples_of
-samples_rejected rules offers offer e =
-    let next = decided_next rules (decided rules offers) offer in
+samples_rejected policies offers offer e =
+    let next = decided_next policies (decided policies offers) offer in
     let own : as_served offer next.decision ≡ [] = rw (← e) refl in
-    rw (decided_more rules offers offer, served-push (decided rules offers) next, own, append-nil (served (decided rules offers))) refl
+    rw (decided_more policies offers offer, served-push (decided policies offers) next, own, append-nil (served (decided policies offers))) refl
 
-pub is_admitted_one : (rules : Rules) (offers : List Offer) (offer : Offer) (finish : ℕ) → Admitted finish ≡ decide rules (decided rules offers) offer → false ≡ list_any (rejects rules offers) (offer ∷ [])
+pub is_admitted_one : (policies : List Rules) (offers : List Offer) (offer : Offer) (finish : ℕ) → Admitted finish ≡ decide policies (decided policies offers) offer → false ≡ list_any (rejects policies offers) (offer ∷ [])
 unfolding rejects
-is_admitted_one rules offers offer finish e = rw (← e) refl
+is_admitted_one policies offers offer finish e = rw (← e) refl
 
-pub is_rejected_one : (rules : Rules) (offers : List Offer) (offer : Offer) → Rejected ≡ decide rules (decided rules offers) offer → true ≡ list_any (rejects rules offers) (offer ∷ [])
+pub is_rejected_one : (policies : List Rules) (offers : List Offer) (offer : Offer) → Rejected ≡ decide policies (decided policies offers) offer → true ≡ list_any (rejects policies offers) (offer ∷ [])
 unfolding rejects
-is_rejected_one rules offers offer e = rw (← e) refl
+is_rejected_one policies offers offer e = rw (← e) refl
 
 abbrev finish_or : ℕ → Decision → ℕ
 finish_or other (Admitted finish) = finish
@@ -96,8 +97,8 @@ finish_is true own finish e = ap (finish_or own) e
 finish_is false own finish e = ap (finish_or own) e
 
 -- a request is finished no earlier than it came
-pub finish_late : (rules : Rules) (past : List Decided) (offer : Offer) (finish : ℕ) → Admitted finish ≡ decide rules past offer → offer.tick ≤ finish
-finish_late rules past offer finish e =
+pub finish_late : (policies : List Rules) (past : List Decided) (offer : Offer) (finish : ℕ) → Admitted finish ≡ decide policies past offer → offer.tick ≤ finish
+finish_late policies past offer finish e =
     let is : finish ≡ finish_behind (served past) offer = finish_is _ _ _ e in
     let late = last_finish-push (map (λ r. r.offer) (served past)) offer in
     omega (arith, is, late)

@@ -1,8 +1,7 @@
 -- A capture has one answer.
-use Rattle.std.proofs.Common.{◌≡◌, ◌∙◌, ℕ, List, ◌++◌, Option, Some, None, true, false, is_some, refl, sym, ap}
+use Rattle.std.proofs.Common.{◌≡◌, ◌∙◌, ℕ, List, ◌++◌, Option, Some, None, true, false, is_some, unwrap_or, [], refl, sym, ap}
 use Rattle.std.specs.Io.KnownBytes.{Appends}
-use Rattle.captures.specs.Captures.{version_one}
-use Rattle.captures.proofs.Agree.{one_list, plain_one}
+use Rattle.captures.proofs.Agree.{one_list}
 use Rattle.replay.specs.Counting.{rejected_of, summary_of}
 use Rattle.replay.specs.Laws.{OneAnswer}
 use Rattle.replay.specs.Offers.{handled}
@@ -21,10 +20,10 @@ same_outcome : (a b : Outcome) → a.rejected ≡ b.rejected → a.summary ≡ b
 same_outcome a b rejected summary = rw (rejected, summary) refl
 
 pub one_answer : OneAnswer
-one_answer terms input old new other outcome another known a b =
-    let capture = one_list version_one input a.start b.start a.records b.records plain_one a.capture b.capture in
-    let arrivals : a.arrivals ≡ b.arrivals = one_list_of_arrivals b.records a.arrivals b.arrivals (rw (← capture.1) a.arrived) b.arrived in
-    let text = ap (λ start. replies_text (replies_of terms start (handled terms a.arrivals))) capture.0 ∙ ap (λ xs. replies_text (replies_of terms b.start (handled terms xs))) arrivals in (
+one_answer terms input old new other outcome another given known a b =
+    let capture = one_list (unwrap_or input []) a.version b.version a.start b.start a.records b.records (a.capture given) (b.capture given) in
+    let arrivals : a.arrivals ≡ b.arrivals = one_list_of_arrivals b.records a.arrivals b.arrivals (rw (← capture.2) a.arrived) b.arrived in
+    let text = ap (λ start. replies_text (replies_of terms start (handled terms a.arrivals))) capture.1 ∙ ap (λ xs. replies_text (replies_of terms b.start (handled terms xs))) arrivals in (
       grows_once old new other _ _ known text a.written b.written,
       same_outcome outcome another (a.rejected ∙ (ap (λ xs. rejected_of (handled terms xs)) arrivals ∙ sym b.rejected)) (a.summary ∙ (ap (λ xs. summary_of terms xs) arrivals ∙ sym b.summary)),
     )

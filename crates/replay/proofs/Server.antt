@@ -1,9 +1,9 @@
 -- How the plain engine goes on by one more record, and how it ends.
-use Rattle.std.proofs.Common.{◌≡◌, ◌≢◌, ℕ, suc, zero, ◌+◌, ◌<◌, ◌≤◌, inl, inr, true, List, [], ◌∷◌, ◌++◌, length, take, map, get_or, Option, Some, None, Result, Ok, Err, refl, sym, ap, ◌∙◌, subst, arith, append-nil, is_some, unwrap_or}
+use Rattle.std.proofs.Common.{◌≡◌, ◌≢◌, ℕ, suc, zero, ◌+◌, ◌<◌, ◌≤◌, ◌==◌, inl, inr, List, [], ◌∷◌, ◌++◌, length, take, map, get_or, Option, Some, None, Result, Ok, Err, refl, sym, ap, ◌∙◌, subst, arith, append-nil, unwrap_or}
 use Rattle.std.specs.Prelude.{OnOk, IfErr}
 use Rattle.std.specs.List.{AllPairs}
-use Rattle.std.specs.Prelude.{slice_get, option_map}
-use Rattle.std.proofs.lemmas.Option.{slice_get_within, get_or_from_slice_get}
+use Rattle.std.specs.Prelude.{slice_get, option_map, if◌then◌else◌}
+use Rattle.std.proofs.lemmas.Option.{slice_get_within, get_or_from_slice_get, same_Some}
 use Rattle.std.proofs.lemmas.Grind.{common_steps, flat_map-append}
 use Rattle.std.proofs.lemmas.Bool.Decides.{eqb_tells}
 use Rattle.std.proofs.lemmas.List.{length-append, length-map, get_or_append_left}
@@ -11,14 +11,18 @@ use Rattle.std.proofs.lemmas.List.Sums.{sum_by-cons}
 use Rattle.std.proofs.Math.Seq.{get_or-append_seam, take-append-add}
 use Rattle.std.specs.Io.KnownBytes.{Appends}
 use Rattle.captures.specs.declared.record.Record.{Record}
-use Rattle.captures.specs.declared.record.Record.TheVariants.{Piece, End}
+use Rattle.captures.specs.declared.record.Record.TheVariants.{Piece, End, Tier}
 use Rattle.captures.specs.declared.progress.Progress.{Progress}
 use Rattle.captures.specs.declared.capture_fault.CaptureFault.{CaptureFault}
 use Rattle.captures.specs.declared.capture_fault.CaptureFaultKind.{CaptureFaultKind}
 use Rattle.captures.specs.declared.capture_fault.CaptureFaultKind.TheVariants as kinds
 use Rattle.captures.specs.CaptureFaults.{IsForeseen, IsHeaderFault, IsFaultBehind, failures_of}
-use Rattle.captures.specs.Captures.{Version, version_one, IsCapture, IsRecord, IsCaptureText, size_of, sizes_of, tick_of, ticks_of}
-use Rattle.captures.specs.Readers.{Fits, Gave}
+use Rattle.captures.specs.declared.version.Version.{Version}
+use Rattle.captures.specs.Captures.{tier_of, IsCapture, IsRecord, IsCaptureText, size_of, sizes_of, tick_of, ticks_of}
+use Rattle.captures.specs.Readers.{Fits, Gave, FailsNext}
+use Rattle.captures.proofs.Tiers.{tier_of_none, tier_of_piece, tier_of_end, tier_of_tier}
+use Rattle.replay.specs.Tiers.{tier_at, AreTiers}
+use Rattle.replay.specs.Batches.{with_tier}
 use Rattle.http_requests.specs.declared.messages.Message.{Message}
 use Rattle.replay.specs.declared.origin.Origin.{Origin}
 use Rattle.replay.specs.declared.desk.Desk.{Desk}
@@ -34,8 +38,8 @@ use Rattle.replay.specs.Offers.{handled}
 use Rattle.replay.specs.Replies.{replies_of, first_line, last_line, text_before_stop, replies_text}
 use Rattle.replay.specs.Counting.{summary_of}
 use Rattle.replay.specs.Serving.{Stands, AreBy, IsLater, Serves, Written, WrittenInPart, ServesMore, ServesFull, ServesInPart}
-use Rattle.replay.specs.Outcomes.{Answers, AppendsInPart, told_as, capture_fault, IfCapture, IfTooMany, IfCutShort, IsOwn, IsWriteOrMemory, IsCutShort, StopsFull, Stops, reader_failures, writer_failures}
-use Rattle.replay.proofs.Arriving.{from_piece, reads_none, arrives_none, reads_piece, reads_end, arrives_piece, arrives_end}
+use Rattle.replay.specs.Outcomes.{Answers, AppendsInPart, told_as, capture_fault, IfCapture, IfTooMany, IfCutShort, IsOwn, IsWriteOrMemory, IsCutShort, StopsFull, Stops, Taken, WhereKnown, reader_failures, writer_failures}
+use Rattle.replay.proofs.Arriving.{from_piece, reads_none, arrives_none, reads_piece, reads_end, reads_tier, arrives_piece, arrives_end, arrives_tier}
 use Rattle.replay.proofs.Writing.{appends_then, part_all, part_then, written_none, text_none, text_more, replies_count}
 use Rattle.replay.proofs.Judging.{answered_is}
 
@@ -47,6 +51,7 @@ bytes_below c (Piece tick conn bytes) = elim (eqb_tells conn c) [
   | inr other ↦ rw other.0 (omega arith)
 ]
 bytes_below c (End tick conn) = omega arith
+bytes_below c (Tier conn tier) = omega arith
 
 pub text_below : (c : ℕ) (records : List Record) → length (text_of c records) ≤ sizes_of records
 text_below c [] = omega arith
@@ -65,21 +70,45 @@ has_room terms records arrivals connections desk c n serves room =
 
 -- ---- ticks
 
+-- the tick that a record gives, 0 where it gives none
 abbrev tick_in : Record → ℕ
 tick_in (Piece tick conn bytes) = tick
 tick_in (End tick conn) = tick
+tick_in (Tier conn tier) = 0
 
-ticks_count : (records : List Record) → length (ticks_of records) ≡ length records
-ticks_count [] = refl
-ticks_count (Piece tick conn bytes ∷ records) = ap (λ n. suc n) (ticks_count records)
-ticks_count (End tick conn ∷ records) = ap (λ n. suc n) (ticks_count records)
+-- a record that isn't a piece
+abbrev IsOther : Record → Type 0
+IsOther (Piece tick conn bytes) = ⊥
+IsOther (End tick conn) = Unit {0}
+IsOther (Tier conn tier) = Unit {0}
 
-pub tick_at : (records : List Record) (i tick conn : ℕ) (bytes : List ℕ) → slice_get records i ≡ Some (Piece tick conn bytes) → slice_get (ticks_of records) i ≡ Some tick
+-- how many ticks the records before a place give
+pub ticks_before : List Record → ℕ → ℕ
+ticks_before records i = length (ticks_of (take i records))
+
+pub ticks_before_le : (records : List Record) (i j : ℕ) → i ≤ j → ticks_before records i ≤ ticks_before records j
+unfolding ticks_before
+ticks_before_le records zero j le = omega arith
+ticks_before_le [] (suc i) zero le = absurd (omega (arith, le))
+ticks_before_le [] (suc i) (suc j) le = omega arith
+ticks_before_le (r ∷ records) (suc i) zero le = absurd (omega (arith, le))
+ticks_before_le (r ∷ records) (suc i) (suc j) le =
+    let rest = ticks_before_le records i j (omega (arith, le)) in
+    omega (arith, rest, length-append (tick_of r) (ticks_of (take i records)), length-append (tick_of r) (ticks_of (take j records)))
+
+not_piece : (r : Record) (tick conn : ℕ) (bytes : List ℕ) → IsOther r → Some r ≡ Some (Piece tick conn bytes) → ⊥
+not_piece r tick conn bytes other e = subst IsOther (same_Some _ _ e) other
+
+pub tick_at : (records : List Record) (i tick conn : ℕ) (bytes : List ℕ) → slice_get records i ≡ Some (Piece tick conn bytes)
+    → slice_get (ticks_of records) (ticks_before records i) ≡ Some tick
+unfolding ticks_before
 tick_at [] i tick conn bytes h = absurd (let lt = slice_get_within [] i (Piece tick conn bytes) h in omega (arith, lt))
 tick_at (Piece t c b ∷ records) zero tick conn bytes h = ap (λ o. option_map tick_in o) h
-tick_at (End t c ∷ records) zero tick conn bytes h = ap (λ o. option_map tick_in o) h
+tick_at (End t c ∷ records) zero tick conn bytes h = absurd (not_piece (End t c) tick conn bytes tt h)
+tick_at (Tier c t ∷ records) zero tick conn bytes h = absurd (not_piece (Tier c t) tick conn bytes tt h)
 tick_at (Piece t c b ∷ records) (suc i) tick conn bytes h = tick_at records i tick conn bytes h
 tick_at (End t c ∷ records) (suc i) tick conn bytes h = tick_at records i tick conn bytes h
+tick_at (Tier c t ∷ records) (suc i) tick conn bytes h = tick_at records i tick conn bytes h
 
 -- the last of ticks that don't fall is no earlier than the others
 last_latest : (ticks : List ℕ) (last i tick : ℕ) → AllPairs (λ s t. s ≤ t) (ticks ++ last ∷ []) → slice_get ticks i ≡ Some tick → tick ≤ last
@@ -95,18 +124,35 @@ by_last : (records : List Record) (arrivals : List Arrival) (last : ℕ) → All
 by_last records arrivals last rising arrived = λ k d lt.
     let a = get_or arrivals k d in
     let with = arrived.with k d lt in
-    last_latest (ticks_of records) last a.place a.origin.tick rising (tick_at records a.place a.origin.tick a.origin.conn with.bytes with.piece)
+    last_latest (ticks_of records) last (ticks_before records a.place) a.origin.tick rising (tick_at records a.place a.origin.tick a.origin.conn with.bytes with.piece)
 
 -- a record that comes behind others is no earlier than all that arrived with them
 pub is_later : (v : Version) (start : ℕ) (records : List Record) (arrivals : List Arrival) (r : Record) → IsCapture v start (records ++ r ∷ []) → AreArrivals records arrivals → IsLater r arrivals
 is_later v start records arrivals (Piece tick conn bytes) rules arrived =
     by_last records arrivals tick (subst (λ (ts : List ℕ). AllPairs (λ s t. s ≤ t) ts) (flat_map-append tick_of records (Piece tick conn bytes ∷ [])) rules.rising) arrived
 is_later v start records arrivals (End tick conn) rules arrived = tt
+is_later v start records arrivals (Tier conn tier) rules arrived = tt
 
 -- ---- one more record
 
 pub serves_none : (terms : Terms) (connections : List Connection) (desk : Desk) → connections ≡ [] → Stands terms [] desk → Serves terms [] [] connections desk
 serves_none terms connections desk none stands = record { reads = rw none reads_none; arrived = arrives_none; stands = stands }
+
+-- a piece and an end leave the tiers as they are
+pub tiers_after_piece : (tick conn : ℕ) (bytes : List ℕ) (r : Record) (records : List Record) (tiers : List ℕ) → r ≡ Piece tick conn bytes → AreTiers records tiers → AreTiers (records ++ r ∷ []) tiers
+tiers_after_piece tick conn bytes r records tiers is are = λ c. are c ∙ sym (ap (λ x. tier_of c (records ++ x ∷ [])) is ∙ tier_of_piece c records tick conn bytes)
+
+pub tiers_after_end : (tick conn : ℕ) (r : Record) (records : List Record) (tiers : List ℕ) → r ≡ End tick conn → AreTiers records tiers → AreTiers (records ++ r ∷ []) tiers
+tiers_after_end tick conn r records tiers is are = λ c. are c ∙ sym (ap (λ x. tier_of c (records ++ x ∷ [])) is ∙ tier_of_end c records tick conn)
+
+pub tiers_after_tier : (conn tier : ℕ) (r : Record) (records : List Record) (old new : List ℕ) → r ≡ Tier conn tier → ((c : ℕ) → tier_at new c ≡ with_tier conn tier (tier_at old) c)
+    → AreTiers records old → AreTiers (records ++ r ∷ []) new
+tiers_after_tier conn tier r records old new is given are = λ c.
+    given c ∙ ap (λ t. if conn == c then tier else t) (are c) ∙ sym (ap (λ x. tier_of c (records ++ x ∷ [])) is ∙ tier_of_tier c records conn tier)
+
+-- no connection was given a tier
+pub no_tiers : (tiers : List ℕ) → tiers ≡ [] → AreTiers [] tiers
+no_tiers tiers none = λ c. rw none (sym (tier_of_none c))
 
 pub serves_end : (terms : Terms) (tick conn : ℕ) (records : List Record) (arrivals : List Arrival) (r : Record) (connections : List Connection) (desk : Desk) (old : Option (List ℕ))
     → r ≡ End tick conn → Serves terms records arrivals connections desk → ServesMore terms records arrivals (r ∷ []) connections desk old old
@@ -115,6 +161,17 @@ serves_end terms tick conn records arrivals r connections desk old is serves =
     let more : Serves terms (records ++ End tick conn ∷ []) arrivals connections desk = record {
       reads = reads;
       arrived = arrives_end records arrivals connections tick conn serves.arrived reads;
+      stands = serves.stands;
+    } in
+    rw is (record { more = []; serves = rw (append-nil arrivals) more; written = written_none terms desk.start arrivals old })
+
+pub serves_tier : (terms : Terms) (conn tier : ℕ) (records : List Record) (arrivals : List Arrival) (r : Record) (connections : List Connection) (desk : Desk) (old : Option (List ℕ))
+    → r ≡ Tier conn tier → Serves terms records arrivals connections desk → ServesMore terms records arrivals (r ∷ []) connections desk old old
+serves_tier terms conn tier records arrivals r connections desk old is serves =
+    let reads = reads_tier records arrivals connections conn tier serves.reads in
+    let more : Serves terms (records ++ Tier conn tier ∷ []) arrivals connections desk = record {
+      reads = reads;
+      arrived = arrives_tier records arrivals connections conn tier serves.arrived reads;
       stands = serves.stands;
     } in
     rw is (record { more = []; serves = rw (append-nil arrivals) more; written = written_none terms desk.start arrivals old })
@@ -129,22 +186,22 @@ pub record Brought (records : List Record) (arrivals : List Arrival) (r : Record
   pub reads : HaveRead (records ++ r ∷ []) (arrivals ++ more) connections
   pub arrived : AreArrivals (records ++ r ∷ []) (arrivals ++ more)
 
-pub brought : (terms : Terms) (tick conn n : ℕ) (bytes piece : List ℕ) (ms out : List Message) (records : List Record) (arrivals : List Arrival) (r : Record) (before after : List Connection) (desk : Desk)
-    → r ≡ Piece tick conn bytes → n ≡ conn → piece ≡ bytes → ms ≡ out → Took n before after piece out → Serves terms records arrivals before desk
-    → Brought records arrivals r after (arrivals_with (length records) (from_piece tick conn) ms)
-brought terms tick conn n bytes piece ms out records arrivals r before after desk is named shown same took serves =
+pub brought : (terms : Terms) (tier tick conn n : ℕ) (bytes piece : List ℕ) (ms out : List Message) (records : List Record) (arrivals : List Arrival) (r : Record) (before after : List Connection) (desk : Desk)
+    → tier ≡ tier_of conn records → r ≡ Piece tick conn bytes → n ≡ conn → piece ≡ bytes → ms ≡ out → Took n before after piece out → Serves terms records arrivals before desk
+    → Brought records arrivals r after (arrivals_with (length records) (from_piece tier tick conn) ms)
+brought terms tier tick conn n bytes piece ms out records arrivals r before after desk own is named shown same took serves =
     let reading : (text : List ℕ) (sofar : List Message) → HasRead (connection_at before conn) text sofar → ReadMore text sofar (connection_at after conn) bytes ms = rw (named, shown, ← same) at took.own in
     let apart : (c : ℕ) → c ≢ conn → connection_at after c ≡ connection_at before c = rw named at took.others in
-    let reads = reads_piece records arrivals before after tick conn bytes ms serves.reads reading apart in
+    let reads = reads_piece records arrivals before after tier tick conn bytes ms serves.reads reading apart in
     let ends = (reading (text_of conn records) (messages_of conn arrivals) (serves.reads.each conn)).in_piece in
-    rw is (record { reads = reads; arrived = arrives_piece records arrivals after tick conn bytes ms serves.arrived ends reads })
+    rw is (record { reads = reads; arrived = arrives_piece records arrivals after tier tick conn bytes ms own serves.arrived ends reads })
 
-pub serves_piece : (terms : Terms) (tick conn : ℕ) (ms : List Message) (records : List Record) (arrivals : List Arrival) (r : Record) (after : List Connection) (desk now : Desk) (old new : Option (List ℕ))
-    → Brought records arrivals r after (arrivals_with (length records) (from_piece tick conn) ms) → now.start ≡ desk.start
-    → Stands terms (arrivals ++ arrivals_with (length records) (from_piece tick conn) ms) now
-    → Written terms desk.start arrivals (arrivals_with (length records) (from_piece tick conn) ms) old new → ServesMore terms records arrivals (r ∷ []) after now old new
-serves_piece terms tick conn ms records arrivals r after desk now old new brings start stands written = record {
-  more = arrivals_with (length records) (from_piece tick conn) ms;
+pub serves_piece : (terms : Terms) (tier tick conn : ℕ) (ms : List Message) (records : List Record) (arrivals : List Arrival) (r : Record) (after : List Connection) (desk now : Desk) (old new : Option (List ℕ))
+    → Brought records arrivals r after (arrivals_with (length records) (from_piece tier tick conn) ms) → now.start ≡ desk.start
+    → Stands terms (arrivals ++ arrivals_with (length records) (from_piece tier tick conn) ms) now
+    → Written terms desk.start arrivals (arrivals_with (length records) (from_piece tier tick conn) ms) old new → ServesMore terms records arrivals (r ∷ []) after now old new
+serves_piece terms tier tick conn ms records arrivals r after desk now old new brings start stands written = record {
+  more = arrivals_with (length records) (from_piece tier tick conn) ms;
   serves = record { reads = brings.reads; arrived = brings.arrived; stands = stands };
   written = rw start written;
 }
@@ -157,36 +214,36 @@ map_take f (suc i) (x ∷ xs) = ap (λ ys. f x ∷ ys) (map_take f i xs)
 take_with : (place : ℕ) (origin : Origin) (i : ℕ) (ms : List Message) → arrivals_with place origin (take i ms) ≡ take i (arrivals_with place origin ms)
 take_with place origin i ms = map_take (λ m. record { origin = origin; place = place; message = m }) i ms
 
-pub serves_full : (terms : Terms) (tick conn i : ℕ) (ms : List Message) (records : List Record) (arrivals : List Arrival) (r : Record) (after : List Connection) (before : List Connection) (desk : Desk) (old new : Option (List ℕ))
-    → Brought records arrivals r after (arrivals_with (length records) (from_piece tick conn) ms) → Serves terms records arrivals before desk
-    → i < length ms → desk.tally.answered + i ≡ 1048576 → Written terms desk.start arrivals (arrivals_with (length records) (from_piece tick conn) (take i ms)) old new
+pub serves_full : (terms : Terms) (tier tick conn i : ℕ) (ms : List Message) (records : List Record) (arrivals : List Arrival) (r : Record) (after : List Connection) (before : List Connection) (desk : Desk) (old new : Option (List ℕ))
+    → Brought records arrivals r after (arrivals_with (length records) (from_piece tier tick conn) ms) → Serves terms records arrivals before desk
+    → i < length ms → desk.totals.answered + i ≡ 1048576 → Written terms desk.start arrivals (arrivals_with (length records) (from_piece tier tick conn) (take i ms)) old new
     → ServesFull terms desk.start records arrivals (r ∷ []) old new
-serves_full terms tick conn i ms records arrivals r after before desk old new brings serves lt full written =
+serves_full terms tier tick conn i ms records arrivals r after before desk old new brings serves lt full written =
     let place = length records in
     let is = answered_is terms arrivals desk serves.stands in
-    let len : length (arrivals_with place (from_piece tick conn) ms) ≡ length ms = length-map ms _ in
+    let len : length (arrivals_with place (from_piece tier tick conn) ms) ≡ length ms = length-map ms _ in
     record {
-      more = arrivals_with place (from_piece tick conn) ms;
+      more = arrivals_with place (from_piece tier tick conn) ms;
       arrived = brings.arrived;
       within = i;
       full = omega (arith, is, full);
       beyond = omega (arith, len, lt);
-      written = rw (take_with place (from_piece tick conn) i ms) at written;
+      written = rw (take_with place (from_piece tier tick conn) i ms) at written;
     }
 
-pub serves_part : (terms : Terms) (tick conn i : ℕ) (ms : List Message) (records : List Record) (arrivals : List Arrival) (r : Record) (after : List Connection) (before : List Connection) (desk : Desk) (old new : Option (List ℕ))
-    → Brought records arrivals r after (arrivals_with (length records) (from_piece tick conn) ms) → Serves terms records arrivals before desk
-    → desk.tally.answered + i ≤ 1048576 → WrittenInPart terms desk.start arrivals (arrivals_with (length records) (from_piece tick conn) (take i ms)) old new
+pub serves_part : (terms : Terms) (tier tick conn i : ℕ) (ms : List Message) (records : List Record) (arrivals : List Arrival) (r : Record) (after : List Connection) (before : List Connection) (desk : Desk) (old new : Option (List ℕ))
+    → Brought records arrivals r after (arrivals_with (length records) (from_piece tier tick conn) ms) → Serves terms records arrivals before desk
+    → desk.totals.answered + i ≤ 1048576 → WrittenInPart terms desk.start arrivals (arrivals_with (length records) (from_piece tier tick conn) (take i ms)) old new
     → ServesInPart terms desk.start records arrivals (r ∷ []) old new
-serves_part terms tick conn i ms records arrivals r after before desk old new brings serves few written =
+serves_part terms tier tick conn i ms records arrivals r after before desk old new brings serves few written =
     let place = length records in
     let is = answered_is terms arrivals desk serves.stands in
     record {
-      more = arrivals_with place (from_piece tick conn) ms;
+      more = arrivals_with place (from_piece tier tick conn) ms;
       arrived = brings.arrived;
       within = i;
       few = omega (arith, is, few);
-      written = rw (take_with place (from_piece tick conn) i ms) at written;
+      written = rw (take_with place (from_piece tier tick conn) i ms) at written;
     }
 
 pub on_ok : {T E : Type 0} (r : Result T E) (A B C D : Type 0) → OnOk r A → OnOk r B → OnOk r C → (A → B → C → D) → OnOk r D
@@ -225,8 +282,8 @@ pub gave_some : (v : Version) (text now : Option (List ℕ)) (start : ℕ) (reco
     → Gave v text start records (Ok x) p now → Fits v text start (records ++ r ∷ []) p now
 gave_some v text now start records p x r is h = subst (λ (o : Option Record). Gave v text start records (Ok o) p now) is h
 
-pub gave_end : (v : Version) (text now : Option (List ℕ)) (start : ℕ) (records : List Record) (p : Progress) (x : Option Record) → x ≡ None → Gave v text start records (Ok x) p now → is_some text ≡ true
-    → IsCaptureText v (unwrap_or text []) start records
+pub gave_end : (v : Version) (text now : Option (List ℕ)) (start : ℕ) (records : List Record) (p : Progress) (x : Option Record) → x ≡ None → Gave v text start records (Ok x) p now
+    → WhereKnown text (λ bytes. IsCaptureText v bytes start records)
 gave_end v text now start records p x is h = subst (λ (o : Option Record). Gave v text start records (Ok o) p now) is h
 
 -- ---- the end
@@ -249,33 +306,39 @@ all_written terms start count arrivals old mid new e before after =
     rw n (appends_then old mid new (text_before_stop (replies_of terms start (handled terms arrivals))) (last_line count) before after)
 
 -- the whole capture was answered
-pub answers_all : (terms : Terms) (start count : ℕ) (records : List Record) (arrivals : List Arrival) (connections : List Connection) (desk : Desk) (input : List ℕ)
-    (old mid new : Option (List ℕ)) (outcome : Outcome) → IsCaptureText version_one input start records → Serves terms records arrivals connections desk
-    → Appends old mid (text_before_stop (replies_of terms start (handled terms arrivals))) → Appends mid new (last_line count) → count ≡ desk.tally.answered
-    → outcome.rejected ≡ desk.tally.rejected → outcome.summary ≡ summary_of terms arrivals → Answers terms input old new outcome
-answers_all terms start count records arrivals connections desk input old mid new outcome capture serves before last counted rejected told = record {
+pub answers_all : (terms : Terms) (v : Version) (start count : ℕ) (records : List Record) (arrivals : List Arrival) (connections : List Connection) (desk : Desk)
+    (input old mid new : Option (List ℕ)) (outcome : Outcome) → IsCapture v start records → WhereKnown input (λ bytes. IsCaptureText v bytes start records)
+    → Serves terms records arrivals connections desk
+    → Appends old mid (text_before_stop (replies_of terms start (handled terms arrivals))) → Appends mid new (last_line count) → count ≡ desk.totals.answered
+    → outcome.rejected ≡ desk.totals.rejected → outcome.summary ≡ summary_of terms arrivals → Answers terms input old new outcome
+answers_all terms v start count records arrivals connections desk input old mid new outcome rules capture serves before last counted rejected told = record {
+  version = v;
   start = start;
   records = records;
   arrivals = arrivals;
+  rules = rules;
   capture = capture;
   arrived = serves.arrived;
   few = serves.stands.few;
   written = all_written terms start count arrivals old mid new (counted ∙ answered_is terms arrivals desk serves.stands) before last;
-  rejected = rejected ∙ ap (λ t. t.rejected) serves.stands.tally;
+  rejected = rejected ∙ ap (λ t. t.rejected) serves.stands.totals;
   summary = told;
 }
 
 -- the last line was not
-pub ends_in_part : (terms : Terms) (start count : ℕ) (records : List Record) (arrivals : List Arrival) (connections : List Connection) (desk : Desk) (input : List ℕ)
-    (old mid new : Option (List ℕ)) → IsCaptureText version_one input start records → Serves terms records arrivals connections desk
-    → Appends old mid (text_before_stop (replies_of terms start (handled terms arrivals))) → AppendsInPart mid new (last_line count) → count ≡ desk.tally.answered
+pub ends_in_part : (terms : Terms) (v : Version) (start count : ℕ) (records : List Record) (arrivals : List Arrival) (connections : List Connection) (desk : Desk)
+    (input old mid new : Option (List ℕ)) → IsCapture v start records → WhereKnown input (λ bytes. IsCaptureText v bytes start records)
+    → Serves terms records arrivals connections desk
+    → Appends old mid (text_before_stop (replies_of terms start (handled terms arrivals))) → AppendsInPart mid new (last_line count) → count ≡ desk.totals.answered
     → IsCutShort terms input old new
-ends_in_part terms start count records arrivals connections desk input old mid new capture serves before last counted =
+ends_in_part terms v start count records arrivals connections desk input old mid new rules capture serves before last counted =
     let n : length (replies_of terms start (handled terms arrivals)) ≡ count = replies_count terms start arrivals ∙ sym (counted ∙ answered_is terms arrivals desk serves.stands) in
     inr (inr (record {
+      version = v;
       start = start;
       records = records;
       arrivals = arrivals;
+      rules = rules;
       capture = capture;
       arrived = serves.arrived;
       few = serves.stands.few;
@@ -286,22 +349,23 @@ ends_in_part terms start count records arrivals connections desk input old mid n
 
 -- what is said of a capture's fault, where the replay tells it
 pub told : (f : CaptureFault) (P : CaptureFault → Type 0) → P f → IfCapture (capture_fault f) P
-told f P h = go f.kind
+told f P h = go f.kind refl
   where
-    go : (k : CaptureFaultKind) → IfCapture (told_as k f) P
-    go kinds.Cut = h
-    go kinds.Header = h
-    go kinds.Kind = h
-    go kinds.Number = h
-    go kinds.Tick = h
-    go kinds.Connection = h
-    go kinds.Ended = h
-    go kinds.Length = h
-    go kinds.Count = h
-    go kinds.Trailing = h
-    go kinds.TooLarge = h
-    go kinds.Read = h
-    go kinds.Memory = tt
+    go : (k : CaptureFaultKind) → f.kind ≡ k → IfCapture (told_as k f) P
+    go kinds.Cut e = (rw e refl, h)
+    go kinds.Header e = (rw e refl, h)
+    go kinds.Kind e = (rw e refl, h)
+    go kinds.Number e = (rw e refl, h)
+    go kinds.Tick e = (rw e refl, h)
+    go kinds.Connection e = (rw e refl, h)
+    go kinds.Ended e = (rw e refl, h)
+    go kinds.Tier e = (rw e refl, h)
+    go kinds.Length e = (rw e refl, h)
+    go kinds.Count e = (rw e refl, h)
+    go kinds.Trailing e = (rw e refl, h)
+    go kinds.TooLarge e = (rw e refl, h)
+    go kinds.Read e = (rw e refl, h)
+    go kinds.Memory e = tt
 
 -- it isn't that messages are too many, and want of memory cuts short
 pub told_many : (f : CaptureFault) (P : ℕ → Type 0) → IfTooMany (capture_fault f) P
@@ -315,6 +379,7 @@ told_many f P = go f.kind
     go kinds.Tick = tt
     go kinds.Connection = tt
     go kinds.Ended = tt
+    go kinds.Tier = tt
     go kinds.Length = tt
     go kinds.Count = tt
     go kinds.Trailing = tt
@@ -333,6 +398,7 @@ told_short f P h = go f.kind
     go kinds.Tick = tt
     go kinds.Connection = tt
     go kinds.Ended = tt
+    go kinds.Tier = tt
     go kinds.Length = tt
     go kinds.Count = tt
     go kinds.Trailing = tt
@@ -351,6 +417,7 @@ told_reads f = go f.kind refl
     go kinds.Tick e = refl
     go kinds.Connection e = refl
     go kinds.Ended e = refl
+    go kinds.Tier e = refl
     go kinds.Length e = refl
     go kinds.Count e = refl
     go kinds.Trailing e = refl
@@ -369,6 +436,7 @@ told_writes f = go f.kind
     go kinds.Tick = refl
     go kinds.Connection = refl
     go kinds.Ended = refl
+    go kinds.Tier = refl
     go kinds.Length = refl
     go kinds.Count = refl
     go kinds.Trailing = refl
@@ -384,79 +452,82 @@ short_capture (Err (faults.TooMany n)) P h = absurd h
 short_capture (Err faults.Write) P h = tt
 short_capture (Err faults.Memory) P h = tt
 
-pub stops_first : (terms : Terms) (text old new : Option (List ℕ)) (f : CaptureFault) → Appends old new first_line → f.at ≡ 0 → IsForeseen (IsHeaderFault version_one) text f → is_some text ≡ true
-    → Stops terms (unwrap_or text []) old new f
-stops_first terms text old new f written at fault known = inl (record { at = at; written = written; fault = λ foreseen. fault known foreseen })
+pub stops_first : (terms : Terms) (input ahead old new : Option (List ℕ)) (f : CaptureFault) → Appends old new first_line → f.at ≡ 0 → IsForeseen IsHeaderFault input f
+    → Stops terms input ahead old new f
+stops_first terms input ahead old new f written at fault = inl (record { at = at; written = written; fault = λ foreseen known. fault known foreseen })
 
-pub stops_behind : (terms : Terms) (text now old new : Option (List ℕ)) (start : ℕ) (records : List Record) (arrivals : List Arrival) (p : Progress) (connections : List Connection) (desk : Desk)
-    (f : CaptureFault) → Fits version_one text start records p now → Serves terms records arrivals connections desk → Appends old new (text_before_stop (replies_of terms start (handled terms arrivals)))
-    → (f.at ≡ length records + 1) × IsForeseen (λ bytes. IsFaultBehind version_one bytes start records) text f → is_some text ≡ true → Stops terms (unwrap_or text []) old new f
-stops_behind terms text now old new start records arrivals p connections desk f fits serves written fault known = inr (record {
+-- the records that a reader has given
+abbrev pub taken : (terms : Terms) (v : Version) (input now : Option (List ℕ)) (start : ℕ) (records : List Record) (arrivals : List Arrival) (p : Progress)
+    → Fits v input start records p now → AreArrivals records arrivals → Taken input
+taken terms v input now start records arrivals p fits arrived = record {
+  version = v;
   start = start;
   records = records;
   rest = unwrap_or now [];
   arrivals = arrivals;
-  front = fits.front known;
   rules = fits.rules;
+  begins = fits.front;
+  arrived = arrived;
+}
+
+pub stops_after : (terms : Terms) (v : Version) (input now ahead left old new : Option (List ℕ)) (start : ℕ) (records : List Record) (arrivals : List Arrival) (p : Progress) (connections : List Connection) (desk : Desk)
+    (f : CaptureFault) → Fits v input start records p now → Serves terms records arrivals connections desk → Appends old new (text_before_stop (replies_of terms start (handled terms arrivals)))
+    → (f.at ≡ length records + 1) × IsForeseen (λ bytes. IsFaultBehind v bytes start records) input f → FailsNext v input start records (Err f) left
+    → ahead ≡ left → Stops terms input ahead old new f
+stops_after terms v input now ahead left old new start records arrivals p connections desk f fits serves written fault failed same = inr (record {
+  taken = taken terms v input now start records arrivals p fits serves.arrived;
   at = fault.0;
-  arrived = serves.arrived;
   few = serves.stands.few;
   written = written;
-  fault = λ foreseen. fault.1 known foreseen;
+  fault = λ foreseen known. fault.1 known foreseen;
+  failed = subst (λ w. FailsNext v input start records (Err f) w) (sym same) failed;
 })
+
+-- a fault of the reader that was told
+pub stops_told : (terms : Terms) (v : Version) (input now ahead left old new : Option (List ℕ)) (start : ℕ) (records : List Record) (arrivals : List Arrival) (p : Progress) (connections : List Connection) (desk : Desk)
+    (f : CaptureFault) (r : ReplayFault) → r ≡ capture_fault f
+    → Fits v input start records p now → Serves terms records arrivals connections desk → Appends old new (text_before_stop (replies_of terms start (handled terms arrivals)))
+    → (f.at ≡ length records + 1) × IsForeseen (λ bytes. IsFaultBehind v bytes start records) input f → FailsNext v input start records (Err f) left
+    → ahead ≡ left → IfCapture r (Stops terms input ahead old new)
+stops_told terms v input now ahead left old new start records arrivals p connections desk f r is fits serves written fault failed same =
+    rw is
+    (told f (Stops terms input ahead old new)
+    (stops_after terms v input now ahead left old new start records arrivals p connections desk f fits serves written fault failed same))
 
 take_all : {A : Type 0} (xs : List A) → take (length xs) xs ≡ xs
 take_all xs = grind (arith, common_steps)
 
 -- all of the messages so far were answered, and nothing of the next
-pub short_among : (terms : Terms) (text now old new : Option (List ℕ)) (start : ℕ) (records : List Record) (arrivals : List Arrival) (p : Progress) (connections : List Connection) (desk : Desk)
-    → Fits version_one text start records p now → Serves terms records arrivals connections desk → Appends old new (text_before_stop (replies_of terms start (handled terms arrivals)))
-    → is_some text ≡ true → IsCutShort terms (unwrap_or text []) old new
-short_among terms text now old new start records arrivals p connections desk fits serves written known = inr (inl (record {
-  start = start;
-  records = records;
-  rest = unwrap_or now [];
-  arrivals = arrivals;
+pub short_among : (terms : Terms) (v : Version) (input now old new : Option (List ℕ)) (start : ℕ) (records : List Record) (arrivals : List Arrival) (p : Progress) (connections : List Connection) (desk : Desk)
+    → Fits v input start records p now → Serves terms records arrivals connections desk → Appends old new (text_before_stop (replies_of terms start (handled terms arrivals)))
+    → IsCutShort terms input old new
+short_among terms v input now old new start records arrivals p connections desk fits serves written = inr (inl (record {
+  taken = taken terms v input now start records arrivals p fits serves.arrived;
   within = length arrivals;
-  front = fits.front known;
-  rules = fits.rules;
-  arrived = serves.arrived;
   few = serves.stands.few;
   written = rw (take_all arrivals) (part_all old new _ written);
 }))
 
-pub stops_full : (terms : Terms) (text now old mid new : Option (List ℕ)) (start n : ℕ) (records : List Record) (arrivals : List Arrival) (rs : List Record) (p : Progress)
-    → Fits version_one text start (records ++ rs) p now → Appends old mid (text_before_stop (replies_of terms start (handled terms arrivals))) → n ≡ 1048576
-    → ServesFull terms start records arrivals rs mid new → is_some text ≡ true → StopsFull terms (unwrap_or text []) old new n
-stops_full terms text now old mid new start n records arrivals rs p fits written number full known =
+pub stops_full : (terms : Terms) (v : Version) (input now old mid new : Option (List ℕ)) (start n : ℕ) (records : List Record) (arrivals : List Arrival) (rs : List Record) (p : Progress)
+    → Fits v input start (records ++ rs) p now → Appends old mid (text_before_stop (replies_of terms start (handled terms arrivals))) → n ≡ 1048576
+    → ServesFull terms start records arrivals rs mid new → StopsFull terms input old new n
+stops_full terms v input now old mid new start n records arrivals rs p fits written number full =
     let here : take 1048576 (arrivals ++ full.more) ≡ arrivals ++ take full.within full.more = rw (← full.full) (take-append-add arrivals full.more full.within) in
     record {
-      start = start;
-      records = records ++ rs;
-      rest = unwrap_or now [];
-      arrivals = arrivals ++ full.more;
-      front = fits.front known;
-      rules = fits.rules;
-      arrived = full.arrived;
+      taken = taken terms v input now start (records ++ rs) (arrivals ++ full.more) p fits full.arrived;
       beyond = let all = full.full in let more = full.beyond in let len = length-append arrivals full.more in omega (arith, all, more, len);
       is_number = number;
       written = rw here (more_written terms start arrivals (take full.within full.more) old mid new written full.written);
     }
 
-pub short_part : (terms : Terms) (text now old mid new : Option (List ℕ)) (start : ℕ) (records : List Record) (arrivals : List Arrival) (rs : List Record) (p : Progress)
-    → Fits version_one text start (records ++ rs) p now → Appends old mid (text_before_stop (replies_of terms start (handled terms arrivals)))
-    → ServesInPart terms start records arrivals rs mid new → is_some text ≡ true → IsCutShort terms (unwrap_or text []) old new
-short_part terms text now old mid new start records arrivals rs p fits written part known =
+pub short_part : (terms : Terms) (v : Version) (input now old mid new : Option (List ℕ)) (start : ℕ) (records : List Record) (arrivals : List Arrival) (rs : List Record) (p : Progress)
+    → Fits v input start (records ++ rs) p now → Appends old mid (text_before_stop (replies_of terms start (handled terms arrivals)))
+    → ServesInPart terms start records arrivals rs mid new → IsCutShort terms input old new
+short_part terms v input now old mid new start records arrivals rs p fits written part =
     let here : take (length arrivals + part.within) (arrivals ++ part.more) ≡ arrivals ++ take part.within part.more = take-append-add arrivals part.more part.within in
     inr (inl (record {
-      start = start;
-      records = records ++ rs;
-      rest = unwrap_or now [];
-      arrivals = arrivals ++ part.more;
+      taken = taken terms v input now start (records ++ rs) (arrivals ++ part.more) p fits part.arrived;
       within = length arrivals + part.within;
-      front = fits.front known;
-      rules = fits.rules;
-      arrived = part.arrived;
       few = part.few;
       written = rw here (part_written terms start arrivals (take part.within part.more) old mid new written part.written);
     }))
@@ -483,6 +554,7 @@ blamed_told old new f r is count =
     once kinds.Tick = omega arith
     once kinds.Connection = omega arith
     once kinds.Ended = omega arith
+    once kinds.Tier = omega arith
     once kinds.Length = omega arith
     once kinds.Count = omega arith
     once kinds.Trailing = omega arith

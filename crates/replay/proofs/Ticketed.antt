@@ -1,10 +1,9 @@
 -- The loop that decides on messages.
-use Rattle.std.proofs.Common.{◌≡◌, ℕ, zero, suc, ◌+◌, ◌<◌, ◌≤◌, Bool, true, false, ◌&&◌, List, [], ◌∷◌, ◌++◌, length, take, drop, map, refl, sym, ap, ◌∙◌, subst, arith, append-nil, append_assoc}
+use Rattle.std.proofs.Common.{◌≡◌, ℕ, zero, suc, ◌+◌, ◌<◌, ◌≤◌, Bool, true, false, ◌&&◌, List, [], ◌∷◌, ◌++◌, length, take, drop, map, refl, sym, ap, ◌∙◌, arith, append-nil, append_assoc}
 use Rattle.std.specs.List.{list_all}
 use Rattle.std.proofs.lemmas.List.{map-append, length-append, length-map}
 use Rattle.paths.specs.declared.file.File.{File}
 use Rattle.cost_model.specs.Services.{CostTable}
-use Rattle.responses.specs.declared.slip.Slip.{Slip}
 use Rattle.replay.specs.Choices.{Terms}
 use Rattle.replay.specs.Arrivals.{Arrival}
 use Rattle.replay.specs.Offers.{handled_next, handled_behind}
@@ -50,15 +49,15 @@ at_place f (x ∷ more) (suc k) s rest e =
 
 -- the next of messages that come in time
 pub in_time_at : (earlier more : List Arrival) (k : ℕ) (a : Arrival) → InTime earlier more → drop k more ≡ a ∷ drop (suc k) more
-    → AreBy a.origin.tick (earlier ++ take k more) × (a.origin.tick ≤ 1000000000000000)
+    → AreBy a.origin.tick (earlier ++ take k more) × (a.origin.tick ≤ 1000000000000000) × (a.origin.tier < 4)
 in_time_at earlier [] zero a h e = absurd (let z : ⊥ = cc in z)
 in_time_at earlier [] (suc k) a h e = absurd (let z : ⊥ = cc in z)
 in_time_at earlier (x ∷ more) zero a h e =
     let same : x ≡ a = cc in
-    rw (append-nil earlier, ← same) (h.0, h.1)
+    rw (append-nil earlier, ← same) (h.0, h.1, h.2)
 in_time_at earlier (x ∷ more) (suc k) a h e =
-    let rest = in_time_at (earlier ++ x ∷ []) more k a h.2 e in
-    (rw (append_assoc earlier (x ∷ []) (take k more)) at rest.0, rest.1)
+    let rest = in_time_at (earlier ++ x ∷ []) more k a h.3 e in
+    (rw (append_assoc earlier (x ∷ []) (take k more)) at rest.0, rest.1, rest.2)
 
 one_more : (k : ℕ) → k + 1 ≡ suc k
 one_more k = omega arith
@@ -77,7 +76,8 @@ pub record Next (terms : Terms) (desk : Desk) (message : Incoming) : Type 0 wher
   pub stands : Stands terms arrivals desk
   pub by : AreBy message.origin.tick arrivals
   pub tick : message.origin.tick ≤ 1000000000000000
-  pub few : desk.tally.answered < 1048576
+  pub tier : message.origin.tier < 4
+  pub few : desk.totals.answered < 1048576
 
 pub next_is : {X : Type 0} (files : List File) (terms : Terms) (costs : CostTable) (sights : List Sighted) (old now : Desk) (rest after : List Sighted) (tickets : List (Ticket X)) (k : ℕ)
     (arrivals more : List Arrival) (s : Sighted) → Settled files terms costs sights old now rest tickets k → rest ≡ s ∷ after
@@ -99,6 +99,7 @@ next_is files terms costs sights old now rest after tickets k arrivals more s se
         stands = now_stands;
         by = rw tick at timing.0;
         tick = rw tick at timing.1;
+        tier = rw (ap (λ (m : Incoming). m.origin.tier) own) at timing.2;
         few = omega (arith, counted, len, short, below, few);
       },
       sym here.is ∙ ap (front_value files costs) own,

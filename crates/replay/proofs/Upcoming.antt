@@ -1,19 +1,18 @@
 -- Messages that come next: those of the next arrivals, served part after part.
-use Rattle.std.proofs.Common.{◌≡◌, ℕ, suc, zero, ◌+◌, ◌-◌, ◌<◌, ◌≤◌, ◌==◌, true, List, [], ◌∷◌, ◌++◌, length, take, drop, map, get_or, Option, Result, Ok, Err, refl, sym, ap, ◌∙◌, subst, arith, append-nil, append_assoc}
+use Rattle.std.proofs.Common.{◌≡◌, ℕ, suc, zero, ◌+◌, ◌<◌, ◌≤◌, ◌==◌, true, List, [], ◌∷◌, ◌++◌, length, take, drop, map, get_or, Option, Result, Ok, Err, refl, sym, ap, ◌∙◌, arith, append-nil, append_assoc}
 use Rattle.std.specs.Prelude.{flat_map, IfErr, OnOk, OnErr}
-use Rattle.std.proofs.lemmas.List.{length-append, length-map, take-append-le, length-take-le, drop-drop}
+use Rattle.std.proofs.lemmas.List.{length-append, length-map, length-take-le, drop-drop}
 use Rattle.std.proofs.lemmas.Grind.{flat_map-append, common_steps}
 use Rattle.std.proofs.Math.Seq.{take-append_seam, drop-append_seam}
 use Rattle.std.specs.Io.KnownBytes.{Appends}
 use Rattle.paths.specs.declared.file.File.{File}
 use Rattle.cost_model.specs.Services.{CostTable}
-use Rattle.responses.specs.declared.slip.Slip.{Slip}
 use Rattle.responses.specs.Records.{record_text}
 use Rattle.replay.specs.Choices.{Terms}
 use Rattle.replay.specs.Arrivals.{Arrival}
-use Rattle.replay.specs.Offers.{Handled, handled_behind}
+use Rattle.replay.specs.Offers.{Handled}
 use Rattle.replay.specs.Replies.{slip_of, replies_of, reply_of}
-use Rattle.replay.specs.Serving.{Stands, AreBy, records_behind, Written, WrittenInPart}
+use Rattle.replay.specs.Serving.{Stands, records_behind, Written, WrittenInPart}
 use Rattle.replay.specs.Fronts.{front_value}
 use Rattle.replay.specs.Backs.{slip_of_ticket, reply_to}
 use Rattle.replay.specs.Batches.{joined}
@@ -28,7 +27,7 @@ use Rattle.replay.specs.declared.replay_fault.ReplayFault.{ReplayFault}
 use Rattle.replay.specs.declared.replay_fault.ReplayFault.TheVariants as faults
 use Rattle.replay.proofs.SameAnswer.{reply_is}
 use Rattle.replay.proofs.Judging.{answered_is}
-use Rattle.replay.proofs.Writing.{part_then, part_none, appends_then, written_none, written_more, part_more}
+use Rattle.replay.proofs.Writing.{part_then, part_none, appends_then, written_none, written_more}
 
 -- ---- lists
 
@@ -68,12 +67,12 @@ take_short (suc n) (x ∷ xs) = let h = take_short n xs in omega (arith, h)
 pub in_time_take : (earlier more : List Arrival) (n : ℕ) → InTime earlier more → InTime earlier (take n more)
 in_time_take earlier more zero h = tt
 in_time_take earlier [] (suc n) h = tt
-in_time_take earlier (a ∷ more) (suc n) h = (h.0, h.1, in_time_take (earlier ++ a ∷ []) more n h.2)
+in_time_take earlier (a ∷ more) (suc n) h = (h.0, h.1, h.2, in_time_take (earlier ++ a ∷ []) more n h.3)
 
 pub in_time_drop : (earlier more : List Arrival) (n : ℕ) → InTime earlier more → InTime (earlier ++ take n more) (drop n more)
 in_time_drop earlier more zero h = rw (append-nil earlier) h
 in_time_drop earlier [] (suc n) h = tt
-in_time_drop earlier (a ∷ more) (suc n) h = rw (append_assoc earlier (a ∷ []) (take n more)) at (in_time_drop (earlier ++ a ∷ []) more n h.2)
+in_time_drop earlier (a ∷ more) (suc n) h = rw (append_assoc earlier (a ∷ []) (take n more)) at (in_time_drop (earlier ++ a ∷ []) more n h.3)
 
 -- the first of the messages
 pub first_come : (terms : Terms) (arrivals more : List Arrival) (messages within : List Incoming) (desk : Desk) (n : ℕ)
@@ -259,7 +258,7 @@ part_fits messages part rest behind k below e steps =
 -- how many are answered
 pub answered_now : (terms : Terms) (messages part : List Incoming) (old now : Desk) (before after : Option (List ℕ)) (rest behind : List (List Incoming)) (arrivals more : List Arrival)
     → (s : Served terms messages old now before after rest) → rest ≡ part ∷ behind → Upcoming terms arrivals more messages old
-    → (now.tally.answered ≡ old.tally.answered + s.count) × (s.count + length part ≤ length messages)
+    → (now.totals.answered ≡ old.totals.answered + s.count) × (s.count + length part ≤ length messages)
 answered_now terms messages part old now before after rest behind arrivals more s steps up =
     let first = answered_is terms arrivals old up.stands in
     let later = answered_is terms (arrivals ++ take s.count more) now (s.stands arrivals more up) in

@@ -2,7 +2,8 @@
 use Rattle.std.specs.Prelude.{◌≡◌, ℕ, ◌+◌, ◌<◌, ◌≤◌, ◌==◌, ◌⊎◌, List, [], length, take, map, filter, flat_map, All, Some, slice_get, if◌then◌else◌}
 use Rattle.std.specs.List.{AllPairs}
 use Rattle.captures.specs.declared.record.Record.{Record}
-use Rattle.captures.specs.declared.record.Record.TheVariants.{Piece, End}
+use Rattle.captures.specs.declared.record.Record.TheVariants.{Piece, End, Tier}
+use Rattle.captures.specs.Captures.{tier_of}
 use Rattle.http_requests.specs.declared.messages.Message.{Message}
 use Rattle.http_requests.specs.Framing.{MessagesOf}
 use Rattle.replay.specs.declared.origin.Origin.{Origin}
@@ -11,12 +12,13 @@ use Rattle.replay.specs.declared.origin.Origin.{Origin}
 abbrev pub bytes_to : ℕ → Record → List ℕ
 bytes_to c (Piece tick conn bytes) = if conn == c then bytes else []
 bytes_to c (End tick conn) = []
+bytes_to c (Tier conn tier) = []
 
 -- the text of a connection: its pieces, joined
 abbrev pub text_of : ℕ → List Record → List ℕ
 text_of c records = flat_map (bytes_to c) records
 
--- a message, its connection and its tick, and the place of the record that it arrived with, counted from 0
+-- a message, its connection, its tick and its tier, and the place of the record that it arrived with, counted from 0
 pub record Arrival : Type 0 where
   pub origin : Origin
   pub place : ℕ
@@ -26,10 +28,11 @@ pub record Arrival : Type 0 where
 abbrev pub messages_of : ℕ → List Arrival → List Message
 messages_of c arrivals = map (λ a. a.message) (filter (λ a. a.origin.conn == c) arrivals)
 
--- the message arrived with the piece that holds its last byte
+-- the message arrived with the piece that holds its last byte, in the tier that its connection had there
 pub record ArrivesWith (records : List Record) (a : Arrival) : Type 0 where
   pub bytes : List ℕ
   pub piece : slice_get records a.place ≡ Some (Piece a.origin.tick a.origin.conn bytes)
+  pub tier : a.origin.tier ≡ tier_of a.origin.conn (take a.place records)
   pub behind : length (text_of a.origin.conn (take a.place records)) < a.message.end
   pub within : a.message.end ≤ length (text_of a.origin.conn (take a.place records)) + length bytes
 

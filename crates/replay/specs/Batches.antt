@@ -1,7 +1,8 @@
 -- What a batch of records brings: to each connection, and in the order of arrival.
-use Rattle.std.specs.Prelude.{◌≡◌, ℕ, ◌+◌, ◌≤◌, ◌==◌, List, [], ◌∷◌, ◌++◌, length, map, flat_map, if◌then◌else◌}
+use Rattle.std.specs.Prelude.{◌≡◌, ℕ, ◌+◌, ◌==◌, List, [], ◌∷◌, ◌++◌, length, map, flat_map, if◌then◌else◌}
 use Rattle.captures.specs.declared.record.Record.{Record}
-use Rattle.captures.specs.declared.record.Record.TheVariants.{Piece, End}
+use Rattle.captures.specs.declared.record.Record.TheVariants.{Piece, End, Tier}
+use Rattle.captures.specs.Captures.{tier_of}
 use Rattle.http_requests.specs.declared.messages.Message.{Message}
 use Rattle.replay.specs.Arrivals.{Arrival, AreArrivals, text_of, messages_of}
 use Rattle.replay.specs.declared.incoming.Incoming.{Incoming}
@@ -26,12 +27,22 @@ abbrev pub pieces_to : ℕ → List Record → List (List ℕ)
 pieces_to c [] = []
 pieces_to c (Piece tick conn bytes ∷ rs) = if conn == c then bytes ∷ pieces_to c rs else pieces_to c rs
 pieces_to c (End tick conn ∷ rs) = pieces_to c rs
+pieces_to c (Tier conn tier ∷ rs) = pieces_to c rs
 
--- where they came from
-abbrev pub origins_of : List Record → List Origin
-origins_of [] = []
-origins_of (Piece tick conn bytes ∷ rs) = record { conn = conn; tick = tick } ∷ origins_of rs
-origins_of (End tick conn ∷ rs) = origins_of rs
+-- the tiers of connections, once one of them was given
+abbrev pub with_tier : ℕ → ℕ → (ℕ → ℕ) → ℕ → ℕ
+with_tier conn tier tiers c = if conn == c then tier else tiers c
+
+-- the tiers that these records give
+abbrev pub tiers_of : List Record → ℕ → ℕ
+tiers_of records c = tier_of c records
+
+-- where the pieces came from, of connections that had these tiers before
+abbrev pub origins_of : (ℕ → ℕ) → List Record → List Origin
+origins_of tiers [] = []
+origins_of tiers (Piece tick conn bytes ∷ rs) = record { conn = conn; tick = tick; tier = tiers conn } ∷ origins_of tiers rs
+origins_of tiers (End tick conn ∷ rs) = origins_of tiers rs
+origins_of tiers (Tier conn tier ∷ rs) = origins_of (with_tier conn tier tiers) rs
 
 -- of the lists that were found, one for each piece, those of a connection
 abbrev pub lists_to : ℕ → List Origin → List (List Message) → List (List Message)
@@ -40,11 +51,13 @@ lists_to c (o ∷ os) [] = []
 lists_to c (o ∷ os) (ms ∷ found) = if o.conn == c then ms ∷ lists_to c os found else lists_to c os found
 
 -- the arrivals of a batch, whose first record has this place
-abbrev pub arrivals_in : ℕ → List Record → List (List Message) → List Arrival
-arrivals_in place [] found = []
-arrivals_in place (Piece tick conn bytes ∷ rs) [] = []
-arrivals_in place (Piece tick conn bytes ∷ rs) (ms ∷ found) = arrivals_with place (record { conn = conn; tick = tick }) ms ++ arrivals_in (place + 1) rs found
-arrivals_in place (End tick conn ∷ rs) found = arrivals_in (place + 1) rs found
+abbrev pub arrivals_in : (ℕ → ℕ) → ℕ → List Record → List (List Message) → List Arrival
+arrivals_in tiers place [] found = []
+arrivals_in tiers place (Piece tick conn bytes ∷ rs) [] = []
+arrivals_in tiers place (Piece tick conn bytes ∷ rs) (ms ∷ found) =
+    arrivals_with place (record { conn = conn; tick = tick; tier = tiers conn }) ms ++ arrivals_in tiers (place + 1) rs found
+arrivals_in tiers place (End tick conn ∷ rs) found = arrivals_in tiers (place + 1) rs found
+arrivals_in tiers place (Tier conn tier ∷ rs) found = arrivals_in (with_tier conn tier tiers) (place + 1) rs found
 
 -- the messages that end in a piece, with where they came from
 abbrev pub incoming_from : PieceMessages → List Incoming
@@ -62,6 +75,6 @@ pub record Stand (records : List Record) (came : List Arrival) (at : ℕ → Con
 -- the batch.
 abbrev pub MergedArrivals : Type 0
 MergedArrivals = (rs : List Record) (found : List (List Message)) (records : List Record) (came : List Arrival) (before after : ℕ → Connection)
-    → length found ≡ length (origins_of rs) → Stand records came before
-    → ((c : ℕ) → ReadsOn (before c) (pieces_to c rs) (lists_to c (origins_of rs) found) (after c))
-    → Stand (records ++ rs) (came ++ arrivals_in (length records) rs found) after
+    → length found ≡ length (origins_of (tiers_of records) rs) → Stand records came before
+    → ((c : ℕ) → ReadsOn (before c) (pieces_to c rs) (lists_to c (origins_of (tiers_of records) rs) found) (after c))
+    → Stand (records ++ rs) (came ++ arrivals_in (tiers_of records) (length records) rs found) after

@@ -9,15 +9,15 @@ use Rattle.replay.specs.declared.settings.TheConstants.{FRONT_STEPS, BACK_STEPS,
 use Rattle.replay.specs.declared.settings.SettingsFault.{SettingsFault}
 use Rattle.replay.specs.declared.settings.SettingsFault.TheVariants.{Front, Back, Batch, Cache, Retry}
 
--- the graphs of the two floors, the records of a batch, the bytes of the cache, the service times, the rules of the
--- admission control, and the seconds that a rejected request is told to wait
+-- the graphs of the two floors, the records of a batch, the bytes of the cache, the service times, the policies of the
+-- tiers, and the seconds that a rejected request is told to wait
 pub record Choice : Type 0 where
   pub front : Layout
   pub back : Layout
   pub batch : ℕ
   pub cache : ℕ
   pub costs : CostTable
-  pub rules : Rules
+  pub policies : List Rules
   pub retry_after : ℕ
 
 -- the first of the faults in their order
@@ -46,8 +46,8 @@ pub record IsChoice (c : Choice) : Type 0 where
 pub record Terms : Type 0 where
   pub files : List File
   pub costs : CostTable
-  pub rules : Rules
+  pub policies : List Rules
   pub retry_after : ℕ
 
 abbrev pub terms_of : List File → Choice → Terms
-terms_of files c = record { files = files; costs = c.costs; rules = c.rules; retry_after = c.retry_after }
+terms_of files c = record { files = files; costs = c.costs; policies = c.policies; retry_after = c.retry_after }

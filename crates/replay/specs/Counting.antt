@@ -1,11 +1,10 @@
 -- How many messages there were of each kind, and how long the admitted requests took.
-use Rattle.std.specs.Prelude.{ℕ, ◌+◌, ◌<◌, ◌==◌, Bool, true, false, List, map, filter, count_by, if◌then◌else◌}
+use Rattle.std.specs.Prelude.{ℕ, ◌+◌, ◌<◌, ◌==◌, Bool, true, false, List, [], ◌∷◌, map, filter, length, count_by, if◌then◌else◌}
 use Rattle.http_requests.specs.declared.messages.What.{What as Meaning}
 use Rattle.http_requests.specs.declared.messages.What.TheVariants.{Request, Bad}
 use Rattle.responses.specs.Replies.{status_of}
-use Rattle.admission.specs.declared.control.Control.{Control}
-use Rattle.admission.specs.Rules.{Rules}
-use Rattle.admission.specs.Requests.{Offer, served, samples}
+use Rattle.admission.specs.Rules.{Rules, rules_of}
+use Rattle.admission.specs.Requests.{Offer, Decided, served, samples, of_tier, is_rejected}
 use Rattle.admission.specs.Controls.{controls_until}
 use Rattle.admission.specs.Decisions.{decided}
 use Rattle.admission.specs.Fits.{tick_from}
@@ -15,6 +14,7 @@ use Rattle.replay.specs.Answers.{given}
 use Rattle.replay.specs.Offers.{Handled, offers_of, handled}
 use Rattle.replay.specs.declared.summary.Counts.{Counts}
 use Rattle.replay.specs.declared.summary.Summary.{Summary}
+use Rattle.replay.specs.declared.summary.Tally.{Tally}
 
 -- a message that breaks a rule is no request: it is offered to nobody
 abbrev pub breaks_a_rule : Meaning → Bool
@@ -50,20 +50,32 @@ abbrev pub rejected_of : List Handled → List ℕ
 rejected_of messages = map (λ h. h.number) (filter (λ h. h.turned_away) messages)
 
 -- how long each admitted request took
-unfoldable pub samples_of : Rules → List Offer → List ℕ
-samples_of rules offers = samples (served (decided rules offers))
+unfoldable pub samples_of : List Rules → List Offer → List ℕ
+samples_of policies offers = samples (served (decided policies offers))
 
--- the changes of the rate, up to the tick of the last offer
-unfoldable pub controls_shown : Rules → List Offer → List Control
-controls_shown rules offers = controls_until rules (served (decided rules offers)) (tick_from 0 offers)
+-- the requests of one tier, and what became of them
+abbrev pub decided_in : List Rules → List Offer → ℕ → List Decided
+decided_in policies offers tier = of_tier tier (decided policies offers)
+
+-- what became of the requests of one tier: how many were admitted and how many rejected, and the changes of its rate, up to
+-- the tick of the last offer of any tier
+unfoldable pub tally_of : List Rules → List Offer → ℕ → Tally
+tally_of policies offers tier = record {
+  admitted = length (served (decided_in policies offers tier));
+  rejected = count_by (λ r. is_rejected r.decision) (decided_in policies offers tier);
+  controls = controls_until (rules_of policies tier) (served (decided_in policies offers tier)) (tick_from 0 offers);
+}
+
+abbrev pub tallies_of : List Rules → List Offer → List Tally
+tallies_of policies offers = map (tally_of policies offers) (0 ∷ 1 ∷ 2 ∷ 3 ∷ [])
 
 -- what became of these arrivals
 abbrev pub summary_of : Terms → List Arrival → Summary
 summary_of terms arrivals = record {
   counts = counts_of terms (handled terms arrivals);
   bypassed = bypassed_of arrivals;
-  samples = samples_of terms.rules (offers_of terms arrivals);
-  controls = controls_shown terms.rules (offers_of terms arrivals);
+  samples = samples_of terms.policies (offers_of terms arrivals);
+  tiers = tallies_of terms.policies (offers_of terms arrivals);
 }
 
 -- one more where it is this status

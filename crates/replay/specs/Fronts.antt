@@ -1,5 +1,5 @@
 -- The steps that a message takes before it is decided on.
-use Rattle.std.specs.Prelude.{ℕ, ◌<◌, List, slice_index_or}
+use Rattle.std.specs.Prelude.{ℕ, List, slice_index_or}
 use Rattle.stage_graph.specs.Steps.{value_of}
 use Rattle.paths.specs.Targets.{asked}
 use Rattle.paths.specs.Resolution.{outcome, IsOutcome}
@@ -12,7 +12,6 @@ use Rattle.replay.specs.Answers.{is_head}
 use Rattle.replay.specs.Offers.{is_unmodified_file, length_given}
 use Rattle.replay.specs.declared.sight.Sight.{Sight}
 use Rattle.replay.specs.declared.sight.Sight.TheVariants.{Unseen, Asked, Found, Priced}
-use Rattle.replay.specs.declared.origin.Origin.{Origin}
 use Rattle.replay.specs.declared.incoming.Incoming.{Incoming}
 use Rattle.replay.specs.declared.sight.Sighted.{Sighted}
 
@@ -33,7 +32,7 @@ unseen message = record { message = message; sight = Unseen }
 
 -- what stands for a message behind the last
 abbrev pub no_message : Incoming
-no_message = record { origin = record { conn = 0; tick = 0 }; what = Bad Block }
+no_message = record { origin = record { conn = 0; tick = 0; tier = 0 }; what = Bad Block }
 
 abbrev pub unseen_at : List Incoming → ℕ → Sighted
 unseen_at messages n = unseen (slice_index_or messages n no_message)

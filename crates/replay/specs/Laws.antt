@@ -1,22 +1,28 @@
 -- What follows from the definitions.
-use Rattle.std.specs.Prelude.{◌≡◌, ℕ, List, ◌++◌, Option, true, is_some}
+use Rattle.std.specs.Prelude.{◌≡◌, ℕ, List, [], ◌∷◌, ◌++◌, length, Option, Some, true, is_some}
 use Rattle.captures.specs.declared.record.Record.{Record}
+use Rattle.captures.specs.declared.version.Version.TheVariants.{One}
+use Rattle.captures.specs.Upgrades.{IsUpgrade}
+use Rattle.admission.specs.Rules.{rules_of}
 use Rattle.paths.specs.declared.file.File.{File}
 use Rattle.replay.specs.declared.outcome.Outcome.{Outcome}
+use Rattle.replay.specs.declared.summary.Tally.{Tally}
 use Rattle.replay.specs.Arrivals.{Arrival, AreArrivals}
 use Rattle.replay.specs.Choices.{Choice, Terms, terms_of}
 use Rattle.replay.specs.Offers.{Handled, handled}
 use Rattle.replay.specs.Outcomes.{Answers}
+use Rattle.replay.specs.Former.{FormerTerms, FormerOutcome, FormerAnswers}
 
--- settings with the same service times, rules and wait have the same answers, whatever their graphs, batch and cache
+-- settings with the same service times, policies and wait have the same answers, whatever their graphs, batch and cache
 abbrev pub FloorsChangeNothing : Type 0
-FloorsChangeNothing = (files : List File) (c d : Choice) (input : List ℕ) (old new : Option (List ℕ)) (outcome : Outcome)
-    → c.costs ≡ d.costs → c.rules ≡ d.rules → c.retry_after ≡ d.retry_after
+FloorsChangeNothing = (files : List File) (c d : Choice) (input old new : Option (List ℕ)) (outcome : Outcome)
+    → c.costs ≡ d.costs → c.policies ≡ d.policies → c.retry_after ≡ d.retry_after
     → Answers (terms_of files c) input old new outcome → Answers (terms_of files d) input old new outcome
 
 -- a capture has one answer: what is written to a device of known bytes, and the outcome
 abbrev pub OneAnswer : Type 0
-OneAnswer = (terms : Terms) (input : List ℕ) (old new other : Option (List ℕ)) (outcome another : Outcome) → is_some old ≡ true
+OneAnswer = (terms : Terms) (input old new other : Option (List ℕ)) (outcome another : Outcome)
+    → is_some input ≡ true → is_some old ≡ true
     → Answers terms input old new outcome → Answers terms input old other another → (new ≡ other) × (outcome ≡ another)
 
 -- two lists of the arrivals of the same records are one
@@ -31,3 +37,57 @@ ArrivalsBegin = (records more : List Record) (xs ys : List Arrival) → AreArriv
 -- more arrivals change nothing of the numbers and the rejections of those before
 abbrev pub HandledBegin : Type 0
 HandledBegin = (terms : Terms) (arrivals more : List Arrival) → (rest : List Handled) × (handled terms (arrivals ++ more) ≡ handled terms arrivals ++ rest)
+
+-- ---- one policy and four
+
+-- these terms with the first policy alone
+abbrev pub former_terms : Terms → FormerTerms
+former_terms terms = record {
+  files = terms.files;
+  costs = terms.costs;
+  rules = rules_of terms.policies 0;
+  retry_after = terms.retry_after;
+}
+
+-- the tally of a tier that no request came in
+abbrev pub no_requests : Tally
+no_requests = record { admitted = 0; rejected = 0; controls = [] }
+
+-- the tally of a tier that all requests came in
+abbrev pub all_requests : FormerOutcome → Tally
+all_requests former = record {
+  admitted = length former.samples;
+  rejected = length former.rejected;
+  controls = former.controls;
+}
+
+-- a former outcome, told by tiers: all requests came in tier 0
+abbrev pub in_tiers : FormerOutcome → Outcome
+in_tiers former = record {
+  rejected = former.rejected;
+  summary = record {
+    counts = former.counts;
+    bypassed = former.bypassed;
+    samples = former.samples;
+    tiers = all_requests former ∷ no_requests ∷ no_requests ∷ no_requests ∷ [];
+  };
+}
+
+-- the answer to a capture of version 1 is the former one, with the first policy
+abbrev pub SameInVersionOne : Type 0
+SameInVersionOne = (terms : Terms) (input old new : Option (List ℕ)) (outcome : Outcome)
+    → (answers : Answers terms input old new outcome) → answers.version ≡ One
+    → (former : FormerOutcome) × FormerAnswers (former_terms terms) input old new former × (outcome ≡ in_tiers former)
+
+-- and each former answer is that to a capture of version 1, whatever the policies of tiers 1 to 3
+abbrev pub FormerAnswersHold : Type 0
+FormerAnswersHold = (terms : Terms) (input old new : Option (List ℕ)) (former : FormerOutcome)
+    → FormerAnswers (former_terms terms) input old new former
+    → (answers : Answers terms input old new (in_tiers former)) × (answers.version ≡ One)
+
+-- a capture of version 1 and its upgraded text have the same answers, whatever the policies of tiers 1 to 3
+abbrev pub UpgradeKeepsAnswers : Type 0
+UpgradeKeepsAnswers = (terms other : Terms) (text upgraded : List ℕ) (old new : Option (List ℕ)) (outcome : Outcome)
+    → (upgrade : IsUpgrade text upgraded) → upgrade.version ≡ One → former_terms terms ≡ former_terms other
+    → (Answers terms (Some text) old new outcome → Answers other (Some upgraded) old new outcome)
+    × (Answers terms (Some upgraded) old new outcome → Answers other (Some text) old new outcome)

@@ -1,14 +1,16 @@
 pub mod Arrivals
+pub mod Tiers
 pub mod Connections
 pub mod Choices
 pub mod Answers
 pub mod Offers
 pub mod Replies
 pub mod Counting
-pub mod Tallies
+pub mod Totals
 pub mod Deciding
 pub mod Serving
 pub mod Outcomes
+pub mod Former
 pub mod Laws
 pub mod Fronts
 pub mod Backs

@@ -1,5 +1,5 @@
 -- Which messages are offered to the admission control, and which of them it turns away.
-use Rattle.std.specs.Prelude.{ℕ, Bool, true, false, List, [], ◌∷◌, ◌++◌, length, flat_map, Option}
+use Rattle.std.specs.Prelude.{ℕ, Bool, false, List, [], ◌∷◌, ◌++◌, length, flat_map, Option}
 use Rattle.std.specs.List.{list_any}
 use Rattle.paths.specs.Snapshots.{file_of}
 use Rattle.paths.specs.Targets.{asked}
@@ -10,13 +10,12 @@ use Rattle.paths.specs.declared.outcome.Outcome.TheVariants as outcomes
 use Rattle.http_requests.specs.declared.messages.What.{What as Meaning}
 use Rattle.http_requests.specs.declared.messages.What.TheVariants.{Request, Bad}
 use Rattle.cost_model.specs.Services.{service}
-use Rattle.admission.specs.declared.control.Decision.{Decision}
-use Rattle.admission.specs.declared.control.Decision.TheVariants.{Admitted, Rejected}
 use Rattle.admission.specs.Rules.{Rules}
-use Rattle.admission.specs.Requests.{Offer}
+use Rattle.admission.specs.Requests.{Offer, is_rejected}
 use Rattle.admission.specs.Decisions.{decide, decided}
 use Rattle.replay.specs.Choices.{Terms}
 use Rattle.replay.specs.Arrivals.{Arrival}
+use Rattle.replay.specs.declared.origin.Origin.{Origin}
 use Rattle.replay.specs.Answers.{is_head, is_unmodified}
 
 -- how many bytes the file has that a request is answered with, and whether they were not modified since the date that it names
@@ -32,27 +31,23 @@ is_unmodified_file files since other = false
 abbrev pub service_of : Terms → Bool → Option ℕ → Outcome → ℕ
 service_of terms head since o = service terms.costs o head (is_unmodified_file terms.files since o) (length_given terms.files o)
 
--- the offer of a message that came at a tick: none where it breaks a rule, and so is no request
-abbrev pub offer_at : Terms → ℕ → Meaning → List Offer
-offer_at terms tick (Request method target version closing since) =
-    record { tick = tick; service = service_of terms (is_head method) since (outcome terms.files (asked method target)) } ∷ []
-offer_at terms tick (Bad fault) = []
+-- the offer of a message that came from there: none where it breaks a rule, and so is no request
+abbrev pub offer_at : Terms → Origin → Meaning → List Offer
+offer_at terms origin (Request method target version closing since) =
+    record { tier = origin.tier; tick = origin.tick; service = service_of terms (is_head method) since (outcome terms.files (asked method target)) } ∷ []
+offer_at terms origin (Bad fault) = []
 
 -- the offers of these arrivals, in their order
 unfoldable pub offers_of : Terms → List Arrival → List Offer
-offers_of terms arrivals = flat_map (λ a. offer_at terms a.origin.tick a.message.what) arrivals
-
-abbrev pub is_rejection : Decision → Bool
-is_rejection (Admitted finish) = false
-is_rejection Rejected = true
+offers_of terms arrivals = flat_map (λ a. offer_at terms a.origin a.message.what) arrivals
 
 -- whether an offer that comes behind these is turned away
-unfoldable pub rejects : Rules → List Offer → Offer → Bool
-rejects rules offers offer = is_rejection (decide rules (decided rules offers) offer)
+unfoldable pub rejects : List Rules → List Offer → Offer → Bool
+rejects policies offers offer = is_rejected (decide policies (decided policies offers) offer)
 
 -- a message is turned away where the offer that it makes behind those of the earlier ones is
 abbrev pub is_turned_away : Terms → List Arrival → Arrival → Bool
-is_turned_away terms earlier a = list_any (rejects terms.rules (offers_of terms earlier)) (offer_at terms a.origin.tick a.message.what)
+is_turned_away terms earlier a = list_any (rejects terms.policies (offers_of terms earlier)) (offer_at terms a.origin a.message.what)
 
 -- a message, its number, and whether it was turned away
 pub record Handled : Type 0 where

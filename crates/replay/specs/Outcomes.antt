@@ -1,12 +1,14 @@
 -- What a replay comes to: its outcome, or a fault, and what it has written.
-use Rattle.std.specs.Prelude.{◌≡◌, ℕ, ◌+◌, ◌<◌, ◌≤◌, ◌⊎◌, false, List, ◌++◌, length, take, Option, Result, MatchResult}
+use Rattle.std.specs.Prelude.{◌≡◌, ℕ, ◌+◌, ◌<◌, ◌≤◌, ◌⊎◌, Bool, true, false, List, [], ◌++◌, length, take, Option, Result, Err, MatchResult, is_some, unwrap_or}
 use Rattle.std.specs.Io.KnownBytes.{Appends}
 use Rattle.captures.specs.declared.record.Record.{Record}
 use Rattle.captures.specs.declared.capture_fault.CaptureFault.{CaptureFault}
 use Rattle.captures.specs.declared.capture_fault.CaptureFaultKind.{CaptureFaultKind}
 use Rattle.captures.specs.declared.capture_fault.CaptureFaultKind.TheVariants as kinds
-use Rattle.captures.specs.Captures.{version_one, IsCapture, IsCaptureText, text_before_stop as records_text}
+use Rattle.captures.specs.declared.version.Version.{Version}
+use Rattle.captures.specs.Captures.{IsCapture, IsCaptureText, text_before_stop as records_text}
 use Rattle.captures.specs.CaptureFaults.{is_unforeseen_kind, IsHeaderFault, IsFaultBehind, failures_of}
+use Rattle.captures.specs.Readers.{FailsNext}
 use Rattle.replay.specs.declared.replay_fault.ReplayFault.{ReplayFault}
 use Rattle.replay.specs.declared.replay_fault.ReplayFault.TheVariants.{Capture, TooMany, Memory, Write as Unwritten}
 use Rattle.replay.specs.declared.outcome.Outcome.{Outcome}
@@ -19,7 +21,7 @@ use Rattle.replay.specs.Replies.{first_line, text_before_stop, replies_of, repli
 abbrev pub most_messages : ℕ
 most_messages = 1048576
 
--- the reader's want of memory is the call's own
+-- where the reader is out of memory, the call is
 abbrev pub told_as : CaptureFaultKind → CaptureFault → ReplayFault
 told_as kinds.Memory f = Memory
 told_as other f = Capture f
@@ -27,22 +29,32 @@ told_as other f = Capture f
 abbrev pub capture_fault : CaptureFault → ReplayFault
 capture_fault f = told_as f.kind f
 
+-- what holds of the input's bytes, where they are known
+abbrev pub WhereKnown : Option (List ℕ) → (List ℕ → Type 0) → Type 0
+WhereKnown input P = is_some input ≡ true → P (unwrap_or input [])
+
 -- The answer of the reference server to a capture, and that it was written: the input is the text of a capture with this
 -- start and these records, of which these are the arrivals; and each was answered, in their order.
-pub record Answers (terms : Terms) (input : List ℕ) (old new : Option (List ℕ)) (outcome : Outcome) : Type 0 where
+pub record Answers (terms : Terms) (input old new : Option (List ℕ)) (outcome : Outcome) : Type 0 where
+  pub version : Version
   pub start : ℕ
   pub records : List Record
   pub arrivals : List Arrival
-  pub capture : IsCaptureText version_one input start records
+  pub rules : IsCapture version start records
+  pub capture : WhereKnown input (λ bytes. IsCaptureText version bytes start records)
   pub arrived : AreArrivals records arrivals
   pub few : length arrivals ≤ most_messages
   pub written : Appends old new (replies_text (replies_of terms start (handled terms arrivals)))
   pub rejected : outcome.rejected ≡ rejected_of (handled terms arrivals)
   pub summary : outcome.summary ≡ summary_of terms arrivals
 
--- what a capture's fault has to say; the other faults say it of none
+abbrev pub is_memory : CaptureFaultKind → Bool
+is_memory kinds.Memory = true
+is_memory other = false
+
+-- what a capture's fault has to say; it is never that of a reader which is out of memory, and the other faults say it of none
 abbrev pub IfCapture : ReplayFault → (CaptureFault → Type 0) → Type 0
-IfCapture (Capture f) P = P f
+IfCapture (Capture f) P = (is_memory f.kind ≡ false) × P f
 IfCapture other P = Unit {0}
 
 -- what a message too many has to say, by its number
@@ -50,13 +62,13 @@ abbrev pub IfTooMany : ReplayFault → (ℕ → Type 0) → Type 0
 IfTooMany (TooMany number) P = P number
 IfTooMany other P = Unit {0}
 
--- what a failed write and want of memory have to say
+-- what a failed write, or being out of memory, has to say
 abbrev pub IfCutShort : ReplayFault → Type 0 → Type 0
 IfCutShort Unwritten P = P
 IfCutShort Memory P = P
 IfCutShort other P = Unit {0}
 
--- a failed write, or want of memory
+-- a failed write, or out of memory
 abbrev pub IsWriteOrMemory : ReplayFault → Type 0
 IsWriteOrMemory Unwritten = Unit {0}
 IsWriteOrMemory Memory = Unit {0}
@@ -68,74 +80,72 @@ IsOwn (Capture f) = ⊥
 IsOwn other = Unit {0}
 
 -- The replay stopped at the first line: it has written its own.
-pub record StopsFirst (input : List ℕ) (old new : Option (List ℕ)) (f : CaptureFault) : Type 0 where
+pub record StopsFirst (input old new : Option (List ℕ)) (f : CaptureFault) : Type 0 where
   pub at : f.at ≡ 0
   pub written : Appends old new first_line
-  pub fault : is_unforeseen_kind f.kind ≡ false → IsHeaderFault version_one input f
+  pub fault : is_unforeseen_kind f.kind ≡ false → WhereKnown input (λ bytes. IsHeaderFault bytes f)
 
--- The replay stopped behind these records, which stand whole in front of the fault, at the record that comes next: it has
--- written the replies to the messages that arrived with them, and no last line.
-pub record StopsBehind (terms : Terms) (input : List ℕ) (old new : Option (List ℕ)) (f : CaptureFault) : Type 0 where
+-- Records that were read: they keep the rules, and their texts are a prefix of the input. These are their arrivals.
+pub record Taken (input : Option (List ℕ)) : Type 0 where
+  pub version : Version
   pub start : ℕ
   pub records : List Record
   pub rest : List ℕ
   pub arrivals : List Arrival
-  pub front : input ≡ records_text version_one start records ++ rest
-  pub rules : IsCapture version_one start records
-  pub at : f.at ≡ length records + 1
+  pub rules : IsCapture version start records
+  pub begins : WhereKnown input (λ bytes. bytes ≡ records_text version start records ++ rest)
   pub arrived : AreArrivals records arrivals
-  pub few : length arrivals ≤ most_messages
-  pub written : Appends old new (text_before_stop (replies_of terms start (handled terms arrivals)))
-  pub fault : is_unforeseen_kind f.kind ≡ false → IsFaultBehind version_one input start records f
 
--- a fault of the capture that isn't a failed read or want of memory is its first
-abbrev pub Stops : Terms → List ℕ → Option (List ℕ) → Option (List ℕ) → CaptureFault → Type 0
-Stops terms input old new f = StopsFirst input old new f ⊎ StopsBehind terms input old new f
+-- The replay stopped at the record after these: it has written the replies to the messages that arrived with them, and no
+-- last line. Where it was a read that failed, nothing that was read after them is a whole record.
+pub record StopsAfter (terms : Terms) (input ahead old new : Option (List ℕ)) (f : CaptureFault) : Type 0 where
+  pub taken : Taken input
+  pub at : f.at ≡ length taken.records + 1
+  pub few : length taken.arrivals ≤ most_messages
+  pub written : Appends old new (text_before_stop (replies_of terms taken.start (handled terms taken.arrivals)))
+  pub fault : is_unforeseen_kind f.kind ≡ false
+      → WhereKnown input (λ bytes. IsFaultBehind taken.version bytes taken.start taken.records f)
+  pub failed : FailsNext taken.version input taken.start taken.records (Err f) ahead
 
--- The messages that arrived with these records, which stand whole in front of the input, are more than the limit: the
--- replies to those within it were written, and no last line. The number is that of the first beyond it.
-pub record StopsFull (terms : Terms) (input : List ℕ) (old new : Option (List ℕ)) (number : ℕ) : Type 0 where
-  pub start : ℕ
-  pub records : List Record
-  pub rest : List ℕ
-  pub arrivals : List Arrival
-  pub front : input ≡ records_text version_one start records ++ rest
-  pub rules : IsCapture version_one start records
-  pub arrived : AreArrivals records arrivals
-  pub beyond : most_messages < length arrivals
+-- a fault of the capture that isn't a failed read is its first; `ahead` is what of the input wasn't read
+abbrev pub Stops : Terms → Option (List ℕ) → Option (List ℕ) → Option (List ℕ) → Option (List ℕ) → CaptureFault → Type 0
+Stops terms input ahead old new f = StopsFirst input old new f ⊎ StopsAfter terms input ahead old new f
+
+-- The messages that arrived with these records are more than the limit: the replies to those within it were written, and no
+-- last line. The number is that of the first beyond it.
+pub record StopsFull (terms : Terms) (input old new : Option (List ℕ)) (number : ℕ) : Type 0 where
+  pub taken : Taken input
+  pub beyond : most_messages < length taken.arrivals
   pub is_number : number ≡ most_messages
-  pub written : Appends old new (text_before_stop (replies_of terms start (handled terms (take most_messages arrivals))))
+  pub written : Appends old new
+      (text_before_stop (replies_of terms taken.start (handled terms (take most_messages taken.arrivals))))
 
--- a front of the text was written
+-- a prefix of the text was written
 abbrev pub AppendsInPart : Option (List ℕ) → Option (List ℕ) → List ℕ → Type 0
 AppendsInPart old new text = (n : ℕ) × Appends old new (take n text)
 
--- A front was written of the first line and the replies to the messages, within the limit, that arrived with these
--- records, which stand whole in front of the input.
-pub record StopsAmong (terms : Terms) (input : List ℕ) (old new : Option (List ℕ)) : Type 0 where
-  pub start : ℕ
-  pub records : List Record
-  pub rest : List ℕ
-  pub arrivals : List Arrival
+-- A prefix was written of the first line and the replies to the messages, within the limit, that arrived with these records.
+pub record StopsAmong (terms : Terms) (input old new : Option (List ℕ)) : Type 0 where
+  pub taken : Taken input
   pub within : ℕ
-  pub front : input ≡ records_text version_one start records ++ rest
-  pub rules : IsCapture version_one start records
-  pub arrived : AreArrivals records arrivals
   pub few : within ≤ most_messages
-  pub written : AppendsInPart old new (text_before_stop (replies_of terms start (handled terms (take within arrivals))))
+  pub written : AppendsInPart old new
+      (text_before_stop (replies_of terms taken.start (handled terms (take within taken.arrivals))))
 
--- The input is a capture's text, and a front of the whole answer to it was written.
-pub record StopsAtEnd (terms : Terms) (input : List ℕ) (old new : Option (List ℕ)) : Type 0 where
+-- The input is a capture's text, and a prefix of the whole answer to it was written.
+pub record StopsAtEnd (terms : Terms) (input old new : Option (List ℕ)) : Type 0 where
+  pub version : Version
   pub start : ℕ
   pub records : List Record
   pub arrivals : List Arrival
-  pub capture : IsCaptureText version_one input start records
+  pub rules : IsCapture version start records
+  pub capture : WhereKnown input (λ bytes. IsCaptureText version bytes start records)
   pub arrived : AreArrivals records arrivals
   pub few : length arrivals ≤ most_messages
   pub written : AppendsInPart old new (replies_text (replies_of terms start (handled terms arrivals)))
 
--- a replay that was cut short has written a front of what was due
-abbrev pub IsCutShort : Terms → List ℕ → Option (List ℕ) → Option (List ℕ) → Type 0
+-- a replay that was cut short has written a prefix of what was due
+abbrev pub IsCutShort : Terms → Option (List ℕ) → Option (List ℕ) → Option (List ℕ) → Type 0
 IsCutShort terms input old new = AppendsInPart old new first_line ⊎ (StopsAmong terms input old new ⊎ StopsAtEnd terms input old new)
 
 -- how often the reader and the writer failed in a call that answered this fault

@@ -1,24 +1,25 @@
 -- How the plain engine stands between two messages, and between two records.
-use Rattle.std.specs.Prelude.{◌≡◌, ℕ, ◌+◌, ◌<◌, ◌≤◌, List, [], ◌∷◌, ◌++◌, length, take, All, Option, flat_map}
+use Rattle.std.specs.Prelude.{◌≡◌, ℕ, ◌+◌, ◌<◌, ◌≤◌, List, ◌++◌, length, take, All, Option, flat_map}
 use Rattle.std.specs.Io.KnownBytes.{Appends}
 use Rattle.captures.specs.declared.record.Record.{Record}
-use Rattle.captures.specs.declared.record.Record.TheVariants.{Piece, End}
+use Rattle.captures.specs.declared.record.Record.TheVariants.{Piece, End, Tier}
 use Rattle.responses.specs.Records.{record_text}
 use Rattle.admission.specs.Fits.{Fits}
+use Rattle.admission.specs.Standing.{policies_of}
 use Rattle.replay.specs.Choices.{Terms}
 use Rattle.replay.specs.Arrivals.{Arrival, AreArrivals}
 use Rattle.replay.specs.Connections.{HaveRead}
 use Rattle.replay.specs.Offers.{offers_of, handled_behind}
 use Rattle.replay.specs.Replies.{replies_of}
-use Rattle.replay.specs.Tallies.{tally_of}
+use Rattle.replay.specs.Totals.{totals_of}
 use Rattle.replay.specs.declared.connection.Connection.{Connection}
 use Rattle.replay.specs.declared.desk.Desk.{Desk}
 
 -- these messages were decided on and counted
 pub record Stands (terms : Terms) (arrivals : List Arrival) (desk : Desk) : Type 0 where
-  pub rules : desk.controller.rules ≡ terms.rules
+  pub policies : policies_of desk.controller ≡ terms.policies
   pub fits : Fits (offers_of terms arrivals) desk.controller
-  pub tally : desk.tally ≡ tally_of terms arrivals
+  pub totals : desk.totals ≡ totals_of terms arrivals
   pub few : length arrivals ≤ 1048576
 
 -- none of them came later than this tick
@@ -29,6 +30,7 @@ AreBy tick arrivals = All (λ a. a.origin.tick ≤ tick) arrivals
 abbrev pub IsLater : Record → List Arrival → Type 0
 IsLater (Piece tick conn bytes) arrivals = AreBy tick arrivals
 IsLater (End tick conn) arrivals = Unit {0}
+IsLater (Tier conn tier) arrivals = Unit {0}
 
 -- the records of the replies to these messages, which come behind the earlier ones
 abbrev pub records_behind : Terms → ℕ → List Arrival → List Arrival → List ℕ

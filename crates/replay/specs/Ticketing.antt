@@ -1,5 +1,5 @@
 -- The messages of a batch between the two floors.
-use Rattle.std.specs.Prelude.{◌≡◌, ℕ, ◌≤◌, List, [], ◌∷◌, ◌++◌, map}
+use Rattle.std.specs.Prelude.{◌≡◌, ◌<◌, ◌≤◌, List, [], ◌∷◌, ◌++◌, map}
 use Rattle.paths.specs.declared.file.File.{File}
 use Rattle.cost_model.specs.Services.{CostTable}
 use Rattle.replay.specs.Arrivals.{Arrival}
@@ -20,7 +20,7 @@ AreOf arrivals messages = map incoming_of arrivals ≡ messages
 abbrev pub AreSighted : List File → CostTable → List Arrival → List Sighted → Type 0
 AreSighted files costs arrivals sights = sights ≡ map (λ a. front_value files costs (incoming_of a)) arrivals
 
--- none of them comes before an earlier one
+-- none of them comes before an earlier one, and each is of some tier
 abbrev pub InTime : List Arrival → List Arrival → Type 0
 InTime earlier [] = Unit {0}
-InTime earlier (a ∷ more) = AreBy a.origin.tick earlier × (a.origin.tick ≤ 1000000000000000) × InTime (earlier ++ a ∷ []) more
+InTime earlier (a ∷ more) = AreBy a.origin.tick earlier × (a.origin.tick ≤ 1000000000000000) × (a.origin.tier < 4) × InTime (earlier ++ a ∷ []) more

@@ -1,13 +1,13 @@
 -- How a batch of records is read: its pieces wait at the seats of their connections.
-use Rattle.std.specs.Prelude.{◌≡◌, ℕ, ◌+◌, ◌≤◌, List, [], ◌∷◌, ◌++◌, map, Option, Some, None, Ok, Err}
+use Rattle.std.specs.Prelude.{◌≡◌, ℕ, ◌+◌, ◌≤◌, List, [], ◌∷◌, ◌++◌, map, Option, None, Ok, Err}
 use Rattle.captures.specs.declared.record.Record.{Record}
 use Rattle.captures.specs.declared.progress.Progress.{Progress}
-use Rattle.captures.specs.declared.capture_fault.CaptureFault.{CaptureFault}
-use Rattle.captures.specs.Captures.{version_one, IsCapture, sizes_of}
+use Rattle.captures.specs.declared.version.Version.{Version}
+use Rattle.captures.specs.Captures.{IsCapture, sizes_of}
 use Rattle.captures.specs.CaptureFaults.{failures_of}
-use Rattle.captures.specs.Readers.{Fits, Gave}
+use Rattle.captures.specs.Readers.{Fits, Gave, FailsNext}
 use Rattle.replay.specs.Arrivals.{Arrival}
-use Rattle.replay.specs.Batches.{pieces_to, origins_of}
+use Rattle.replay.specs.Batches.{pieces_to, origins_of, tiers_of}
 use Rattle.replay.specs.Choices.{Terms}
 use Rattle.replay.specs.Places.{Place, place_at}
 use Rattle.replay.specs.Serving.{Serves, Stands}
@@ -30,17 +30,19 @@ Adds rs old new = (c : ℕ) → place_at new c ≡ with_pieces (place_at old c) 
 abbrev pub AddsOne : Record → List Place → List Place → Type 0
 AddsOne r old new = Adds (r ∷ []) old new
 
--- the reader has given these records, and behind them what the ending says
-abbrev pub EndsWith : Option (List ℕ) → ℕ → List Record → Ending → Progress → Option (List ℕ) → Type 0
-EndsWith text start records More p now = Fits version_one text start records p now
-EndsWith text start records End p now = Gave version_one text start records (Ok None) p now
-EndsWith text start records (Fault f) p now = Gave version_one text start records (Err f) p now
+-- the reader has given these records, and after them what the ending says
+abbrev pub EndsWith : Version → Option (List ℕ) → ℕ → List Record → Ending → Progress → Option (List ℕ) → Type 0
+EndsWith v text start records More p now = Fits v text start records p now
+EndsWith v text start records End p now = Gave v text start records (Ok None) p now
+EndsWith v text start records (Fault f) p now =
+    Gave v text start records (Err f) p now × FailsNext v text start records (Err f) now
 
-pub record ReadOn (text : Option (List ℕ)) (start : ℕ) (records : List Record) (ending : Ending) (p : Progress) (now : Option (List ℕ)) : Type 0 where
+pub record ReadOn (v : Version) (text : Option (List ℕ)) (start : ℕ) (records : List Record) (ending : Ending) (p : Progress)
+    (now : Option (List ℕ)) : Type 0 where
   pub progress : Progress
   pub ahead : Option (List ℕ)
-  pub fits : Fits version_one text start records progress ahead
-  pub ends : EndsWith text start records ending p now
+  pub fits : Fits v text start records progress ahead
+  pub ends : EndsWith v text start records ending p now
 
 -- how often the reader failed
 abbrev pub CountsEnding : ℕ → ℕ → Ending → Type 0
@@ -59,12 +61,13 @@ connections_of places = map (λ p. p.connection) places
 abbrev pub Waiting : List Record → List Place → Type 0
 Waiting rs places = (c : ℕ) → ((place_at places c).pieces ≡ pieces_to c rs) × ((place_at places c).lists ≡ [])
 
--- These records come next, behind others that were served: their pieces wait at the seats, and came from these origins.
+-- These records come next, after others that were served: their pieces wait at the seats, and came from these origins.
 pub record ComeNext (terms : Terms) (records rs : List Record) (arrivals : List Arrival) (places : List Place) (origins : List Origin) (desk : Desk) : Type 0 where
   pub serves : Serves terms records arrivals (connections_of places) desk
   pub waiting : Waiting rs places
-  pub origins_are : origins ≡ origins_of rs
-  pub rules : IsCapture version_one desk.start (records ++ rs)
+  pub origins_are : origins ≡ origins_of (tiers_of records) rs
+  pub version : Version
+  pub rules : IsCapture version desk.start (records ++ rs)
   pub small : sizes_of (records ++ rs) ≤ 1073741824
 
 -- these messages come next, behind those that were served: they are those of the arrivals, in time

@@ -111,6 +111,7 @@ fn answer_message<F: Tree, W: Write>(
     requires snapshot { snapshot.now ≡ F.files }
     requires start { desk.old.start ≤ 4102444800 }
     requires tick { origin.tick ≤ 1000000000000000 }
+    requires tier { origin.tier < 4 }
     requires stands { (arrivals : List Arrival) × Stands (terms_of F.files settings.now) arrivals desk.old
         × AreBy origin.tick arrivals }
     requires failures { writer.old.1 < 2 ^ 64 - 1 }
@@ -121,17 +122,17 @@ fn answer_message<F: Tree, W: Write>(
         → Stands (terms_of F.files settings.now) arrivals desk.old → a.origin ≡ origin → a.message.what ≡ what.now
         → Written (terms_of F.files settings.now) desk.old.start arrivals (a ∷ []) writer.old.0 writer.new.0) }
     ensures start { OnOk result (desk.new.start ≡ desk.old.start) }
-    ensures number { OnOk result (desk.new.tally.answered ≡ desk.old.tally.answered + 1) }
+    ensures number { OnOk result (desk.new.totals.answered ≡ desk.old.totals.answered + 1) }
     ensures many { IfErr result (λ f. IfTooMany f (λ n. (n ≡ MOST_MESSAGES)
-        × (desk.old.tally.answered ≡ MOST_MESSAGES) × (writer.new ≡ writer.old))) }
-    ensures part { IfErr result (λ f. IfCutShort f ((desk.old.tally.answered < MOST_MESSAGES)
+        × (desk.old.totals.answered ≡ MOST_MESSAGES) × (writer.new ≡ writer.old))) }
+    ensures part { IfErr result (λ f. IfCutShort f ((desk.old.totals.answered < MOST_MESSAGES)
         × ((arrivals : List Arrival) (a : Arrival) → Stands (terms_of F.files settings.now) arrivals desk.old
         → a.origin ≡ origin → a.message.what ≡ what.now
         → WrittenInPart (terms_of F.files settings.now) desk.old.start arrivals (a ∷ []) writer.old.0 writer.new.0))) }
     ensures failures { CountsBy writer_failures writer.old.1 writer.new.1 result }
     ensures own { IfErr result IsOwn }
 {
-    let number = desk.tally.answered;
+    let number = desk.totals.answered;
     if number == MOST_MESSAGES {
         return Err(ReplayFault::TooMany(MOST_MESSAGES));
     }
@@ -155,6 +156,7 @@ pub(crate) fn answer_all<F: Tree, W: Write>(
     requires snapshot { snapshot.now ≡ F.files }
     requires start { desk.old.start ≤ 4102444800 }
     requires tick { origin.tick ≤ 1000000000000000 }
+    requires tier { origin.tier < 4 }
     requires stands { (arrivals : List Arrival) × Stands (terms_of F.files settings.now) arrivals desk.old
         × AreBy origin.tick arrivals }
     requires failures { writer.old.1 < 2 ^ 64 - 1 }
@@ -166,11 +168,11 @@ pub(crate) fn answer_all<F: Tree, W: Write>(
         → Written (terms_of F.files settings.now) desk.old.start arrivals (arrivals_with place origin messages.now) writer.old.0 writer.new.0) }
     ensures start { OnOk result (desk.new.start ≡ desk.old.start) }
     ensures many { IfErr result (λ f. IfTooMany f (λ n. (n ≡ MOST_MESSAGES) × (i : ℕ) × (i < length messages.now)
-        × (desk.old.tally.answered + i ≡ MOST_MESSAGES)
+        × (desk.old.totals.answered + i ≡ MOST_MESSAGES)
         × ((arrivals : List Arrival) (place : ℕ) → Stands (terms_of F.files settings.now) arrivals desk.old
         → Written (terms_of F.files settings.now) desk.old.start arrivals (arrivals_with place origin (take i messages.now)) writer.old.0 writer.new.0))) }
     ensures part { IfErr result (λ f. IfCutShort f ((i : ℕ) × (i ≤ length messages.now)
-        × (desk.old.tally.answered + i ≤ MOST_MESSAGES) × ((arrivals : List Arrival) (place : ℕ)
+        × (desk.old.totals.answered + i ≤ MOST_MESSAGES) × ((arrivals : List Arrival) (place : ℕ)
         → Stands (terms_of F.files settings.now) arrivals desk.old
         → WrittenInPart (terms_of F.files settings.now) desk.old.start arrivals (arrivals_with place origin (take i messages.now)) writer.old.0 writer.new.0))) }
     ensures failures { CountsBy writer_failures writer.old.1 writer.new.1 result }

@@ -32,7 +32,8 @@ pub(crate) fn settle<F: Tree>(
     requires snapshot { snapshot.now ≡ F.files }
     requires start { desk.old.start ≤ 4102444800 }
     requires tick { origin.tick ≤ 1000000000000000 }
-    requires few { desk.old.tally.answered < MOST_MESSAGES }
+    requires tier { origin.tier < 4 }
+    requires few { desk.old.totals.answered < MOST_MESSAGES }
     requires stands { (arrivals : List Arrival) × Stands (terms_of F.files settings.now) arrivals desk.old
         × AreBy origin.tick arrivals }
     requires sight { sight ≡ sight_of F.files settings.now.costs what.now }
@@ -44,14 +45,14 @@ pub(crate) fn settle<F: Tree>(
         → slip_of_ticket t ≡ slip_of (terms_of F.files settings.now) desk.old.start (handled_next (terms_of F.files settings.now) arrivals a)) }
     ensures ready { IfOk result (λ t. is_back F.files (Waits t) ≡ true) }
     ensures start { OnOk result (desk.new.start ≡ desk.old.start) }
-    ensures number { OnOk result (desk.new.tally.answered ≡ desk.old.tally.answered + 1) }
+    ensures number { OnOk result (desk.new.totals.answered ≡ desk.old.totals.answered + 1) }
 {
-    let number = desk.tally.answered;
+    let number = desk.totals.answered;
     let date = desk.start + origin.tick / 1_000_000;
     let head = answers_head(what);
     let link = link_of(what);
-    let due = desk.decide::<F>(snapshot, settings, origin.tick, what, sight)?;
-    desk.tally.note(&due, what);
+    let due = desk.decide::<F>(snapshot, settings, origin, what, sight)?;
+    desk.totals.note(&due, what);
     Ok(Ticket {
         number,
         conn: usize::from(origin.conn),

@@ -1,6 +1,7 @@
 ghost use Rattle.std.specs.Prelude.{◌≡◌, ◌<◌, ◌≤◌, ◌∷◌, ◌&&◌, [], true, Bool, List, length, IfOk};
 ghost use Rattle.admission.specs.Requests.{Offer};
 ghost use Rattle.admission.specs.Fits.{Fits, tick_from};
+ghost use Rattle.admission.specs.Standing.{policies_of};
 ghost use Rattle.replay.specs.Choices.{terms_of};
 ghost use Rattle.replay.specs.Answers.{answers_head, given};
 ghost use Rattle.replay.specs.Offers.{offer_at};
@@ -10,11 +11,12 @@ ghost use Rattle.replay.specs.Fronts.{sight_of};
 ghost use Rattle.replay.specs.Backs.{told, only_head, has_location, is_due};
 
 use crate::answers::{answers_head, fault_status, outcome_answer};
+use crate::origin::Origin;
 use crate::sight::Sight;
-use crate::tally::Tally;
 use crate::ticket::Due;
+use crate::totals::Totals;
 use crate::{MOST_MESSAGES, Settings};
-use admission::{Controller, Decision, MAX_SERVICE, MAX_TICK, Policy};
+use admission::{Controller, Decision, MAX_SERVICE, MAX_TICK};
 use http_requests::What as Meaning;
 use paths::{Snapshot, Tree};
 use responses::{Status, What};
@@ -26,27 +28,28 @@ pub struct Desk {
     /// When the capture begins, in seconds since 1970-01-01.
     pub start: u64,
     pub controller: Controller,
-    pub tally: Tally,
+    pub totals: Totals,
 }
 
 impl Desk {
-    /// Offers a request that comes at `tick` and takes `service` ticks: whether it is turned away.
-    fn offer(&mut self, tick: u64, service: u64) -> Result<bool, AllocError>
+    /// Offers a request of `tier` that comes at `tick` and takes `service` ticks: whether it is turned away.
+    fn offer(&mut self, tier: u8, tick: u64, service: u64) -> Result<bool, AllocError>
         requires offers { (offers : List Offer) × Fits offers self.old.controller × (tick_from 0 offers ≤ tick)
             × (length offers < MOST_MESSAGES) }
+        requires tier { tier < 4 }
         requires tick { tick ≤ MAX_TICK }
         requires service { (1 ≤ service) × (service ≤ MAX_SERVICE) }
         ensures { IfOk result (λ away. (offers : List Offer) → Fits offers self.old.controller
-            → self.old.tally.samples ≡ samples_of self.old.controller.rules offers
-            → Decides offers (record { tick = tick; service = service } ∷ []) self.old self.new away) }
+            → self.old.totals.samples ≡ samples_of (policies_of self.old.controller) offers
+            → Decides offers (record { tier = tier; tick = tick; service = service } ∷ []) self.old self.new away) }
     {
-        match self.controller.offer(tick, service)? {
+        match self.controller.offer(tier, tick, service)? {
             Decision::Admitted { finish } => {
-                self.tally.samples.push(finish - tick)?;
+                self.totals.samples.push(finish - tick)?;
                 Ok(false)
             }
             Decision::Rejected => {
-                self.tally.rejected.push(self.tally.answered)?;
+                self.totals.rejected.push(self.totals.answered)?;
                 Ok(true)
             }
         }
@@ -57,18 +60,19 @@ impl Desk {
         &mut self,
         snapshot: &Snapshot,
         settings: &Settings,
-        tick: u64,
+        origin: Origin,
         what: &Meaning,
         sight: Sight,
     ) -> Result<Due<F>, AllocError>
         requires snapshot { snapshot.now ≡ F.files }
-        requires offers { (offers : List Offer) × Fits offers self.old.controller × (tick_from 0 offers ≤ tick)
+        requires offers { (offers : List Offer) × Fits offers self.old.controller × (tick_from 0 offers ≤ origin.tick)
             × (length offers < MOST_MESSAGES) }
-        requires tick { tick ≤ MAX_TICK }
+        requires tier { origin.tier < 4 }
+        requires tick { origin.tick ≤ MAX_TICK }
         requires sight { sight ≡ sight_of F.files settings.now.costs what.now }
         ensures told { IfOk result (λ due. (offers : List Offer) → Fits offers self.old.controller
-            → self.old.tally.samples ≡ samples_of self.old.controller.rules offers
-            → (away : Bool) × Decides offers (offer_at (terms_of F.files settings.now) tick what.now) self.old self.new away
+            → self.old.totals.samples ≡ samples_of (policies_of self.old.controller) offers
+            → (away : Bool) × Decides offers (offer_at (terms_of F.files settings.now) origin what.now) self.old self.new away
             × (told due ≡ given (terms_of F.files settings.now) away what.now)) }
         ensures due { IfOk result (λ due. is_due F.files due ≡ true) }
         ensures can { IfOk result (λ due. (only_head (answers_head what.now) (told due) && has_location (told due))
@@ -84,7 +88,7 @@ impl Desk {
                 let Sight::Priced(outcome, service) = sight else {
                     unreachable!()
                 };
-                if self.offer(tick, service.ticks())? {
+                if self.offer(origin.tier, origin.tick, service.ticks())? {
                     let retry_after = settings.retry_after;
                     return Ok(Due::Told(What::Plain {
                         status: Status::ServiceUnavailable { retry_after },

@@ -30,10 +30,11 @@ mod shifted;
 mod sight;
 mod staged;
 mod summary;
-mod tally;
 #[cfg(test)]
 mod tests;
 mod ticket;
+mod tiers;
+mod totals;
 mod unnamed;
 
 pub use outcome::Outcome;
@@ -42,7 +43,7 @@ pub use replay_fault::ReplayFault;
 pub use series::Series;
 pub use settings::{BACK_STEPS, FRONT_STEPS, Settings, SettingsFault};
 pub use staged::staged_replay;
-pub use summary::{Counts, Summary};
+pub use summary::{Counts, Summary, Tally};
 
 /// The most messages that a capture may have.
 pub const MOST_MESSAGES: usize = 1_048_576;

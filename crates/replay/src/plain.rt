@@ -1,13 +1,18 @@
-ghost use Rattle.std.specs.Prelude.{◌≡◌, ◌+◌, ◌≤◌, ◌<◌, ◌-◌, ◌^◌, ◌⊎◌, ◌∷◌, [], ℕ, List, true, is_some, unwrap_or};
+ghost use Rattle.std.specs.Prelude.{◌≡◌, ◌+◌, ◌≤◌, ◌<◌, ◌-◌, ◌^◌, ◌⊎◌, ◌∷◌, [], ℕ, List, ◌++◌};
 ghost use Rattle.std.specs.Prelude.{IfOk, IfErr, OnOk, OnErr};
 ghost use Rattle.std.specs.Io.KnownBytes.{Appends};
-ghost use Rattle.captures.specs.Captures.{version_one, IsRecord, Follows, past_of, size_of, sizes_of};
+ghost use Rattle.captures.specs.declared.version.Version.{Version as AVersion};
+ghost use Rattle.captures.specs.Captures.{IsRecord, Follows, past_of, size_of, sizes_of};
 ghost use Rattle.captures.specs.declared.record.Record.{Record as ARecord};
 ghost use Rattle.replay.specs.Choices.{Terms, terms_of};
 ghost use Rattle.replay.specs.Arrivals.{Arrival};
 ghost use Rattle.replay.specs.Replies.{first_line, last_line};
 ghost use Rattle.replay.specs.Serving.{IsLater, Serves, ServesMore, ServesFull, ServesInPart, Stands};
-ghost use Rattle.replay.specs.Counting.{rejected_of, summary_of};
+ghost use Rattle.replay.specs.Counting.{rejected_of, summary_of, tally_of};
+ghost use Rattle.replay.specs.Tiers.{AreTiers};
+ghost use Rattle.admission.specs.Requests.{Offer};
+ghost use Rattle.admission.specs.Fits.{Fits};
+ghost use Rattle.admission.specs.Standing.{policies_of};
 ghost use Rattle.replay.specs.Offers.{handled};
 ghost use Rattle.replay.specs.Outcomes.{Answers, AppendsInPart, IfCapture, IfTooMany, IfCutShort, IsCutShort, IsOwn};
 ghost use Rattle.replay.specs.Outcomes.{Stops, StopsFull, CountsBy, reader_failures, writer_failures};
@@ -18,8 +23,9 @@ use crate::connections::Connections;
 use crate::desk::Desk;
 use crate::origin::Origin;
 use crate::outcome::Outcome;
-use crate::tally::Tally;
-use crate::{MOST_MESSAGES, ReplayFault, Series, Settings, Summary};
+use crate::tiers::Tiers;
+use crate::totals::Totals;
+use crate::{MOST_MESSAGES, ReplayFault, Series, Settings, Summary, Tally};
 use admission::Controller;
 use captures::{CaptureReader, Record};
 use paths::{Input, Output, Snapshot, Tree};
@@ -56,21 +62,40 @@ pub(crate) fn write_last_line<W: Write>(
     Ok(())
 }
 
+/// What became of the requests of a tier.
+fn tally_of(alloc: Global, controller: &Controller, tier: u8) -> Result<Tally, AllocError>
+    requires { tier < 4 }
+    ensures { IfOk result (λ tally. (offers : List Offer) → Fits offers controller.now
+        → tally ≡ tally_of (policies_of controller.now) offers tier) }
+{
+    let controls = Vec::from_slice(alloc, controller.controls(tier))?;
+    Ok(Tally {
+        admitted: controller.admitted(tier),
+        rejected: controller.rejected(tier),
+        controls: Series::from_vec(controls),
+    })
+}
+
 /// What the replay has come to.
 pub(crate) fn outcome_of(alloc: Global, desk: Desk) -> Result<Outcome, AllocError>
-    ensures rejected { IfOk result (λ outcome. outcome.rejected ≡ desk.tally.rejected) }
+    ensures rejected { IfOk result (λ outcome. outcome.rejected ≡ desk.totals.rejected) }
     ensures summary { IfOk result (λ outcome. (terms : Terms) (arrivals : List Arrival)
         → Stands terms arrivals desk → outcome.summary ≡ summary_of terms arrivals) }
 {
-    let controls = Vec::from_slice(alloc, desk.controller.controls())?;
-    let tally = desk.tally;
+    let tiers = [
+        tally_of(alloc, &desk.controller, 0)?,
+        tally_of(alloc, &desk.controller, 1)?,
+        tally_of(alloc, &desk.controller, 2)?,
+        tally_of(alloc, &desk.controller, 3)?,
+    ];
+    let totals = desk.totals;
     Ok(Outcome {
-        rejected: tally.rejected,
+        rejected: totals.rejected,
         summary: Summary {
-            counts: tally.counts,
-            bypassed: tally.bypassed,
-            samples: tally.samples,
-            controls: Series::from_vec(controls),
+            counts: totals.counts,
+            bypassed: totals.bypassed,
+            samples: totals.samples,
+            tiers,
         },
     })
 }
@@ -82,26 +107,29 @@ fn answer_record<F: Tree, W: Write>(
     settings: &Settings,
     next: &Record,
     connections: &mut Connections,
+    tiers: &mut Tiers,
     desk: &mut Desk,
     writer: &mut Output<W>,
 ) -> Result<(), ReplayFault>
     requires snapshot { snapshot.now ≡ F.files }
     requires start { desk.old.start ≤ 4102444800 }
-    requires record { IsRecord version_one next.now }
+    requires record { (version : AVersion) × IsRecord version next.now }
     requires room { (records : List ARecord) × (arrivals : List Arrival)
         × Serves (terms_of F.files settings.now) records arrivals connections.old desk.old
         × (sizes_of records + size_of next.now ≤ 1073741824) × IsLater next.now arrivals }
     requires failures { writer.old.1 < 2 ^ 64 - 1 }
-    ensures serves { OnOk result ((records : List ARecord) (arrivals : List Arrival)
+    ensures tiers { OnOk result ((records : List ARecord) → AreTiers records tiers.old
+        → AreTiers (records ++ next.now ∷ []) tiers.new) }
+    ensures serves { OnOk result ((records : List ARecord) (arrivals : List Arrival) → AreTiers records tiers.old
         → Serves (terms_of F.files settings.now) records arrivals connections.old desk.old
         → ServesMore (terms_of F.files settings.now) records arrivals (next.now ∷ []) connections.new desk.new writer.old.0 writer.new.0) }
     ensures start { OnOk result (desk.new.start ≡ desk.old.start) }
     ensures many { IfErr result (λ f. IfTooMany f (λ n. (n ≡ MOST_MESSAGES)
-        × ((records : List ARecord) (arrivals : List Arrival)
+        × ((records : List ARecord) (arrivals : List Arrival) → AreTiers records tiers.old
         → Serves (terms_of F.files settings.now) records arrivals connections.old desk.old
         → ServesFull (terms_of F.files settings.now) desk.old.start records arrivals (next.now ∷ []) writer.old.0 writer.new.0))) }
     ensures part { IfErr result (λ f. IfCutShort f ((writer.new.0
-        ≡ writer.old.0) ⊎ ((records : List ARecord) (arrivals : List Arrival)
+        ≡ writer.old.0) ⊎ ((records : List ARecord) (arrivals : List Arrival) → AreTiers records tiers.old
         → Serves (terms_of F.files settings.now) records arrivals connections.old desk.old
         → ServesInPart (terms_of F.files settings.now) desk.old.start records arrivals (next.now ∷ []) writer.old.0 writer.new.0))) }
     ensures failures { CountsBy writer_failures writer.old.1 writer.new.1 result }
@@ -109,12 +137,17 @@ fn answer_record<F: Tree, W: Write>(
 {
     match next {
         Record::End { .. } => Ok(()),
+        Record::Tier { conn, tier } => {
+            tiers.give(*conn, *tier)?;
+            Ok(())
+        }
         Record::Piece { tick, conn, bytes } => {
             let mut messages = Vec::new(alloc);
             connections.take(alloc, usize::from(*conn), bytes.as_slice(), &mut messages)?;
             let origin = Origin {
                 conn: *conn,
                 tick: *tick,
+                tier: tiers.of(*conn),
             };
             answer_all::<F, W>(alloc, snapshot, settings, origin, &messages, desk, writer)
         }
@@ -139,19 +172,19 @@ pub fn plain_replay<F: Tree, R: Read, W: Write>(
     requires reading { reader.old.1 < 2 ^ 64 - 1 }
     requires writing { writer.old.1 < 2 ^ 64 - 1 }
     // Read, and each other fault of the capture, only with the replies to the messages of the whole records before it.
-    ensures stops { IfErr result (λ f. IfCapture f (λ fault. is_some reader.old.0 ≡ true
-        → Stops (terms_of F.files settings.now) (unwrap_or reader.old.0 []) writer.old.0 writer.new.0 fault)) }
+    ensures stops { IfErr result (λ f. IfCapture f
+        (Stops (terms_of F.files settings.now) reader.old.0 reader.new.0 writer.old.0 writer.new.0)) }
     // Too many messages, only with the replies to those within the limit.
-    ensures many { IfErr result (λ f. IfTooMany f (λ number. is_some reader.old.0 ≡ true
-        → StopsFull (terms_of F.files settings.now) (unwrap_or reader.old.0 []) writer.old.0 writer.new.0 number)) }
-    // After a failed write and want of memory, a front of what was due stands.
-    ensures part { IfErr result (λ f. IfCutShort f (is_some reader.old.0 ≡ true
-        → IsCutShort (terms_of F.files settings.now) (unwrap_or reader.old.0 []) writer.old.0 writer.new.0)) }
+    ensures many { IfErr result (λ f. IfTooMany f
+        (StopsFull (terms_of F.files settings.now) reader.old.0 writer.old.0 writer.new.0)) }
+    // After a failed write and out of memory, a prefix of what was due stands.
+    ensures part { IfErr result (λ f. IfCutShort f
+        (IsCutShort (terms_of F.files settings.now) reader.old.0 writer.old.0 writer.new.0)) }
     // A device is blamed only where it failed in this call.
     ensures reads { CountsBy reader_failures reader.old.1 reader.new.1 result }
     ensures writes { CountsBy writer_failures writer.old.1 writer.new.1 result }
-    ensures ok { IfOk result (λ outcome. is_some reader.old.0 ≡ true
-        → Answers (terms_of F.files settings.now) (unwrap_or reader.old.0 []) writer.old.0 writer.new.0 outcome) }
+    ensures ok { IfOk result
+        (Answers (terms_of F.files settings.now) reader.old.0 writer.old.0 writer.new.0) }
 {
     write_first_line(writer)?;
     let mut capture = match CaptureReader::open(reader) {
@@ -159,10 +192,11 @@ pub fn plain_replay<F: Tree, R: Read, W: Write>(
         Err(fault) => return Err(ReplayFault::from(fault)),
     };
     let mut connections = Connections::new(alloc);
+    let mut tiers = Tiers::new(alloc);
     let mut desk = Desk {
         start: capture.start(),
-        controller: Controller::new(alloc, settings.policy)?,
-        tally: Tally::new(alloc),
+        controller: Controller::new(alloc, settings.policies)?,
+        totals: Totals::new(alloc),
     };
     loop {
         let next = match capture.next_record(alloc) {
@@ -176,11 +210,12 @@ pub fn plain_replay<F: Tree, R: Read, W: Write>(
             settings,
             &next,
             &mut connections,
+            &mut tiers,
             &mut desk,
             writer,
         )?;
     }
-    let answered = desk.tally.answered;
+    let answered = desk.totals.answered;
     let outcome = outcome_of(alloc, desk)?;
     write_last_line(alloc, writer, answered)?;
     Ok(outcome)

@@ -77,7 +77,7 @@ fn serve_few<F: Tree + Send + Sync, G: Gate + Sync, T: Threads + Wait + Sync, W:
     if messages.is_empty() {
         return Ok(());
     }
-    let first = desk.tally.answered;
+    let first = desk.totals.answered;
     let before = Shifted {
         gate,
         stages: 0,
@@ -134,12 +134,12 @@ fn serve_part<F: Tree + Send + Sync, G: Gate + Sync, T: Threads + Wait + Sync, W
         → Upcoming (terms_of F.files settings.now) arrivals more messages.items desk.old
         → Written (terms_of F.files settings.now) desk.old.start arrivals more writer.old.0 writer.new.0) }
     ensures many { IfErr result (λ f. IfTooMany f (λ n. (n ≡ MOST_MESSAGES) × (i : ℕ) × (i < length messages.items)
-        × (desk.old.tally.answered + i ≡ MOST_MESSAGES)
+        × (desk.old.totals.answered + i ≡ MOST_MESSAGES)
         × ((arrivals more : List Arrival)
         → Upcoming (terms_of F.files settings.now) arrivals more messages.items desk.old
         → Written (terms_of F.files settings.now) desk.old.start arrivals (take i more) writer.old.0 writer.new.0))) }
     ensures part { IfErr result (λ f. IfCutShort f ((i : ℕ) × (i ≤ length messages.items)
-        × (desk.old.tally.answered + i ≤ MOST_MESSAGES)
+        × (desk.old.totals.answered + i ≤ MOST_MESSAGES)
         × ((arrivals more : List Arrival)
         → Upcoming (terms_of F.files settings.now) arrivals more messages.items desk.old
         → WrittenInPart (terms_of F.files settings.now) desk.old.start arrivals (take i more) writer.old.0 writer.new.0))) }
@@ -147,7 +147,7 @@ fn serve_part<F: Tree + Send + Sync, G: Gate + Sync, T: Threads + Wait + Sync, W
     ensures failures { CountsBy writer_failures writer.old.1 writer.new.1 result }
     ensures own { IfErr result IsOwn }
 {
-    let room = MOST_MESSAGES - desk.tally.answered;
+    let room = MOST_MESSAGES - desk.totals.answered;
     if messages.len() <= room {
         return serve_few::<F, G, T, W>(
             rt, alloc, snapshot, settings, cache, gate, messages, desk, writer,
@@ -190,12 +190,12 @@ pub(crate) fn serve_parts<
         → Upcoming (terms_of F.files settings.now) arrivals more (joined parts.items) desk.old
         → Written (terms_of F.files settings.now) desk.old.start arrivals more writer.old.0 writer.new.0) }
     ensures many { IfErr result (λ f. IfTooMany f (λ n. (n ≡ MOST_MESSAGES) × (i : ℕ)
-        × (i < length (joined parts.items)) × (desk.old.tally.answered + i ≡ MOST_MESSAGES)
+        × (i < length (joined parts.items)) × (desk.old.totals.answered + i ≡ MOST_MESSAGES)
         × ((arrivals more : List Arrival)
         → Upcoming (terms_of F.files settings.now) arrivals more (joined parts.items) desk.old
         → Written (terms_of F.files settings.now) desk.old.start arrivals (take i more) writer.old.0 writer.new.0))) }
     ensures part { IfErr result (λ f. IfCutShort f ((i : ℕ) × (i ≤ length (joined parts.items))
-        × (desk.old.tally.answered + i ≤ MOST_MESSAGES)
+        × (desk.old.totals.answered + i ≤ MOST_MESSAGES)
         × ((arrivals more : List Arrival)
         → Upcoming (terms_of F.files settings.now) arrivals more (joined parts.items) desk.old
         → WrittenInPart (terms_of F.files settings.now) desk.old.start arrivals (take i more) writer.old.0 writer.new.0))) }

@@ -45,7 +45,7 @@ pub struct Settings {
     pub(crate) batch: usize,
     pub(crate) cache: usize,
     pub(crate) costs: Costs,
-    pub(crate) policy: Policy,
+    pub(crate) policies: [Policy; 4],
     pub(crate) retry_after: u64,
 }
 
@@ -54,16 +54,16 @@ impl Model for Settings {
 
     ghost Value = { Choice };
 
-    ghost view = { λ s. record { front = s.front; back = s.back; batch = s.batch; cache = s.cache; costs = s.costs; rules = s.policy; retry_after = s.retry_after } };
+    ghost view = { λ s. record { front = s.front; back = s.back; batch = s.batch; cache = s.cache; costs = s.costs; policies = s.policies; retry_after = s.retry_after } };
 
-    ghost invariant = { λ s. IsChoice (record { front = s.front; back = s.back; batch = s.batch; cache = s.cache; costs = s.costs; rules = s.policy; retry_after = s.retry_after }) };
+    ghost invariant = { λ s. IsChoice (record { front = s.front; back = s.back; batch = s.batch; cache = s.cache; costs = s.costs; policies = s.policies; retry_after = s.retry_after }) };
 }
 
 impl Settings {
     /// Settings of these values, or the first that is outside its range. `front` and `back` are the floors of the staged
     /// engine: how a request's steps are cut into stages, with their workers and queues; `batch` is how many pieces it
     /// reads at a time (1 to 65,536), `cache` the most bytes of pages that it keeps (up to 1,073,741,824). None of these
-    /// changes an answer. `costs` are the service times, `policy` is that of the admission control, and `retry_after` the
+    /// changes an answer. `costs` are the service times, `policies` are those of the tiers 0 to 3, and `retry_after` the
     /// seconds that a rejected request is told to wait (0 to 86,400).
     ///
     /// # Errors
@@ -76,13 +76,13 @@ impl Settings {
         batch: usize,
         cache: usize,
         costs: Costs,
-        policy: Policy,
+        policies: [Policy; 4],
         retry_after: u64,
     ) -> Result<Settings, SettingsFault>
         ensures ok { IfOk result (λ s. (s
-            ≡ record { front = front; back = back; batch = batch; cache = cache; costs = costs; rules = policy; retry_after = retry_after }) × (settings_fault s ≡ None)) }
+            ≡ record { front = front; back = back; batch = batch; cache = cache; costs = costs; policies = policies; retry_after = retry_after }) × (settings_fault s ≡ None)) }
         ensures fault { IfErr result
-            (λ f. settings_fault (record { front = front; back = back; batch = batch; cache = cache; costs = costs; rules = policy; retry_after = retry_after }) ≡ Some f) }
+            (λ f. settings_fault (record { front = front; back = back; batch = batch; cache = cache; costs = costs; policies = policies; retry_after = retry_after }) ≡ Some f) }
     {
         if front.steps() != FRONT_STEPS {
             return Err(SettingsFault::Front);
@@ -105,7 +105,7 @@ impl Settings {
             batch,
             cache,
             costs,
-            policy,
+            policies,
             retry_after,
         })
     }

@@ -1,4 +1,4 @@
-ghost use Rattle.std.specs.Prelude.{◌≡◌, ◌<◌, ◌≤◌, ◌-◌, ◌+◌, ◌^◌, ◌++◌, ◌⊎◌, [], ℕ, List, true, is_some, unwrap_or};
+ghost use Rattle.std.specs.Prelude.{◌≡◌, ◌<◌, ◌≤◌, ◌-◌, ◌+◌, ◌^◌, ◌++◌, ◌⊎◌, [], ℕ, List};
 ghost use Rattle.std.specs.Prelude.{IfOk, IfErr, OnOk, OnErr};
 ghost use Rattle.captures.specs.declared.record.Record.{Record as ARecord};
 ghost use Rattle.replay.specs.Arrivals.{Arrival};
@@ -16,7 +16,8 @@ use crate::parts::parts_of;
 use crate::plain::{outcome_of, write_first_line, write_last_line};
 use crate::seats::Seats;
 use crate::serving::serve_parts;
-use crate::tally::Tally;
+use crate::tiers::Tiers;
+use crate::totals::Totals;
 use crate::{MOST_MESSAGES, ReplayFault, Settings};
 use admission::Controller;
 use captures::CaptureReader;
@@ -101,20 +102,20 @@ pub fn staged_replay<
     requires reading { reader.old.1 < 2 ^ 64 - 1 }
     requires writing { writer.old.1 < 2 ^ 64 - 1 }
     // Read, and each other fault of the capture, only with the replies to the messages of the whole records before it.
-    ensures stops { IfErr result (λ f. IfCapture f (λ fault. is_some reader.old.0 ≡ true
-        → Stops (terms_of F.files settings.now) (unwrap_or reader.old.0 []) writer.old.0 writer.new.0 fault)) }
+    ensures stops { IfErr result (λ f. IfCapture f
+        (Stops (terms_of F.files settings.now) reader.old.0 reader.new.0 writer.old.0 writer.new.0)) }
     // Too many messages, only with the replies to those within the limit.
-    ensures many { IfErr result (λ f. IfTooMany f (λ number. is_some reader.old.0 ≡ true
-        → StopsFull (terms_of F.files settings.now) (unwrap_or reader.old.0 []) writer.old.0 writer.new.0 number)) }
+    ensures many { IfErr result (λ f. IfTooMany f
+        (StopsFull (terms_of F.files settings.now) reader.old.0 writer.old.0 writer.new.0)) }
     // After a failed write and out of memory, a prefix of what was due stands.
-    ensures part { IfErr result (λ f. IfCutShort f (is_some reader.old.0 ≡ true
-        → IsCutShort (terms_of F.files settings.now) (unwrap_or reader.old.0 []) writer.old.0 writer.new.0)) }
+    ensures part { IfErr result (λ f. IfCutShort f
+        (IsCutShort (terms_of F.files settings.now) reader.old.0 writer.old.0 writer.new.0)) }
     // A device is blamed only where it failed in this call. A read that failed may not be told: where the messages before it
     // are too many, where they can't be written, and where memory runs out.
     ensures reads { BlamedOnce reader_failures reader.old.1 reader.new.1 result }
     ensures writes { CountsBy writer_failures writer.old.1 writer.new.1 result }
-    ensures ok { IfOk result (λ outcome. is_some reader.old.0 ≡ true
-        → Answers (terms_of F.files settings.now) (unwrap_or reader.old.0 []) writer.old.0 writer.new.0 outcome) }
+    ensures ok { IfOk result
+        (Answers (terms_of F.files settings.now) reader.old.0 writer.old.0 writer.new.0) }
 {
     write_first_line(writer)?;
     let mut capture = match CaptureReader::open(reader) {
@@ -122,14 +123,15 @@ pub fn staged_replay<
         Err(fault) => return Err(ReplayFault::from(fault)),
     };
     let mut seats = Seats::new(alloc);
+    let mut tiers = Tiers::new(alloc);
     let mut desk = Desk {
         start: capture.start(),
-        controller: Controller::new(alloc, settings.policy)?,
-        tally: Tally::new(alloc),
+        controller: Controller::new(alloc, settings.policies)?,
+        totals: Totals::new(alloc),
     };
     let cache = Mutex::new(PageCache::<F>::new(alloc, settings.cache, snapshot.len())?);
     loop {
-        let batch = read_batch(alloc, &mut capture, settings.batch, &mut seats)?;
+        let batch = read_batch(alloc, &mut capture, settings.batch, &mut seats, &mut tiers)?;
         seats = serve_batch::<F, G, T, W>(
             rt,
             alloc,
@@ -148,7 +150,7 @@ pub fn staged_replay<
             Ending::Fault(fault) => return Err(ReplayFault::from(fault)),
         }
     }
-    let answered = desk.tally.answered;
+    let answered = desk.totals.answered;
     let outcome = outcome_of(alloc, desk)?;
     write_last_line(alloc, writer, answered)?;
     Ok(outcome)

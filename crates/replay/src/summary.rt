@@ -24,6 +24,17 @@ pub struct Counts {
     pub service_unavailable: u64,
 }
 
+/// What became of the requests of one tier.
+#[derive(Debug, Drop)]
+pub struct Tally {
+    /// How many were admitted.
+    pub admitted: u64,
+    /// How many were turned away.
+    pub rejected: u64,
+    /// The changes of its rate, up to the last tick at which a request of any tier was offered.
+    pub controls: Series<Control>,
+}
+
 /// What became of a capture's messages.
 #[derive(Debug, Drop)]
 pub struct Summary {
@@ -32,6 +43,6 @@ pub struct Summary {
     pub bypassed: u64,
     /// How long each admitted request took from its arrival to its finish, in their order, in ticks of one microsecond.
     pub samples: Series<u64>,
-    /// The changes of the rate, up to the last offered request's tick.
-    pub controls: Series<Control>,
+    /// What became of the requests of each tier.
+    pub tiers: [Tally; 4],
 }

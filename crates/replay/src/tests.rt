@@ -7,3 +7,4 @@ mod rejections;
 mod rows;
 mod running;
 mod settings;
+mod tiers;

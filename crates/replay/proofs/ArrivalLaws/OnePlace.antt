@@ -6,7 +6,8 @@ use Rattle.std.proofs.lemmas.Bool.Decides.{eqb_tells}
 use Rattle.std.proofs.lemmas.Option.{none-some, same_Some}
 use Rattle.std.proofs.lemmas.List.{length-append}
 use Rattle.captures.specs.declared.record.Record.{Record}
-use Rattle.captures.specs.declared.record.Record.TheVariants.{Piece, End}
+use Rattle.captures.specs.declared.record.Record.TheVariants.{Piece, End, Tier}
+use Rattle.captures.specs.Captures.{tier_of}
 use Rattle.replay.specs.Arrivals.{bytes_to, text_of, Arrival, ArrivesWith, Precedes}
 
 own_bytes : (tick c : ℕ) (bytes : List ℕ) → bytes_to c (Piece tick c bytes) ≡ bytes
@@ -41,16 +42,17 @@ not_earlier all a b g h c m lt =
     let e = ap (λ x. x.end) m in
     omega (arith, past, within, behind, e)
 
-tick_or : ℕ → Record → ℕ
+pub tick_or : ℕ → Record → ℕ
 tick_or other (Piece tick conn bytes) = tick
 tick_or other (End tick conn) = other
+tick_or other (Tier conn tier) = other
 
 one_tick : (all : List Record) (i j s t c d : ℕ) (xs ys : List ℕ) → i ≡ j → slice_get all i ≡ Some (Piece s c xs) → slice_get all j ≡ Some (Piece t d ys) → s ≡ t
 unfolding tick_or
 one_tick all i j s t c d xs ys e g h = ap (tick_or s) (same_Some _ _ (sym g ∙ ap (slice_get all) e ∙ h))
 
-arrival_from : (a b : Arrival) → a.origin.conn ≡ b.origin.conn → a.origin.tick ≡ b.origin.tick → a.place ≡ b.place → a.message ≡ b.message → a ≡ b
-arrival_from a b c t p m = λ i. record { origin = record { conn = c i; tick = t i }; place = p i; message = m i }
+arrival_from : (a b : Arrival) → a.origin.conn ≡ b.origin.conn → a.origin.tick ≡ b.origin.tick → a.origin.tier ≡ b.origin.tier → a.place ≡ b.place → a.message ≡ b.message → a ≡ b
+arrival_from a b c t r p m = λ i. record { origin = record { conn = c i; tick = t i; tier = r i }; place = p i; message = m i }
 
 -- a connection's message arrives once
 pub same_arrival : (all : List Record) (a b : Arrival) → ArrivesWith all a → ArrivesWith all b → a.origin.conn ≡ b.origin.conn → a.message ≡ b.message → a ≡ b
@@ -61,7 +63,8 @@ same_arrival all a b g h c m =
       | inl lt ↦ absurd (not_before lt)
       | inr ge ↦ elim (cases_lt b.place a.place) [ inl gt ↦ absurd (not_after gt) | inr le ↦ omega (arith, ge, le) ]
     ] in
-    arrival_from a b c (one_tick all a.place b.place _ _ _ _ g.bytes h.bytes place g.piece h.piece) place m
+    let tier : a.origin.tier ≡ b.origin.tier = g.tier ∙ (λ i. tier_of (c i) (take (place i) all)) ∙ sym h.tier in
+    arrival_from a b c (one_tick all a.place b.place _ _ _ _ g.bytes h.bytes place g.piece h.piece) tier place m
 
 pub precedes_once : (a b : Arrival) → Precedes a b → Precedes b a → ⊥
 precedes_once a b (inl g) (inl h) = omega (arith, g, h)

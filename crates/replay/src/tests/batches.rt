@@ -82,7 +82,8 @@ fn batches(rt: HostRuntime) -> Result<(), Fail> {
         assert_eq!(rt; outline(rt.alloc(), &ran.text)?.as_str(), want);
         let outcome = ran.answer?;
         assert_eq!(rt; outcome.rejected.as_slice(), [1].as_slice());
-        assert_eq!(rt; outcome.summary.controls.as_slice(), [control].as_slice());
+        let tiers = &outcome.summary.tiers[..];
+        assert_eq!(rt; tiers[0].controls.as_slice(), [control].as_slice());
     }
     Ok(())
 }

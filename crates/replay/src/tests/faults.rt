@@ -43,7 +43,7 @@ fn capture_faults(rt: HostRuntime) -> Result<(), Fail> {
     check(&rt, &trailing, 2, Kind::Trailing, one)?;
     check(
         &rt,
-        "haboob-capture 2 784111777\nstop 0\n",
+        "haboob-capture 3 784111777\nstop 0\n",
         0,
         Kind::Header,
         "",

@@ -54,12 +54,12 @@ fn check(
     Ok(())
 }
 
-/// The controls that a replay has come to, up to the second.
+/// The controls of tier 0 that a replay has come to, up to the second.
 fn controls_of(ran: &Ran) -> (usize, Option<Control>, Option<Control>) {
     let Ok(outcome) = &ran.answer else {
         return (0, None, None);
     };
-    let controls = outcome.summary.controls.as_slice();
+    let controls = outcome.summary.tiers[0].controls.as_slice();
     (
         controls.len(),
         controls.get(0).copied(),

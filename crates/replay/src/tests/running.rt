@@ -1,7 +1,7 @@
 //! Runs both engines on texts in memory.
 ghost use Rattle.std.specs.Prelude.{◌≡◌, ◌<◌, ◌-◌, ◌^◌};
 
-use crate::{Outcome, ReplayFault, Settings, plain_replay, staged_replay};
+use crate::{Outcome, ReplayFault, Settings, Tally, plain_replay, staged_replay};
 use admission::Policy;
 use cost_model::Costs;
 use paths::{Input, Output, Snapshot, Tree};
@@ -80,11 +80,21 @@ fn plan_of(alloc: Global, cuts: &[usize], workers: usize, capacity: usize) -> Op
     .ok()
 }
 
-/// Settings with this shape, these service times and this policy.
+/// Settings with this shape, these service times and this policy for each tier.
 pub fn shaped(alloc: Global, shape: Shape, costs: Costs, policy: Policy) -> Option<Settings> {
+    tiered(alloc, shape, costs, [policy; 4])
+}
+
+/// Settings with this shape, these service times and the policies of the tiers.
+pub fn tiered(
+    alloc: Global,
+    shape: Shape,
+    costs: Costs,
+    policies: [Policy; 4],
+) -> Option<Settings> {
     let front = plan_of(alloc, shape.front, shape.workers, shape.capacity)?;
     let back = plan_of(alloc, shape.back, shape.workers, shape.capacity)?;
-    Settings::new(front, back, shape.batch, shape.cache, costs, policy, 1).ok()
+    Settings::new(front, back, shape.batch, shape.cache, costs, policies, 1).ok()
 }
 
 /// Settings of the default shape with these service times and this policy.
@@ -165,6 +175,13 @@ pub fn run_engine<G: Gate + Sync, T: Threads + Wait + Sync>(
     Some(Ran { answer, text })
 }
 
+/// Whether the same became of the requests of a tier.
+fn is_same_tally(one: &Tally, other: &Tally) -> bool {
+    one.admitted == other.admitted
+        && one.rejected == other.rejected
+        && one.controls.as_slice() == other.controls.as_slice()
+}
+
 /// Whether two replays wrote the same and answered the same.
 pub fn is_same(one: &Ran, other: &Ran) -> bool {
     let same = match (&one.answer, &other.answer) {
@@ -173,7 +190,10 @@ pub fn is_same(one: &Ran, other: &Ran) -> bool {
                 && one.summary.counts == other.summary.counts
                 && one.summary.bypassed == other.summary.bypassed
                 && one.summary.samples.as_slice() == other.summary.samples.as_slice()
-                && one.summary.controls.as_slice() == other.summary.controls.as_slice()
+                && is_same_tally(&one.summary.tiers[0], &other.summary.tiers[0])
+                && is_same_tally(&one.summary.tiers[1], &other.summary.tiers[1])
+                && is_same_tally(&one.summary.tiers[2], &other.summary.tiers[2])
+                && is_same_tally(&one.summary.tiers[3], &other.summary.tiers[3])
         }
         (Err(one), Err(other)) => one == other,
         _ => false,

@@ -35,7 +35,7 @@ fn fault_of(
         batch,
         cache,
         default_costs()?,
-        default_policy()?,
+        [default_policy()?; 4],
         retry_after,
     );
     made.err()

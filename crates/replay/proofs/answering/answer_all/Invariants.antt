@@ -12,4 +12,4 @@ invariant-loop-message g l =
     → Stands (terms_of g.F.Tree.files l.settings) (arrivals ++ arrivals_with place l.origin (take l.message-index l.messages)) l.desk)
     × ((arrivals : List Arrival) (place : ℕ) → Stands (terms_of g.F.Tree.files l.settings) arrivals l.fn.desk
     → Written (terms_of g.F.Tree.files l.settings) l.fn.desk.start arrivals (arrivals_with place l.origin (take l.message-index l.messages)) l.fn.writer.0 l.writer.0)
-    × (l.desk.start ≡ l.fn.desk.start) × (l.desk.tally.answered ≡ l.fn.desk.tally.answered + l.message-index) × (l.writer.1 ≡ l.fn.writer.1)
+    × (l.desk.start ≡ l.fn.desk.start) × (l.desk.totals.answered ≡ l.fn.desk.totals.answered + l.message-index) × (l.writer.1 ≡ l.fn.writer.1)

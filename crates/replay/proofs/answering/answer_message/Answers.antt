@@ -1,4 +1,4 @@
-use Rattle.std.proofs.Common.{◌∙◌, refl, subst, take}
+use Rattle.std.proofs.Common.{subst, take}
 use Rattle.std.specs.Io.KnownBytes.{Appends}
 use Rattle.replay.specs.Choices.{terms_of}
 use Rattle.replay.proofs.Writing.{part_none}

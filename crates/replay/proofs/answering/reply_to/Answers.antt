@@ -1,4 +1,3 @@
-use Rattle.std.proofs.Common.{ap, sym}
 use Rattle.replay.proofs.Sights.{may_render}
 use Rattle.replay.proofs.answering.reply_to.Goals as goal
 

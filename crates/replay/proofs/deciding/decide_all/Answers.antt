@@ -1,8 +1,5 @@
-use Rattle.std.proofs.Common.{◌≡◌, ◌∙◌, refl, sym, ap, rules, arith}
-use Rattle.std.specs.Vec.Iter.{into_iter_items}
-use Rattle.replay.specs.Choices.{terms_of}
+use Rattle.std.proofs.Common.{ap, rules}
 use Rattle.replay.specs.declared.incoming.Incoming.{Incoming}
-use Rattle.replay.specs.Offers.{handled_behind}
 use Rattle.replay.proofs.Laid.{none_left}
 use Rattle.replay.proofs.Ticketed.{settled_none, next_is, settled_more, settled_last}
 use Rattle.replay.proofs.deciding.decide_all.Goals as goal
@@ -14,6 +11,11 @@ pub settle-requires-clause-tick : goal.settle-requires-clause-tick
 settle-requires-clause-tick g c =
     let given = c.requires.arrived in
     (next_is _ _ _ _ _ _ _ _ _ _ given.0 given.1 c.in-Some.sighted c.loop-sighted.invariant c.in-Some.ensures.steps.0 given.2 given.3 given.4 given.5).0.tick
+
+pub settle-requires-clause-tier : goal.settle-requires-clause-tier
+settle-requires-clause-tier g c =
+    let given = c.requires.arrived in
+    (next_is _ _ _ _ _ _ _ _ _ _ given.0 given.1 c.in-Some.sighted c.loop-sighted.invariant c.in-Some.ensures.steps.0 given.2 given.3 given.4 given.5).0.tier
 
 pub settle-requires-clause-few : goal.settle-requires-clause-few
 settle-requires-clause-few g c =

@@ -1,9 +1,9 @@
-use Rattle.std.proofs.Common.{refl, arith}
+use Rattle.std.proofs.Common.{arith}
 use Rattle.replay.specs.Choices.{terms_of}
 use Rattle.replay.specs.Offers.{offers_of}
 use Rattle.replay.specs.Backs.{told}
 use Rattle.replay.proofs.Offering.{offers_few, last_by}
-use Rattle.replay.proofs.Judging.{answered_is, samples_are, counts_kept, stands_after, slip_is}
+use Rattle.replay.proofs.Judging.{answered_is, samples_are, counts_kept, stands_after}
 use Rattle.replay.proofs.deciding.settle.Goals as goal
 
 pub decide-requires-clause-offers : goal.decide-requires-clause-offers

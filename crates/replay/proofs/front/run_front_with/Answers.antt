@@ -1,4 +1,4 @@
-use Rattle.std.proofs.Common.{◌≡◌, ap, sym, ◌∙◌, map, length}
+use Rattle.std.proofs.Common.{◌≡◌, ap, sym, ◌∙◌}
 use Rattle.stage_graph.specs.Stands.{last_cut}
 use Rattle.stage_graph.proofs.ByNumber.{by_number}
 use Rattle.replay.specs.Fronts.{front_value, no_message}

@@ -1,6 +1,5 @@
 use Rattle.std.proofs.Common.{◌≡◌, ◌+◌, ◌≤◌, ◌++◌, map, length, vec_len, vec_capacity}
 use Rattle.std.specs.Vec.Iter.{into_iter_items}
-use Rattle.replay.specs.declared.sight.Sighted.{Sighted}
 use Rattle.replay.proofs.Sights.{sighted}
 use Rattle.replay.proofs.front.sights_of.Given as goal
 

@@ -1,7 +1,8 @@
 use Rattle.std.proofs.Common.{◌≡◌, ◌∙◌, ap, sym, length, arith, ◌≤◌, ◌+◌, inr}
 use Rattle.captures.specs.Captures.{size_of, sizes_of}
 use Rattle.replay.specs.Choices.{terms_of}
-use Rattle.replay.proofs.Server.{has_room, serves_end, serves_piece, serves_full, serves_part, brought, on_ok, err_many, err_cut}
+use Rattle.replay.proofs.Server.{has_room, tiers_after_piece, serves_end, serves_tier, serves_piece, serves_full, serves_part, brought, on_ok, err_many, err_cut}
+use Rattle.replay.proofs.Upcoming.{ok_all}
 use Rattle.replay.proofs.plain.answer_record.Goals as goal
 
 pub take-requires-clause-room : goal.take-requires-clause-room
@@ -12,17 +13,17 @@ take-requires-clause-room g c =
     has_room (terms_of g.F.Tree.files c.args.settings.now) given.0 given.1 c.args.connections.now c.args.desk.now c.from.result (length c.as_slice.result.now) given.2 fits
 
 pub returns-in-End-clause-serves : goal.returns-in-End-clause-serves
-returns-in-End-clause-serves g c = λ records arrivals serves.
+returns-in-End-clause-serves g c = λ records arrivals tiers serves.
     serves_end (terms_of g.F.Tree.files c.args.settings.now) c.in-End.tick c.in-End.conn records arrivals c.args.next.now c.args.connections.now c.args.desk.now c.args.writer.now.0 c.in-End.is serves
 
 pub returns-in_ok-take-in-Piece-clause-serves : goal.returns-in_ok-take-in-Piece-clause-serves
 returns-in_ok-take-in-Piece-clause-serves g c =
     let terms = terms_of g.F.Tree.files c.args.settings.now in
     on_ok c.answer_all.result _ _ _ _ c.answer_all.ensures.stands c.answer_all.ensures.written c.answer_all.ensures.start
-    (λ stands written start records arrivals serves.
-    (let brings = brought terms c.in-Piece.tick c.in-Piece.conn c.from.result c.in-Piece.bytes c.as_slice.result.now c.deref.result.now c.take.new.out.items records arrivals c.args.next.now c.args.connections.now c.take.new.self c.args.desk.now
-    c.in-Piece.is c.from.ensures c.as_slice.ensures c.deref.ensures.value (record { own = c.in_ok-take-in-Piece.ensures.own; others = c.in_ok-take-in-Piece.ensures.others }) serves in
-    serves_piece terms c.in-Piece.tick c.in-Piece.conn c.deref.result.now records arrivals c.args.next.now c.take.new.self c.args.desk.now c.answer_all.new.desk c.args.writer.now.0 c.answer_all.new.writer.0
+    (λ stands written start records arrivals tiers serves.
+    (let brings = brought terms c.of.result c.in-Piece.tick c.in-Piece.conn c.from.result c.in-Piece.bytes c.as_slice.result.now c.deref.result.now c.take.new.out.items records arrivals c.args.next.now c.args.connections.now c.take.new.self c.args.desk.now
+    (c.of.ensures.tier ∙ tiers c.in-Piece.conn) c.in-Piece.is c.from.ensures c.as_slice.ensures c.deref.ensures.value (record { own = c.in_ok-take-in-Piece.ensures.own; others = c.in_ok-take-in-Piece.ensures.others }) serves in
+    serves_piece terms c.of.result c.in-Piece.tick c.in-Piece.conn c.deref.result.now records arrivals c.args.next.now c.take.new.self c.args.desk.now c.answer_all.new.desk c.args.writer.now.0 c.answer_all.new.writer.0
     brings start (stands arrivals (length records) serves.stands) (written arrivals (length records) serves.stands)))
 
 pub returns-in_ok-take-in-Piece-clause-many : goal.returns-in_ok-take-in-Piece-clause-many
@@ -31,10 +32,10 @@ returns-in_ok-take-in-Piece-clause-many g c =
     err_many c.answer_all.result _ _
     (λ n full. (
       full.0,
-      λ records arrivals serves.
-          (let brings = brought terms c.in-Piece.tick c.in-Piece.conn c.from.result c.in-Piece.bytes c.as_slice.result.now c.deref.result.now c.take.new.out.items records arrivals c.args.next.now c.args.connections.now c.take.new.self c.args.desk.now
-          c.in-Piece.is c.from.ensures c.as_slice.ensures c.deref.ensures.value (record { own = c.in_ok-take-in-Piece.ensures.own; others = c.in_ok-take-in-Piece.ensures.others }) serves in
-          serves_full terms c.in-Piece.tick c.in-Piece.conn full.1 c.deref.result.now records arrivals c.args.next.now c.take.new.self c.args.connections.now c.args.desk.now c.args.writer.now.0 c.answer_all.new.writer.0
+      λ records arrivals tiers serves.
+          (let brings = brought terms c.of.result c.in-Piece.tick c.in-Piece.conn c.from.result c.in-Piece.bytes c.as_slice.result.now c.deref.result.now c.take.new.out.items records arrivals c.args.next.now c.args.connections.now c.take.new.self c.args.desk.now
+          (c.of.ensures.tier ∙ tiers c.in-Piece.conn) c.in-Piece.is c.from.ensures c.as_slice.ensures c.deref.ensures.value (record { own = c.in_ok-take-in-Piece.ensures.own; others = c.in_ok-take-in-Piece.ensures.others }) serves in
+          serves_full terms c.of.result c.in-Piece.tick c.in-Piece.conn full.1 c.deref.result.now records arrivals c.args.next.now c.take.new.self c.args.connections.now c.args.desk.now c.args.writer.now.0 c.answer_all.new.writer.0
           brings serves full.2 full.3 (full.4 arrivals (length records) serves.stands)),
     ))
     c.answer_all.ensures.many
@@ -43,9 +44,16 @@ pub returns-in_ok-take-in-Piece-clause-part : goal.returns-in_ok-take-in-Piece-c
 returns-in_ok-take-in-Piece-clause-part g c =
     let terms = terms_of g.F.Tree.files c.args.settings.now in
     err_cut c.answer_all.result _ _
-    (λ short. inr (λ records arrivals serves.
-    (let brings = brought terms c.in-Piece.tick c.in-Piece.conn c.from.result c.in-Piece.bytes c.as_slice.result.now c.deref.result.now c.take.new.out.items records arrivals c.args.next.now c.args.connections.now c.take.new.self c.args.desk.now
-    c.in-Piece.is c.from.ensures c.as_slice.ensures c.deref.ensures.value (record { own = c.in_ok-take-in-Piece.ensures.own; others = c.in_ok-take-in-Piece.ensures.others }) serves in
-    serves_part terms c.in-Piece.tick c.in-Piece.conn short.0 c.deref.result.now records arrivals c.args.next.now c.take.new.self c.args.connections.now c.args.desk.now c.args.writer.now.0 c.answer_all.new.writer.0
+    (λ short. inr (λ records arrivals tiers serves.
+    (let brings = brought terms c.of.result c.in-Piece.tick c.in-Piece.conn c.from.result c.in-Piece.bytes c.as_slice.result.now c.deref.result.now c.take.new.out.items records arrivals c.args.next.now c.args.connections.now c.take.new.self c.args.desk.now
+    (c.of.ensures.tier ∙ tiers c.in-Piece.conn) c.in-Piece.is c.from.ensures c.as_slice.ensures c.deref.ensures.value (record { own = c.in_ok-take-in-Piece.ensures.own; others = c.in_ok-take-in-Piece.ensures.others }) serves in
+    serves_part terms c.of.result c.in-Piece.tick c.in-Piece.conn short.0 c.deref.result.now records arrivals c.args.next.now c.take.new.self c.args.connections.now c.args.desk.now c.args.writer.now.0 c.answer_all.new.writer.0
     brings serves short.2 (short.3 arrivals (length records) serves.stands))))
     c.answer_all.ensures.part
+
+pub returns-in_ok-give-in-Tier-clause-serves : goal.returns-in_ok-give-in-Tier-clause-serves
+returns-in_ok-give-in-Tier-clause-serves g c = λ records arrivals tiers serves.
+    serves_tier (terms_of g.F.Tree.files c.args.settings.now) c.in-Tier.conn c.in-Tier.tier records arrivals c.args.next.now c.args.connections.now c.args.desk.now c.args.writer.now.0 c.in-Tier.is serves
+
+pub returns-in_ok-take-in-Piece-clause-tiers : goal.returns-in_ok-take-in-Piece-clause-tiers
+returns-in_ok-take-in-Piece-clause-tiers g c = ok_all c.answer_all.result _ (λ records are. tiers_after_piece _ _ _ _ records _ c.in-Piece.is are)

@@ -1,10 +1,11 @@
-use Rattle.std.proofs.Common.{◌≡◌, ◌∙◌, refl}
-use Rattle.replay.specs.Offers.{offers_of}
-use Rattle.replay.specs.Counting.{controls_shown}
-use Rattle.replay.proofs.Judging.{controls_are}
+use Rattle.std.proofs.Common.{refl}
+use Rattle.replay.proofs.Judging.{tally_is}
 use Rattle.replay.proofs.plain.outcome_of.Goals as goal
 
 pub returns-clause-summary : goal.returns-clause-summary
 returns-clause-summary c = λ terms arrivals stands.
-    let shown : c.from_vec.result ≡ controls_shown terms.rules (offers_of terms arrivals) = c.from_vec.ensures ∙ c.in_ok-controls.ensures.items ∙ controls_are terms arrivals c.args.desk _ stands c.controls.ensures in
-    rw (stands.tally, shown) refl
+    let first = tally_is terms arrivals c.args.desk _ 0 stands c.in_ok-tally_of.ensures in
+    let second = tally_is terms arrivals c.args.desk _ 1 stands c.in_ok-tally_of-2.ensures in
+    let third = tally_is terms arrivals c.args.desk _ 2 stands c.in_ok-tally_of-3.ensures in
+    let fourth = tally_is terms arrivals c.args.desk _ 3 stands c.in_ok-tally_of-4.ensures in
+    rw (stands.totals, first, second, third, fourth) refl

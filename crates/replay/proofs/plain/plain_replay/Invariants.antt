@@ -1,5 +1,5 @@
 use Rattle.std.proofs.Common.{◌≡◌, ◌≤◌, List}
-use Rattle.captures.specs.Captures.{version_one}
+use Rattle.captures.specs.declared.version.Version.{Version}
 use Rattle.captures.specs.Readers.{Fits}
 use Rattle.captures.specs.declared.record.Record.{Record}
 use Rattle.std.specs.Io.KnownBytes.{Appends}
@@ -8,13 +8,14 @@ use Rattle.replay.specs.Arrivals.{Arrival}
 use Rattle.replay.specs.Offers.{handled}
 use Rattle.replay.specs.Replies.{replies_of, text_before_stop}
 use Rattle.replay.specs.Serving.{Serves}
+use Rattle.replay.specs.Tiers.{AreTiers}
 use Rattle.replay.proofs.plain.plain_replay.Given as goal
 
 -- some records were read, and the messages that arrived with them are answered
 abbrev pub invariant-loop-next : goal.invariant-loop-next
 invariant-loop-next g l =
-    ((records : List Record) × (arrivals : List Arrival) × Fits version_one l.fn.reader.0 l.desk.start records l.capture.progress l.capture.input.now.0
-    × Serves (terms_of g.F.Tree.files l.settings) records arrivals l.connections l.desk
+    ((v : Version) × (records : List Record) × (arrivals : List Arrival) × Fits v l.fn.reader.0 l.desk.start records l.capture.progress l.capture.input.now.0
+    × Serves (terms_of g.F.Tree.files l.settings) records arrivals l.connections l.desk × AreTiers records l.tiers
     × Appends l.fn.writer.0 l.writer.0 (text_before_stop (replies_of (terms_of g.F.Tree.files l.settings) l.desk.start (handled (terms_of g.F.Tree.files l.settings) arrivals))))
     × (l.capture.input.ghost_name ≡ l.initial.capture.input.ghost_name) × (l.capture.input.now.1 ≡ l.fn.reader.1) × (l.writer.1 ≡ l.fn.writer.1)
     × (l.desk.start ≤ 4102444800)

@@ -1,8 +1,6 @@
-use Rattle.std.proofs.Common.{◌≡◌, ◌∙◌, [], ◌++◌, List, refl, sym, ap, rules}
-use Rattle.responses.specs.Records.{record_text}
+use Rattle.std.proofs.Common.{◌∙◌, sym, ap}
 use Rattle.replay.specs.Choices.{Choice, terms_of}
-use Rattle.replay.specs.Offers.{handled_behind}
-use Rattle.replay.proofs.Upcoming.{none_come, none_stands, none_written, come_count, sighted_are, replies_are, ok_all, ok_more, err_more, unwritten, no_messages}
+use Rattle.replay.proofs.Upcoming.{none_stands, none_written, sighted_are, replies_are, ok_all, ok_more, err_more, unwritten, no_messages}
 use Rattle.replay.proofs.serving.serve_few.Goals as goal
 
 pub returns-then-is_empty-clause-stands : goal.returns-then-is_empty-clause-stands

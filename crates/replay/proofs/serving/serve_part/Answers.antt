@@ -1,4 +1,4 @@
-use Rattle.std.proofs.Common.{◌≡◌, ◌≤◌, ◌<◌, ◌+◌, ◌-◌, ◌∙◌, length, take, refl, sym, arith}
+use Rattle.std.proofs.Common.{◌≡◌, ◌-◌, ◌∙◌, length, take, refl, arith}
 use Rattle.replay.proofs.Judging.{answered_is, cut_short}
 use Rattle.replay.proofs.Upcoming.{first_come, take_count, take_short, short_cut}
 use Rattle.replay.proofs.serving.serve_part.Goals as goal
@@ -23,7 +23,7 @@ returns-then-len-room-clause-part g c =
 pub serve_few-requires-2-clause-next : goal.serve_few-requires-2-clause-next
 serve_few-requires-2-clause-next g c = λ κs lives.
     let next = c.requires.next in
-    let room = 1048576 - c.args.desk.now.tally.answered in
+    let room = 1048576 - c.args.desk.now.totals.answered in
     let is = answered_is _ next.0 _ next.2.stands in
     let few = next.2.stands.few in
     let short = take_short room next.1 in
@@ -33,7 +33,7 @@ pub returns-in_err-serve_few-clause-part : goal.returns-in_err-serve_few-clause-
 returns-in_err-serve_few-clause-part g c =
     let len : c.len.result ≡ length c.args.messages.items = c.len.ensures ∙ c.args.messages.ok.0 in
     let beyond = c.if-len-room.false in
-    let room = 1048576 - c.args.desk.now.tally.answered in
+    let room = 1048576 - c.args.desk.now.totals.answered in
     let next = c.requires.next in
     let is = answered_is _ next.0 _ next.2.stands in
     let few = next.2.stands.few in
@@ -48,7 +48,7 @@ pub returns-clause-many : goal.returns-clause-many
 returns-clause-many g c =
     let len : c.len.result ≡ length c.args.messages.items = c.len.ensures ∙ c.args.messages.ok.0 in
     let beyond = c.if-len-room.false in
-    let room = 1048576 - c.args.desk.now.tally.answered in
+    let room = 1048576 - c.args.desk.now.totals.answered in
     let next = c.requires.next in
     let is = answered_is _ next.0 _ next.2.stands in
     let few = next.2.stands.few in (

@@ -1,10 +1,8 @@
-use Rattle.std.proofs.Common.{◌≡◌, ◌≤◌, ◌<◌, ◌+◌, ◌∙◌, ◌++◌, take, drop, length, refl, sym, ap, arith, rules}
-use Rattle.replay.specs.Batches.{joined}
-use Rattle.replay.specs.Choices.{terms_of}
+use Rattle.std.proofs.Common.{◌≡◌, ◌≤◌, ◌+◌, ◌∙◌, ◌++◌, take, drop, length, refl, ap, arith, rules}
 use Rattle.replay.proofs.Judging.{passed_on, on_many, on_cut}
 use Rattle.replay.proofs.Writing.{written_more, part_more}
 use Rattle.replay.proofs.Laid.{none_left}
-use Rattle.replay.proofs.Upcoming.{Served, served_none, next_come_as, answered_now, served_more, served_all, taken_behind}
+use Rattle.replay.proofs.Upcoming.{served_none, next_come_as, answered_now, served_more, served_all, taken_behind}
 use Rattle.replay.proofs.serving.serve_parts.Goals as goal
 
 pub loop-part-init : goal.loop-part-init

@@ -1,5 +1,4 @@
-use Rattle.std.proofs.Common.{◌≡◌, ◌∙◌}
-use Rattle.replay.specs.Outcomes.{AppendsInPart}
+use Rattle.std.proofs.Common.{◌∙◌}
 use Rattle.replay.proofs.Upcoming.{reply_cut, reply_more}
 use Rattle.replay.proofs.Judging.{on_err}
 use Rattle.replay.proofs.serving.write_replies.Goals as goal

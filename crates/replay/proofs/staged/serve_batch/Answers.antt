@@ -1,6 +1,5 @@
-use Rattle.std.proofs.Common.{◌≡◌, inl, inr, refl, arith}
-use Rattle.replay.specs.Choices.{terms_of}
-use Rattle.replay.proofs.Judging.{answered_is, cut_short, passed_on, on_many, on_cut}
+use Rattle.std.proofs.Common.{inr, arith}
+use Rattle.replay.proofs.Judging.{answered_is, passed_on, on_many, on_cut}
 use Rattle.replay.proofs.Upcoming.{come_count}
 use Rattle.replay.proofs.ByBatch.{all_ready, lists_count, none_wait, brings}
 use Rattle.replay.proofs.staged.serve_batch.Goals as goal

@@ -1,38 +1,39 @@
-use Rattle.std.proofs.Common.{◌≡◌, ◌∙◌, [], ◌∷◌, ◌++◌, ℕ, List, Option, true, refl, sym, ap, subst, inl, inr, is_some, unwrap_or, rules}
+use Rattle.std.proofs.Common.{◌≡◌, ◌∙◌, [], ◌++◌, ℕ, List, Option, refl, sym, ap, subst, inl, inr, rules}
 use Rattle.std.specs.Io.KnownBytes.{Appends}
-use Rattle.captures.specs.Captures.{version_one}
 use Rattle.replay.specs.Choices.{terms_of}
 use Rattle.replay.specs.Offers.{handled}
 use Rattle.replay.specs.Replies.{replies_of, text_before_stop}
 use Rattle.replay.specs.Outcomes.{Stops, IsCutShort, capture_fault}
 use Rattle.replay.proofs.Writing.{part_all}
 use Rattle.replay.proofs.Judging.{stands_none, cut_short, passed_on, on_many, on_cut}
-use Rattle.replay.proofs.Server.{serves_none, first_written, more_written, gave_end, answers_all, ends_in_part, told, told_short, own_capture, stops_first, stops_behind, stops_full, short_among, short_part, blamed_told}
+use Rattle.replay.proofs.Server.{serves_none, no_tiers, first_written, more_written, answers_all, ends_in_part, told, told_short, stops_first, stops_told, stops_full, short_among, short_part, blamed_told}
 use Rattle.replay.specs.Waiting.{connections_of}
 use Rattle.replay.proofs.ByBatch.{come_next, waits_none}
 use Rattle.replay.proofs.staged.staged_replay.Goals as goal
 
 pub returns-in-Err-clause-stops : goal.returns-in-Err-clause-stops
-returns-in-Err-clause-stops g c = rw c.from.ensures (told _ (λ fault. is_some c.args.reader.now.0 ≡ true → Stops (terms_of g.F.Tree.files c.args.settings.now) (unwrap_or c.args.reader.now.0 []) c.args.writer.now.0 c.write_first_line.new.writer.0 fault)
-    (λ known. stops_first (terms_of g.F.Tree.files c.args.settings.now) c.args.reader.now.0 c.args.writer.now.0 c.write_first_line.new.writer.0 _ c.in_ok-write_first_line.ensures.written c.in-Err.ensures.at c.in-Err.ensures.fault known))
+returns-in-Err-clause-stops g c = rw c.from.ensures (told _ (Stops (terms_of g.F.Tree.files c.args.settings.now) c.args.reader.now.0 _ c.args.writer.now.0 c.write_first_line.new.writer.0)
+    (stops_first (terms_of g.F.Tree.files c.args.settings.now) c.args.reader.now.0 _ c.args.writer.now.0 c.write_first_line.new.writer.0 _ c.in_ok-write_first_line.ensures.written c.in-Err.ensures.at c.in-Err.ensures.fault))
 
 pub returns-in-Err-clause-part : goal.returns-in-Err-clause-part
-returns-in-Err-clause-part g c = rw c.from.ensures (told_short _ (is_some c.args.reader.now.0 ≡ true → IsCutShort (terms_of g.F.Tree.files c.args.settings.now) (unwrap_or c.args.reader.now.0 []) c.args.writer.now.0 c.write_first_line.new.writer.0) (λ known. inl (part_all c.args.writer.now.0 c.write_first_line.new.writer.0 _ c.in_ok-write_first_line.ensures.written)))
+returns-in-Err-clause-part g c = rw c.from.ensures (told_short _ (IsCutShort (terms_of g.F.Tree.files c.args.settings.now) c.args.reader.now.0 c.args.writer.now.0 c.write_first_line.new.writer.0) (inl (part_all c.args.writer.now.0 c.write_first_line.new.writer.0 _ c.in_ok-write_first_line.ensures.written)))
 
 pub returns-in_err-new-clause-part : goal.returns-in_err-new-clause-part
-returns-in_err-new-clause-part g c = cut_short c.from_residual-in_err-new.result _ (λ known. inl (part_all c.args.writer.now.0 c.write_first_line.new.writer.0 _ c.in_ok-write_first_line.ensures.written))
+returns-in_err-new-clause-part g c = cut_short c.from_residual-in_err-new.result _ (inl (part_all c.args.writer.now.0 c.write_first_line.new.writer.0 _ c.in_ok-write_first_line.ensures.written))
 
 pub returns-in_err-new-2-clause-part : goal.returns-in_err-new-2-clause-part
-returns-in_err-new-2-clause-part g c = cut_short c.from_residual-in_err-new-2.result _ (λ known. inl (part_all c.args.writer.now.0 c.write_first_line.new.writer.0 _ c.in_ok-write_first_line.ensures.written))
+returns-in_err-new-2-clause-part g c = cut_short c.from_residual-in_err-new-2.result _ (inl (part_all c.args.writer.now.0 c.write_first_line.new.writer.0 _ c.in_ok-write_first_line.ensures.written))
 
 pub loop-cache-init : goal.loop-cache-init
 loop-cache-init g c =
     let terms = terms_of g.F.Tree.files c.args.settings.now in (
       (
+        c.in-Ok.capture.progress.version,
         [],
         [],
         rw c.start.ensures c.in-Ok.ensures.ok,
-        serves_none terms _ _ (ap connections_of c.new-seats.ensures) (stands_none terms _ (c.in_ok-new.ensures.rules ∙ ap (λ s. s.rules) c.settings.view_is) c.in_ok-new.ensures.fits c.new-2.ensures),
+        serves_none terms _ _ (ap connections_of c.new-seats.ensures) (stands_none terms _ (c.in_ok-new.ensures.policies ∙ ap (λ s. s.policies) c.settings.view_is) c.in_ok-new.ensures.fits c.new-2.ensures),
+        no_tiers c.new-tiers.result c.new-tiers.ensures,
         first_written terms c.start.result c.args.writer.now.0 c.write_first_line.new.writer.0 c.in_ok-write_first_line.ensures.written,
       ),
       refl,
@@ -45,24 +46,29 @@ loop-cache-init g c =
 pub returns-in_err-batch-clause-part : goal.returns-in_err-batch-clause-part
 returns-in_err-batch-clause-part g c =
     let inv = c.loop-cache.invariant.0 in
-    cut_short c.from_residual-in_err-batch.result _ (λ known. short_among (terms_of g.F.Tree.files c.args.settings.now) _ _ _ _ _ _ _ _ _ _ inv.2 inv.3 inv.4 known)
+    cut_short c.from_residual-in_err-batch.result _ (short_among (terms_of g.F.Tree.files c.args.settings.now) _ _ _ _ _ _ _ _ _ _ _ inv.3 inv.4 inv.6)
 
 pub serve_batch-requires-clause-next : goal.serve_batch-requires-clause-next
 serve_batch-requires-clause-next g c = λ κs lives.
     let inv = c.loop-cache.invariant in
+    let terms = terms_of g.F.Tree.files c.args.settings.now in
     let b = c.in_ok-batch.ensures.batch in
-    let on = b.3 _ _ inv.0.0 inv.0.2 in
-    (inv.0.0, b.0, inv.0.1, come_next _ _ _ _ inv.0.0 b.0 inv.0.1 _ _ _ _ _ inv.0.3 inv.5 b.1 (c.deref.ensures.value ∙ b.2) on.fits refl)
+    let tiers = b.2 inv.0.1 inv.0.5 in
+    let on = b.3 inv.0.0 _ _ inv.0.1 inv.0.3 in
+    let next = come_next terms _ _ _ inv.0.1 b.0 inv.0.2 _ _ _ _ _ inv.0.0 inv.0.4 inv.5 b.1 (c.deref.ensures.value ∙ tiers.0) on.fits refl in
+    (inv.0.1, b.0, inv.0.2, next)
 
 pub returns-in_err-seats-clause-many : goal.returns-in_err-seats-clause-many
 returns-in_err-seats-clause-many g c =
     let inv = c.loop-cache.invariant in
+    let terms = terms_of g.F.Tree.files c.args.settings.now in
     let b = c.in_ok-batch.ensures.batch in
-    let on = b.3 _ _ inv.0.0 inv.0.2 in
-    let next = come_next _ _ _ _ inv.0.0 b.0 inv.0.1 _ _ _ _ _ inv.0.3 inv.5 b.1 (c.deref.ensures.value ∙ b.2) on.fits refl in
+    let tiers = b.2 inv.0.1 inv.0.5 in
+    let on = b.3 inv.0.0 _ _ inv.0.1 inv.0.3 in
+    let next = come_next terms _ _ _ inv.0.1 b.0 inv.0.2 _ _ _ _ _ inv.0.0 inv.0.4 inv.5 b.1 (c.deref.ensures.value ∙ tiers.0) on.fits refl in
     passed_on c.from_residual-in_err-seats.result _ _
     (λ f same. rw same (on_many c.in_err-seats.field-0.0 _ _
-    (λ n full known. stops_full (terms_of g.F.Tree.files c.args.settings.now) _ _ _ _ _ _ n inv.0.0 inv.0.1 b.0 _ on.fits inv.0.4 full.0 (full.1 inv.0.0 b.0 inv.0.1 next) known)
+    (λ n full. stops_full terms inv.0.0 _ _ _ _ _ _ n inv.0.1 inv.0.2 b.0 _ on.fits inv.0.6 full.0 (full.1 inv.0.1 b.0 inv.0.2 next))
     c.in_err-seats.ensures.many))
     c.from_residual-in_err-seats.ensures.1
 
@@ -71,14 +77,15 @@ returns-in_err-seats-clause-part g c =
     let inv = c.loop-cache.invariant in
     let terms = terms_of g.F.Tree.files c.args.settings.now in
     let b = c.in_ok-batch.ensures.batch in
-    let on = b.3 _ _ inv.0.0 inv.0.2 in
-    let next = come_next _ _ _ _ inv.0.0 b.0 inv.0.1 _ _ _ _ _ inv.0.3 inv.5 b.1 (c.deref.ensures.value ∙ b.2) on.fits refl in
+    let tiers = b.2 inv.0.1 inv.0.5 in
+    let on = b.3 inv.0.0 _ _ inv.0.1 inv.0.3 in
+    let next = come_next terms _ _ _ inv.0.1 b.0 inv.0.2 _ _ _ _ _ inv.0.0 inv.0.4 inv.5 b.1 (c.deref.ensures.value ∙ tiers.0) on.fits refl in
     passed_on c.from_residual-in_err-seats.result _ _
     (λ f same. rw same (on_cut c.in_err-seats.field-0.0 _ _
-    (λ short known. elim short [
-      | inl none ↦ short_among terms _ _ _ _ _ _ _ _ _ _ inv.0.2 inv.0.3
-          (subst (λ (w : Option (List ℕ)). Appends c.args.writer.now.0 w (text_before_stop (replies_of terms c.loop-cache.desk.start (handled terms inv.0.1)))) (sym none) inv.0.4) known
-      | inr part ↦ short_part terms _ _ _ _ _ _ inv.0.0 inv.0.1 b.0 _ on.fits inv.0.4 (part inv.0.0 b.0 inv.0.1 next) known
+    (λ short. elim short [
+      | inl none ↦ short_among terms _ _ _ _ _ _ _ _ _ _ _ inv.0.3 inv.0.4
+          (subst (λ (w : Option (List ℕ)). Appends c.args.writer.now.0 w (text_before_stop (replies_of terms c.loop-cache.desk.start (handled terms inv.0.2)))) (sym none) inv.0.6)
+      | inr part ↦ short_part terms inv.0.0 _ _ _ _ _ _ inv.0.1 inv.0.2 b.0 _ on.fits inv.0.6 (part inv.0.1 b.0 inv.0.2 next)
     ])
     c.in_err-seats.ensures.part))
     c.from_residual-in_err-seats.ensures.1
@@ -91,13 +98,14 @@ returns-in-Fault-clause-stops g c =
     let inv = c.loop-cache.invariant in
     let terms = terms_of g.F.Tree.files c.args.settings.now in
     let b = c.in_ok-batch.ensures.batch in
-    let on = b.3 _ _ inv.0.0 inv.0.2 in
-    let next = come_next terms _ _ _ inv.0.0 b.0 inv.0.1 _ _ _ _ _ inv.0.3 inv.5 b.1 (c.deref.ensures.value ∙ b.2) on.fits refl in
+    let tiers = b.2 inv.0.1 inv.0.5 in
+    let on = b.3 inv.0.0 _ _ inv.0.1 inv.0.3 in
+    let next = come_next terms _ _ _ inv.0.1 b.0 inv.0.2 _ _ _ _ _ inv.0.0 inv.0.4 inv.5 b.1 (c.deref.ensures.value ∙ tiers.0) on.fits refl in
     let one = c.in_ok-seats.ensures in
-    let more = one.serves inv.0.0 b.0 inv.0.1 next in
-    rw is
-    (told _ (λ fault. is_some c.args.reader.now.0 ≡ true → Stops terms (unwrap_or c.args.reader.now.0 []) c.args.writer.now.0 c.serve_batch.new.writer.0 fault)
-    (λ known. stops_behind terms _ _ _ _ _ _ _ _ _ _ _ on.fits more.serves (more_written terms c.loop-cache.desk.start inv.0.1 more.more _ _ _ inv.0.4 (rw one.start at more.written)) (rw c.in-Fault.is at on.ends) known))
+    let more = one.serves inv.0.1 b.0 inv.0.2 next in
+    let ends = rw c.in-Fault.is at on.ends in
+    stops_told terms inv.0.0 c.args.reader.now.0 _ _ c.read_batch.new.capture.input.now.0 _ _ _ (inv.0.1 ++ b.0) (inv.0.2 ++ more.more) _ _ _ c.in-Fault.fault c.from-in-Fault.result is on.fits more.serves
+    (more_written terms c.loop-cache.desk.start inv.0.2 more.more _ _ _ inv.0.6 (rw one.start at more.written)) ends.0 ends.1 (search rules)
 
 pub returns-in-Fault-clause-part : goal.returns-in-Fault-clause-part
 returns-in-Fault-clause-part g c =
@@ -107,13 +115,14 @@ returns-in-Fault-clause-part g c =
     let inv = c.loop-cache.invariant in
     let terms = terms_of g.F.Tree.files c.args.settings.now in
     let b = c.in_ok-batch.ensures.batch in
-    let on = b.3 _ _ inv.0.0 inv.0.2 in
-    let next = come_next terms _ _ _ inv.0.0 b.0 inv.0.1 _ _ _ _ _ inv.0.3 inv.5 b.1 (c.deref.ensures.value ∙ b.2) on.fits refl in
+    let tiers = b.2 inv.0.1 inv.0.5 in
+    let on = b.3 inv.0.0 _ _ inv.0.1 inv.0.3 in
+    let next = come_next terms _ _ _ inv.0.1 b.0 inv.0.2 _ _ _ _ _ inv.0.0 inv.0.4 inv.5 b.1 (c.deref.ensures.value ∙ tiers.0) on.fits refl in
     let one = c.in_ok-seats.ensures in
-    let more = one.serves inv.0.0 b.0 inv.0.1 next in
+    let more = one.serves inv.0.1 b.0 inv.0.2 next in
     rw is
-    (told_short _ (is_some c.args.reader.now.0 ≡ true → IsCutShort terms (unwrap_or c.args.reader.now.0 []) c.args.writer.now.0 c.serve_batch.new.writer.0)
-    (λ known. short_among terms _ _ _ _ _ _ _ _ _ _ on.fits more.serves (more_written terms c.loop-cache.desk.start inv.0.1 more.more _ _ _ inv.0.4 (rw one.start at more.written)) known))
+    (told_short _ (IsCutShort terms c.args.reader.now.0 c.args.writer.now.0 c.serve_batch.new.writer.0)
+    (short_among terms _ _ _ _ _ _ _ _ _ _ _ on.fits more.serves (more_written terms c.loop-cache.desk.start inv.0.2 more.more _ _ _ inv.0.6 (rw one.start at more.written))))
 
 pub returns-in-Fault-clause-reads : goal.returns-in-Fault-clause-reads
 returns-in-Fault-clause-reads g c =
@@ -129,16 +138,19 @@ loop-cache-preserved g c =
     let inv = c.loop-cache.invariant in
     let terms = terms_of g.F.Tree.files c.args.settings.now in
     let b = c.in_ok-batch.ensures.batch in
-    let on = b.3 _ _ inv.0.0 inv.0.2 in
-    let next = come_next terms _ _ _ inv.0.0 b.0 inv.0.1 _ _ _ _ _ inv.0.3 inv.5 b.1 (c.deref.ensures.value ∙ b.2) on.fits refl in
+    let tiers = b.2 inv.0.1 inv.0.5 in
+    let on = b.3 inv.0.0 _ _ inv.0.1 inv.0.3 in
+    let next = come_next terms _ _ _ inv.0.1 b.0 inv.0.2 _ _ _ _ _ inv.0.0 inv.0.4 inv.5 b.1 (c.deref.ensures.value ∙ tiers.0) on.fits refl in
     let one = c.in_ok-seats.ensures in
-    let more = one.serves inv.0.0 b.0 inv.0.1 next in (
+    let more = one.serves inv.0.1 b.0 inv.0.2 next in (
       (
-        inv.0.0 ++ b.0,
-        inv.0.1 ++ more.more,
+        inv.0.0,
+        inv.0.1 ++ b.0,
+        inv.0.2 ++ more.more,
         rw one.start (rw c.in-More.is at on.ends),
         more.serves,
-        rw one.start (more_written terms c.loop-cache.desk.start inv.0.1 more.more _ _ _ inv.0.4 (rw one.start at more.written)),
+        tiers.1,
+        rw one.start (more_written terms c.loop-cache.desk.start inv.0.2 more.more _ _ _ inv.0.6 (rw one.start at more.written)),
       ),
       c.in_ok-batch.ensures.same ∙ inv.1,
       (rw c.in-More.is at c.in_ok-batch.ensures.count) ∙ inv.2,
@@ -152,35 +164,38 @@ returns-in_err-outcome-clause-part g c =
     let inv = c.loop-cache.invariant in
     let terms = terms_of g.F.Tree.files c.args.settings.now in
     let b = c.in_ok-batch.ensures.batch in
-    let on = b.3 _ _ inv.0.0 inv.0.2 in
-    let next = come_next terms _ _ _ inv.0.0 b.0 inv.0.1 _ _ _ _ _ inv.0.3 inv.5 b.1 (c.deref.ensures.value ∙ b.2) on.fits refl in
+    let tiers = b.2 inv.0.1 inv.0.5 in
+    let on = b.3 inv.0.0 _ _ inv.0.1 inv.0.3 in
+    let next = come_next terms _ _ _ inv.0.1 b.0 inv.0.2 _ _ _ _ _ inv.0.0 inv.0.4 inv.5 b.1 (c.deref.ensures.value ∙ tiers.0) on.fits refl in
     let one = c.in_ok-seats.ensures in
-    let more = one.serves inv.0.0 b.0 inv.0.1 next in
+    let more = one.serves inv.0.1 b.0 inv.0.2 next in
     cut_short c.from_residual-in_err-outcome.result _
-    (λ known. short_among terms _ _ _ _ _ _ _ _ _ _ on.fits more.serves (more_written terms c.loop-cache.desk.start inv.0.1 more.more _ _ _ inv.0.4 (rw one.start at more.written)) known)
+    (short_among terms _ _ _ _ _ _ _ _ _ _ _ on.fits more.serves (more_written terms c.loop-cache.desk.start inv.0.2 more.more _ _ _ inv.0.6 (rw one.start at more.written)))
 
 pub returns-in_err-write_last_line-clause-part : goal.returns-in_err-write_last_line-clause-part
 returns-in_err-write_last_line-clause-part g c =
     let inv = c.loop-cache.invariant in
     let terms = terms_of g.F.Tree.files c.args.settings.now in
     let b = c.in_ok-batch.ensures.batch in
-    let on = b.3 _ _ inv.0.0 inv.0.2 in
-    let next = come_next terms _ _ _ inv.0.0 b.0 inv.0.1 _ _ _ _ _ inv.0.3 inv.5 b.1 (c.deref.ensures.value ∙ b.2) on.fits refl in
+    let tiers = b.2 inv.0.1 inv.0.5 in
+    let on = b.3 inv.0.0 _ _ inv.0.1 inv.0.3 in
+    let next = come_next terms _ _ _ inv.0.1 b.0 inv.0.2 _ _ _ _ _ inv.0.0 inv.0.4 inv.5 b.1 (c.deref.ensures.value ∙ tiers.0) on.fits refl in
     let one = c.in_ok-seats.ensures in
-    let more = one.serves inv.0.0 b.0 inv.0.1 next in
+    let more = one.serves inv.0.1 b.0 inv.0.2 next in
     cut_short c.from_residual-in_err-write_last_line.result _
-    (λ known. ends_in_part terms _ _ (inv.0.0 ++ b.0) (inv.0.1 ++ more.more) _ _ _ _ _ _
-    ((rw c.in-End.is at on.ends) known) more.serves (more_written terms c.loop-cache.desk.start inv.0.1 more.more _ _ _ inv.0.4 (rw one.start at more.written)) c.in_err-write_last_line.ensures.part refl)
+    (ends_in_part terms inv.0.0 _ _ (inv.0.1 ++ b.0) (inv.0.2 ++ more.more) _ _ _ _ _ _ on.fits.rules
+    (rw c.in-End.is at on.ends) more.serves (more_written terms c.loop-cache.desk.start inv.0.2 more.more _ _ _ inv.0.6 (rw one.start at more.written)) c.in_err-write_last_line.ensures.part refl)
 
 pub returns-clause-ok : goal.returns-clause-ok
-returns-clause-ok g c = λ known.
+returns-clause-ok g c =
     let inv = c.loop-cache.invariant in
     let terms = terms_of g.F.Tree.files c.args.settings.now in
     let b = c.in_ok-batch.ensures.batch in
-    let on = b.3 _ _ inv.0.0 inv.0.2 in
-    let next = come_next terms _ _ _ inv.0.0 b.0 inv.0.1 _ _ _ _ _ inv.0.3 inv.5 b.1 (c.deref.ensures.value ∙ b.2) on.fits refl in
+    let tiers = b.2 inv.0.1 inv.0.5 in
+    let on = b.3 inv.0.0 _ _ inv.0.1 inv.0.3 in
+    let next = come_next terms _ _ _ inv.0.1 b.0 inv.0.2 _ _ _ _ _ inv.0.0 inv.0.4 inv.5 b.1 (c.deref.ensures.value ∙ tiers.0) on.fits refl in
     let one = c.in_ok-seats.ensures in
-    let more = one.serves inv.0.0 b.0 inv.0.1 next in
-    answers_all terms _ c.serve_batch.new.desk.tally.answered (inv.0.0 ++ b.0) (inv.0.1 ++ more.more) _ c.serve_batch.new.desk _ _ _ _ _
-    ((rw c.in-End.is at on.ends) known) more.serves (more_written terms c.loop-cache.desk.start inv.0.1 more.more _ _ _ inv.0.4 (rw one.start at more.written)) c.in_ok-write_last_line.ensures.written refl
-    c.in_ok-outcome.ensures.rejected (c.in_ok-outcome.ensures.summary terms (inv.0.1 ++ more.more) more.serves.stands)
+    let more = one.serves inv.0.1 b.0 inv.0.2 next in
+    answers_all terms inv.0.0 _ c.serve_batch.new.desk.totals.answered (inv.0.1 ++ b.0) (inv.0.2 ++ more.more) _ c.serve_batch.new.desk _ _ _ _ _ on.fits.rules
+    (rw c.in-End.is at on.ends) more.serves (more_written terms c.loop-cache.desk.start inv.0.2 more.more _ _ _ inv.0.6 (rw one.start at more.written)) c.in_ok-write_last_line.ensures.written refl
+    c.in_ok-outcome.ensures.rejected (c.in_ok-outcome.ensures.summary terms (inv.0.2 ++ more.more) more.serves.stands)

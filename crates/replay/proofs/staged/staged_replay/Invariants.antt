@@ -1,6 +1,6 @@
 use Rattle.std.proofs.Common.{◌≡◌, ◌≤◌, [], List}
 use Rattle.std.specs.Io.KnownBytes.{Appends}
-use Rattle.captures.specs.Captures.{version_one}
+use Rattle.captures.specs.declared.version.Version.{Version}
 use Rattle.captures.specs.Readers.{Fits}
 use Rattle.captures.specs.declared.record.Record.{Record}
 use Rattle.replay.specs.Choices.{terms_of}
@@ -8,14 +8,15 @@ use Rattle.replay.specs.Arrivals.{Arrival}
 use Rattle.replay.specs.Offers.{handled}
 use Rattle.replay.specs.Replies.{replies_of, text_before_stop}
 use Rattle.replay.specs.Serving.{Serves}
+use Rattle.replay.specs.Tiers.{AreTiers}
 use Rattle.replay.specs.Waiting.{Waiting, connections_of}
 use Rattle.replay.proofs.staged.staged_replay.Given as goal
 
 -- some records were read, the messages that arrived with them are answered, and nothing waits
 abbrev pub invariant-loop-cache : goal.invariant-loop-cache
 invariant-loop-cache g l =
-    ((records : List Record) × (arrivals : List Arrival) × Fits version_one l.fn.reader.0 l.desk.start records l.capture.progress l.capture.input.now.0
-    × Serves (terms_of g.F.Tree.files l.settings) records arrivals (connections_of l.seats) l.desk
+    ((v : Version) × (records : List Record) × (arrivals : List Arrival) × Fits v l.fn.reader.0 l.desk.start records l.capture.progress l.capture.input.now.0
+    × Serves (terms_of g.F.Tree.files l.settings) records arrivals (connections_of l.seats) l.desk × AreTiers records l.tiers
     × Appends l.fn.writer.0 l.writer.0 (text_before_stop (replies_of (terms_of g.F.Tree.files l.settings) l.desk.start (handled (terms_of g.F.Tree.files l.settings) arrivals))))
     × (l.capture.input.ghost_name ≡ l.initial.capture.input.ghost_name) × (l.capture.input.now.1 ≡ l.fn.reader.1) × (l.writer.1 ≡ l.fn.writer.1)
     × (l.desk.start ≤ 4102444800) × Waiting [] l.seats

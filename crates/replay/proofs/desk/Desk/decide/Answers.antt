@@ -1,4 +1,3 @@
-use Rattle.std.proofs.Common.{refl}
 use Rattle.paths.specs.Targets.{asked}
 use Rattle.paths.proofs.Locations.{outcome_is}
 use Rattle.replay.proofs.Sights.{priced}

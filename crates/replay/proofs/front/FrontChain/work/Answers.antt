@@ -1,7 +1,6 @@
-use Rattle.std.proofs.Common.{◌≡◌, ℕ, ◌+◌, refl, sym, ap, ◌∙◌, arith}
-use Rattle.stage_graph.specs.Steps.{value_of}
+use Rattle.std.proofs.Common.{ap}
 use Rattle.replay.specs.declared.sight.Sighted.{Sighted}
-use Rattle.replay.specs.Fronts.{sight_after, front_step, unseen_at}
+use Rattle.replay.specs.Fronts.{front_step, unseen_at}
 use Rattle.replay.proofs.Sights.{sight_is, value_more}
 use Rattle.replay.proofs.front.FrontChain.work.Goals as goal
 

@@ -1,7 +1,6 @@
-use Rattle.std.proofs.Common.{◌≡◌, ◌+◌, ◌<◌, length, ℕ, List, [], ◌∷◌, ◌++◌, take, drop, get_or, refl, sym, ap, ◌∙◌, subst, arith}
+use Rattle.std.proofs.Common.{◌≡◌, ◌+◌, ◌<◌, length, [], ◌∷◌, ◌++◌, take, drop, get_or, sym, ap, ◌∙◌}
 use Rattle.std.proofs.lemmas.List.{drop_more, take_more}
-use Rattle.replay.specs.Batches.{ReadsOn, Reads}
-use Rattle.replay.specs.Places.{CanRead}
+use Rattle.replay.specs.Batches.{Reads}
 use Rattle.replay.proofs.CutBatches.{reads_push, can_read_more}
 use Rattle.replay.proofs.seat.Seat.cut.Goals as goal
 

@@ -1,4 +1,4 @@
-use Rattle.std.proofs.Common.{◌≡◌, ◌≤◌, take, drop}
+use Rattle.std.proofs.Common.{take, drop}
 use Rattle.replay.specs.Batches.{ReadsOn}
 use Rattle.replay.specs.Places.{CanRead}
 use Rattle.replay.proofs.seat.Seat.cut.Given as goal

@@ -1,5 +1,4 @@
-use Rattle.std.proofs.Common.{◌≡◌, ◌∙◌, sym, ap}
-use Rattle.replay.specs.Places.{IsReady, IsCutOf}
+use Rattle.std.proofs.Common.{◌≡◌, ◌∙◌}
 use Rattle.replay.proofs.CutBatches.{all_cut}
 use Rattle.replay.proofs.seats.Seats.cut.Goals as goal
 

@@ -1,5 +1,4 @@
-use Rattle.std.proofs.Common.{◌≡◌, ◌+◌, sym, ◌∙◌}
-use Rattle.replay.proofs.Merges.{some_list, merged_more, found_more}
+use Rattle.replay.proofs.Merges.{some_list, found_more}
 use Rattle.replay.proofs.seats.Seats.merge.Goals as goal
 
 pub next-requires : goal.next-requires

@@ -1,4 +1,4 @@
-use Rattle.std.proofs.Common.{◌≡◌, ℕ, map, take}
+use Rattle.std.proofs.Common.{◌≡◌, map, take}
 use Rattle.replay.proofs.Merges.{Merged}
 use Rattle.replay.proofs.seats.Seats.merge.Given as goal
 

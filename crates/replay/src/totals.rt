@@ -1,7 +1,7 @@
 ghost use Rattle.std.specs.Prelude.{◌≡◌, ◌-◌, ◌<◌, ◌^◌, []};
 ghost use Rattle.responses.specs.Replies.{status_of};
 ghost use Rattle.replay.specs.Counting.{AreBelow, breaks_a_rule};
-ghost use Rattle.replay.specs.Tallies.{no_counts, noted};
+ghost use Rattle.replay.specs.Totals.{no_counts, noted};
 ghost use Rattle.replay.specs.Backs.{told};
 
 use crate::Series;
@@ -15,7 +15,7 @@ use std::alloc::Global;
 
 /// The messages that were answered so far.
 #[derive(Drop)]
-pub struct Tally {
+pub struct Totals {
     /// How many they are, and so the number of the next.
     pub answered: usize,
     pub counts: Counts,
@@ -27,12 +27,12 @@ pub struct Tally {
     pub samples: Series<u64>,
 }
 
-impl Tally {
+impl Totals {
     /// Nothing was answered yet.
-    pub(crate) fn new(alloc: Global) -> Tally
+    pub(crate) fn new(alloc: Global) -> Totals
         ensures { result ≡ record { answered = 0; counts = no_counts; bypassed = 0; rejected = []; samples = [] } }
     {
-        Tally {
+        Totals {
             answered: 0,
             counts: NONE,
             bypassed: 0,

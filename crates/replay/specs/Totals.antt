@@ -1,11 +1,11 @@
--- What the plain engine counts of the messages that it answered.
+-- What the engines count of the messages that they answered.
 use Rattle.std.specs.Prelude.{ℕ, ◌+◌, Bool, List, length, if◌then◌else◌}
 use Rattle.replay.specs.Choices.{Terms}
 use Rattle.replay.specs.Arrivals.{Arrival}
 use Rattle.replay.specs.Offers.{offers_of, handled}
 use Rattle.replay.specs.Counting.{counts_of, bypassed_of, rejected_of, samples_of, with_status}
 use Rattle.replay.specs.declared.summary.Counts.{Counts}
-use Rattle.replay.specs.declared.tally.Tally.{Tally}
+use Rattle.replay.specs.declared.totals.Totals.{Totals}
 
 abbrev pub no_counts : Counts
 no_counts = record {
@@ -21,17 +21,17 @@ no_counts = record {
 }
 
 -- what became of these arrivals
-abbrev pub tally_of : Terms → List Arrival → Tally
-tally_of terms arrivals = record {
+abbrev pub totals_of : Terms → List Arrival → Totals
+totals_of terms arrivals = record {
   answered = length arrivals;
   counts = counts_of terms (handled terms arrivals);
   bypassed = bypassed_of arrivals;
   rejected = rejected_of (handled terms arrivals);
-  samples = samples_of terms.rules (offers_of terms arrivals);
+  samples = samples_of terms.policies (offers_of terms arrivals);
 }
 
--- the tally with one more message, of this status
-abbrev pub noted : Tally → ℕ → Bool → Tally
+-- the totals with one more message, of this status
+abbrev pub noted : Totals → ℕ → Bool → Totals
 noted t status breaks = record {
   answered = t.answered + 1;
   counts = with_status t.counts status;
