@@ -1,15 +1,15 @@
 -- A command with one more argument, and what becomes of an error.
-use Rattle.std.proofs.Common.{◌≡◌, true, false, List, refl, ◌∙◌, ap₂}
-use Rattle.clap.specs.Words.{AddsArg, App, Rule, Text, app_of, is_simple, rule_of, takes, with_rule}
+use Rattle.std.proofs.Common.{◌≡◌, true, false, List, [], ◌∷◌, inl, inr, refl, ◌∙◌, ap₂}
+use Rattle.clap.specs.Words.{AddsArg, App, HasKind, Kinds, Rule, Text, app_of, fault_of, is_simple, is_simple_and_free, kind_of, rule_of, takes, with_rule}
 use Rattle.clap.specs.declared.builder.Arg.{Arg}
 use Rattle.clap.specs.declared.builder.Command.{Command}
 use Rattle.clap.specs.declared.builder.Command.TheViews.{out-Command}
-use Rattle.clap.specs.declared.error.ErrorKind.{ErrorKind}
+use Rattle.clap.specs.declared.error.Error.{Error}
 use Rattle.clap.specs.declared.error.ErrorKind.TheVariants.{OutOfMemory}
 use Rattle.clap.proofs.OnLiterals.{clap_on_literals}
 use Rattle.options.specs.declared.words.WordFault.{WordFault}
 use Rattle.options.specs.declared.words.WordFault.TheVariants as faults
-use Rattle.options.specs.CommandLine.{Becomes, IsRefusal, command_line, replay_command}
+use Rattle.options.specs.CommandLine.{Becomes, IsRefusal, command_line, replay_command, upgrade_command}
 use Rattle.options.proofs.Choosing.{not_true}
 
 -- the rules of a command with one more argument
@@ -22,11 +22,23 @@ pub still_local : (old new : Command) (a : Arg) → AddsArg old a new → a.glob
 still_local old new a adds local before = adds.globals ∙ rw (before, local) refl
 
 pub simple : is_simple command_line ≡ true
-unfolding clap_on_literals command_line replay_command
+unfolding clap_on_literals command_line replay_command upgrade_command
 simple = refl
 
-pub refused : (words : List Text) (kind : ErrorKind) (fault : WordFault) → (takes command_line words ≡ true → kind ≡ OutOfMemory) → Becomes kind fault
+pub free : is_simple_and_free command_line ≡ true
+unfolding clap_on_literals command_line replay_command upgrade_command
+free = refl
+
+-- where no kind is among those that may come, an error is of memory
+only_memory : (kinds : Kinds) (error : Error) → kinds ≡ [] → HasKind kinds error → kind_of error ≡ OutOfMemory
+only_memory [] error none (inl memory) = memory
+only_memory [] error none (inr bad) = absurd bad
+only_memory (kind ∷ kinds) error none has = cc
+
+pub refused : (words : List Text) (kinds : Kinds) (error : Error) (fault : WordFault) → kinds ≡ fault_of command_line words
+    → (takes command_line words ≡ true → kind_of error ≡ OutOfMemory) → HasKind kinds error → Becomes (kind_of error) fault
     → IsRefusal words fault
-refused words kind (faults.Words text) passes becomes = not_true _ (λ taken. becomes (passes taken))
-refused words kind faults.Engine passes becomes = becomes
-refused words kind faults.Memory passes becomes = tt
+refused words kinds error (faults.Words text) same passes has becomes =
+    (not_true _ (λ taken. becomes (passes taken)), λ none. becomes (only_memory kinds error (same ∙ none) has))
+refused words kinds error faults.Engine same passes has becomes = becomes
+refused words kinds error faults.Memory same passes has becomes = tt

@@ -1,6 +1,7 @@
 -- What the words of the command line ask for.
-use Rattle.std.specs.Prelude.{◌≡◌, ◌≢◌, true, false, List, [], ◌∷◌, Option, Some, None, option_map, option_and_then, unwrap_or, codes, bytes_eq, if◌then◌else◌}
-use Rattle.clap.specs.Words.{App, Rule, Text, first_of, new_app, new_rule, subcommand_of, takes, with_rule, with_subcommand}
+use Rattle.std.specs.Option.{option_map_or}
+use Rattle.std.specs.Prelude.{◌≡◌, ◌≢◌, Bool, true, false, List, [], ◌∷◌, Option, Some, None, option_map, option_and_then, unwrap_or, codes, bytes_eq, if◌then◌else◌}
+use Rattle.clap.specs.Words.{App, Row, Rule, Text, fault_of, first_of, new_app, new_rule, subcommand_of, takes, with_rule, with_subcommand}
 use Rattle.clap.specs.declared.error.ErrorKind.{ErrorKind}
 use Rattle.clap.specs.declared.error.ErrorKind.TheVariants.{OutOfMemory}
 use Rattle.options.specs.declared.words.Engine.{Engine}
@@ -27,12 +28,20 @@ replay_command =
     (option_of (codes "settings")))
     (record (option_of (codes "engine")) { defaults = codes "staged" ∷ [] })
 
--- the program, of which `replay` is the only subcommand, and which wants one; the words are those behind its name
+-- `upgrade`, with two options that are required
+unfoldable pub upgrade_command : App
+upgrade_command =
+    with_rule (with_rule (new_app (codes "upgrade"))
+    (required_of (codes "capture")))
+    (required_of (codes "output"))
+
+-- the program, which wants a subcommand, `replay` or `upgrade`; the words are those behind its name
 abbrev pub program_of : App → App
 program_of a = record a { top = record a.top { no_binary_name = true; subcommand_required = true } }
 
 unfoldable pub command_line : App
-command_line = with_subcommand (program_of (new_app (codes "haboob"))) replay_command.top
+command_line =
+    with_subcommand (with_subcommand (program_of (new_app (codes "haboob"))) replay_command.top) upgrade_command.top
 
 -- the value that an option has on these words
 abbrev pub value_on : List Text → Text → Option Text
@@ -47,30 +56,51 @@ engine_named name =
 abbrev pub engine_on : List Text → Option Engine
 engine_on words = engine_named (unwrap_or (value_on words (codes "engine")) [])
 
--- A file's name as the words give it. (The command takes no words without the three that are required.)
+-- A file's name as the words give it. (The command takes no words without those that are required.)
 abbrev pub file_on : List Text → Text → Text
 file_on words name = unwrap_or (value_on words name) []
 
--- the words ask for this job
+-- the subcommand that was found is `upgrade`
+abbrev pub names_upgrade : Option (Text × List Row) → Bool
+names_upgrade found = option_map_or (λ p. bytes_eq p.0 (codes "upgrade")) found false
+
+-- Whether the words name the subcommand `upgrade`. (The command takes no words that name neither it nor `replay`.)
+abbrev pub is_upgrade : List Text → Bool
+is_upgrade words = names_upgrade (subcommand_of command_line words)
+
+-- the command takes the words, and they ask for this job
 abbrev pub Asks : List Text → Job → Type 0
 Asks words jobs.Bundle = words ≡ []
 Asks words (jobs.Replay snapshot capture replies settings chosen) =
     (words ≢ [])
+    × (fault_of command_line words ≡ [])
+    × (is_upgrade words ≡ false)
     × (snapshot.now ≡ file_on words (codes "snapshot"))
     × (capture.now ≡ file_on words (codes "capture"))
     × (replies.now ≡ file_on words (codes "replies"))
     × (option_map (λ s. s.now) settings ≡ value_on words (codes "settings"))
     × (engine_on words ≡ Some chosen)
+Asks words (jobs.Upgrade capture output) =
+    (words ≢ [])
+    × (fault_of command_line words ≡ [])
+    × (is_upgrade words ≡ true)
+    × (capture.now ≡ file_on words (codes "capture"))
+    × (output.now ≡ file_on words (codes "output"))
+
+-- the command doesn't take the words
+abbrev pub AreNotTaken : List Text → Type 0
+AreNotTaken words = (takes command_line words ≡ false) × (fault_of command_line words ≢ [])
 
 -- The words are refused for this. Words that the command takes have no fault but another engine's name.
 abbrev pub Refuses : List Text → WordFault → Type 0
-Refuses words (faults.Words text) = (words ≢ []) × (takes command_line words ≡ false)
-Refuses words faults.Engine = (words ≢ []) × (engine_on words ≡ None)
+Refuses words (faults.Words text) = (words ≢ []) × AreNotTaken words
+Refuses words faults.Engine =
+    (words ≢ []) × (fault_of command_line words ≡ []) × (is_upgrade words ≡ false) × (engine_on words ≡ None)
 Refuses words faults.Memory = words ≢ []
 
 -- what the command alone refuses
 abbrev pub IsRefusal : List Text → WordFault → Type 0
-IsRefusal words (faults.Words text) = takes command_line words ≡ false
+IsRefusal words (faults.Words text) = AreNotTaken words
 IsRefusal words faults.Engine = ⊥
 IsRefusal words faults.Memory = Unit {0}
 

@@ -1,7 +1,38 @@
 -- The keys of a settings document, their names and their tables.
-use Rattle.std.specs.Prelude.{ℕ, Bool, true, false, ◌++◌, if◌then◌else◌, List, [], ◌∷◌, Option, Some, None, codes, bytes_eq, find}
+use Rattle.std.specs.Prelude.{ℕ, Bool, true, false, ◌++◌, if◌then◌else◌, List, [], ◌∷◌, Option, Some, None, codes, bytes_eq, find, option_map}
 use Rattle.options.specs.declared.config_fault.Key.{Key}
 use Rattle.options.specs.declared.config_fault.Key.TheVariants as keys
+use Rattle.options.specs.declared.policy_key.PolicyTable.{PolicyTable}
+use Rattle.options.specs.declared.policy_key.PolicyTable.TheVariants as tables
+use Rattle.options.specs.declared.policy_key.PolicyKey.{PolicyKey}
+use Rattle.options.specs.declared.policy_key.PolicyKey.TheVariants as policy
+
+-- the name of a policy's table: tier 0 has `policy`
+abbrev pub policy_table_name : PolicyTable → List ℕ
+policy_table_name tables.Policy = codes "policy"
+policy_table_name tables.Tier1 = codes "tier1"
+policy_table_name tables.Tier2 = codes "tier2"
+policy_table_name tables.Tier3 = codes "tier3"
+
+-- the keys that such a table may have
+abbrev pub policy_keys : List PolicyKey
+policy_keys =
+    policy.Window ∷ policy.Every ∷ policy.Smoothing ∷ policy.Rate ∷ policy.RateMin ∷ policy.RateMax ∷ policy.Up
+    ∷ policy.Down ∷ policy.Target ∷ policy.Low ∷ policy.Depth ∷ []
+
+-- the name of a key of a policy
+abbrev pub policy_key_name : PolicyKey → List ℕ
+policy_key_name policy.Window = codes "window"
+policy_key_name policy.Every = codes "every"
+policy_key_name policy.Smoothing = codes "smoothing"
+policy_key_name policy.Rate = codes "rate"
+policy_key_name policy.RateMin = codes "rate_min"
+policy_key_name policy.RateMax = codes "rate_max"
+policy_key_name policy.Up = codes "up"
+policy_key_name policy.Down = codes "down"
+policy_key_name policy.Target = codes "target"
+policy_key_name policy.Low = codes "low"
+policy_key_name policy.Depth = codes "depth"
 
 -- the name of a key in its table
 abbrev pub name_of : Key → List ℕ
@@ -20,18 +51,8 @@ name_of keys.Costs = codes "costs"
 name_of keys.File = codes "file"
 name_of keys.Kib = codes "kib"
 name_of keys.Error = codes "error"
-name_of keys.Policy = codes "policy"
-name_of keys.Window = codes "window"
-name_of keys.Every = codes "every"
-name_of keys.Smoothing = codes "smoothing"
-name_of keys.Rate = codes "rate"
-name_of keys.RateMin = codes "rate_min"
-name_of keys.RateMax = codes "rate_max"
-name_of keys.Up = codes "up"
-name_of keys.Down = codes "down"
-name_of keys.Target = codes "target"
-name_of keys.Low = codes "low"
-name_of keys.Depth = codes "depth"
+name_of (keys.Policy table) = policy_table_name table
+name_of (keys.InPolicy table key) = policy_key_name key
 name_of keys.Page = codes "page"
 name_of keys.RetryAfter = codes "retry_after"
 
@@ -52,15 +73,16 @@ table_of keys.Costs = keys.Costs
 table_of keys.File = keys.Costs
 table_of keys.Kib = keys.Costs
 table_of keys.Error = keys.Costs
+table_of (keys.Policy table) = keys.Policy table
+table_of (keys.InPolicy table key) = keys.Policy table
 table_of keys.Page = keys.Page
 table_of keys.RetryAfter = keys.Page
-table_of _ = keys.Policy
 
 -- whether the key is a table
 abbrev pub is_table : Key → Bool
 is_table keys.Floor = true
 is_table keys.Costs = true
-is_table keys.Policy = true
+is_table (keys.Policy table) = true
 is_table keys.Page = true
 is_table _ = false
 
@@ -68,19 +90,19 @@ is_table _ = false
 abbrev pub path_of : Key → List ℕ
 path_of key = if is_table key then name_of key else name_of (table_of key) ++ codes "." ++ name_of key
 
--- the keys that a table may have; without a table, the tables that a document may have
+-- the keys that a table may have that holds no policy; without a table, the tables that a document may have
 abbrev pub keys_in : Option Key → List Key
-keys_in None = keys.Floor ∷ keys.Costs ∷ keys.Policy ∷ keys.Page ∷ []
+keys_in None =
+    keys.Floor ∷ keys.Costs ∷ keys.Policy tables.Policy ∷ keys.Page
+    ∷ keys.Policy tables.Tier1 ∷ keys.Policy tables.Tier2 ∷ keys.Policy tables.Tier3 ∷ []
 keys_in (Some keys.Floor) =
     keys.FrontCuts ∷ keys.FrontWorkers ∷ keys.FrontCapacities ∷ keys.BackCuts ∷ keys.BackWorkers ∷ keys.BackCapacities
     ∷ keys.Batch ∷ keys.Cache ∷ []
 keys_in (Some keys.Costs) = keys.File ∷ keys.Kib ∷ keys.Error ∷ []
-keys_in (Some keys.Policy) =
-    keys.Window ∷ keys.Every ∷ keys.Smoothing ∷ keys.Rate ∷ keys.RateMin ∷ keys.RateMax ∷ keys.Up ∷ keys.Down
-    ∷ keys.Target ∷ keys.Low ∷ keys.Depth ∷ []
 keys_in (Some keys.Page) = keys.RetryAfter ∷ []
 keys_in (Some _) = []
 
--- the key of this name there, if it may stand there
+-- the key of this name there, if it may stand there; each table of a policy may have the keys of one
 abbrev pub key_at : Option Key → List ℕ → Option Key
+key_at (Some (keys.Policy table)) name = option_map (keys.InPolicy table) (find (λ key. bytes_eq (policy_key_name key) name) policy_keys)
 key_at table name = find (λ key. bytes_eq (name_of key) name) (keys_in table)

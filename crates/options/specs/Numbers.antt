@@ -16,8 +16,11 @@ pub record Choices : Type 0 where
   pub batch : ℕ
   pub cache : ℕ
   pub costs : CostTable
-  pub rules : Rules
   pub retry_after : ℕ
+  pub policy : Rules
+  pub tier1 : Rules
+  pub tier2 : Rules
+  pub tier3 : Rules
 
 -- each number of a policy is within its own range
 pub record AreWithin (p : Rules) : Type 0 where

@@ -11,6 +11,9 @@ use Rattle.admission.specs.Rules.{Rules}
 use Rattle.replay.specs.Choices.{Choice}
 use Rattle.options.specs.declared.config_fault.Key.{Key}
 use Rattle.options.specs.declared.config_fault.Key.TheVariants as keys
+use Rattle.options.specs.declared.policy_key.PolicyTable.{PolicyTable}
+use Rattle.options.specs.declared.policy_key.PolicyTable.TheVariants as tables
+use Rattle.options.specs.declared.policy_key.PolicyKey.TheVariants as policy
 use Rattle.options.specs.declared.config_fault.ConfigFault.{ConfigFault}
 use Rattle.options.specs.ConfigFaults.{no_text, not_known, range}
 use Rattle.options.specs.Numbers.{FloorLists, Choices}
@@ -39,22 +42,39 @@ costs_of document = do
   error ← number document keys.Error 50 1 1000000
   Ok (record { file = file; kib = kib; error = error })
 
-abbrev pub rules_of : Members → Result Rules ConfigFault
-rules_of document = do
-  window ← number document keys.Window 100 1 4096
-  every ← number document keys.Every 100 1 4096
-  smoothing ← number document keys.Smoothing 700 0 999
-  rate ← number document keys.Rate 1000000 1 1000000000
-  rate_min ← number document keys.RateMin 50000 1 1000000000
-  rate_max ← number document keys.RateMax 5000000 1 1000000000
-  up ← number document keys.Up 2000 0 1000000000
-  down ← number document keys.Down 120 101 10000
-  target ← number document keys.Target 100000 1 1000000000000
-  low ← number document keys.Low 90 0 100
-  depth ← number document keys.Depth 100 1 1000000
+-- each key of a policy's table, with what holds where it is left out, its least and its greatest value
+unfoldable pub policy_in : Members → PolicyTable → Rules → Result Rules ConfigFault
+policy_in document table otherwise = do
+  window ← number document (keys.InPolicy table policy.Window) otherwise.window 1 4096
+  every ← number document (keys.InPolicy table policy.Every) otherwise.every 1 4096
+  smoothing ← number document (keys.InPolicy table policy.Smoothing) otherwise.smoothing 0 999
+  rate ← number document (keys.InPolicy table policy.Rate) otherwise.rate 1 1000000000
+  rate_min ← number document (keys.InPolicy table policy.RateMin) otherwise.rate_min 1 1000000000
+  rate_max ← number document (keys.InPolicy table policy.RateMax) otherwise.rate_max 1 1000000000
+  up ← number document (keys.InPolicy table policy.Up) otherwise.up 0 1000000000
+  down ← number document (keys.InPolicy table policy.Down) otherwise.down 101 10000
+  target ← number document (keys.InPolicy table policy.Target) otherwise.target 1 1000000000000
+  low ← number document (keys.InPolicy table policy.Low) otherwise.low 0 100
+  depth ← number document (keys.InPolicy table policy.Depth) otherwise.depth 1 1000000
   Ok (record { window = window; every = every; smoothing = smoothing; rate = rate; rate_min = rate_min; rate_max = rate_max; up = up; down = down; target = target; low = low; depth = depth })
 
--- the keys in their order
+-- the policy of a document that says nothing of it
+abbrev pub default_policy : Rules
+default_policy = record {
+  window = 100;
+  every = 100;
+  smoothing = 700;
+  rate = 1000000;
+  rate_min = 50000;
+  rate_max = 5000000;
+  up = 2000;
+  down = 120;
+  target = 100000;
+  low = 90;
+  depth = 100;
+}
+
+-- The keys in their order. What `policy` leaves out has its default, and what a tier leaves out is as `policy` has it.
 abbrev pub written_in : Members → Result Choices ConfigFault
 written_in document = do
   front ← front_of document
@@ -62,9 +82,12 @@ written_in document = do
   batch ← number document keys.Batch 1024 1 65536
   cache ← number document keys.Cache 67108864 0 1073741824
   costs ← costs_of document
-  rules ← rules_of document
+  policy ← policy_in document tables.Policy default_policy
   retry_after ← number document keys.RetryAfter 1 0 86400
-  Ok (record { front = front; back = back; batch = batch; cache = cache; costs = costs; rules = rules; retry_after = retry_after })
+  tier1 ← policy_in document tables.Tier1 policy
+  tier2 ← policy_in document tables.Tier2 policy
+  tier3 ← policy_in document tables.Tier3 policy
+  Ok (record { front = front; back = back; batch = batch; cache = cache; costs = costs; retry_after = retry_after; policy = policy; tier1 = tier1; tier2 = tier2; tier3 = tier3 })
 
 -- the lists as the plan of a floor, whose last stage ends with this step
 abbrev pub plan_of : Key → ℕ → FloorLists → Result Layout ConfigFault
@@ -73,16 +96,22 @@ plan_of floor steps lists =
     if is_none (plan_fault lists.cuts lists.workers lists.capacities) && nat_eq (last_cut plan) steps then Ok plan
     else Err (range floor)
 
--- the rate lies between its two ends
-abbrev pub in_order : Rules → Result Rules ConfigFault
-in_order p = if nat_le p.rate_min p.rate && nat_le p.rate p.rate_max then Ok p else Err (range keys.Rate)
+-- the numbers that this table has, of which the rate lies between its two ends
+abbrev pub in_order : PolicyTable → Rules → Result Rules ConfigFault
+in_order table p =
+    if nat_le p.rate_min p.rate && nat_le p.rate p.rate_max then Ok p
+    else Err (range (keys.InPolicy table policy.Rate))
 
+-- what is said fits together: the floors, and then the policy of each tier in turn
 abbrev pub chosen : Choices → Result Choice ConfigFault
 chosen w = do
   front ← plan_of keys.Front 3 w.front
   back ← plan_of keys.Back 2 w.back
-  rules ← in_order w.rules
-  Ok (record { front = front; back = back; batch = w.batch; cache = w.cache; costs = w.costs; rules = rules; retry_after = w.retry_after })
+  policy ← in_order tables.Policy w.policy
+  tier1 ← in_order tables.Tier1 w.tier1
+  tier2 ← in_order tables.Tier2 w.tier2
+  tier3 ← in_order tables.Tier3 w.tier3
+  Ok (record { front = front; back = back; batch = w.batch; cache = w.cache; costs = w.costs; policies = policy ∷ tier1 ∷ tier2 ∷ tier3 ∷ []; retry_after = w.retry_after })
 
 -- the settings of a document, or its first fault
 abbrev pub settings_of : Members → Result Choice ConfigFault
@@ -98,19 +127,7 @@ default_choice = record {
   batch = 1024;
   cache = 67108864;
   costs = record { file = 200; kib = 10; error = 50 };
-  rules = record {
-    window = 100;
-    every = 100;
-    smoothing = 700;
-    rate = 1000000;
-    rate_min = 50000;
-    rate_max = 5000000;
-    up = 2000;
-    down = 120;
-    target = 100000;
-    low = 90;
-    depth = 100;
-  };
+  policies = default_policy ∷ default_policy ∷ default_policy ∷ default_policy ∷ [];
   retry_after = 1;
 }
 

@@ -2,11 +2,11 @@ ghost use Rattle.std.specs.Prelude.{◌≡◌, IfOk, None};
 ghost use Rattle.toml.specs.View.{table_view};
 ghost use Rattle.stage_graph.specs.Stands.{last_cut};
 ghost use Rattle.options.specs.ConfigFaults.{Answers};
-ghost use Rattle.options.specs.SettingsTable.{front_of, back_of, costs_of, rules_of, written_in, plan_of, in_order, chosen, settings_of, settings_read};
+ghost use Rattle.options.specs.SettingsTable.{front_of, back_of, costs_of, policy_in, default_policy, written_in, plan_of, in_order, chosen, settings_of, settings_read};
 
 use crate::document::{members_known, number, numbers};
 use crate::numbers::{Choices, FloorLists, PolicyNumbers};
-use crate::{ConfigFault, Key};
+use crate::{ConfigFault, Key, PolicyKey, PolicyTable};
 use admission::Policy;
 use cost_model::Costs;
 use replay::{BACK_STEPS, FRONT_STEPS, Settings};
@@ -58,16 +58,22 @@ fn written_in(alloc: Global, document: &Table) -> Result<Choices, ConfigFault>
     let batch = number(document, Key::Batch, 1024, 1, 65_536)?;
     let cache = number(document, Key::Cache, 67_108_864, 0, 1_073_741_824)?;
     let costs = costs_of(document)?;
-    let policy = rules_of(document)?;
+    let policy = policy_in(document, PolicyTable::Policy, default_policy())?;
     let retry_after = number(document, Key::RetryAfter, 1, 0, 86_400)?;
+    let tier1 = policy_in(document, PolicyTable::Tier1, policy)?;
+    let tier2 = policy_in(document, PolicyTable::Tier2, policy)?;
+    let tier3 = policy_in(document, PolicyTable::Tier3, policy)?;
     Ok(Choices {
         front,
         back,
         batch,
         cache,
         costs,
-        policy,
         retry_after,
+        policy,
+        tier1,
+        tier2,
+        tier3,
     })
 }
 
@@ -109,20 +115,49 @@ fn costs_of(document: &Table) -> Result<Costs, ConfigFault>
     }
 }
 
-fn rules_of(document: &Table) -> Result<PolicyNumbers, ConfigFault>
-    ensures { result ≡ rules_of (table_view document.now) }
+/// The policy of a document that says nothing of it.
+fn default_policy() -> PolicyNumbers
+    ensures { result ≡ default_policy }
 {
-    let window = number(document, Key::Window, 100, 1, 4096)?;
-    let every = number(document, Key::Every, 100, 1, 4096)?;
-    let smoothing = number(document, Key::Smoothing, 700, 0, 999)?;
-    let rate = number(document, Key::Rate, 1_000_000, 1, 1_000_000_000)?;
-    let rate_min = number(document, Key::RateMin, 50_000, 1, 1_000_000_000)?;
-    let rate_max = number(document, Key::RateMax, 5_000_000, 1, 1_000_000_000)?;
-    let up = number(document, Key::Up, 2000, 0, 1_000_000_000)?;
-    let down = number(document, Key::Down, 120, 101, 10_000)?;
-    let target = number(document, Key::Target, 100_000, 1, 1_000_000_000_000)?;
-    let low = number(document, Key::Low, 90, 0, 100)?;
-    let depth = number(document, Key::Depth, 100, 1, 1_000_000)?;
+    PolicyNumbers {
+        window: 100,
+        every: 100,
+        smoothing: 700,
+        rate: 1_000_000,
+        rate_min: 50_000,
+        rate_max: 5_000_000,
+        up: 2000,
+        down: 120,
+        target: 100_000,
+        low: 90,
+        depth: 100,
+    }
+}
+
+/// The numbers of a policy's table, with those that hold where a key is left out.
+#[tactic(auto, unfolding(crate::specs::SettingsTable::policy_in))]
+fn policy_in(
+    document: &Table,
+    table: PolicyTable,
+    otherwise: PolicyNumbers,
+) -> Result<PolicyNumbers, ConfigFault>
+    ensures { result ≡ policy_in (table_view document.now) table otherwise }
+{
+    use PolicyKey::{
+        Depth, Down, Every, Low, Rate, RateMax, RateMin, Smoothing, Target, Up, Window,
+    };
+    let at = |key| Key::InPolicy(table, key);
+    let window = number(document, at(Window), otherwise.window, 1, 4096)?;
+    let every = number(document, at(Every), otherwise.every, 1, 4096)?;
+    let smoothing = number(document, at(Smoothing), otherwise.smoothing, 0, 999)?;
+    let rate = number(document, at(Rate), otherwise.rate, 1, 1_000_000_000)?;
+    let rate_min = number(document, at(RateMin), otherwise.rate_min, 1, 1_000_000_000)?;
+    let rate_max = number(document, at(RateMax), otherwise.rate_max, 1, 1_000_000_000)?;
+    let up = number(document, at(Up), otherwise.up, 0, 1_000_000_000)?;
+    let down = number(document, at(Down), otherwise.down, 101, 10_000)?;
+    let target = number(document, at(Target), otherwise.target, 1, 1_000_000_000_000)?;
+    let low = number(document, at(Low), otherwise.low, 0, 100)?;
+    let depth = number(document, at(Depth), otherwise.depth, 1, 1_000_000)?;
     Ok(PolicyNumbers {
         window,
         every,
@@ -144,7 +179,10 @@ fn chosen(alloc: Global, written: &Choices) -> Result<Settings, ConfigFault>
 {
     let front = plan_of(alloc, Key::Front, FRONT_STEPS, &written.front)?;
     let back = plan_of(alloc, Key::Back, BACK_STEPS, &written.back)?;
-    let policy = policy_of(written.policy)?;
+    let policy = policy_of(PolicyTable::Policy, written.policy)?;
+    let tier1 = policy_of(PolicyTable::Tier1, written.tier1)?;
+    let tier2 = policy_of(PolicyTable::Tier2, written.tier2)?;
+    let tier3 = policy_of(PolicyTable::Tier3, written.tier3)?;
     let batch = written.batch as usize;
     let cache = written.cache as usize;
     match Settings::new(
@@ -153,7 +191,7 @@ fn chosen(alloc: Global, written: &Choices) -> Result<Settings, ConfigFault>
         batch,
         cache,
         written.costs,
-        policy,
+        [policy, tier1, tier2, tier3],
         written.retry_after,
     ) {
         Ok(settings) => Ok(settings),
@@ -173,12 +211,12 @@ fn plan_of(alloc: Global, floor: Key, steps: usize, lists: &FloorLists) -> Resul
     }
 }
 
-/// The policy of these numbers, where the rate lies between its two ends.
-fn policy_of(numbers: PolicyNumbers) -> Result<Policy, ConfigFault>
-    ensures { result ≡ in_order numbers }
+/// The policy of the numbers that this table has, where the rate lies between its two ends.
+fn policy_of(table: PolicyTable, numbers: PolicyNumbers) -> Result<Policy, ConfigFault>
+    ensures { result ≡ in_order table numbers }
 {
     if numbers.rate < numbers.rate_min || numbers.rate > numbers.rate_max {
-        return Err(ConfigFault::range(Key::Rate));
+        return Err(ConfigFault::range(Key::InPolicy(table, PolicyKey::Rate)));
     }
     let policy = Policy::new(
         numbers.window,

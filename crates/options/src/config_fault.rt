@@ -2,6 +2,7 @@ ghost use Rattle.std.specs.Prelude.{◌≡◌, ◌≤◌, length};
 ghost use Rattle.options.specs.Keys.{is_table, keys_in, name_of, table_of};
 ghost use Rattle.options.specs.ConfigFaults.{kind_name, range, shape};
 
+use crate::{PolicyKey, PolicyTable};
 use std::alloc::AllocError;
 use std::error::Error;
 use std::fmt;
@@ -28,19 +29,10 @@ pub enum Key {
     File,
     Kib,
     Error,
-    /// `policy`.
-    Policy,
-    Window,
-    Every,
-    Smoothing,
-    Rate,
-    RateMin,
-    RateMax,
-    Up,
-    Down,
-    Target,
-    Low,
-    Depth,
+    /// The table of a policy.
+    Policy(PolicyTable),
+    /// A key of a policy, in this table.
+    InPolicy(PolicyTable, PolicyKey),
     /// `page`.
     Page,
     RetryAfter,
@@ -68,18 +60,8 @@ impl Key {
             Key::File => "file",
             Key::Kib => "kib",
             Key::Error => "error",
-            Key::Policy => "policy",
-            Key::Window => "window",
-            Key::Every => "every",
-            Key::Smoothing => "smoothing",
-            Key::Rate => "rate",
-            Key::RateMin => "rate_min",
-            Key::RateMax => "rate_max",
-            Key::Up => "up",
-            Key::Down => "down",
-            Key::Target => "target",
-            Key::Low => "low",
-            Key::Depth => "depth",
+            Key::Policy(table) => table.name(),
+            Key::InPolicy(_, key) => key.name(),
             Key::Page => "page",
             Key::RetryAfter => "retry_after",
         }
@@ -89,7 +71,7 @@ impl Key {
     pub fn is_table(self) -> bool
         ensures { result ≡ is_table self }
     {
-        matches!(self, Key::Floor | Key::Costs | Key::Policy | Key::Page)
+        matches!(self, Key::Floor | Key::Costs | Key::Policy(_) | Key::Page)
     }
 
     /// The table that holds it. A table is its own.
@@ -109,18 +91,26 @@ impl Key {
             | Key::Front
             | Key::Back => Key::Floor,
             Key::Costs | Key::File | Key::Kib | Key::Error => Key::Costs,
+            Key::Policy(table) | Key::InPolicy(table, _) => Key::Policy(table),
             Key::Page | Key::RetryAfter => Key::Page,
-            _ => Key::Policy,
         }
     }
 }
 
-/// The keys that a table may have; without a table, the tables that a document may have.
+/// The keys that a table may have that holds no policy; without a table, the tables that a document may have.
 pub(crate) fn keys_in(table: Option<Key>) -> &'static [Key]
     ensures { result.now ≡ keys_in table }
 {
     match table {
-        None => &[Key::Floor, Key::Costs, Key::Policy, Key::Page],
+        None => &[
+            Key::Floor,
+            Key::Costs,
+            Key::Policy(PolicyTable::Policy),
+            Key::Page,
+            Key::Policy(PolicyTable::Tier1),
+            Key::Policy(PolicyTable::Tier2),
+            Key::Policy(PolicyTable::Tier3),
+        ],
         Some(Key::Floor) => &[
             Key::FrontCuts,
             Key::FrontWorkers,
@@ -132,19 +122,6 @@ pub(crate) fn keys_in(table: Option<Key>) -> &'static [Key]
             Key::Cache,
         ],
         Some(Key::Costs) => &[Key::File, Key::Kib, Key::Error],
-        Some(Key::Policy) => &[
-            Key::Window,
-            Key::Every,
-            Key::Smoothing,
-            Key::Rate,
-            Key::RateMin,
-            Key::RateMax,
-            Key::Up,
-            Key::Down,
-            Key::Target,
-            Key::Low,
-            Key::Depth,
-        ],
         Some(Key::Page) => &[Key::RetryAfter],
         Some(_) => &[],
     }

@@ -12,6 +12,7 @@ use toml::Table;
 /// # Errors
 ///
 /// Memory ran out.
+#[tactic(auto, unfolding(crate::specs::SettingsTable::policy_in))]
 pub fn default_settings(alloc: Global) -> Result<Settings, AllocError>
     ensures no_keys { IfOk result (λ settings. settings_of no_members ≡ Ok settings) }
     ensures value { IfOk result (λ settings. settings ≡ default_choice) }

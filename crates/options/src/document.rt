@@ -1,11 +1,12 @@
-ghost use Rattle.std.specs.Prelude.{◌≡◌, ◌≤◌, false, Ok, Err, IfOk, MatchResult, option_map};
+ghost use Rattle.std.specs.Prelude.{◌≡◌, ◌≤◌, false, Ok, Err, IfOk, MatchResult, bytes_eq, find, option_map};
 ghost use Rattle.toml.specs.View.{view, array_view, table_view};
-ghost use Rattle.options.specs.Keys.{key_at};
+ghost use Rattle.options.specs.Keys.{key_at, keys_in, name_of, policy_key_name, policy_keys};
 ghost use Rattle.options.specs.Documents.{is_known, items_known, members_known, value_at, number, numbers, naturals};
 ghost use Rattle.options.specs.ConfigFaults.{is_memory};
 
 use crate::config_fault::keys_in;
-use crate::{ConfigFault, Key};
+use crate::policy_key::policy_keys;
+use crate::{ConfigFault, Key, PolicyKey};
 use std::alloc::{AllocError, Global};
 use toml::value::Array;
 use toml::{Table, Value};
@@ -13,6 +14,21 @@ use toml::{Table, Value};
 /// The key of this name in a table, if it may stand there.
 fn key_at(table: Option<Key>, name: &str) -> Option<Key>
     ensures { result ≡ key_at table name.now }
+{
+    match table {
+        Some(Key::Policy(policy)) => { policy_key_at(name).map(|key| Key::InPolicy(policy, key)) }
+        _ => plain_key_at(table, name),
+    }
+}
+
+fn policy_key_at(name: &str) -> Option<PolicyKey>
+    ensures { result ≡ find (λ key. bytes_eq (policy_key_name key) name.now) policy_keys }
+{
+    policy_keys().iter().copied().find(|key| key.name() == name)
+}
+
+fn plain_key_at(table: Option<Key>, name: &str) -> Option<Key>
+    ensures { result ≡ find (λ key. bytes_eq (name_of key) name.now) (keys_in table) }
 {
     keys_in(table)
         .iter()

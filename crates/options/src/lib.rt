@@ -6,6 +6,7 @@ mod config_fault;
 mod defaults;
 mod document;
 mod numbers;
+mod policy_key;
 #[cfg(test)]
 mod tests;
 mod words;
@@ -13,4 +14,5 @@ mod words;
 pub use config::{LONGEST_SETTINGS, read_settings};
 pub use config_fault::{ConfigFault, ConfigFaultKind, Key};
 pub use defaults::default_settings;
+pub use policy_key::{PolicyKey, PolicyTable};
 pub use words::{Engine, Job, WordFault, read_words};

@@ -56,8 +56,12 @@ pub(crate) struct Choices {
     pub(crate) batch: u64,
     pub(crate) cache: u64,
     pub(crate) costs: Costs,
-    pub(crate) policy: PolicyNumbers,
     pub(crate) retry_after: u64,
+    /// The policy of tier 0.
+    pub(crate) policy: PolicyNumbers,
+    pub(crate) tier1: PolicyNumbers,
+    pub(crate) tier2: PolicyNumbers,
+    pub(crate) tier3: PolicyNumbers,
 }
 
 impl Model for Choices {
@@ -65,7 +69,7 @@ impl Model for Choices {
 
     ghost Value = { Choices };
 
-    ghost view = { λ c. record { front = c.front; back = c.back; batch = c.batch; cache = c.cache; costs = c.costs; rules = c.policy; retry_after = c.retry_after } };
+    ghost view = { λ c. record { front = c.front; back = c.back; batch = c.batch; cache = c.cache; costs = c.costs; retry_after = c.retry_after; policy = c.policy; tier1 = c.tier1; tier2 = c.tier2; tier3 = c.tier3 } };
 
-    ghost invariant = { λ c. AreChoices (record { front = c.front; back = c.back; batch = c.batch; cache = c.cache; costs = c.costs; rules = c.policy; retry_after = c.retry_after }) };
+    ghost invariant = { λ c. AreChoices (record { front = c.front; back = c.back; batch = c.batch; cache = c.cache; costs = c.costs; retry_after = c.retry_after; policy = c.policy; tier1 = c.tier1; tier2 = c.tier2; tier3 = c.tier3 }) };
 }

@@ -1,7 +1,8 @@
-ghost use Rattle.std.specs.Prelude.{◌≡◌, Ok, codes, false, map, option_and_then, option_map, IfOk, IfErr};
-ghost use Rattle.clap.specs.Words.{app_of, kind_of, first_of, rule_of, subcommand_of, subcommand_rows_of};
+ghost use Rattle.std.specs.Prelude.{◌≡◌, [], Ok, codes, false, map, option_and_then, option_map, IfOk, IfErr};
+ghost use Rattle.clap.specs.Words.{app_of, fault_of, kind_of, first_of, rule_of, subcommand_of, subcommand_rows_of};
 ghost use Rattle.clap.specs.declared.builder.Command.TheViews.{out-Command};
-ghost use Rattle.options.specs.CommandLine.{Asks, Becomes, IsRefusal, Refuses, command_line, engine_named, option_of, replay_command};
+ghost use Rattle.options.specs.CommandLine.{Asks, Becomes, IsRefusal, Refuses, command_line, engine_named};
+ghost use Rattle.options.specs.CommandLine.{names_upgrade, option_of, replay_command, upgrade_command};
 
 use clap::error::ErrorKind;
 use clap::{Arg, ArgMatches, Command, Error};
@@ -13,13 +14,22 @@ const PROGRAM_NOTES: &str =
     "Without a command, a snapshot directly followed by a capture is read from standard
 input, and the replies are written to standard output, with default settings.
 
-Example:
-  haboob replay --snapshot site.snapshot --capture day.capture --replies day.replies";
+Examples:
+  haboob replay --snapshot site.snapshot --capture day.capture --replies day.replies
+  haboob upgrade --capture old.capture --output new.capture";
 
 /// What help says behind the options of `replay`.
 const REPLAY_NOTES: &str = "Example:
   haboob replay --snapshot site.snapshot --capture day.capture --replies day.replies \\
     --settings tight.toml";
+
+/// What help says behind the options of `upgrade`.
+const UPGRADE_NOTES: &str =
+    "A capture of version 1 is written as one of version 2, with the same start and the same
+records. A capture of version 2 is written as it is.
+
+Example:
+  haboob upgrade --capture old.capture --output new.capture";
 
 /// What help says of the engines.
 const ENGINE_HELP: &str = "plain, on one thread, or staged, on many; both answer the same";
@@ -46,6 +56,11 @@ pub enum Job<'a> {
         settings: Option<&'a str>,
         engine: Engine,
     },
+    /// The capture stands in a file of either version, and goes into another as one of version 2.
+    Upgrade {
+        capture: &'a str,
+        output: &'a str,
+    },
 }
 
 /// Why words ask for nothing.
@@ -70,8 +85,8 @@ impl From<AllocError> for WordFault {
     }
 }
 
-/// What the words behind the program's name ask for: without words `Bundle`, else a replay of the files that they name.
-/// The file names are taken as they are.
+/// What the words behind the program's name ask for: without words `Bundle`, else a replay or an upgrade of the files that
+/// they name. The file names are taken as they are.
 ///
 /// # Errors
 ///
@@ -86,8 +101,12 @@ pub fn read_words<'a, S: AsStr>(alloc: Global, words: &'a [S]) -> Result<Job<'a>
     }
     let matches = matches_of(alloc, words)?;
     // the command takes no words without the options that it requires, so none of these is missing
-    let snapshot = value(&matches, "snapshot").unwrap_or("");
     let capture = value(&matches, "capture").unwrap_or("");
+    if is_upgrade(&matches) {
+        let output = value(&matches, "output").unwrap_or("");
+        return Ok(Job::Upgrade { capture, output });
+    }
+    let snapshot = value(&matches, "snapshot").unwrap_or("");
     let replies = value(&matches, "replies").unwrap_or("");
     let settings = value(&matches, "settings");
     let Some(engine) = engine_named(value(&matches, "engine").unwrap_or("")) else {
@@ -112,6 +131,16 @@ fn engine_named(name: &str) -> Option<Engine>
     }
 }
 
+/// Whether the subcommand is `upgrade`.
+fn is_upgrade(matches: &ArgMatches) -> bool
+    ensures { result ≡ names_upgrade (subcommand_rows_of matches.now) }
+{
+    match matches.subcommand() {
+        Some((name, _)) => name == "upgrade",
+        None => false,
+    }
+}
+
 /// The value of an option of the subcommand.
 fn value<'a>(matches: &ArgMatches<'a>, option: &str) -> Option<&'a str>
     ensures { option_map (λ s. s.now) result ≡ option_and_then (λ p. first_of option.now p.1) (subcommand_rows_of matches.now) }
@@ -124,6 +153,7 @@ fn value<'a>(matches: &ArgMatches<'a>, option: &str) -> Option<&'a str>
 
 /// What the command makes of the words.
 fn matches_of<'a, S: AsStr>(alloc: Global, words: &'a [S]) -> Result<ArgMatches<'a>, WordFault>
+    ensures taken { IfOk result (λ _. fault_of command_line (map S.text words.entry.now) ≡ []) }
     ensures ok { IfOk result (λ m. subcommand_rows_of m ≡ subcommand_of command_line (map S.text words.entry.now)) }
     ensures fault { IfErr result (IsRefusal (map S.text words.entry.now)) }
 {
@@ -151,13 +181,15 @@ fn command_line<'a>(alloc: Global) -> Result<Command<'a>, AllocError>
     ensures { IfOk result (λ command. app_of command ≡ command_line) }
 {
     let replay = replay_command(alloc)?;
+    let upgrade = upgrade_command(alloc)?;
     Command::new(alloc, "haboob")
         .bin_name("haboob")?
         .no_binary_name(true)
         .subcommand_required(true)
         .about("Answers recorded requests for the files of a site, and reports the load.")
         .after_help(PROGRAM_NOTES)
-        .subcommand(replay)
+        .subcommand(replay)?
+        .subcommand(upgrade)
 }
 
 fn replay_command<'a>(alloc: Global) -> Result<Command<'a>, AllocError>
@@ -188,6 +220,24 @@ fn replay_command<'a>(alloc: Global) -> Result<Command<'a>, AllocError>
         .arg(replies)?
         .arg(settings)?
         .arg(engine)
+}
+
+fn upgrade_command<'a>(alloc: Global) -> Result<Command<'a>, AllocError>
+    ensures app { IfOk result (λ command. app_of command ≡ upgrade_command) }
+    ensures local { IfOk result (λ command. (out-Command command).has_globals ≡ false) }
+{
+    let capture = file_option(alloc, "capture", "The capture to read").required(true);
+    let output = file_option(
+        alloc,
+        "output",
+        "Where the new capture goes; another file that is there is overwritten",
+    )
+    .required(true);
+    Command::new(alloc, "upgrade")
+        .about("Writes a capture of an older version as one of version 2.")
+        .after_help(UPGRADE_NOTES)
+        .arg(capture)?
+        .arg(output)
 }
 
 /// An option whose value is the name of a file.

@@ -3,27 +3,27 @@ use Rattle.std.proofs.Common.{◌≡◌, ℕ, ◌+◌, ◌<◌, List, [], ◌∷
 use Rattle.std.specs.List.{flat_map}
 use Rattle.std.proofs.lemmas.List.{append_assoc, append-nil, flat_map_more, take_more}
 use lib.ListN.{get_or}
-use Rattle.admission.specs.declared.control.Control.{Control}
-use Rattle.report.specs.Reports.{status_line, control_line, control_lines_from}
+use Rattle.report.specs.Reports.{status_line, numbered_from}
 
-pub control_lines-none : (k : ℕ) (start : List ℕ) → start ≡ start ++ control_lines_from k []
-unfolding control_lines_from
-control_lines-none k start = sym (append-nil start)
+pub numbered-none : {X : Type 0} (k : ℕ) (lines_of : ℕ → X → List ℕ) (start : List ℕ) → start ≡ start ++ numbered_from k lines_of []
+unfolding numbered_from
+numbered-none k lines_of start = sym (append-nil start)
 
-control_lines-push : (k n : ℕ) (cs : List Control) (c : Control) → n ≡ k + length cs → control_lines_from k (cs ++ c ∷ []) ≡ control_lines_from k cs ++ control_line n c
-unfolding control_lines_from
-control_lines-push k n [] c h =
+numbered-push : {X : Type 0} (k n : ℕ) (lines_of : ℕ → X → List ℕ) (xs : List X) (x : X) → n ≡ k + length xs → numbered_from k lines_of (xs ++ x ∷ []) ≡ numbered_from k lines_of xs ++ lines_of n x
+unfolding numbered_from
+numbered-push k n lines_of [] x h =
     let e : n ≡ k = omega (arith, h) in
-    rw e (append-nil (control_line k c))
-control_lines-push k n (b ∷ cs) c h =
-    let e : n ≡ k + 1 + length cs = omega (arith, h) in
-    rw (control_lines-push (k + 1) n cs c e) (sym (append_assoc (control_line k b) (control_lines_from (k + 1) cs) (control_line n c)))
+    rw e (append-nil (lines_of k x))
+numbered-push k n lines_of (y ∷ ys) x h =
+    let e : n ≡ k + 1 + length ys = omega (arith, h) in
+    rw (numbered-push (k + 1) n lines_of ys x e) (sym (append_assoc (lines_of k y) (numbered_from (k + 1) lines_of ys) (lines_of n x)))
 
-pub control_lines-more : (start s s' : List ℕ) (cs : List Control) (i : ℕ) (d : Control) → i < length cs → s ≡ start ++ control_lines_from 1 (take i cs) → s' ≡ s ++ control_line (i + 1) (get_or cs i d) → s' ≡ start ++ control_lines_from 1 (take (i + 1) cs)
-control_lines-more start s s' cs i d h before now =
-    let c = get_or cs i d in
-    let e : i + 1 ≡ 1 + length (take i cs) = search (rules, h) in
-    rw (now, before, take_more cs i d h, control_lines-push 1 (i + 1) (take i cs) c e) (append_assoc start (control_lines_from 1 (take i cs)) (control_line (i + 1) c))
+-- one value more of those that are numbered from 1
+pub numbered-more : {X : Type 0} (lines_of : ℕ → X → List ℕ) (start s s' : List ℕ) (xs : List X) (i : ℕ) (d : X) → i < length xs → s ≡ start ++ numbered_from 1 lines_of (take i xs) → s' ≡ s ++ lines_of (i + 1) (get_or xs i d) → s' ≡ start ++ numbered_from 1 lines_of (take (i + 1) xs)
+numbered-more lines_of start s s' xs i d h before now =
+    let x = get_or xs i d in
+    let e : i + 1 ≡ 1 + length (take i xs) = search (rules, h) in
+    rw (now, before, take_more xs i d h, numbered-push 1 (i + 1) lines_of (take i xs) x e) (append_assoc start (numbered_from 1 lines_of (take i xs)) (lines_of (i + 1) x))
 
 -- the line of a status and its count
 abbrev pub line_of : ℕ × ℕ → List ℕ

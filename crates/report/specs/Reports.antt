@@ -1,9 +1,10 @@
 -- The text of a report (docs/FORMATS.md, "Report").
-use Rattle.std.specs.Prelude.{ℕ, ◌+◌, ◌-◌, ◌*◌, ◌/◌, List, [], ◌∷◌, ◌++◌, length, Option, Some, None, codes, decimal, flat_map, slice_get}
+use Rattle.std.specs.Prelude.{ℕ, ◌+◌, ◌-◌, ◌*◌, ◌/◌, List, [], ◌∷◌, ◌++◌, length, Option, Some, None, codes, decimal, flat_map, slice_get, Bool, nat_lt, if◌then◌else◌}
 use Rattle.admission.specs.Percentile.{sorted}
 use Rattle.admission.specs.declared.control.Control.{Control}
 use Rattle.replay.specs.declared.outcome.Outcome.{Outcome}
 use Rattle.replay.specs.declared.summary.Counts.{Counts}
+use Rattle.replay.specs.declared.summary.Tally.{Tally}
 
 -- a line of a name and a number
 abbrev pub line : List ℕ → ℕ → List ℕ
@@ -70,14 +71,37 @@ control_line k control =
     ++ codes " " ++ decimal control.rate
     ++ codes "\n"
 
--- the lines of controls, of which the first has the number k
-unfoldable pub control_lines_from : ℕ → List Control → List ℕ
-control_lines_from k [] = []
-control_lines_from k (control ∷ controls) = control_line k control ++ control_lines_from (k + 1) controls
+-- the lines of values that are numbered from k
+unfoldable pub numbered_from : {X : Type 0} → ℕ → (ℕ → X → List ℕ) → List X → List ℕ
+numbered_from k lines_of [] = []
+numbered_from k lines_of (x ∷ xs) = lines_of k x ++ numbered_from (k + 1) lines_of xs
 
--- how many controls there are, and a line for each: they are numbered from 1
+-- a line for each control of a tier: they are numbered from 1
 abbrev pub control_lines : List Control → List ℕ
-control_lines controls = line (codes "controls") (length controls) ++ control_lines_from 1 controls
+control_lines controls = numbered_from 1 control_line controls
+
+-- a tier's number, how many of its requests were admitted and rejected, and how many controls it has
+abbrev pub tier_line : ℕ → Tally → List ℕ
+tier_line tier tally =
+    codes "tier " ++ decimal tier
+    ++ codes " " ++ decimal tally.admitted
+    ++ codes " " ++ decimal tally.rejected
+    ++ codes " " ++ decimal (length tally.controls)
+    ++ codes "\n"
+
+-- a request of the tier was offered: it was admitted or rejected
+abbrev pub was_offered : Tally → Bool
+was_offered tally = nat_lt 0 (tally.admitted + tally.rejected)
+
+-- the lines of a tier above 0: none where no request of it was offered
+abbrev pub tier_lines : ℕ → Tally → List ℕ
+tier_lines tier tally = if was_offered tally then tier_line tier tally ++ control_lines tally.controls else []
+
+-- how many controls tier 0 has, and their lines; and then those of the tiers above it
+abbrev pub all_tier_lines : List Tally → List ℕ
+all_tier_lines [] = []
+all_tier_lines (zero ∷ above) =
+    line (codes "controls") (length zero.controls) ++ control_lines zero.controls ++ numbered_from 1 tier_lines above
 
 -- a line for each request that was turned away
 abbrev pub reject_lines : List ℕ → List ℕ
@@ -90,6 +114,6 @@ report_text outcome =
     ++ total_lines outcome
     ++ status_lines outcome.summary.counts
     ++ percentile_lines outcome.summary.samples
-    ++ control_lines outcome.summary.controls
+    ++ all_tier_lines outcome.summary.tiers
     ++ reject_lines outcome.rejected
     ++ codes "end\n"

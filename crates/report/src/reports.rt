@@ -1,10 +1,10 @@
 ghost use Rattle.std.specs.Prelude.{◌≡◌, ◌++◌, ◌≤◌, ◌+◌, OnOk, IfOk};
 ghost use Rattle.std.specs.String.{string_bytes};
-ghost use Rattle.report.specs.Reports.{total_lines, status_line, status_lines, percentile_line, percentile_lines, control_line, control_lines, reject_lines, report_text};
+ghost use Rattle.report.specs.Reports.{total_lines, status_line, status_lines, percentile_line, percentile_lines, control_line, control_lines, tier_line, tier_lines, numbered_from, all_tier_lines, reject_lines, report_text};
 
 use crate::percentiles::{percentile, sorted};
 use admission::Control;
-use replay::{Counts, Outcome};
+use replay::{Counts, Outcome, Tally};
 use std::alloc::{AllocError, Global};
 
 /// How many messages there were: 64 bits may not hold the sum.
@@ -88,15 +88,58 @@ fn write_control(text: &mut String, number: usize, control: Control) -> Result<(
     )
 }
 
-/// Writes how many controls there are, and each of them, numbered from 1.
+/// Writes the lines of a tier's controls, numbered from 1.
 fn write_controls(text: &mut String, controls: &[Control]) -> Result<(), AllocError>
     ensures { OnOk result (string_bytes text.new ≡ string_bytes text.old ++ control_lines controls.now) }
 {
-    writeln!(text, "controls {}", controls.len())?;
     for (index, control) in controls.iter().enumerate() {
         write_control(text, index + 1, *control)?;
     }
     Ok(())
+}
+
+/// Writes the lines of a tier above 0, if a request of it was offered.
+fn write_tier(text: &mut String, tier: usize, tally: &Tally) -> Result<(), AllocError>
+    ensures { OnOk result (string_bytes text.new ≡ string_bytes text.old ++ tier_lines tier tally.now) }
+{
+    if tally.admitted == 0 && tally.rejected == 0 {
+        return Ok(());
+    }
+    write_tier_line(text, tier, tally)?;
+    write_controls(text, tally.controls.as_slice())
+}
+
+/// Writes what became of a tier's requests.
+fn write_tier_line(text: &mut String, tier: usize, tally: &Tally) -> Result<(), AllocError>
+    ensures { OnOk result (string_bytes text.new ≡ string_bytes text.old ++ tier_line tier tally.now) }
+{
+    let controls = tally.controls.as_slice().len();
+    writeln!(
+        text,
+        "tier {tier} {} {} {controls}",
+        tally.admitted, tally.rejected
+    )
+}
+
+/// Writes the lines of tiers, of which the first is tier 1.
+fn write_tiers_above(text: &mut String, tallies: &[Tally]) -> Result<(), AllocError>
+    ensures { OnOk result (string_bytes text.new ≡ string_bytes text.old ++ numbered_from 1 tier_lines tallies.now) }
+{
+    for (index, tally) in tallies.iter().enumerate() {
+        write_tier(text, index + 1, tally)?;
+    }
+    Ok(())
+}
+
+/// Writes the controls of tier 0, and what became of the requests of the tiers above it.
+fn write_tiers(text: &mut String, tiers: &[Tally; 4]) -> Result<(), AllocError>
+    ensures { OnOk result (string_bytes text.new ≡ string_bytes text.old ++ all_tier_lines tiers.now) }
+{
+    let tiers = tiers.as_slice();
+    let controls = tiers[0].controls.as_slice();
+    writeln!(text, "controls {}", controls.len())?;
+    write_controls(text, controls)?;
+    write_tiers_above(text, &tiers[1..])
 }
 
 /// Writes the numbers of the requests that were turned away.
@@ -110,7 +153,8 @@ fn write_rejects(text: &mut String, rejected: &[usize]) -> Result<(), AllocError
 }
 
 /// The report of a replay: how many messages there were and what became of them, how many were answered with each
-/// status, the percentiles of the admitted requests' times (in ticks of one microsecond), the changes of the rate, and
+/// status, the percentiles of the admitted requests' times (in ticks of one microsecond), the changes of tier 0's rate,
+/// for each tier above it with a request that was offered what became of its requests and the changes of its rate, and
 /// the numbers of the rejected requests. docs/FORMATS.md has its format.
 ///
 /// # Errors
@@ -124,7 +168,7 @@ pub fn report(alloc: Global, outcome: &Outcome) -> Result<String, AllocError>
     write_totals(&mut text, outcome)?;
     write_statuses(&mut text, outcome.summary.counts)?;
     write_percentiles(alloc, &mut text, outcome.summary.samples.as_slice())?;
-    write_controls(&mut text, outcome.summary.controls.as_slice())?;
+    write_tiers(&mut text, &outcome.summary.tiers)?;
     write_rejects(&mut text, outcome.rejected.as_slice())?;
     text.push_str("end\n")?;
     Ok(text)

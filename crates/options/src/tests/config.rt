@@ -1,4 +1,7 @@
-use crate::{ConfigFault, ConfigFaultKind, Key, default_settings, read_settings};
+use crate::{
+    ConfigFault, ConfigFaultKind, Key, PolicyKey, PolicyTable, default_settings, read_settings,
+};
+use std::alloc::Global;
 use std::test::Fail;
 
 /// Documents, each with what is wrong with it, or `ok`.
@@ -39,14 +42,151 @@ static DOCUMENTS: [(&str, &str); 22] = [
     ),
 ];
 
+/// What is wrong with a document, or `ok`.
+fn told(alloc: Global, text: &str) -> Result<String, Fail> {
+    match read_settings(alloc, text.as_bytes()) {
+        Ok(_) => Ok(String::from_str(alloc, "ok")?),
+        Err(fault) => Ok(format!(in alloc; "{fault}")?),
+    }
+}
+
 #[test]
 fn settings_and_words(rt: HostRuntime) -> Result<(), Fail> {
     for (text, line) in DOCUMENTS.iter() {
-        match read_settings(rt.alloc(), text.as_bytes()) {
-            Ok(_) => assert_eq!(rt; *line, "ok"),
-            Err(fault) => {
-                let shown = format!(in rt.alloc(); "{fault}")?;
-                assert_eq!(rt; shown.as_str(), *line);
+        let shown = told(rt.alloc(), text)?;
+        assert_eq!(rt; shown.as_str(), *line);
+    }
+    Ok(())
+}
+
+/// Documents with tables of tiers, each with what is wrong with it, or `ok`.
+static TIERS: [(&str, &str); 17] = [
+    (TIGHT_TIERS, "ok"),
+    ("[tier1]\n[tier2]\n[tier3]\n", "ok"),
+    ("[tier0]\n", "Unknown"),
+    ("[tier4]\n", "Unknown"),
+    ("[tier2]\nbatch = 1\n", "Unknown"),
+    ("[tier1.depth]\nx = 1\n", "Unknown"),
+    ("tier3 = 1\n", "Shape tier3"),
+    ("[tier1]\nlow = \"9\"\n", "Shape tier1.low"),
+    (
+        "[tier1]\nwindow = 0\n[page]\nretry_after = 86401\n",
+        "Range page.retry_after",
+    ),
+    (
+        "[tier2]\nwindow = 0\n[tier1]\ndepth = 0\n[tier3]\nwindow = 0\n",
+        "Range tier1.depth",
+    ),
+    (
+        "[tier3]\nlow = 101\n[floor]\nfront_cuts = [3]\n",
+        "Range tier3.low",
+    ),
+    (
+        "[tier3]\nrate = 1\n[floor]\nback_cuts = [2]\n",
+        "Range floor.back",
+    ),
+    (
+        "[tier1]\nrate = 1\n[policy]\nrate = 49999\n",
+        "Range policy.rate",
+    ),
+    (
+        "[tier3]\nrate = 1\n[tier2]\nrate_min = 1000001\n",
+        "Range tier2.rate",
+    ),
+    ("[tier3]\nrate_max = 999999\n", "Range tier3.rate"),
+    (
+        "[policy]\nrate = 7\nrate_min = 7\n[tier1]\nrate_min = 8\n",
+        "Range tier1.rate",
+    ),
+    (
+        "[policy]\nrate = 7\nrate_min = 7\n[tier1]\nrate_min = 6\n",
+        "ok",
+    ),
+];
+
+/// A tight bucket in all tiers, and in tier 1 with room for one more.
+const TIGHT_TIERS: &str = "[policy]
+depth = 1
+rate = 1000
+rate_min = 1000
+rate_max = 1000
+[tier1]
+depth = 2
+";
+
+#[test]
+fn tiers(rt: HostRuntime) -> Result<(), Fail> {
+    for (text, line) in TIERS.iter() {
+        let shown = told(rt.alloc(), text)?;
+        assert_eq!(rt; shown.as_str(), *line);
+    }
+    Ok(())
+}
+
+static TABLES: [&str; 4] = ["policy", "tier1", "tier2", "tier3"];
+
+/// The least number of each key of a policy.
+static LEAST: &str = "window = 1
+every = 1
+smoothing = 0
+rate = 1
+rate_min = 1
+rate_max = 1
+up = 0
+down = 101
+target = 1
+low = 0
+depth = 1
+";
+
+/// The greatest.
+static MOST: &str = "window = 4096
+every = 4096
+smoothing = 999
+rate = 1000000000
+rate_min = 1000000000
+rate_max = 1000000000
+up = 1000000000
+down = 10000
+target = 1000000000000
+low = 100
+depth = 1000000
+";
+
+#[test]
+fn limits_of_a_policy(rt: HostRuntime) -> Result<(), Fail> {
+    for table in TABLES.iter() {
+        for numbers in [LEAST, MOST] {
+            let text = format!(in rt.alloc(); "[{table}]\n{numbers}")?;
+            assert_eq!(rt; told(rt.alloc(), text.as_str())?.as_str(), "ok");
+        }
+    }
+    Ok(())
+}
+
+/// Numbers beside their limits.
+static BEYOND: [(&str, i64, i64); 11] = [
+    ("window", 0, 4097),
+    ("every", 0, 4097),
+    ("smoothing", -1, 1000),
+    ("rate", 0, 1_000_000_001),
+    ("rate_min", 0, 1_000_000_001),
+    ("rate_max", 0, 1_000_000_001),
+    ("up", -1, 1_000_000_001),
+    ("down", 100, 10_001),
+    ("target", 0, 1_000_000_000_001),
+    ("low", -1, 101),
+    ("depth", 0, 1_000_001),
+];
+
+#[test]
+fn beyond_the_limits_of_a_policy(rt: HostRuntime) -> Result<(), Fail> {
+    for table in TABLES.iter() {
+        for (key, below, above) in BEYOND.iter() {
+            for number in [*below, *above] {
+                let text = format!(in rt.alloc(); "[{table}]\n{key} = {number}\n")?;
+                let line = format!(in rt.alloc(); "Range {table}.{key}")?;
+                assert_eq!(rt; told(rt.alloc(), text.as_str())?.as_str(), line.as_str());
             }
         }
     }
@@ -117,23 +257,34 @@ fn no_utf8(rt: HostRuntime) {
 
 #[test]
 fn keys_shown(rt: HostRuntime) -> Result<(), Fail> {
-    let shown = format!(in rt.alloc(); "{}, {}, {}", Key::Policy, Key::RetryAfter, Key::Front)?;
-    assert_eq!(rt; shown.as_str(), "policy, page.retry_after, floor.front");
+    let policy = Key::Policy(PolicyTable::Policy);
+    let rate_max = Key::InPolicy(PolicyTable::Tier3, PolicyKey::RateMax);
+    let shown = format!(in rt.alloc();
+        "{policy}, {rate_max}, {}, {}",
+        Key::RetryAfter,
+        Key::Front
+    )?;
+    assert_eq!(rt;
+        shown.as_str(),
+        "policy, tier3.rate_max, page.retry_after, floor.front"
+    );
     Ok(())
 }
 
-/// `rt try --test --fail-alloc 1..` refuses each growth in turn: the answer is `Memory` then.
+/// `rt try --test --fail-alloc N`, for N = 1, 2 and so on, refuses each growth in turn: the answer is `Memory` then.
 #[test]
 fn each_growth_refused(rt: HostRuntime) {
-    match read_settings(rt.alloc(), ALL.as_bytes()) {
-        Ok(_) => {}
-        Err(fault) => assert_eq!(rt;
-            fault,
-            ConfigFault {
-                kind: ConfigFaultKind::Memory,
-                key: None
-            }
-        ),
+    for text in [ALL, TIGHT_TIERS] {
+        match read_settings(rt.alloc(), text.as_bytes()) {
+            Ok(_) => {}
+            Err(fault) => assert_eq!(rt;
+                fault,
+                ConfigFault {
+                    kind: ConfigFaultKind::Memory,
+                    key: None
+                }
+            ),
+        }
     }
     let _ = default_settings(rt.alloc());
 }

@@ -38,9 +38,19 @@ static FAST: [&str; 8] = [
 
 static SHORT: [&str; 5] = ["replay", "--snapshot", "s", "--capture", "c"];
 
+static UPGRADE: [&str; 4] = ["upgrade", "--output", "n", "--capture=c"];
+
+static NO_OUTPUT: [&str; 3] = ["upgrade", "--capture", "c"];
+
+static NO_CAPTURE: [&str; 3] = ["upgrade", "--output", "n"];
+
+static REPLIES_OF_AN_UPGRADE: [&str; 3] = ["upgrade", "--replies", "o"];
+
 static HELP: [&str; 1] = ["--help"];
 
 static REPLAY_HELP: [&str; 2] = ["replay", "--help"];
+
+static UPGRADE_HELP: [&str; 2] = ["upgrade", "--help"];
 
 #[test]
 fn no_words(rt: HostRuntime) {
@@ -84,6 +94,14 @@ fn replays(rt: HostRuntime) {
 }
 
 #[test]
+fn upgrades(rt: HostRuntime) {
+    match read_words(rt.alloc(), UPGRADE.as_slice()) {
+        Ok(Job::Upgrade { capture, output }) => assert!(rt; capture == "c" && output == "n"),
+        _ => assert!(rt; false, "the words of an upgrade"),
+    }
+}
+
+#[test]
 fn another_engine(rt: HostRuntime) {
     assert!(rt;
         matches!(
@@ -98,8 +116,9 @@ static HELP_TEXT: &str = "Answers recorded requests for the files of a site, and
 Usage: haboob <COMMAND>
 
 Commands:
-  replay  Answers a capture's requests, and writes a report to standard output.
-  help    Print this message or the help of the given subcommand(s)
+  replay   Answers a capture's requests, and writes a report to standard output.
+  upgrade  Writes a capture of an older version as one of version 2.
+  help     Print this message or the help of the given subcommand(s)
 
 Options:
   -h, --help  Print help
@@ -107,8 +126,9 @@ Options:
 Without a command, a snapshot directly followed by a capture is read from standard
 input, and the replies are written to standard output, with default settings.
 
-Example:
+Examples:
   haboob replay --snapshot site.snapshot --capture day.capture --replies day.replies
+  haboob upgrade --capture old.capture --output new.capture
 ";
 
 static REPLAY_HELP_TEXT: &str =
@@ -129,6 +149,45 @@ Example:
     --settings tight.toml
 ";
 
+static UPGRADE_HELP_TEXT: &str = "Writes a capture of an older version as one of version 2.
+
+Usage: haboob upgrade --capture <FILE> --output <FILE>
+
+Options:
+      --capture <FILE>  The capture to read
+      --output <FILE>   Where the new capture goes; another file that is there is overwritten
+  -h, --help            Print help
+
+A capture of version 1 is written as one of version 2, with the same start and the same
+records. A capture of version 2 is written as it is.
+
+Example:
+  haboob upgrade --capture old.capture --output new.capture
+";
+
+static NO_OUTPUT_TEXT: &str = "error: the following required arguments were not provided:
+  --output <FILE>
+
+Usage: haboob upgrade --capture <FILE> --output <FILE>
+
+For more information, try '--help'.
+";
+
+static NO_CAPTURE_TEXT: &str = "error: the following required arguments were not provided:
+  --capture <FILE>
+
+Usage: haboob upgrade --capture <FILE> --output <FILE>
+
+For more information, try '--help'.
+";
+
+static UNEXPECTED_TEXT: &str = "error: unexpected argument '--replies' found
+
+Usage: haboob upgrade --capture <FILE> --output <FILE>
+
+For more information, try '--help'.
+";
+
 static SHORT_TEXT: &str = "error: the following required arguments were not provided:
   --replies <FILE>
 
@@ -143,7 +202,11 @@ fn texts(rt: HostRuntime) -> Result<(), Fail> {
     let cases = [
         (HELP.as_slice(), HELP_TEXT),
         (REPLAY_HELP.as_slice(), REPLAY_HELP_TEXT),
+        (UPGRADE_HELP.as_slice(), UPGRADE_HELP_TEXT),
         (SHORT.as_slice(), SHORT_TEXT),
+        (NO_OUTPUT.as_slice(), NO_OUTPUT_TEXT),
+        (NO_CAPTURE.as_slice(), NO_CAPTURE_TEXT),
+        (REPLIES_OF_AN_UPGRADE.as_slice(), UNEXPECTED_TEXT),
     ];
     for (words, text) in cases {
         let Err(WordFault::Words(told)) = read_words(rt.alloc(), words) else {
@@ -154,11 +217,13 @@ fn texts(rt: HostRuntime) -> Result<(), Fail> {
     Ok(())
 }
 
-/// `rt try --test --fail-alloc 1..` refuses each growth in turn: the answer is `Memory` then.
+/// `rt try --test --fail-alloc N`, for N = 1, 2 and so on, refuses each growth in turn: the answer is `Memory` then.
 #[test]
 fn each_growth_refused(rt: HostRuntime) {
     let answer = read_words(rt.alloc(), WHOLE.as_slice());
     assert!(rt; matches!(answer, Ok(Job::Replay { .. }) | Err(WordFault::Memory)));
+    let upgrade = read_words(rt.alloc(), UPGRADE.as_slice());
+    assert!(rt; matches!(upgrade, Ok(Job::Upgrade { .. }) | Err(WordFault::Memory)));
     let refused = read_words(rt.alloc(), SHORT.as_slice());
     assert!(rt; matches!(refused, Err(WordFault::Words(_)) | Err(WordFault::Memory)));
 }

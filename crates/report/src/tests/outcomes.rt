@@ -1,6 +1,6 @@
 //! Outcomes that are put together from their parts.
 use admission::Control;
-use replay::{Counts, Outcome, Series, Summary};
+use replay::{Counts, Outcome, Series, Summary, Tally};
 use std::alloc::{AllocError, Global};
 
 /// No message was answered.
@@ -16,13 +16,41 @@ pub static NONE: Counts = Counts {
     service_unavailable: 0,
 };
 
+/// What became of a tier's requests.
+pub fn tally(
+    alloc: Global,
+    admitted: u64,
+    rejected: u64,
+    controls: &[Control],
+) -> Result<Tally, AllocError> {
+    Ok(Tally {
+        admitted,
+        rejected,
+        controls: Series::from_vec(Vec::from_slice(alloc, controls)?),
+    })
+}
+
+/// Tiers of which the first alone has this one, and no request was offered in the others.
+pub fn tier_0(alloc: Global, tally: Tally) -> [Tally; 4] {
+    [tally, idle(alloc), idle(alloc), idle(alloc)]
+}
+
+/// A tier in which no request was offered.
+pub fn idle(alloc: Global) -> Tally {
+    Tally {
+        admitted: 0,
+        rejected: 0,
+        controls: Series::new(alloc),
+    }
+}
+
 /// The outcome of these parts.
 pub fn outcome(
     alloc: Global,
     counts: Counts,
     bypassed: u64,
     samples: &[u64],
-    controls: &[Control],
+    tiers: [Tally; 4],
     rejected: &[usize],
 ) -> Result<Outcome, AllocError> {
     Ok(Outcome {
@@ -31,7 +59,7 @@ pub fn outcome(
             counts,
             bypassed,
             samples: Series::from_vec(Vec::from_slice(alloc, samples)?),
-            controls: Series::from_vec(Vec::from_slice(alloc, controls)?),
+            tiers,
         },
     })
 }
@@ -43,9 +71,111 @@ pub fn tight_bucket(alloc: Global) -> Result<Outcome, AllocError> {
         service_unavailable: 2,
         ..NONE
     };
-    outcome(alloc, counts, 0, &[201, 201], &[], &[1, 2])
+    let tiers = tier_0(alloc, tally(alloc, 2, 2, &[])?);
+    outcome(alloc, counts, 0, &[201, 201], tiers, &[1, 2])
 }
 
 /// The report of `tight_bucket`.
 pub static TIGHT_BUCKET: &str =
     "haboob-report 1\nmessages 4\nbypassed 0\nadmitted 2\nrejected 2\nstatus 200 2\nstatus 301 0\nstatus 304 0\nstatus 400 0\nstatus 404 0\nstatus 405 0\nstatus 413 0\nstatus 501 0\nstatus 503 2\np50 201\np90 201\np99 201\ncontrols 0\nreject 1\nreject 2\nend\n";
+
+/// Five requests at one tick, each with a service of 201 ticks: those of tier 0 find one token, those of tier 1 two.
+pub fn two_buckets(alloc: Global) -> Result<Outcome, AllocError> {
+    let counts = Counts {
+        ok: 3,
+        service_unavailable: 2,
+        ..NONE
+    };
+    let tiers = [
+        tally(alloc, 1, 1, &[])?,
+        tally(alloc, 2, 1, &[])?,
+        idle(alloc),
+        idle(alloc),
+    ];
+    outcome(alloc, counts, 0, &[201, 402, 603], tiers, &[2, 4])
+}
+
+/// The report of `two_buckets`.
+pub static TWO_BUCKETS: &str = "haboob-report 1
+messages 5
+bypassed 0
+admitted 3
+rejected 2
+status 200 3
+status 301 0
+status 304 0
+status 400 0
+status 404 0
+status 405 0
+status 413 0
+status 501 0
+status 503 2
+p50 402
+p90 603
+p99 603
+controls 0
+tier 1 2 1 0
+reject 2
+reject 4
+end
+";
+
+pub static FIRST: Control = Control {
+    instant: 5000,
+    percentile: 5000,
+    smoothed: 1500,
+    rate: 833,
+};
+
+pub static SECOND: Control = Control {
+    instant: 5100,
+    percentile: 100,
+    smoothed: 1080,
+    rate: 694,
+};
+
+/// In tier 1 every request was rejected, in tier 3 none, and in tiers 0 and 2 none was offered.
+pub fn each_tier(alloc: Global) -> Result<Outcome, AllocError> {
+    let tiers = [
+        tally(alloc, 0, 0, &[SECOND])?,
+        tally(alloc, 0, 2, &[FIRST, SECOND])?,
+        tally(alloc, 0, 0, &[FIRST])?,
+        tally(alloc, 1, 0, &[FIRST])?,
+    ];
+    let counts = Counts {
+        moved_permanently: 1,
+        service_unavailable: 2,
+        ..NONE
+    };
+    outcome(alloc, counts, 0, &[50], tiers, &[0, 2])
+}
+
+/// The report of `each_tier`. Each tier's controls are numbered from 1.
+pub static EACH_TIER: &str = "haboob-report 1
+messages 3
+bypassed 0
+admitted 1
+rejected 2
+status 200 0
+status 301 1
+status 304 0
+status 400 0
+status 404 0
+status 405 0
+status 413 0
+status 501 0
+status 503 2
+p50 50
+p90 50
+p99 50
+controls 1
+control 1 5100 100 1080 694
+tier 1 0 2 2
+control 1 5000 5000 1500 833
+control 2 5100 100 1080 694
+tier 3 1 0 1
+control 1 5000 5000 1500 833
+reject 0
+reject 2
+end
+";

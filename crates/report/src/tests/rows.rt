@@ -1,7 +1,9 @@
 //! Reports byte for byte.
-use super::outcomes::{NONE, TIGHT_BUCKET, outcome, tight_bucket};
+use super::outcomes::{
+    EACH_TIER, FIRST, NONE, SECOND, TIGHT_BUCKET, TWO_BUCKETS, each_tier, idle, outcome, tally,
+    tier_0, tight_bucket, two_buckets,
+};
 use crate::report;
-use admission::Control;
 use replay::Counts;
 
 #[test]
@@ -13,7 +15,8 @@ fn of_a_tight_bucket(rt: HostRuntime) {
 
 #[test]
 fn of_no_message(rt: HostRuntime) {
-    let outcome = outcome(rt.alloc(), NONE, 0, &[], &[], &[]).expect(&rt, "memory");
+    let tiers = tier_0(rt.alloc(), idle(rt.alloc()));
+    let outcome = outcome(rt.alloc(), NONE, 0, &[], tiers, &[]).expect(&rt, "memory");
     let text = report(rt.alloc(), &outcome).expect(&rt, "memory");
     assert_eq!(rt;
         text.as_str(),
@@ -35,24 +38,13 @@ fn of_each_status(rt: HostRuntime) {
         not_implemented: 8,
         service_unavailable: 9,
     };
-    let first = Control {
-        instant: 5000,
-        percentile: 5000,
-        smoothed: 1500,
-        rate: 833,
-    };
-    let second = Control {
-        instant: 5100,
-        percentile: 100,
-        smoothed: 1080,
-        rate: 694,
-    };
+    let tally = tally(rt.alloc(), 3, 2, &[FIRST, SECOND]).expect(&rt, "memory");
     let outcome = outcome(
         rt.alloc(),
         counts,
         40,
         &[7, 9, 8],
-        &[first, second],
+        tier_0(rt.alloc(), tally),
         &[3, 44],
     )
     .expect(&rt, "memory");
@@ -61,6 +53,20 @@ fn of_each_status(rt: HostRuntime) {
         text.as_str(),
         "haboob-report 1\nmessages 45\nbypassed 40\nadmitted 3\nrejected 2\nstatus 200 1\nstatus 301 2\nstatus 304 3\nstatus 400 4\nstatus 404 5\nstatus 405 6\nstatus 413 7\nstatus 501 8\nstatus 503 9\np50 8\np90 9\np99 9\ncontrols 2\ncontrol 1 5000 5000 1500 833\ncontrol 2 5100 100 1080 694\nreject 3\nreject 44\nend\n"
     );
+}
+
+#[test]
+fn of_two_buckets(rt: HostRuntime) {
+    let outcome = two_buckets(rt.alloc()).expect(&rt, "memory");
+    let text = report(rt.alloc(), &outcome).expect(&rt, "memory");
+    assert_eq!(rt; text.as_str(), TWO_BUCKETS);
+}
+
+#[test]
+fn of_each_tier(rt: HostRuntime) {
+    let outcome = each_tier(rt.alloc()).expect(&rt, "memory");
+    let text = report(rt.alloc(), &outcome).expect(&rt, "memory");
+    assert_eq!(rt; text.as_str(), EACH_TIER);
 }
 
 /// Of ten samples the ranks are 5, 9 and 10, of eleven 6, 10 and 11.
@@ -72,7 +78,8 @@ fn ranks(rt: HostRuntime) {
         (ten, "\np50 50\np90 90\np99 100\ncontrols"),
         (eleven, "\np50 60\np90 100\np99 110\ncontrols"),
     ] {
-        let outcome = outcome(rt.alloc(), NONE, 0, samples, &[], &[]).expect(&rt, "memory");
+        let tiers = tier_0(rt.alloc(), idle(rt.alloc()));
+        let outcome = outcome(rt.alloc(), NONE, 0, samples, tiers, &[]).expect(&rt, "memory");
         let text = report(rt.alloc(), &outcome).expect(&rt, "memory");
         assert!(rt;
             text.as_str().contains(want),
