@@ -1,15 +1,14 @@
 -- From what the parts of a run say to what the run says.
-use Rattle.std.proofs.Common.{◌≡◌, ℕ, List, [], Option, true, is_some, unwrap_or}
+use Rattle.std.proofs.Common.{◌≡◌, ℕ, List, [], Option, Some, None, true, false, refl, subst, is_some, unwrap_or}
 use Rattle.paths.specs.declared.file.File.{File}
 use Rattle.paths.specs.Snapshots.{IsSnapshot}
 use Rattle.paths.specs.SnapshotFaults.{ReadsFront}
-use Rattle.captures.specs.declared.capture_fault.CaptureFault.{CaptureFault}
 use Rattle.replay.specs.declared.replay_fault.ReplayFault.{ReplayFault}
-use Rattle.replay.specs.declared.replay_fault.ReplayFault.TheVariants.{Capture, TooMany, Write, Memory}
-use Rattle.replay.specs.Choices.{Choice, Terms, terms_of}
-use Rattle.replay.specs.Outcomes.{IfCapture, IfTooMany, IfCutShort, Stops, StopsFull, IsCutShort}
+use Rattle.replay.specs.declared.outcome.Outcome.{Outcome}
+use Rattle.replay.specs.Choices.{Choice, terms_of}
+use Rattle.replay.specs.Outcomes.{Answers, IfCapture, IfTooMany, IfCutShort, Stops, StopsFull, IsCutShort}
 use Rattle.options.specs.SettingsTable.{default_choice}
-use Rattle.haboob.specs.Bundles.{BehindSnapshot, default_terms, StopsAs}
+use Rattle.haboob.specs.Bundles.{BehindSnapshot, WritesAnswer, default_terms, StopsAs}
 
 -- a snapshot was read from the front of the input, and P holds of the rest
 pub behind : (old new : Option (List ℕ)) (files : List File) (P : List File → List ℕ → Type 0) → ReadsFront old new files → IsSnapshot files → is_some old ≡ true
@@ -23,39 +22,27 @@ behind old new files P reads rules known holds = record {
   behind = holds (reads.known known);
 }
 
--- what a fault of the replay says where the bytes are known
-capture_known : (f : ReplayFault) (K : Type 0) (P : CaptureFault → Type 0) → IfCapture f (λ x. K → P x) → K → IfCapture f P
-capture_known (Capture x) K P holds known = holds known
-capture_known (TooMany number) K P holds known = tt
-capture_known Write K P holds known = tt
-capture_known Memory K P holds known = tt
+known_some : (o : Option (List ℕ)) → is_some o ≡ true → o ≡ Some (unwrap_or o [])
+known_some None known = absurd (let never : false ≡ true = known in cc)
+known_some (Some bytes) known = refl
 
-many_known : (f : ReplayFault) (K : Type 0) (P : ℕ → Type 0) → IfTooMany f (λ n. K → P n) → K → IfTooMany f P
-many_known (Capture x) K P holds known = tt
-many_known (TooMany number) K P holds known = holds known
-many_known Write K P holds known = tt
-many_known Memory K P holds known = tt
+-- the capture after a snapshot was answered
+pub answers_behind : (files : List File) (choice : Choice) (input rest old new : Option (List ℕ)) (outcome : Outcome) → choice ≡ default_choice
+    → ReadsFront input rest files → IsSnapshot files → Answers (terms_of files choice) rest old new outcome
+    → is_some input ≡ true → BehindSnapshot (unwrap_or input []) (WritesAnswer old new)
+answers_behind files choice input rest old new outcome is reads rules answers known =
+    behind input rest files (WritesAnswer old new) reads rules known
+    (λ there. (outcome, rw is at (subst (λ o. Answers (terms_of files choice) o old new outcome) (known_some rest there) answers)))
 
-part_known : (f : ReplayFault) (K P : Type 0) → IfCutShort f (K → P) → K → IfCutShort f P
-part_known (Capture x) K P holds known = tt
-part_known (TooMany number) K P holds known = tt
-part_known Write K P holds known = holds known
-part_known Memory K P holds known = holds known
-
-pub stops_of : (terms : Terms) (old new : Option (List ℕ)) (input : Option (List ℕ)) (f : ReplayFault)
-    → IfCapture f (λ x. is_some input ≡ true → Stops terms (unwrap_or input []) old new x)
-    → IfTooMany f (λ n. is_some input ≡ true → StopsFull terms (unwrap_or input []) old new n)
-    → IfCutShort f (is_some input ≡ true → IsCutShort terms (unwrap_or input []) old new)
-    → is_some input ≡ true → StopsAs terms (unwrap_or input []) old new f
-stops_of terms old new input f is_stop is_many is_part known = record {
-  stops = capture_known f _ _ is_stop known;
-  many = many_known f _ _ is_many known;
-  part = part_known f _ _ is_part known;
-}
-
-pub stops_known : (files : List File) (choice : Choice) (old new : Option (List ℕ)) (input : Option (List ℕ)) (f : ReplayFault) → choice ≡ default_choice
-    → IfCapture f (λ x. is_some input ≡ true → Stops (terms_of files choice) (unwrap_or input []) old new x)
-    → IfTooMany f (λ n. is_some input ≡ true → StopsFull (terms_of files choice) (unwrap_or input []) old new n)
-    → IfCutShort f (is_some input ≡ true → IsCutShort (terms_of files choice) (unwrap_or input []) old new)
-    → is_some input ≡ true → StopsAs (default_terms files) (unwrap_or input []) old new f
-stops_known files choice old new input f is stops many part known = rw is at (stops_of (terms_of files choice) old new input f stops many part known)
+-- or it came to no end
+pub stops_behind_snapshot : (files : List File) (choice : Choice) (input rest ahead old new : Option (List ℕ)) (f : ReplayFault) → choice ≡ default_choice
+    → ReadsFront input rest files → IsSnapshot files
+    → IfCapture f (Stops (terms_of files choice) rest ahead old new)
+    → IfTooMany f (StopsFull (terms_of files choice) rest old new)
+    → IfCutShort f (IsCutShort (terms_of files choice) rest old new)
+    → is_some input ≡ true → BehindSnapshot (unwrap_or input []) (λ files capture. StopsAs (default_terms files) (Some capture) ahead old new f)
+stops_behind_snapshot files choice input rest ahead old new f is reads rules is_stop is_many is_part known =
+    behind input rest files _ reads rules known
+    (λ there.
+    (let says : StopsAs (terms_of files choice) rest ahead old new f = record { stops = is_stop; many = is_many; part = is_part } in
+    rw is at (subst (λ o. StopsAs (terms_of files choice) o ahead old new f) (known_some rest there) says)))

@@ -1,3 +1,4 @@
 pub mod Bundling
 pub mod Programs
 pub mod Reporting
+pub mod Upgraded

@@ -6,6 +6,8 @@ use Rattle.paths.specs.declared.snapshot_fault.SnapshotFaultKind.TheVariants as 
 use Rattle.captures.specs.declared.capture_fault.CaptureFault.{CaptureFault}
 use Rattle.captures.specs.declared.capture_fault.CaptureFaultKind.{CaptureFaultKind}
 use Rattle.captures.specs.declared.capture_fault.CaptureFaultKind.TheVariants as records
+use Rattle.captures.specs.declared.upgrade_fault.UpgradeFault.{UpgradeFault}
+use Rattle.captures.specs.declared.upgrade_fault.UpgradeFault.TheVariants as upgrades
 use Rattle.replay.specs.declared.replay_fault.ReplayFault.{ReplayFault}
 use Rattle.replay.specs.declared.replay_fault.ReplayFault.TheVariants as replays
 use Rattle.options.specs.declared.words.WordFault.{WordFault}
@@ -38,6 +40,11 @@ told_replay (replays.TooMany number) = TooMany number
 told_replay replays.Write = Write places.Replies
 told_replay replays.Memory = Memory
 
+abbrev pub told_upgrade : UpgradeFault → Told
+told_upgrade (upgrades.Capture f) = told_record f.kind f
+told_upgrade upgrades.Write = Write places.Output
+told_upgrade upgrades.Memory = Memory
+
 abbrev pub told_words : WordFault → Told
 told_words (words.Words text) = Usage
 told_words words.Engine = Engine
@@ -52,6 +59,7 @@ told (faults.Words f) = told_words f
 told (faults.Settings f) = told_settings f.kind f
 told (faults.Snapshot f) = told_entry f.kind f
 told (faults.Replay f) = told_replay f
+told (faults.Upgrade f) = told_upgrade f
 told (faults.Open place) = Open place
 told (faults.Read place) = Read place
 told (faults.Write place) = Write place
@@ -77,6 +85,7 @@ place_name places.Snapshot = codes "snapshot"
 place_name places.Capture = codes "capture"
 place_name places.Replies = codes "replies"
 place_name places.Report = codes "report"
+place_name places.Output = codes "output"
 
 abbrev pub snapshot_kind_name : SnapshotFaultKind → List ℕ
 snapshot_kind_name entries.Cut = codes "Cut"
@@ -101,6 +110,7 @@ capture_kind_name records.Number = codes "Number"
 capture_kind_name records.Tick = codes "Tick"
 capture_kind_name records.Connection = codes "Connection"
 capture_kind_name records.Ended = codes "Ended"
+capture_kind_name records.Tier = codes "Tier"
 capture_kind_name records.Length = codes "Length"
 capture_kind_name records.Count = codes "Count"
 capture_kind_name records.Trailing = codes "Trailing"

@@ -1,3 +1,4 @@
 pub mod FaultLines
 pub mod Bundles
 pub mod Replays
+pub mod Upgrading

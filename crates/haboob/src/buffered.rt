@@ -1,6 +1,7 @@
 ghost use Rattle.std.specs.Prelude.{◌≡◌, ◌⊎◌, Err, OnOk, IfErr};
+ghost use Rattle.replay.specs.Outcomes.{WhereKnown};
 ghost use Rattle.haboob.specs.Bundles.{HoldsCapture};
-ghost use Rattle.haboob.specs.Replays.{OfInputs, IsFilesFault};
+ghost use Rattle.haboob.specs.Replays.{OfInput, IsFilesFault};
 ghost use Rattle.haboob.specs.declared.fault.Fault.TheVariants.{Write as Unwritten};
 ghost use Rattle.haboob.specs.declared.place.Place.TheVariants.{Report};
 
@@ -58,7 +59,7 @@ pub fn run_files<
     out: O,
 ) -> Result<(), Fault>
     // Where the bytes of the inputs are known, they were a snapshot's text and a capture's, or a fault is their first.
-    ensures ok { OnOk result (OfInputs (S.remaining snapshot) (C.remaining capture) HoldsCapture) }
+    ensures ok { OnOk result (OfInput (S.remaining snapshot) (λ files. WhereKnown (C.remaining capture) (HoldsCapture files))) }
     ensures fault { IfErr result (IsFilesFault (S.remaining snapshot) (C.remaining capture)) }
 {
     let Ok(snapshot) = BufReader::with_capacity(alloc, ROOM, snapshot) else {
@@ -83,6 +84,6 @@ pub fn run_files<
         &mut Output::new(&mut replies),
         &mut Output::new(&mut report),
     );
-    let ran = write_rest(replies, ran);
+    let ran = write_rest(replies, Place::Replies, ran);
     write_rest_of_report(report, ran)
 }

@@ -23,7 +23,7 @@ pub fn run_bundle<R: Read, W: Write>(
     requires reading { input.old.1 < 2 ^ 64 - 1 }
     requires writing { output.old.1 < 2 ^ 64 - 1 }
     ensures ok { OnOk result (is_some input.old.0 ≡ true → BehindSnapshot (unwrap_or input.old.0 []) (WritesAnswer output.old.0 output.new.0)) }
-    ensures fault { IfErr result (IsBundleFault input.old.0 output.old output.new) }
+    ensures fault { IfErr result (IsBundleFault input.old.0 input.new.0 output.old output.new) }
     // A device is blamed only where it failed in this call.
     ensures reads { CountsBy reader_failures input.old.1 input.new.1 result }
     ensures writes { CountsBy writer_failures output.old.1 output.new.1 result }

@@ -3,7 +3,7 @@ ghost use Rattle.haboob.specs.FaultLines.{told, told_entry, told_record, status_
 
 use crate::place::Place;
 use crate::told::Told;
-use captures::{CaptureFault, CaptureFaultKind};
+use captures::{CaptureFault, CaptureFaultKind, UpgradeFault};
 use options::{ConfigFault, ConfigFaultKind, WordFault};
 use paths::{SnapshotFault, SnapshotFaultKind};
 use replay::ReplayFault;
@@ -20,6 +20,8 @@ pub enum Fault {
     Snapshot(SnapshotFault),
     /// The replay came to no end.
     Replay(ReplayFault),
+    /// The upgrade came to no end.
+    Upgrade(UpgradeFault),
     /// A file couldn't be opened.
     Open(Place),
     /// A file couldn't be read.
@@ -70,6 +72,16 @@ impl From<ReplayFault> for Fault {
     }
 }
 
+impl From<UpgradeFault> for Fault {
+    ghost use Rattle.haboob.specs.declared.fault.Fault.TheVariants.{Upgrade};
+
+    ghost from_gives = { λ inner fault. fault ≡ Upgrade inner };
+
+    fn from(inner: UpgradeFault) -> Fault {
+        Fault::Upgrade(inner)
+    }
+}
+
 impl From<AllocError> for Fault {
     ghost use Rattle.haboob.specs.declared.fault.Fault.TheVariants.{Memory};
 
@@ -115,14 +127,17 @@ impl Fault {
             }
             Fault::Snapshot(fault) => told_entry(*fault),
             Fault::Replay(ReplayFault::Capture(fault)) => told_record(*fault),
+            Fault::Upgrade(UpgradeFault::Capture(fault)) => told_record(*fault),
             Fault::Replay(ReplayFault::TooMany(number)) => Told::TooMany(*number),
             Fault::Replay(ReplayFault::Write) => Told::Write(Place::Replies),
+            Fault::Upgrade(UpgradeFault::Write) => Told::Write(Place::Output),
             Fault::Open(place) => Told::Open(*place),
             Fault::Read(place) => Told::Read(*place),
             Fault::Write(place) => Told::Write(*place),
             Fault::Words(WordFault::Memory)
             | Fault::Settings(_)
             | Fault::Replay(ReplayFault::Memory)
+            | Fault::Upgrade(UpgradeFault::Memory)
             | Fault::Memory => Told::Memory,
         }
     }

@@ -2,11 +2,13 @@ use crate::buffered::run_files;
 use crate::fault::Fault;
 use crate::place::Place;
 use crate::program::run_program;
+use crate::upgrading::upgrade_files;
 use options::{Job, LONGEST_SETTINGS, WordFault, default_settings, read_settings, read_words};
 use replay::Settings;
 use std::env;
-use std::fs::File;
+use std::fs::{File, Metadata, OpenOptions};
 use std::io::{ErrorKind, Read};
+use std::os::unix::fs::MetadataExt;
 use std::sync::Wait;
 use std::thread::Threads;
 
@@ -44,6 +46,33 @@ fn create(rt: &HostRuntime, name: &str, place: Place) -> Result<File, Fault> {
     }
 }
 
+/// Whether two files are one, whatever their names: the same node of the same device.
+fn are_one(file: &Metadata, other: &Metadata) -> bool {
+    file.dev() == other.dev() && file.ino() == other.ino()
+}
+
+/// What the system says of an open file.
+fn metadata_of(file: &File, place: Place) -> Result<Metadata, Fault> {
+    file.metadata().map_err(|_| Fault::Open(place))
+}
+
+/// A file to be written, which is emptied where it is there. One that is the input itself is refused, and keeps its
+/// bytes. What can't be emptied, as a pipe, is taken as it is.
+fn create_beside(rt: &HostRuntime, name: &str, place: Place, input: &File) -> Result<File, Fault> {
+    let opened = OpenOptions::new().write(true).create(true).open(rt, name);
+    let Ok(file) = opened else {
+        return Err(Fault::Open(place));
+    };
+    let node = metadata_of(&file, place)?;
+    if are_one(&node, &metadata_of(input, place)?) {
+        return Err(Fault::Open(place));
+    }
+    if node.is_file() && file.set_len(0).is_err() {
+        return Err(Fault::Open(place));
+    }
+    Ok(file)
+}
+
 /// The settings of a file, or the default ones without it.
 fn settings_in(rt: &HostRuntime, name: Option<&str>) -> Result<Settings, Fault> {
     let alloc = rt.alloc();
@@ -59,9 +88,10 @@ fn settings_in(rt: &HostRuntime, name: Option<&str>) -> Result<Settings, Fault> 
     }
 }
 
-/// Does what the words behind the program's name ask for: a run from standard input to standard output, or one over files
-/// with its report on standard output. The files are opened in the order settings, snapshot, capture, replies; the settings
-/// are read before the snapshot is opened. `threads` is the runtime once more, for the engine that starts threads.
+/// Does what the words after the program's name ask for: a run from standard input to standard output, one over files
+/// with its report on standard output, or an upgrade of a capture. The files are opened in the order settings,
+/// snapshot, capture, and then replies or output; the settings are read before the snapshot is opened. `threads` is the runtime
+/// once more, for the engine that starts threads.
 ///
 /// Which words there are, and what the files hold, is the system's to say: no contract can. Tests do, and
 /// checks/run_program.py.
@@ -91,6 +121,11 @@ pub fn run_words<T: Threads + Wait + Sync>(rt: &HostRuntime, threads: &T) -> Res
                 replies,
                 rt.stdout(),
             )
+        }
+        Job::Upgrade { capture, output } => {
+            let capture = open(rt, capture, Place::Capture)?;
+            let output = create_beside(rt, output, Place::Output, &capture)?;
+            upgrade_files(alloc, capture, output)
         }
     }
 }

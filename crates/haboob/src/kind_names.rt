@@ -39,6 +39,7 @@ pub fn capture_kind_name(kind: CaptureFaultKind) -> &'static str
         CaptureFaultKind::Tick => "Tick",
         CaptureFaultKind::Connection => "Connection",
         CaptureFaultKind::Ended => "Ended",
+        CaptureFaultKind::Tier => "Tier",
         CaptureFaultKind::Length => "Length",
         CaptureFaultKind::Count => "Count",
         CaptureFaultKind::Trailing => "Trailing",

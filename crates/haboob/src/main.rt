@@ -2,6 +2,7 @@
 //!
 //! Without words it reads from standard input a snapshot directly followed by a capture, and writes the replies to
 //! standard output. `haboob replay` reads them from files, writes the replies to a file, and a report to standard output.
+//! `haboob upgrade` writes a capture of an older version as one of version 2.
 //! A fault is told by one line on standard error, and by the status that the program ends with.
 #![tactic(auto)]
 
@@ -17,6 +18,7 @@ mod replaying;
 #[cfg(test)]
 mod tests;
 mod told;
+mod upgrading;
 
 use files::run_words;
 use paths::Output;

@@ -9,6 +9,7 @@ pub enum Place {
     Capture,
     Replies,
     Report,
+    Output,
 }
 
 impl Place {
@@ -23,6 +24,7 @@ impl Place {
             Place::Capture => "capture",
             Place::Replies => "replies",
             Place::Report => "report",
+            Place::Output => "output",
         }
     }
 }

@@ -1,11 +1,11 @@
 ghost use Rattle.std.specs.Prelude.{◌≡◌, ◌⊎◌, [], true, is_some, unwrap_or, Ok, Err, OnOk, IfErr};
 ghost use Rattle.haboob.specs.Bundles.{BehindSnapshot, HoldsCapture, IsProgramFault};
 ghost use Rattle.haboob.specs.declared.fault.Fault.TheVariants.{Write as Unwritten};
-ghost use Rattle.haboob.specs.declared.place.Place.TheVariants.{Replies};
 
 use crate::bundle::run_bundle;
 use crate::fault::Fault;
 use crate::place::Place;
+use captures::UpgradeFault;
 use paths::{Input, Output};
 use replay::ReplayFault;
 use std::alloc::Global;
@@ -14,22 +14,23 @@ use std::io::{BufReader, BufWriter, Read, Write};
 /// The room of the buffer in front of a device, in bytes.
 pub(crate) const ROOM: usize = 65_536;
 
-/// Writes what the buffer of the replies still holds. Behind a failed write it does nothing, as no failure is tried again.
+/// Writes what the buffer of a file still holds. After a failed write it does nothing, as no failure is tried again.
 pub(crate) fn write_rest<W: Write + Drop>(
-    mut replies: BufWriter<W>,
+    mut buffered: BufWriter<W>,
+    place: Place,
     ran: Result<(), Fault>,
 ) -> Result<(), Fault>
-    ensures { (result ≡ ran) ⊎ (result ≡ Err (Unwritten Replies)) }
+    ensures { (result ≡ ran) ⊎ (result ≡ Err (Unwritten place)) }
 {
     let rest = match ran {
-        Err(Fault::Replay(ReplayFault::Write)) => Ok(()),
-        _ => replies.flush(),
+        Err(Fault::Replay(ReplayFault::Write) | Fault::Upgrade(UpgradeFault::Write)) => Ok(()),
+        _ => buffered.flush(),
     };
     // Where a buffer is dropped, it is written once more: it is taken apart instead.
-    let _ = replies.into_parts();
+    let _ = buffered.into_parts();
     match rest {
         Ok(()) => ran,
-        Err(_) => Err(Fault::Write(Place::Replies)),
+        Err(_) => Err(Fault::Write(place)),
     }
 }
 
@@ -59,5 +60,5 @@ pub fn run_program<R: Read + Drop, W: Write + Drop>(
         &mut Input::new(buffered),
         &mut Output::new(&mut replies),
     );
-    write_rest(replies, ran)
+    write_rest(replies, Place::Replies, ran)
 }

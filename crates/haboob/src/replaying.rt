@@ -1,11 +1,11 @@
-ghost use Rattle.std.specs.Prelude.{◌≡◌, ◌-◌, ◌<◌, ◌^◌, [], true, is_some, unwrap_or, OnOk, IfOk, IfErr};
+ghost use Rattle.std.specs.Prelude.{◌≡◌, ◌-◌, ◌<◌, ◌^◌, OnOk, IfOk, IfErr};
 ghost use Rattle.std.specs.Io.KnownBytes.{Appends};
 ghost use Rattle.replay.specs.Choices.{terms_of};
 ghost use Rattle.replay.specs.Outcomes.{Answers, IfCapture, IfTooMany, IfCutShort, IsCutShort, Stops, StopsFull};
 ghost use Rattle.replay.specs.Outcomes as replays;
 ghost use Rattle.report.specs.Reports.{report_text};
 ghost use Rattle.haboob.specs.Bundles.{CountsBy, BlamedOnce, writer_failures};
-ghost use Rattle.haboob.specs.Replays.{OfInputs, AnswersAnd, IsReplayFault, IsReportFault, snapshot_failures, capture_failures, report_failures};
+ghost use Rattle.haboob.specs.Replays.{OfInput, AnswersAnd, IsReplayFault, IsReportFault, snapshot_failures, capture_failures, report_failures};
 
 use crate::fault::Fault;
 use crate::place::Place;
@@ -52,12 +52,16 @@ fn run_engine<F: Tree + Send + Sync, T: Threads + Wait + Sync, C: Read, W: Write
     requires files { files.now ≡ F.files }
     requires capture { capture.old.1 < 2 ^ 64 - 1 }
     requires replies { replies.old.1 < 2 ^ 64 - 1 }
-    ensures stops { IfErr result (λ f. IfCapture f (λ fault. is_some capture.old.0 ≡ true → Stops (terms_of F.files settings.now) (unwrap_or capture.old.0 []) replies.old.0 replies.new.0 fault)) }
-    ensures many { IfErr result (λ f. IfTooMany f (λ number. is_some capture.old.0 ≡ true → StopsFull (terms_of F.files settings.now) (unwrap_or capture.old.0 []) replies.old.0 replies.new.0 number)) }
-    ensures part { IfErr result (λ f. IfCutShort f (is_some capture.old.0 ≡ true → IsCutShort (terms_of F.files settings.now) (unwrap_or capture.old.0 []) replies.old.0 replies.new.0)) }
+    ensures stops { IfErr result (λ f. IfCapture f
+        (Stops (terms_of F.files settings.now) capture.old.0 capture.new.0 replies.old.0 replies.new.0)) }
+    ensures many { IfErr result (λ f. IfTooMany f
+        (StopsFull (terms_of F.files settings.now) capture.old.0 replies.old.0 replies.new.0)) }
+    ensures part { IfErr result (λ f. IfCutShort f
+        (IsCutShort (terms_of F.files settings.now) capture.old.0 replies.old.0 replies.new.0)) }
     ensures reads { replays.BlamedOnce replays.reader_failures capture.old.1 capture.new.1 result }
     ensures writes { replays.CountsBy replays.writer_failures replies.old.1 replies.new.1 result }
-    ensures ok { IfOk result (λ outcome. is_some capture.old.0 ≡ true → Answers (terms_of F.files settings.now) (unwrap_or capture.old.0 []) replies.old.0 replies.new.0 outcome) }
+    ensures ok { IfOk result
+        (Answers (terms_of F.files settings.now) capture.old.0 replies.old.0 replies.new.0) }
 {
     match engine {
         Engine::Plain => plain_replay::<F, C, W>(alloc, files, settings, capture, replies),
@@ -90,8 +94,11 @@ pub fn run_replay<T: Threads + Wait + Sync, S: Read, C: Read, W: Write, O: Write
     requires capture { capture.old.1 < 2 ^ 64 - 1 }
     requires replies { replies.old.1 < 2 ^ 64 - 1 }
     requires out { out.old.1 < 2 ^ 64 - 1 }
-    ensures ok { OnOk result (OfInputs snapshot.old.0 capture.old.0 (λ files bytes. AnswersAnd (terms_of files settings.now) bytes replies.old.0 replies.new.0 (λ outcome. Appends out.old.0 out.new.0 (report_text outcome)))) }
-    ensures fault { IfErr result (IsReplayFault settings.now snapshot.old.0 capture.old.0 replies.old replies.new out.old out.new) }
+    ensures ok { OnOk result (OfInput snapshot.old.0 (λ files.
+        AnswersAnd (terms_of files settings.now) capture.old.0 replies.old.0 replies.new.0
+        (λ outcome. Appends out.old.0 out.new.0 (report_text outcome)))) }
+    ensures fault { IfErr result
+        (IsReplayFault settings.now snapshot.old.0 capture.old.0 capture.new.0 replies.old replies.new out.old out.new) }
     // A device is blamed only where it failed in this call. A read of the capture that failed may not be told: where
     // another fault comes before it.
     ensures reads_snapshot { CountsBy snapshot_failures snapshot.old.1 snapshot.new.1 result }

@@ -6,3 +6,4 @@ mod memory;
 mod reports;
 mod rows;
 mod running;
+mod upgrades;

@@ -61,10 +61,17 @@ fn check_capture(
 /// fault behind it.
 #[test]
 fn capture_faults(rt: HostRuntime) -> Result<(), Fail> {
-    use CaptureFaultKind::{Count, Cut, Header, Trailing};
+    use CaptureFaultKind::{Count, Cut, Header, Tier, Trailing};
     let none = "haboob-replies 1\n";
     check_capture(&rt, "", 0, Cut, none)?;
-    check_capture(&rt, "haboob-capture 2 784111777\nstop 0\n", 0, Header, none)?;
+    check_capture(&rt, "haboob-capture 3 784111777\nstop 0\n", 0, Header, none)?;
+    check_capture(
+        &rt,
+        "haboob-capture 2 784111777\ntier 4096 9\n",
+        1,
+        Tier,
+        none,
+    )?;
     let one =
         "haboob-replies 1\nreply 0 0 123\nHTTP/1.1 404 Not Found\r\nDate: Sun, 06 Nov 1994 08:49:37 GMT\r\nContent-Type: text/plain\r\nContent-Length: 14\r\n\r\n404 Not Found\n\n";
     let record = "haboob-capture 1 784111777\npiece 0 0 27\nGET / HTTP/1.1\r\nHost: a\r\n\r\n\n";

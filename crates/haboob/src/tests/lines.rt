@@ -2,8 +2,8 @@
 use super::running::Narrow;
 use crate::fault::Fault;
 use crate::place::Place;
-use captures::{CaptureFault, CaptureFaultKind};
-use options::{ConfigFault, ConfigFaultKind, Key, WordFault};
+use captures::{CaptureFault, CaptureFaultKind, UpgradeFault};
+use options::{ConfigFault, ConfigFaultKind, Key, PolicyKey, PolicyTable, WordFault};
 use paths::{Output, SnapshotFault, SnapshotFaultKind};
 use replay::ReplayFault;
 use responses::Write;
@@ -60,6 +60,33 @@ fn replay_lines(rt: HostRuntime) {
     );
 }
 
+#[test]
+fn upgrade_lines(rt: HostRuntime) {
+    let cut = CaptureFault {
+        at: 1,
+        kind: CaptureFaultKind::Cut,
+    };
+    let cut = Fault::Upgrade(UpgradeFault::Capture(cut));
+    check(&rt, cut, 5, "haboob: capture: record 1: Cut\n");
+    let unread = CaptureFault {
+        at: 4,
+        kind: CaptureFaultKind::Read,
+    };
+    let unread = Fault::Upgrade(UpgradeFault::Capture(unread));
+    check(&rt, unread, 6, "haboob: read: capture\n");
+    let unwritten = Fault::Upgrade(UpgradeFault::Write);
+    check(&rt, unwritten, 6, "haboob: write: output\n");
+    let memory = Fault::Upgrade(UpgradeFault::Memory);
+    check(&rt, memory, 7, "haboob: memory\n");
+    check(&rt, Fault::Open(Place::Output), 6, "haboob: open: output\n");
+    check(
+        &rt,
+        Fault::Write(Place::Output),
+        6,
+        "haboob: write: output\n",
+    );
+}
+
 fn setting(kind: ConfigFaultKind, key: Option<Key>) -> Fault {
     Fault::Settings(ConfigFault { kind, key })
 }
@@ -69,13 +96,16 @@ fn settings_lines(rt: HostRuntime) {
     use ConfigFaultKind::{Memory, Range, Shape, Unknown};
     check(
         &rt,
-        setting(Range, Some(Key::Depth)),
+        setting(
+            Range,
+            Some(Key::InPolicy(PolicyTable::Policy, PolicyKey::Depth)),
+        ),
         3,
         "haboob: settings: Range policy.depth\n",
     );
     check(
         &rt,
-        setting(Shape, Some(Key::Policy)),
+        setting(Shape, Some(Key::Policy(PolicyTable::Policy))),
         3,
         "haboob: settings: Shape policy\n",
     );

@@ -44,6 +44,33 @@ fn tight_bucket(rt: HostRuntime) {
     }
 }
 
+/// Five requests at once on two connections, of which the second is of tier 1.
+pub static TIERS: &str =
+    "haboob-capture 2 784111777\ntier 1 1\npiece 0 0 32\nGET /a.txt HTTP/1.1\r\nHost: a\r\n\r\n\npiece 0 1 32\nGET /a.txt HTTP/1.1\r\nHost: a\r\n\r\n\npiece 0 0 32\nGET /a.txt HTTP/1.1\r\nHost: a\r\n\r\n\npiece 0 1 32\nGET /a.txt HTTP/1.1\r\nHost: a\r\n\r\n\npiece 0 1 32\nGET /a.txt HTTP/1.1\r\nHost: a\r\n\r\n\nstop 6\n";
+
+/// What they have come to: tier 1 has two tokens, and both tiers wait for one server.
+pub static TIERS_REPORT: &str =
+    "haboob-report 1\nmessages 5\nbypassed 0\nadmitted 3\nrejected 2\nstatus 200 3\nstatus 301 0\nstatus 304 0\nstatus 400 0\nstatus 404 0\nstatus 405 0\nstatus 413 0\nstatus 501 0\nstatus 503 2\np50 402\np90 603\np99 603\ncontrols 0\ntier 1 2 1 0\nreject 2\nreject 4\nend\n";
+
+#[test]
+fn tiers(rt: HostRuntime) {
+    for engine in [Engine::Plain, Engine::Staged] {
+        let mut replies = Narrow::ample();
+        let mut report = Narrow::ample();
+        let ran = run_tight(
+            &rt,
+            rt.alloc(),
+            engine,
+            SNAPSHOT,
+            TIERS,
+            &mut replies,
+            &mut report,
+        );
+        assert_eq!(rt; ran, Ok(()));
+        assert_eq!(rt; report.text(), TIERS_REPORT.as_bytes());
+    }
+}
+
 #[test]
 fn snapshot_fault(rt: HostRuntime) {
     let mut replies = Narrow::ample();

@@ -116,8 +116,9 @@ pub fn run(alloc: Global, input: &str, replies: &mut Narrow) -> Result<(), Fault
     )
 }
 
-/// Settings with one token, and one more each second.
-pub static TIGHT: &str = "[policy]\ndepth = 1\nrate = 1000\nrate_min = 1000\nrate_max = 1000\n";
+/// Settings with one token, and one more each second; tier 1 has two.
+pub static TIGHT: &str =
+    "[policy]\ndepth = 1\nrate = 1000\nrate_min = 1000\nrate_max = 1000\n[tier1]\ndepth = 2\n";
 
 /// Runs over inputs in memory on an engine with these settings, and writes a report.
 pub fn run_tight<T: Threads + Wait + Sync>(

@@ -12,4 +12,4 @@ pub returns-clause-fault : goal.returns-clause-fault
 returns-clause-fault g c =
     let snapshot : c.new.result.0 ≡ g.S.Read.remaining c.args.snapshot = search rules in
     let capture : c.new-2.result.0 ≡ g.C.Read.remaining c.args.capture = search rules in
-    rw (← snapshot, ← capture) (told_of_files c.args.settings.now _ _ _ _ _ _ _ _ _ c.run_replay-ran.ensures.fault c.write_rest-ran.ensures c.write_rest_of_report.ensures)
+    rw (← snapshot, ← capture) (told_of_files c.args.settings.now _ _ _ _ _ _ _ _ _ _ c.run_replay-ran.ensures.fault c.write_rest-ran.ensures c.write_rest_of_report.ensures)
