@@ -207,11 +207,21 @@ def random_cut(chance, text):
     return [text[begin:end] for begin, end in zip(places, places[1:])]
 
 
-def random_records(chance, names, times):
-    """The pieces and ends of a capture: tick, connection, and the bytes of a piece."""
+def with_tiers(chance, records):
+    """The records with a tier for some of the connections, somewhere before their first piece."""
+    for conn in {record[1] for record in records}:
+        first = next(place for place, record in enumerate(records) if record[1] == conn)
+        if chance.random() < 0.7:
+            records.insert(chance.randint(0, first), ("tier", conn, chance.randrange(4)))
+    return records
+
+
+def random_records(chance, names, times, version):
+    """The pieces and ends of a capture: tick, connection, and the bytes of a piece; and in version 2 its tiers."""
     busy = chance.random() < 0.3
     waiting = {}
-    for conn in chance.sample([0, 1, 2, 3, 7, 100, 4094, 4095], chance.choice((1, 1, 2, 3, 4))):
+    high = [4096, 65_534, 65_535] if version == 2 else []
+    for conn in chance.sample([0, 1, 2, 3, 7, 100, 4094, 4095] + high, chance.choice((1, 1, 2, 3, 4))):
         texts = random_cut(chance, random_text(chance, names, times, chance.choice((1, 2, 3, 6, 12))))
         plain = [plain_request(chance, names) for _ in range(chance.randrange(150))] if busy else []
         waiting[conn] = plain + texts
@@ -226,7 +236,7 @@ def random_records(chance, names, times):
             records.append((tick, conn))
     if chance.random() < 0.2:
         records.insert(0, (0, 5))
-    return records
+    return with_tiers(chance, records) if version == 2 else records
 
 
 def odd_line(chance, line):
@@ -277,17 +287,27 @@ def snapshot_text(chance, files, faulty):
     return join(chance, parts + [b"end %d\n" % len(files)], faulty)
 
 
-def capture_text(chance, start, records, faulty):
+def record_parts(record):
+    """The line of a record, and what follows it."""
+    tick, conn, *rest = record
+    if tick == "tier":
+        return [b"tier %d %d\n" % (conn, rest[0]), b""]
+    if rest:
+        return [b"piece %d %d %d\n" % (tick, conn, len(rest[0])), rest[0] + b"\n"]
+    return [b"end %d %d\n" % (tick, conn), b""]
+
+
+def capture_text(chance, version, start, records, faulty):
     """The text of a capture; in a faulty one a record may stand where it doesn't belong."""
-    parts = [b"haboob-capture 1 %d\n" % start, b""]
-    if faulty and records and chance.random() < 0.3:
+    parts = [b"haboob-capture %d %d\n" % (version, start), b""]
+    if faulty and records and chance.random() < 0.4:
         records, faulty = records[:], False
         place = chance.randrange(len(records))
-        tick, conn, *_ = records[place]
-        records.insert(place + 1, chance.choice(((tick, conn), (tick, *chance.choice(records)[1:]))))
-    for tick, conn, *body in records:
-        line = b"piece %d %d %d\n" % (tick, conn, len(body[0])) if body else b"end %d %d\n" % (tick, conn)
-        parts += [line, body[0] + b"\n" if body else b""]
+        tick, conn, *_ = chance.choice([record for record in records if record[0] != "tier"])
+        odd = [(tick, conn), (tick, conn, REQUEST), ("tier", conn, chance.randrange(6)), ("tier", conn + 1, 3)]
+        records.insert(place + 1, chance.choice(odd))
+    for record in records:
+        parts += record_parts(record)
     return join(chance, parts + [b"stop %d\n" % len(records)], faulty)
 
 
@@ -315,6 +335,13 @@ def with_floor(chance, settings, least):
     return text if len(text) <= reference.SETTINGS_LIMIT else settings
 
 
+def random_tier(chance, policy):
+    """What the table of a tier gives: some keys of a policy, all three rates or none."""
+    tier = {"depth": chance.choice((1, 2, 5, 30)), "window": chance.randint(1, 12), "every": chance.randint(1, 8), "target": chance.choice((1, 300, 20_000))}
+    kept = {key: value for key, value in tier.items() if chance.random() < 0.5}
+    return kept | (random_rates(chance) if chance.random() < 0.5 else {}) or {"low": policy["low"]}
+
+
 def random_values(chance):
     """A value for each key, in its range, small enough that much happens."""
     policy = {
@@ -324,7 +351,8 @@ def random_values(chance):
     }
     costs = {key: chance.choice((1, 50, 100, 200, chance.randint(1, 400))) for key in ("file", "error")} | {"kib": chance.choice((0, 0, 1, 10, 1000))}
     page = {"retry_after": chance.choice((0, 1, 86_400))}
-    return {"floor": random_floor(chance), "costs": costs, "policy": policy, "page": page}
+    tiers = {table: random_tier(chance, policy) for table in reference.POLICY_TABLES[1:] if chance.random() < 0.5}
+    return {"floor": random_floor(chance), "costs": costs, "policy": policy, "page": page, **tiers}
 
 
 def bounds_of(table, key):
@@ -381,27 +409,30 @@ def random_replay(seed):
     files = random_files(chance, start)
     fault = chance.choice(("", "", "", "", "", "snapshot", "capture", "settings"))
     times = [start, start + 1, chance.randrange(reference.START_LIMIT)] + [time for _, time, _ in files]
-    records = random_records(chance, [name for name, _, _ in files], times)
+    version = chance.choice((1, 2))
+    records = random_records(chance, [name for name, _, _ in files], times, version)
     snapshot = snapshot_text(chance, files, fault == "snapshot")
-    return snapshot, capture_text(chance, start, records, fault == "capture"), random_settings(chance, fault == "settings")
+    return snapshot, capture_text(chance, version, start, records, fault == "capture"), random_settings(chance, fault == "settings")
 
 
 def limit_replays():
-    """Name, files, start, records and settings of replays at a limit, and just past it."""
+    """Name, files, version, start, records and settings of replays at a limit, and just past it."""
     records = [(0, 0, REQUEST)]
     head = b"POST / HTTP/1.1\r\nHost: a\r\nContent-Length: %d\r\n\r\n"
     costly = b"[costs]\nfile = 1000000\nkib = 1000000\n[policy]\nevery = 1\ntarget = 1000000000000\nlow = 100\nup = 1000000000\n"
     for past in (0, 1):
-        yield "start", FILES, reference.START_LIMIT + past, records, None
-        yield "tick", FILES, START, [(reference.TICK_LIMIT + past, 0, REQUEST)], None
-        yield "connection", FILES, START, [(0, reference.CONNECTION_LIMIT + past, REQUEST)], None
-        yield "piece", FILES, START, [(0, 0, REQUEST * 2048 + b"G" * past)], None
-        yield "body", FILES, START, [(0, 0, head % (65_536 + past)), (1, 0, b"x" * 65_536), (2, 0, b"x" * past + REQUEST)], None
-        yield "time", [(b"a.txt", reference.TIME_LIMIT + past, b"")], START, records, None
-        yield "name", [(b"a.txt/" + b"x" * (reference.NAME_LIMIT - 6 + past), 0, b"")], START, records, None
-        yield "length", [(b"a.txt", 0, bytes(reference.FILE_LIMIT + past))], START, records * 2 + [(10**11, 0, REQUEST)], costly
-        yield "files", [(b"%05d" % number, 0, b"") for number in range(reference.FILES_LIMIT + past)], START, records, None
-        yield "settings", FILES, START, records, b"#" * (reference.SETTINGS_LIMIT + past)
+        yield "start", FILES, 1, reference.START_LIMIT + past, records, None
+        yield "tick", FILES, 1, START, [(reference.TICK_LIMIT + past, 0, REQUEST)], None
+        yield "connection", FILES, 1, START, [(0, reference.LAST_CONNECTION[1] + past, REQUEST)], None
+        yield "connection", FILES, 2, START, [(0, reference.LAST_CONNECTION[2] + past, REQUEST)], None
+        yield "tier", FILES, 2, START, [("tier", 0, reference.TIERS - 1 + past), (0, 0, REQUEST)], None
+        yield "piece", FILES, 1, START, [(0, 0, REQUEST * 2048 + b"G" * past)], None
+        yield "body", FILES, 1, START, [(0, 0, head % (65_536 + past)), (1, 0, b"x" * 65_536), (2, 0, b"x" * past + REQUEST)], None
+        yield "time", [(b"a.txt", reference.TIME_LIMIT + past, b"")], 1, START, records, None
+        yield "name", [(b"a.txt/" + b"x" * (reference.NAME_LIMIT - 6 + past), 0, b"")], 1, START, records, None
+        yield "length", [(b"a.txt", 0, bytes(reference.FILE_LIMIT + past))], 1, START, records * 2 + [(10**11, 0, REQUEST)], costly
+        yield "files", [(b"%05d" % number, 0, b"") for number in range(reference.FILES_LIMIT + past)], 1, START, records, None
+        yield "settings", FILES, 1, START, records, b"#" * (reference.SETTINGS_LIMIT + past)
 
 
 def hundred_thousand():
@@ -463,8 +494,8 @@ def compare_large(program, name, settings):
 def compare_limits(program, chance):
     """Compares replays at and past the limits."""
     count, wrong = 0, 0
-    for name, files, start, records, settings in limit_replays():
-        texts = snapshot_text(None, files, False), capture_text(None, start, records, False)
+    for name, files, version, start, records, settings in limit_replays():
+        texts = snapshot_text(None, files, False), capture_text(None, version, start, records, False)
         wrong += compare(program, "limit of " + name, *texts, with_floor(chance, settings, 1))[1]
         count += 1
     print("%-30s %d replays" % ("limits", count), flush=True)

@@ -28,7 +28,8 @@ LINE_LIMIT = 64
 TIME_LIMIT = 253_402_300_799
 START_LIMIT = 4_102_444_800
 TICK_LIMIT = 10**15
-CONNECTION_LIMIT = 4095
+LAST_CONNECTION = {1: 4095, 2: 65_535}
+TIERS = 4
 PIECE_LIMIT = 65_536
 FILE_LIMIT = 16_777_216
 FILES_LIMIT = 65_536
@@ -68,6 +69,9 @@ SETTINGS = {
     ],
     "page": [("retry_after", 1, 0, 86_400)],
 }
+# The table of each tier's policy; those after the first take what they leave out from it.
+POLICY_TABLES = ["policy", "tier1", "tier2", "tier3"]
+SETTINGS |= {table: SETTINGS["policy"] for table in POLICY_TABLES[1:]}
 
 TOKEN = rb"[!#$%&'*+\-.^_`|~0-9A-Za-z]+"
 REQUEST_LINE = re.compile(rb"(" + TOKEN + rb") ([^\x00-\x20\x7f]+) HTTP/1\.([01])\r?\n")
@@ -111,7 +115,7 @@ class Refused(Exception):
 
 
 File = collections.namedtuple("File", "name time body")
-Piece = collections.namedtuple("Piece", "tick conn body")
+Piece = collections.namedtuple("Piece", "tick conn body tier")
 Bad = collections.namedtuple("Bad", "status")
 Request = collections.namedtuple("Request", "method target link modified_since length")
 Control = collections.namedtuple("Control", "instant percentile smoothed rate")
@@ -220,48 +224,74 @@ def read_snapshot(data):
 
 
 def read_start(text):
-    """The first line of a capture (docs/FORMATS.md, Capture)."""
+    """The version and the start, from the first line of a capture (docs/FORMATS.md, Capture)."""
     line = text.line("Header")
-    refuse_unless(line.startswith(b"haboob-capture 1 "), "Header")
+    refuse_unless(line.startswith((b"haboob-capture 1 ", b"haboob-capture 2 ")), "Header")
     _, start = numbers(line, 2)
     refuse_unless(start <= START_LIMIT, "Header")
-    return start
+    return int(line[15:16]), start
 
 
-def read_record(text, line, last_tick, ended):
-    """A piece, or an end, of a capture: its tick, connection and bytes (docs/FORMATS.md, Capture)."""
+class Connections:
+    """What the records of a capture have said of its connections so far (docs/FORMATS.md, Capture)."""
+
+    def __init__(self, version):
+        self.last = LAST_CONNECTION[version]
+        self.tick = 0
+        self.ended = set()
+        self.tiers = {}
+
+    def check(self, conn):
+        """A record of this connection may come."""
+        refuse_unless(conn <= self.last, "Connection")
+        refuse_unless(conn not in self.ended, "Ended")
+
+
+def read_tier(line, connections):
+    """A connection that is given its tier (docs/FORMATS.md, Capture)."""
+    conn, tier = numbers(line, 2)
+    connections.check(conn)
+    refuse_unless(tier < TIERS and conn not in connections.tiers, "Tier")
+    connections.tiers[conn] = tier
+    return Piece(connections.tick, conn, b"", tier)
+
+
+def read_record(text, line, connections):
+    """A piece, or an end, of a capture (docs/FORMATS.md, Capture)."""
     tick, conn, *lengths = numbers(line, 3 if line.startswith(b"piece ") else 2)
-    refuse_unless(last_tick <= tick <= TICK_LIMIT, "Tick")
-    refuse_unless(conn <= CONNECTION_LIMIT, "Connection")
-    refuse_unless(conn not in ended, "Ended")
+    refuse_unless(connections.tick <= tick <= TICK_LIMIT, "Tick")
+    connections.check(conn)
+    connections.tick = tick
     if not lengths:
-        ended.add(conn)
-        return tick, conn, b""
+        connections.ended.add(conn)
+        return Piece(tick, conn, b"", None)
     refuse_unless(1 <= lengths[0] <= PIECE_LIMIT, "Length")
     body, whole = text.owed(lengths[0])
     refuse_unless(whole, "Length")
-    return tick, conn, body
+    return Piece(tick, conn, body, connections.tiers.setdefault(conn, 0))
 
 
-def read_pieces(text, pieces):
-    """The pieces of a capture, up to its end or first fault (docs/FORMATS.md, Capture)."""
-    tick, ended = 0, set()
+def read_pieces(text, version, pieces):
+    """The records of a capture, up to its end or first fault (docs/FORMATS.md, Capture)."""
+    connections = Connections(version)
     while True:
         text.entry += 1
         line = text.line("Kind")
         if line.startswith(b"stop "):
             return text.finish(numbers(line, 1))
+        if version == 2 and line.startswith(b"tier "):
+            pieces.append(read_tier(line, connections))
+            continue
         refuse_unless(line.startswith((b"piece ", b"end ")), "Kind")
-        tick, conn, body = read_record(text, line, tick, ended)
-        pieces.append(Piece(tick, conn, body))
+        pieces.append(read_record(text, line, connections))
 
 
 def read_capture(data):
     """The start of a capture, the pieces before its first fault, and that fault (docs/FORMATS.md, Capture)."""
     text, start, pieces = Text(data), 0, []
     try:
-        start = read_start(text)
-        read_pieces(text, pieces)
+        version, start = read_start(text)
+        read_pieces(text, version, pieces)
     except Refused as kind:
         return start, pieces, Fault(5, "capture: record %d: %s" % (text.entry, kind))
     return start, pieces, None
@@ -368,7 +398,7 @@ def messages_of(text):
 
 
 def arrivals(pieces):
-    """Tick, connection and message of all messages in the order of their numbers (docs/RULES.md, Arrival)."""
+    """Piece and message of all messages in the order of their numbers (docs/RULES.md, Arrival)."""
     of_connection = {}
     for record, piece in enumerate(pieces):
         of_connection.setdefault(piece.conn, []).append(record)
@@ -378,7 +408,7 @@ def arrivals(pieces):
         for end, message in messages_of(b"".join(pieces[record].body for record in records)):
             found.append((records[bisect.bisect_left(ends, end)], end, message))
     found.sort(key=lambda arrival: arrival[:2])
-    return [(pieces[record].tick, pieces[record].conn, message) for record, _, message in found]
+    return [(pieces[record], message) for record, _, message in found]
 
 
 def path_of(target):
@@ -452,14 +482,14 @@ def ranked(samples, percent):
     return sorted(samples)[-(-percent * len(samples) // 100) - 1]
 
 
-class Admission:
-    """Who is turned away, and when the rate changes (docs/RULES.md, Service times and admission)."""
+class Tier:
+    """The bucket, the samples and the controls of a tier (docs/RULES.md, Service times and admission)."""
 
-    def __init__(self, settings):
-        self.policy = {key: settings["policy." + key] for key, *_ in SETTINGS["policy"]}
+    def __init__(self, settings, table):
+        self.policy = {key: settings[table + "." + key] for key, *_ in SETTINGS[table]}
         self.credit = self.full = self.policy["depth"] * UNITS_IN_TOKEN
         self.tick = 0
-        self.finish = 0
+        self.rejected = 0
         self.samples = []
         self.controls = []
 
@@ -474,21 +504,24 @@ class Admission:
             passed += 1
         return units + (end - begin) * rate
 
-    def offer(self, tick, service_time):
-        """Whether a request is admitted (docs/RULES.md, Service times and admission)."""
+    def takes(self, tick):
+        """Whether a request that comes at a tick finds a token, which it takes."""
         self.credit = min(self.full, self.credit + self.accrued(self.tick, tick))
         self.tick = tick
         if self.credit < UNITS_IN_TOKEN:
+            self.rejected += 1
             return False
         self.credit -= UNITS_IN_TOKEN
-        self.finish = max(tick, self.finish) + service_time
-        self.samples.append(self.finish - tick)
-        if len(self.samples) % self.policy["every"] == 0:
-            self.controls.append(self.next_control())
         return True
 
-    def next_control(self):
-        """The control at the last finish (docs/RULES.md, Service times and admission)."""
+    def serve(self, tick, finish):
+        """Takes note of a request that is served."""
+        self.samples.append(finish - tick)
+        if len(self.samples) % self.policy["every"] == 0:
+            self.controls.append(self.next_control(finish))
+
+    def next_control(self, finish):
+        """The control at a finish (docs/RULES.md, Service times and admission)."""
         policy = self.policy
         before = self.controls[-1] if self.controls else Control(0, 0, 0, policy["rate"])
         percentile = ranked(self.samples[-policy["window"]:], 90)
@@ -498,11 +531,31 @@ class Admission:
             rate = max(policy["rate_min"], 100 * rate // policy["down"])
         elif 100 * smoothed < policy["low"] * policy["target"]:
             rate = min(policy["rate_max"], rate + policy["up"])
-        return Control(self.finish, percentile, smoothed, rate)
+        return Control(finish, percentile, smoothed, rate)
 
-    def shown_controls(self):
-        """The controls up to the last offered tick (docs/DECISIONS.md, Controls)."""
-        return [control for control in self.controls if control.instant <= self.tick]
+
+class Admission:
+    """Who is turned away, and the one server of all tiers (docs/RULES.md, Service times and admission)."""
+
+    def __init__(self, settings):
+        self.tiers = [Tier(settings, table) for table in POLICY_TABLES]
+        self.tick = 0
+        self.finish = 0
+        self.samples = []
+
+    def offer(self, tier, tick, service_time):
+        """Whether a request is admitted."""
+        self.tick = tick
+        if not self.tiers[tier].takes(tick):
+            return False
+        self.finish = max(tick, self.finish) + service_time
+        self.samples.append(self.finish - tick)
+        self.tiers[tier].serve(tick, self.finish)
+        return True
+
+    def shown_controls(self, tier):
+        """The controls of a tier up to the last offered tick of any (docs/DECISIONS.md, Controls)."""
+        return [control for control in self.tiers[tier].controls if control.instant <= self.tick]
 
 
 @functools.lru_cache
@@ -542,29 +595,34 @@ def reply_text(status, what, head, date, link, retry_after):
 def answers(files, settings, start, arrived, admission):
     """Status and reply of each message, in the order of their numbers (docs/RULES.md, Arrival and Replies)."""
     folders = {folder for name in files for folder in folders_of(name)}
-    for tick, _, message in arrived:
+    for piece, message in arrived:
         if isinstance(message, Bad):
             status, what, head, link = message.status, None, False, b"close"
         else:
             status, what = answer_of(files, folders, message)
             head, link = message.method == b"HEAD", message.link
-            if not admission.offer(tick, service(settings, message.method, status, what)):
+            if not admission.offer(piece.tier, piece.tick, service(settings, message.method, status, what)):
                 status = 503
-        date = start + tick // TICKS_IN_SECOND
+        date = start + piece.tick // TICKS_IN_SECOND
         yield status, reply_text(status, what, head, date, link, settings["page.retry_after"])
 
 
 def report_text(arrived, statuses, admission):
     """The report of a run (docs/FORMATS.md, Report)."""
-    offered = [not isinstance(message, Bad) for _, _, message in arrived]
+    offered = [not isinstance(message, Bad) for _, message in arrived]
     rejected = [number for number, status in enumerate(statuses) if status == 503]
-    samples, controls = admission.samples, admission.shown_controls()
+    samples = admission.samples
     lines = ["haboob-report 1", "messages %d" % len(arrived), "bypassed %d" % offered.count(False)]
     lines += ["admitted %d" % len(samples), "rejected %d" % len(rejected)]
     lines += ["status %d %d" % (status, statuses.count(status)) for status in REASONS]
     lines += ["p%d %s" % (percent, ranked(samples, percent) if samples else "-") for percent in (50, 90, 99)]
-    lines += ["controls %d" % len(controls)]
-    lines += ["control %d %d %d %d %d" % (number, *control) for number, control in enumerate(controls, 1)]
+    for number, tier in enumerate(admission.tiers):
+        controls = admission.shown_controls(number)
+        if number == 0:
+            lines.append("controls %d" % len(controls))
+        elif tier.samples or tier.rejected:
+            lines.append("tier %d %d %d %d" % (number, len(tier.samples), tier.rejected, len(controls)))
+        lines += ["control %d %d %d %d %d" % (place, *control) for place, control in enumerate(controls, 1)]
     lines += ["reject %d" % number for number in rejected]
     return "".join(line + "\n" for line in lines + ["end"]).encode()
 
@@ -617,6 +675,7 @@ def read_values(document):
         refuse_unless(isinstance(given, dict), "Shape " + table)
         for key, default, *bounds in keys:
             name = table + "." + key
+            default = settings["policy." + key] if table in POLICY_TABLES[1:] else default
             settings[name] = checked_value(name, given.get(key, default), default, bounds)
     return settings
 
@@ -628,8 +687,9 @@ def read_settings(data):
         for side, steps in (("front", 3), ("back", 2)):
             lists = [settings["floor.%s_%s" % (side, part)] for part in ("cuts", "workers", "capacities")]
             refuse_unless(is_floor(*lists, steps), "Range floor." + side)
-        in_order = settings["policy.rate_min"] <= settings["policy.rate"] <= settings["policy.rate_max"]
-        refuse_unless(in_order, "Range policy.rate")
+        for table in POLICY_TABLES:
+            least, rate, most = (settings[table + "." + key] for key in ("rate_min", "rate", "rate_max"))
+            refuse_unless(least <= rate <= most, "Range %s.rate" % table)
     except Refused as kind:
         raise Fault(3, "settings: %s" % kind) from None
     return settings
@@ -638,8 +698,8 @@ def read_settings(data):
 def replies_text(arrived, replies, fault):
     """The replies, with the last line where there is no fault (docs/FORMATS.md, Replies)."""
     parts = [b"haboob-replies 1\n"]
-    for number, ((_, conn, _), reply) in enumerate(zip(arrived, replies)):
-        parts.append(b"reply %d %d %d\n%s\n" % (number, conn, len(reply), reply))
+    for number, ((piece, _), reply) in enumerate(zip(arrived, replies)):
+        parts.append(b"reply %d %d %d\n%s\n" % (number, piece.conn, len(reply), reply))
     return b"".join(parts) + (b"" if fault else b"stop %d\n" % len(replies))
 
 

@@ -59,13 +59,16 @@ TABLE = [
     ("a snapshot cut", "pipe", SNAPSHOT[:-1], "pipe", 4, b"haboob: snapshot: entry 2: Cut\n", b""),
     ("a long line", "pipe", b"x" * 65, "pipe", 4, b"haboob: snapshot: entry 0: Header\n", b""),
     ("nothing behind the snapshot", "pipe", SNAPSHOT, "pipe", 5, b"haboob: capture: record 0: Cut\n", FIRST_LINE),
-    ("another capture", "pipe", SNAPSHOT + b"haboob-capture 2 0\n", "pipe", 5, b"haboob: capture: record 0: Header\n", FIRST_LINE),
+    ("another capture", "pipe", SNAPSHOT + b"haboob-capture 3 0\n", "pipe", 5, b"haboob: capture: record 0: Header\n", FIRST_LINE),
     ("no last line", "file", SNAPSHOT + HEADER + PIECE, "file", 5, b"haboob: capture: record 2: Cut\n", ONE),
     ("another count of records", "pipe", SNAPSHOT + HEADER + PIECE + b"stop 2\n", "pipe", 5, b"haboob: capture: record 2: Count\n", ONE),
     ("a byte behind", "pipe", FIRST_RUN + b".", "pipe", 5, b"haboob: capture: record 2: Trailing\n", ONE),
     ("ticks that fall", "pipe", SNAPSHOT + HEADER + PIECE.replace(b"piece 0", b"piece 7") + PIECE, "pipe", 5, b"haboob: capture: record 2: Tick\n", ONE),
     ("a piece behind an end", "pipe", SNAPSHOT + HEADER + b"end 0 0\n" + PIECE, "pipe", 5, b"haboob: capture: record 2: Ended\n", FIRST_LINE),
     ("a connection too high", "pipe", SNAPSHOT + HEADER + b"piece 0 4096 1\nx\n", "pipe", 5, b"haboob: capture: record 1: Connection\n", FIRST_LINE),
+    ("a tier too high", "pipe", SNAPSHOT + b"haboob-capture 2 0\ntier 0 4\n", "pipe", 5, b"haboob: capture: record 1: Tier\n", FIRST_LINE),
+    ("a tier behind a piece", "pipe", SNAPSHOT + HEADER.replace(b"capture 1", b"capture 2") + PIECE + b"tier 0 1\n", "pipe", 5, b"haboob: capture: record 2: Tier\n", ONE),
+    ("a tier in version 1", "pipe", SNAPSHOT + HEADER + b"tier 0 1\n", "pipe", 5, b"haboob: capture: record 1: Kind\n", FIRST_LINE),
     ("a piece of no bytes", "pipe", SNAPSHOT + HEADER + b"piece 0 0 0\n\n", "pipe", 5, b"haboob: capture: record 1: Length\n", FIRST_LINE),
     ("a directory as input", "directory", b"", "pipe", 6, b"haboob: read: snapshot\n", b""),
     ("no input", "closed", b"", "pipe", 6, b"haboob: read: snapshot\n", b""),
@@ -142,6 +145,40 @@ FILES.update({
     "longest": TIGHT + b"#" * (65536 - len(TIGHT)),
     "too_long": TIGHT + b"#" * (65537 - len(TIGHT)),
 })
+
+HEADER_TWO = b"haboob-capture 2 784111777\n"
+OLDER = HEADER + PIECE + b"end 5 0\nstop 2\n"
+NEWER = HEADER_TWO + PIECE + b"end 5 0\nstop 2\n"
+OLDEST = b"x" * 5000
+UPGRADE = ["--capture", "capture", "--output", "output"]
+
+# A capture, the words after `upgrade`, and then the status, the line on standard error (None: a text of the command
+# line), and what stands in the output, which held an older text (None: there is no output), and in the capture.
+UPGRADES = [
+    ("version 1", OLDER, UPGRADE, 0, b"", NEWER),
+    ("version 2", NEWER, UPGRADE, 0, b"", NEWER),
+    ("options in another order", OLDER, ["--output=output", "--capture=capture"], 0, b"", NEWER),
+    ("a record cut", (HEADER + PIECE)[:-20], UPGRADE, 5, b"haboob: capture: record 1: Cut\n", HEADER_TWO),
+    ("no last line", HEADER + PIECE, UPGRADE, 5, b"haboob: capture: record 2: Cut\n", HEADER_TWO + PIECE),
+    ("an empty capture", b"", UPGRADE, 5, b"haboob: capture: record 0: Cut\n", b""),
+    ("version 3", b"haboob-capture 3 0\nstop 0\n", UPGRADE, 5, b"haboob: capture: record 0: Header\n", b""),
+    ("connection 4096 in version 1", HEADER + b"end 0 4096\nstop 1\n", UPGRADE, 5, b"haboob: capture: record 1: Connection\n", HEADER_TWO),
+    ("connection 65535 in version 2", HEADER_TWO + b"end 0 65535\nstop 1\n", UPGRADE, 0, b"", HEADER_TWO + b"end 0 65535\nstop 1\n"),
+    ("no such capture", OLDER, ["--capture", "none", "--output", "output"], 6, b"haboob: open: capture\n", OLDEST),
+    ("a folder as capture", OLDER, ["--capture", "folder", "--output", "output"], 6, b"haboob: read: capture\n", b""),
+    ("no folder for the output", OLDER, ["--capture", "capture", "--output", "none/output"], 6, b"haboob: open: output\n", OLDEST),
+    ("a folder as output", OLDER, ["--capture", "capture", "--output", "folder"], 6, b"haboob: open: output\n", OLDEST),
+    ("a full device as output", OLDER, ["--capture", "capture", "--output", "/dev/full"], 6, b"haboob: write: output\n", OLDEST),
+    ("a device as output", OLDER, ["--capture", "capture", "--output", "/dev/null"], 0, b"", OLDEST),
+    ("the capture as output", OLDER, ["--capture", "capture", "--output", "capture"], 6, b"haboob: open: output\n", OLDEST),
+    ("the capture by another name", OLDER, ["--capture", "capture", "--output", "./folder/../capture"], 6, b"haboob: open: output\n", OLDEST),
+    ("the capture by a link", OLDER, ["--capture", "capture", "--output", "link"], 6, b"haboob: open: output\n", OLDEST),
+    ("the capture by a hard link", OLDER, ["--capture", "same", "--output", "capture"], 6, b"haboob: open: output\n", OLDEST),
+    ("no output", OLDER, ["--capture", "capture"], 2, None, OLDEST),
+    ("no capture", OLDER, ["--output", "output"], 2, None, OLDEST),
+    ("an option of replay", OLDER, UPGRADE + ["--engine", "plain"], 2, None, OLDEST),
+    ("help", OLDER, ["--help"], 2, None, OLDEST),
+]
 
 
 def feed(pipe, data, slowly):
@@ -267,6 +304,21 @@ def word_without_text(program):
     return subprocess.run([program, b"replay\xff"], stdin=subprocess.DEVNULL, capture_output=True, timeout=SECONDS).returncode
 
 
+def upgrade(program, capture, words, folder):
+    """The status, the text on standard error, the output, the capture after one upgrade, and standard output."""
+    os.mkdir(os.path.join(folder, "folder"))
+    for name, data in [("output", OLDEST), ("capture", capture)]:
+        with open(os.path.join(folder, name), "wb") as file:
+            file.write(data)
+    os.symlink("capture", os.path.join(folder, "link"))
+    os.link(os.path.join(folder, "capture"), os.path.join(folder, "same"))
+    child = subprocess.run(
+        [os.path.abspath(program), "upgrade", *words], cwd=folder, stdin=subprocess.DEVNULL, capture_output=True, timeout=SECONDS,
+    )
+    with open(os.path.join(folder, "output"), "rb") as output, open(os.path.join(folder, "capture"), "rb") as kept:
+        return child.returncode, child.stderr, output.read(), kept.read(), child.stdout
+
+
 def report(name, good, got):
     print("%-45s %s" % (name, got if good else "WRONG: " + got))
     return not good
@@ -294,12 +346,17 @@ def main():
             got = replay(program, words, folder, subprocess.PIPE)
         good = (got[0], got[2], got[3]) == (status, replies, text) and (got[1] == line if line is not None else len(got[1]) > 20)
         wrong += report("replay: " + name, good, "%d %s" % (got[0], got[1].decode().partition("\n")[0]) if good else repr(got))
+    for name, capture, words, status, line, output in UPGRADES:
+        with tempfile.TemporaryDirectory() as folder:
+            got = upgrade(program, capture, words, folder)
+        good = (got[0], *got[2:]) == (status, output, capture, b"") and (got[1] == line if line is not None else len(got[1]) > 20)
+        wrong += report("upgrade: " + name, good, "%d %s" % (got[0], got[1].decode().partition("\n")[0]) if good else repr(got))
     got = unwritten_report(program)
     good = got == (6, b"haboob: write: report\n", TIGHT_REPLIES)
     wrong += report("replay: a report into a full device", good, "6 haboob: write: report" if good else repr(got))
     status = word_without_text(program)
     wrong += report("a word that is no text", status == 2, str(status))
-    print("%d runs, %d wrong" % (len(TABLE) + len(RUNS) + 4, wrong))
+    print("%d runs, %d wrong" % (len(TABLE) + len(RUNS) + len(UPGRADES) + 4, wrong))
     sys.exit(wrong != 0)
 
 

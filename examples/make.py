@@ -1,5 +1,6 @@
 #!/usr/bin/env python3
-"""Writes the example of README.md beside itself: a small site as a snapshot, and a burst of requests for it as a capture.
+"""Writes the example of docs/WALK.md beside itself: a small site as a snapshot, a burst of requests for it as a capture, and
+the same burst among readers, without tiers and with.
 
 Change the site or the traffic here to try something else, or write the two files from records of your own: their formats
 stand in docs/FORMATS.md.
@@ -57,6 +58,20 @@ def burst():
         yield 3000 * MILLISECOND + 150 * number, 1 + number % VISITORS, request(targets[number // VISITORS % len(targets)])
 
 
+def readers():
+    """Four readers during the burst: a request every 4 milliseconds, each at its own time."""
+    for number in range(36):
+        yield 3001 * MILLISECOND + MILLISECOND * number, 13 + number % 4, request("/about.html")
+
+
+def mixed_capture(version):
+    """The text of a capture of the burst and the readers; in version 2 the burst's visitors are of tier 1."""
+    pieces = sorted([*burst(), *readers()])
+    records = [b"tier %d 1\n" % connection for connection in range(1, 1 + VISITORS)] if version == 2 else []
+    records += [b"piece %d %d %d\n%b\n" % (tick, connection, len(data), data) for tick, connection, data in pieces]
+    return b"haboob-capture %d %d\n" % (version, START) + b"".join(records) + b"stop %d\n" % len(records)
+
+
 def capture():
     """The text of the capture: the quiet visitor on connection 0, whose last request names no host, then the burst."""
     pieces = [(tick, 0, data) for tick, data in quiet_visitor()] + list(burst())
@@ -67,7 +82,9 @@ def capture():
 
 def main():
     folder = os.path.dirname(os.path.abspath(__file__))
-    for name, text in [("site.snapshot", snapshot()), ("burst.capture", capture())]:
+    texts = [("site.snapshot", snapshot()), ("burst.capture", capture())]
+    texts += [("mixed.capture", mixed_capture(1)), ("tiers.capture", mixed_capture(2))]
+    for name, text in texts:
         with open(os.path.join(folder, name), "wb") as file:
             file.write(text)
 
