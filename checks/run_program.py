@@ -14,6 +14,9 @@ import time
 
 SECONDS = 20
 
+# What is told of one message more than a replay may have.
+TOO_MANY = 5, b"haboob: capture: message 1048576: TooMany\n", b""
+
 # The memory that a run has where it is to have little, in bytes: less than the file that its snapshot announces.
 MEMORY = 16_000_000
 
@@ -319,6 +322,26 @@ def upgrade(program, capture, words, folder):
         return child.returncode, child.stderr, output.read(), kept.read(), child.stdout
 
 
+def too_many(program, engine):
+    """Whether one message more than a replay may have is told, with the replies to all before it and no last line."""
+    block = b"piece 0 0 65536\n" + REQUEST * 2048 + b"\n"
+    with tempfile.TemporaryDirectory() as folder:
+        files = {"snapshot": SNAPSHOT, "capture": HEADER + block * 512 + PIECE + b"stop 513\n"}
+        for name, data in files.items():
+            with open(os.path.join(folder, name), "wb") as file:
+                file.write(data)
+        child = subprocess.run(
+            [os.path.abspath(program), "replay", *GOOD, "--engine", engine], cwd=folder, capture_output=True, timeout=SECONDS * 6,
+        )
+        with open(os.path.join(folder, "replies"), "rb") as file:
+            good = file.read(len(FIRST_LINE)) == FIRST_LINE
+            for number in range(1_048_576):
+                reply = REPLY % number if number < 100 else REJECTED % number
+                good = good and file.read(len(reply)) == reply
+            good = good and not file.read(1)
+    return good, (child.returncode, child.stderr, child.stdout)
+
+
 def report(name, good, got):
     print("%-45s %s" % (name, got if good else "WRONG: " + got))
     return not good
@@ -356,7 +379,11 @@ def main():
     wrong += report("replay: a report into a full device", good, "6 haboob: write: report" if good else repr(got))
     status = word_without_text(program)
     wrong += report("a word that is no text", status == 2, str(status))
-    print("%d runs, %d wrong" % (len(TABLE) + len(RUNS) + len(UPGRADES) + 4, wrong))
+    for engine in ("plain", "staged"):
+        good, got = too_many(program, engine)
+        good = good and got == TOO_MANY
+        wrong += report("replay: too many messages, " + engine, good, "%d %s" % (got[0], got[1].decode().strip()) if good else repr(got))
+    print("%d runs, %d wrong" % (len(TABLE) + len(RUNS) + len(UPGRADES) + 6, wrong))
     sys.exit(wrong != 0)
 
 

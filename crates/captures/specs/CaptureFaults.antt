@@ -162,7 +162,7 @@ record_at v past a = do
   heading ← heading_of v line.0
   announced v past heading line.1
 
--- a failed device and want of memory come where they happen: no definition foresees them
+-- a failed device and out of memory come where they happen: no definition foresees them
 abbrev pub is_unforeseen_kind : CaptureFaultKind → Bool
 is_unforeseen_kind Read = true
 is_unforeseen_kind Memory = true

@@ -83,7 +83,7 @@ abbrev pub IfCapture : UpgradeFault → (CaptureFault → Type 0) → Type 0
 IfCapture (Capture f) P = P f
 IfCapture other P = Unit {0}
 
--- what a failed write and want of memory have to say
+-- what a failed write and out of memory have to say
 abbrev pub IfCutShort : UpgradeFault → Type 0 → Type 0
 IfCutShort Unwritten P = P
 IfCutShort Memory P = P

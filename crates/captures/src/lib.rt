@@ -13,8 +13,6 @@ mod record;
 mod record_writer;
 mod so_far;
 mod stage;
-#[cfg(test)]
-mod tests;
 mod upgrade_fault;
 mod upgrading;
 mod version;

@@ -75,7 +75,7 @@ abbrev pub HoldsCapture : List File → List ℕ → Type 0
 HoldsCapture files bytes = (version : Version) × (start : ℕ) × (records : List Record) × IsCaptureText version bytes start records
 
 -- What a fault of the program says of its input: that of a snapshot or a capture is the first, but for a failed read and
--- want of memory. Other faults are that the replies can't be written to their end, and want of memory.
+-- out of memory. Other faults are that the replies can't be written to their end, and out of memory.
 abbrev pub IsProgramFault : Option (List ℕ) → Fault → Type 0
 IsProgramFault input (Snapshot f) = IsForeseen IsFrontFault input f
 IsProgramFault input (Replay f) = is_some input ≡ true →

@@ -10,8 +10,8 @@ use Rattle.captures.specs.declared.upgrade_fault.UpgradeFault.{UpgradeFault}
 use Rattle.captures.specs.declared.upgrade_fault.UpgradeFault.TheVariants as upgrades
 use Rattle.replay.specs.declared.replay_fault.ReplayFault.{ReplayFault}
 use Rattle.replay.specs.declared.replay_fault.ReplayFault.TheVariants as replays
-use Rattle.options.specs.declared.words.WordFault.{WordFault}
-use Rattle.options.specs.declared.words.WordFault.TheVariants as words
+use Rattle.command_line.specs.declared.words.WordFault.{WordFault}
+use Rattle.command_line.specs.declared.words.WordFault.TheVariants as words
 use Rattle.options.specs.declared.config_fault.ConfigFault.{ConfigFault}
 use Rattle.options.specs.declared.config_fault.ConfigFaultKind.{ConfigFaultKind}
 use Rattle.options.specs.declared.config_fault.ConfigFaultKind.TheVariants as settings
@@ -23,7 +23,7 @@ use Rattle.haboob.specs.declared.fault.Fault.TheVariants as faults
 use Rattle.haboob.specs.declared.told.Told.{Told}
 use Rattle.haboob.specs.declared.told.Told.TheVariants.{Usage, Engine, Settings, Entry, Record, TooMany, Open, Read, Write, Memory}
 
--- a failed read or write and want of memory are told alike, whatever fault they stand in
+-- a failed read or write and out of memory are told alike, whatever fault they stand in
 abbrev pub told_entry : SnapshotFaultKind → SnapshotFault → Told
 told_entry entries.Read f = Read places.Snapshot
 told_entry entries.Memory f = Memory

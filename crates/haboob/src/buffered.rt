@@ -9,7 +9,7 @@ use crate::fault::Fault;
 use crate::place::Place;
 use crate::program::{ROOM, write_rest};
 use crate::replaying::run_replay;
-use options::Engine;
+use command_line::Engine;
 use paths::{Input, Output};
 use replay::Settings;
 use std::alloc::Global;

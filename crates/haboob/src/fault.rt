@@ -4,7 +4,8 @@ ghost use Rattle.haboob.specs.FaultLines.{told, told_entry, told_record, status_
 use crate::place::Place;
 use crate::told::Told;
 use captures::{CaptureFault, CaptureFaultKind, UpgradeFault};
-use options::{ConfigFault, ConfigFaultKind, WordFault};
+use command_line::WordFault;
+use options::{ConfigFault, ConfigFaultKind};
 use paths::{SnapshotFault, SnapshotFaultKind};
 use replay::ReplayFault;
 use std::alloc::AllocError;

@@ -9,7 +9,7 @@ ghost use Rattle.haboob.specs.Replays.{OfInput, AnswersAnd, IsReplayFault, IsRep
 
 use crate::fault::Fault;
 use crate::place::Place;
-use options::Engine;
+use command_line::Engine;
 use paths::{Input, Output, Snapshot, Tree};
 use replay::{Outcome, ReplayFault, Settings, plain_replay, staged_replay};
 use report::report;

@@ -49,7 +49,7 @@ IsStage Failed read held = Unit {0}
 pub record IsSound (c : Progress) : Type 0 where
   pub stage : IsStage c.stage c.read c.held
 
--- the cutter met want of memory
+-- the cutter ran out of memory
 abbrev pub HasFailed : Progress → Type 0
 HasFailed c = c.stage ≡ Failed
 
@@ -102,7 +102,7 @@ pub record Took (before : Progress) (text : List ℕ) (after : Progress) (old ne
   pub cuts : Cuts before (take n text) after old new
 
 -- the cutter has read this text, whose messages are these; and whatever follows, the messages of
--- the whole are these and then what the cutter yields. No cutter that met want of memory fits
+-- the whole are these and then what the cutter yields. No cutter that ran out of memory fits
 pub record Fits (past : List ℕ) (sofar : List Message) (c : Progress) : Type 0 where
   pub live : ¬ (HasFailed c)
   pub read : c.read ≡ length past

@@ -19,7 +19,7 @@ pub enum Stage {
     Body(What, u64),
     /// After a message that ends the connection.
     Closed,
-    /// After want of memory.
+    /// After out of memory.
     Failed,
 }
 
@@ -274,7 +274,7 @@ impl Cutter {
 
     /// Takes the next piece of the text, and adds the messages that end in it, in order.
     ///
-    /// The whole text may have 1,073,741,824 bytes. The only error is want of memory: then `out` has got
+    /// The whole text may have 1,073,741,824 bytes. The only error is out of memory: then `out` has got
     /// the first of those messages, and each later call is answered by the same error and adds
     /// nothing.
     pub fn feed(&mut self, piece: &[u8], out: &mut Vec<Message>) -> Result<(), AllocError>
@@ -286,7 +286,7 @@ impl Cutter {
         ensures memory { OnErr result ((past : List ℕ) (sofar : List AMessage) → Fits past sofar self.old
             → FedSome past sofar piece.now out.old.items out.new.items) }
 
-        // Want of memory is answered for good.
+        // Out of memory is answered for good.
         ensures fails { OnErr result (HasFailed self.new) }
         ensures failed { HasFailed self.old → IsErr result }
         ensures unchanged { HasFailed self.old → out.new.items ≡ out.old.items }

@@ -1,3 +1,2 @@
 mod Choosing
-mod Commands
 mod Rows

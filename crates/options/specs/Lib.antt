@@ -3,4 +3,3 @@ pub mod Keys
 pub mod Documents
 pub mod Numbers
 pub mod SettingsTable
-pub mod CommandLine

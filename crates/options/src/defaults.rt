@@ -19,7 +19,7 @@ pub fn default_settings(alloc: Global) -> Result<Settings, AllocError>
 {
     match settings_of(alloc, &Table::new(alloc)) {
         Ok(settings) => Ok(settings),
-        // the defaults break no rule, so this is want of memory
+        // the defaults break no rule, so this is out of memory
         Err(_) => Err(AllocError),
     }
 }

@@ -6,8 +6,6 @@ mod keeping;
 mod laws;
 mod media;
 mod page;
-#[cfg(test)]
-mod tests;
 
 pub use cache::PageCache;
 pub use keeping::Keeping;

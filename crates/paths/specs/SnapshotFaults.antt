@@ -102,7 +102,7 @@ entry_at files a = do
   heading ← heading_of line.0
   announced files heading line.1
 
--- a failed device and want of memory come where they happen
+-- a failed device and out of memory come where they happen
 abbrev pub is_unforeseen_kind : SnapshotFaultKind → Bool
 is_unforeseen_kind Read = true
 is_unforeseen_kind Memory = true

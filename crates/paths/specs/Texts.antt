@@ -44,7 +44,7 @@ line_at a =
 abbrev pub ahead_of : Option (List ℕ) → ℕ → Ahead
 ahead_of known left = record { bytes = unwrap_or known []; left = left }
 
--- a failed device and want of memory come where they happen: no definition foresees them
+-- a failed device and out of memory come where they happen: no definition foresees them
 abbrev pub is_unforeseen : Stop → Bool
 is_unforeseen Read = true
 is_unforeseen Memory = true

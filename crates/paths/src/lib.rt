@@ -19,8 +19,6 @@ mod snapshot_fault;
 mod step;
 mod stop;
 mod target;
-#[cfg(test)]
-mod tests;
 mod text;
 
 pub use asked::Asked;

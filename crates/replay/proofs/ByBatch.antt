@@ -11,79 +11,28 @@ use Rattle.std.proofs.Math.Seq.{get_or-append_seam}
 use Rattle.captures.specs.declared.record.Record.{Record}
 use Rattle.captures.specs.declared.record.Record.TheVariants.{Piece, End, Tier}
 use Rattle.captures.specs.declared.version.Version.{Version}
-use Rattle.replay.proofs.Tiered.{tier_in_range}
+use Rattle.arrivals.proofs.Tiered.{tier_in_range}
 use Rattle.captures.specs.declared.progress.Progress.{Progress}
 use Rattle.captures.specs.Captures.{IsCapture, IsRecord, size_of, sizes_of, ticks_of}
 use Rattle.captures.specs.Readers.{Fits}
 use Rattle.http_requests.specs.declared.messages.Message.{Message}
 use Rattle.replay.specs.Choices.{Terms}
-use Rattle.replay.specs.Arrivals.{Arrival, ArrivesWith, AreArrivals, Precedes, text_of, messages_of}
-use Rattle.replay.specs.Batches.{ReadsOn, pieces_to, with_tier, tiers_of, origins_of, lists_to, arrivals_in, incoming_from, Stand}
-use Rattle.replay.specs.Connections.{HaveRead, connection_at, arrivals_with}
-use Rattle.replay.specs.Places.{Place, place_at, with_piece, with_lists, total, IsReady, IsCutOf, count_to}
+use Rattle.arrivals.specs.Arrivals.{Arrival, ArrivesWith, AreArrivals, Precedes, text_of, messages_of}
+use Rattle.arrivals.specs.Batches.{ReadsOn, pieces_to, with_tier, tiers_of, origins_of, lists_to, arrivals_in, incoming_from, Stand}
+use Rattle.arrivals.specs.Connections.{HaveRead, connection_at, arrivals_with}
+use Rattle.arrivals.specs.Places.{Place, place_at, with_piece, with_lists, total, IsReady, IsCutOf, count_to}
 use Rattle.replay.specs.Serving.{Serves}
 use Rattle.replay.specs.Ticketing.{incoming_of, InTime}
-use Rattle.replay.specs.Waiting.{with_pieces, Adds, AddsOne, connections_of, Waiting, ComeNext, Upcoming}
-use Rattle.replay.specs.declared.connection.Connection.{Connection}
+use Rattle.replay.specs.Waiting.{connections_of, Waiting, ComeNext, Upcoming}
+use Rattle.arrivals.specs.Gathering.{with_pieces, Adds, AddsOne}
+use Rattle.arrivals.specs.declared.connection.Connection.{Connection}
 use Rattle.replay.specs.declared.desk.Desk.{Desk}
-use Rattle.replay.specs.declared.incoming.Incoming.{Incoming}
-use Rattle.replay.specs.declared.origin.Origin.{Origin}
-use Rattle.replay.specs.declared.piece_messages.PieceMessages.{PieceMessages}
-use Rattle.replay.proofs.Arriving.{if_true, if_false}
-use Rattle.replay.proofs.Merging.{stand_batch, tiers_piece, tiers_end, tiers_tier}
+use Rattle.arrivals.specs.declared.incoming.Incoming.{Incoming}
+use Rattle.arrivals.specs.declared.origin.Origin.{Origin}
+use Rattle.arrivals.specs.declared.piece_messages.PieceMessages.{PieceMessages}
+use Rattle.arrivals.proofs.Arriving.{if_true, if_false}
+use Rattle.arrivals.proofs.Merging.{stand_batch, tiers_piece, tiers_end, tiers_tier}
 use Rattle.replay.proofs.Server.{text_below, tick_at, ticks_before, ticks_before_le}
-
--- ---- reading
-
-abbrev holding : Place → List (List ℕ) → Place
-holding p pieces = record { connection = p.connection; pieces = pieces; lists = p.lists }
-
-pub adds_none : (places : List Place) → Adds [] places places
-adds_none places = λ c. sym (ap (holding (place_at places c)) (append-nil (place_at places c).pieces))
-
-pub adds_end : (tick conn : ℕ) (r : Record) (places : List Place) → r ≡ End tick conn → AddsOne r places places
-adds_end tick conn r places is = rw is (adds_none places)
-
-pieces_push : (c : ℕ) (rs : List Record) (r : Record) → pieces_to c (rs ++ r ∷ []) ≡ pieces_to c rs ++ pieces_to c (r ∷ [])
-pieces_push c [] r = refl
-pieces_push c (Piece tick conn bytes ∷ rs) r = go (conn == c) (pieces_push c rs r)
-  where
-    go : (b : Bool) → pieces_to c (rs ++ r ∷ []) ≡ pieces_to c rs ++ pieces_to c (r ∷ []) → (if b then bytes ∷ pieces_to c (rs ++ r ∷ []) else pieces_to c (rs ++ r ∷ [])) ≡ (if b then bytes ∷ pieces_to c rs else pieces_to c rs) ++ pieces_to c (r ∷ [])
-    go true e = ap (λ l. bytes ∷ l) e
-    go false e = e
-pieces_push c (End tick conn ∷ rs) r = pieces_push c rs r
-pieces_push c (Tier conn tier ∷ rs) r = pieces_push c rs r
-
-pub adds_tier : (conn tier : ℕ) (r : Record) (places : List Place) → r ≡ Tier conn tier → AddsOne r places places
-adds_tier conn tier r places is = rw is (adds_none places)
-
-origins_from : (tiers : ℕ → ℕ) (records rs : List Record) (r : Record) → tiers ≡ tiers_of records
-    → origins_of tiers (rs ++ r ∷ []) ≡ origins_of tiers rs ++ origins_of (tiers_of (records ++ rs)) (r ∷ [])
-origins_from tiers records [] r are = ap (λ f. origins_of f (r ∷ [])) (are ∙ ap tiers_of (sym (append-nil records)))
-origins_from tiers records (Piece tick conn bytes ∷ rs) r are =
-    let rest = origins_from tiers (records ++ Piece tick conn bytes ∷ []) rs r (are ∙ sym (tiers_piece records tick conn bytes)) in
-    ap (λ os. record { conn = conn; tick = tick; tier = tiers conn } ∷ os) (rw (append_assoc records (Piece tick conn bytes ∷ []) rs) at rest)
-origins_from tiers records (End tick conn ∷ rs) r are =
-    let rest = origins_from tiers (records ++ End tick conn ∷ []) rs r (are ∙ sym (tiers_end records tick conn)) in
-    rw (append_assoc records (End tick conn ∷ []) rs) at rest
-origins_from tiers records (Tier conn tier ∷ rs) r are =
-    let rest = origins_from (with_tier conn tier tiers) (records ++ Tier conn tier ∷ []) rs r (ap (with_tier conn tier) are ∙ sym (tiers_tier records conn tier)) in
-    rw (append_assoc records (Tier conn tier ∷ []) rs) at rest
-
-pub origins_push : (records rs : List Record) (r : Record) → origins_of (tiers_of records) (rs ++ r ∷ []) ≡ origins_of (tiers_of records) rs ++ origins_of (tiers_of (records ++ rs)) (r ∷ [])
-origins_push records rs r = origins_from (tiers_of records) records rs r refl
-
-pub adds_more : (rs : List Record) (r : Record) (old mid new : List Place) → Adds rs old mid → AddsOne r mid new → Adds (rs ++ r ∷ []) old new
-adds_more rs r old mid new first second = λ c.
-    second c ∙ ap (λ p. with_pieces p (pieces_to c (r ∷ []))) (first c)
-    ∙ ap (holding (place_at old c)) (append_assoc (place_at old c).pieces (pieces_to c rs) (pieces_to c (r ∷ [])) ∙ ap (λ xs. (place_at old c).pieces ++ xs) (sym (pieces_push c rs r)))
-
-pub adds_piece : (tick conn n : ℕ) (bytes piece : List ℕ) (r : Record) (old new : List Place) → r ≡ Piece tick conn bytes → n ≡ conn → piece ≡ bytes
-    → place_at new n ≡ with_piece piece (place_at old n) → ((c : ℕ) → c ≢ n → place_at new c ≡ place_at old c) → AddsOne r old new
-adds_piece tick conn n bytes piece r old new is named same own others = rw is (λ c. elim (eqb_tells conn c) [
-  | inl e ↦ rw (if_true (conn == c) (bytes ∷ []) [] e.0, ← e.1) (rw (named, same) at own)
-  | inr e ↦ rw (if_false (conn == c) (bytes ∷ []) [] e.0, append-nil (place_at old c).pieces) (others c (λ s. e.1 (sym (s ∙ named))))
-])
 
 -- ---- what the engine keeps
 

@@ -6,7 +6,7 @@ use Rattle.std.proofs.lemmas.List.Sums.{sum_by_push, count_by-le-length}
 use Rattle.std.proofs.lemmas.List.{map-append}
 use Rattle.std.proofs.lemmas.List.Elements.{filter-append}
 use Rattle.replay.specs.Choices.{Terms}
-use Rattle.replay.specs.Arrivals.{Arrival}
+use Rattle.arrivals.specs.Arrivals.{Arrival}
 use Rattle.replay.specs.Offers.{Handled}
 use Rattle.replay.specs.Counting.{status_for, count_of, counts_of, bypassed_of, rejected_of, breaks_a_rule, one_if, with_status, AreBelow}
 

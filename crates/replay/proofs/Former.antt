@@ -28,12 +28,12 @@ use Rattle.admission.specs.OneTier.{decided_alone, decided_alone_next, decided_a
 use Rattle.admission.specs.Fits.{tick_from}
 use Rattle.admission.proofs.RequestLemmas.{of_tier-other, of_tier-none}
 use Rattle.admission.proofs.OneTierLemmas.{one_tier_as_before}
-use Rattle.replay.specs.declared.origin.Origin.{Origin}
+use Rattle.arrivals.specs.declared.origin.Origin.{Origin}
 use Rattle.replay.specs.declared.outcome.Outcome.{Outcome}
 use Rattle.replay.specs.declared.summary.Counts.{Counts}
 use Rattle.replay.specs.declared.summary.Tally.{Tally}
 use Rattle.replay.specs.declared.summary.Summary.{Summary}
-use Rattle.replay.specs.Arrivals.{Arrival, text_of, messages_of, ArrivesWith, Precedes, AreArrivals}
+use Rattle.arrivals.specs.Arrivals.{Arrival, text_of, messages_of, ArrivesWith, Precedes, AreArrivals}
 use Rattle.replay.specs.Choices.{Terms}
 use Rattle.replay.specs.Answers.{given}
 use Rattle.replay.specs.Offers.{Handled, offer_at, offers_of, rejects, is_turned_away, handled_next, handled_behind, handled}

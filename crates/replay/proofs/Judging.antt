@@ -15,7 +15,7 @@ use Rattle.responses.specs.declared.slip.Slip.{Slip}
 use Rattle.responses.specs.Replies.{status_of, reply_text}
 use Rattle.responses.specs.Records.{record_text}
 use Rattle.replay.specs.Choices.{Choice, Terms, terms_of}
-use Rattle.replay.specs.Arrivals.{Arrival}
+use Rattle.arrivals.specs.Arrivals.{Arrival}
 use Rattle.paths.specs.Targets.{asked}
 use Rattle.paths.specs.Resolution.{outcome}
 use Rattle.paths.specs.declared.file.File.{File}
@@ -29,7 +29,7 @@ use Rattle.responses.specs.declared.status.Status.TheVariants.{ServiceUnavailabl
 use Rattle.replay.specs.Answers.{given, answers_head, is_head, link_of, outcome_answer}
 use Rattle.replay.specs.Replies.{slip_of}
 use Rattle.replay.specs.Outcomes.{IfCutShort, IfTooMany}
-use Rattle.replay.specs.declared.origin.Origin.{Origin}
+use Rattle.arrivals.specs.declared.origin.Origin.{Origin}
 use Rattle.replay.specs.declared.replay_fault.ReplayFault.{ReplayFault}
 use Rattle.replay.specs.declared.replay_fault.ReplayFault.TheVariants.{Capture, TooMany, Memory, Write as Unwritten}
 use Rattle.replay.specs.Offers.{is_unmodified_file, length_given, offer_at, offers_of, is_turned_away, handled_next, handled_behind, handled}
@@ -38,7 +38,7 @@ use Rattle.replay.specs.Totals.{no_counts, totals_of, noted}
 use Rattle.replay.specs.Deciding.{decided_totals, Decides}
 use Rattle.replay.specs.Serving.{Stands, AreBy, records_behind}
 use Rattle.http_requests.specs.declared.messages.Message.{Message}
-use Rattle.replay.specs.Connections.{arrivals_with}
+use Rattle.arrivals.specs.Connections.{arrivals_with}
 use Rattle.std.proofs.lemmas.List.Elements.{All-nil, All-cons, All-append}
 use Rattle.replay.specs.declared.totals.Totals.{Totals}
 use Rattle.replay.specs.declared.summary.Tally.{Tally}
@@ -242,7 +242,7 @@ reply_written X terms start arrivals a slip r slips told = ap record_text (reply
 
 -- ---- faults
 
--- what holds after a failed write or want of memory
+-- what holds after a failed write or out of memory
 pub cut_short : {T : Type 0} (r : Result T ReplayFault) (P : Type 0) → P → IfErr r (λ f. IfCutShort f P)
 cut_short (Ok x) P h = tt
 cut_short (Err (Capture f)) P h = tt

@@ -14,8 +14,8 @@ use Rattle.admission.specs.Decisions.{decide, decided, decided_next}
 use Rattle.admission.specs.Fits.{tick_from}
 use Rattle.admission.proofs.RequestLemmas.{decided_from-push, served-push, last_finish-push}
 use Rattle.replay.specs.Choices.{Terms}
-use Rattle.replay.specs.Arrivals.{Arrival}
-use Rattle.replay.specs.declared.origin.Origin.{Origin}
+use Rattle.arrivals.specs.Arrivals.{Arrival}
+use Rattle.arrivals.specs.declared.origin.Origin.{Origin}
 use Rattle.replay.specs.Offers.{offer_at, offers_of, rejects, handled_next, handled_behind, handled}
 use Rattle.replay.specs.Counting.{samples_of}
 use Rattle.replay.specs.Serving.{AreBy}

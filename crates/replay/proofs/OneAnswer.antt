@@ -7,7 +7,7 @@ use Rattle.replay.specs.Laws.{OneAnswer}
 use Rattle.replay.specs.Offers.{handled}
 use Rattle.replay.specs.Replies.{replies_of, replies_text}
 use Rattle.replay.specs.declared.outcome.Outcome.{Outcome}
-use Rattle.replay.proofs.ArrivalLaws.{one_list_of_arrivals}
+use Rattle.arrivals.proofs.ArrivalLaws.{one_list_of_arrivals}
 
 -- known bytes grow by the same text in one way
 grows_once : (old new other : Option (List ℕ)) (xs ys : List ℕ) → is_some old ≡ true → xs ≡ ys → Appends old new xs → Appends old other ys → new ≡ other

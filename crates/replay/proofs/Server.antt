@@ -21,25 +21,25 @@ use Rattle.captures.specs.declared.version.Version.{Version}
 use Rattle.captures.specs.Captures.{tier_of, IsCapture, IsRecord, IsCaptureText, size_of, sizes_of, tick_of, ticks_of}
 use Rattle.captures.specs.Readers.{Fits, Gave, FailsNext}
 use Rattle.captures.proofs.Tiers.{tier_of_none, tier_of_piece, tier_of_end, tier_of_tier}
-use Rattle.replay.specs.Tiers.{tier_at, AreTiers}
-use Rattle.replay.specs.Batches.{with_tier}
+use Rattle.arrivals.specs.Tiers.{tier_at, AreTiers}
+use Rattle.arrivals.specs.Batches.{with_tier}
 use Rattle.http_requests.specs.declared.messages.Message.{Message}
-use Rattle.replay.specs.declared.origin.Origin.{Origin}
+use Rattle.arrivals.specs.declared.origin.Origin.{Origin}
 use Rattle.replay.specs.declared.desk.Desk.{Desk}
 use Rattle.replay.specs.declared.outcome.Outcome.{Outcome}
-use Rattle.replay.specs.declared.connection.Connection.{Connection}
-use Rattle.replay.specs.declared.connection.Connection.TheVariants.{Silent, Open, Closed}
+use Rattle.arrivals.specs.declared.connection.Connection.{Connection}
+use Rattle.arrivals.specs.declared.connection.Connection.TheVariants.{Silent, Open, Closed}
 use Rattle.replay.specs.declared.replay_fault.ReplayFault.{ReplayFault}
 use Rattle.replay.specs.declared.replay_fault.ReplayFault.TheVariants as faults
 use Rattle.replay.specs.Choices.{Terms}
-use Rattle.replay.specs.Arrivals.{Arrival, AreArrivals, bytes_to, text_of, messages_of}
-use Rattle.replay.specs.Connections.{HasRead, HasRoom, ReadMore, HaveRead, connection_at, arrivals_with}
+use Rattle.arrivals.specs.Arrivals.{Arrival, AreArrivals, bytes_to, text_of, messages_of}
+use Rattle.arrivals.specs.Connections.{HasRead, HasRoom, ReadMore, HaveRead, connection_at, arrivals_with}
 use Rattle.replay.specs.Offers.{handled}
 use Rattle.replay.specs.Replies.{replies_of, first_line, last_line, text_before_stop, replies_text}
 use Rattle.replay.specs.Counting.{summary_of}
 use Rattle.replay.specs.Serving.{Stands, AreBy, IsLater, Serves, Written, WrittenInPart, ServesMore, ServesFull, ServesInPart}
 use Rattle.replay.specs.Outcomes.{Answers, AppendsInPart, told_as, capture_fault, IfCapture, IfTooMany, IfCutShort, IsOwn, IsWriteOrMemory, IsCutShort, StopsFull, Stops, Taken, WhereKnown, reader_failures, writer_failures}
-use Rattle.replay.proofs.Arriving.{from_piece, reads_none, arrives_none, reads_piece, reads_end, reads_tier, arrives_piece, arrives_end, arrives_tier}
+use Rattle.arrivals.proofs.Arriving.{from_piece, reads_none, arrives_none, reads_piece, reads_end, reads_tier, arrives_piece, arrives_end, arrives_tier}
 use Rattle.replay.proofs.Writing.{appends_then, part_all, part_then, written_none, text_none, text_more, replies_count}
 use Rattle.replay.proofs.Judging.{answered_is}
 
@@ -278,10 +278,6 @@ pub sizes_left : (v : Version) (text now : Option (List ℕ)) (start room : ℕ)
 sizes_left v text now start room records p r fits e = let h = fits.room in omega (arith, h, e)
 
 -- what the reader's answer says
-pub gave_some : (v : Version) (text now : Option (List ℕ)) (start : ℕ) (records : List Record) (p : Progress) (x : Option Record) (r : Record) → x ≡ Some r
-    → Gave v text start records (Ok x) p now → Fits v text start (records ++ r ∷ []) p now
-gave_some v text now start records p x r is h = subst (λ (o : Option Record). Gave v text start records (Ok o) p now) is h
-
 pub gave_end : (v : Version) (text now : Option (List ℕ)) (start : ℕ) (records : List Record) (p : Progress) (x : Option Record) → x ≡ None → Gave v text start records (Ok x) p now
     → WhereKnown text (λ bytes. IsCaptureText v bytes start records)
 gave_end v text now start records p x is h = subst (λ (o : Option Record). Gave v text start records (Ok o) p now) is h
@@ -367,7 +363,7 @@ told f P h = go f.kind refl
     go kinds.Read e = (rw e refl, h)
     go kinds.Memory e = tt
 
--- it isn't that messages are too many, and want of memory cuts short
+-- it isn't that messages are too many, and out of memory cuts short
 pub told_many : (f : CaptureFault) (P : ℕ → Type 0) → IfTooMany (capture_fault f) P
 told_many f P = go f.kind
   where
@@ -444,7 +440,7 @@ told_writes f = go f.kind
     go kinds.Read = refl
     go kinds.Memory = refl
 
--- a failed write or want of memory is neither the capture's nor that of too many messages
+-- a failed write or out of memory is neither the capture's nor that of too many messages
 pub short_capture : {T : Type 0} (r : Result T ReplayFault) (P : CaptureFault → Type 0) → IfErr r IsWriteOrMemory → IfErr r (λ f. IfCapture f P)
 short_capture (Ok x) P h = tt
 short_capture (Err (faults.Capture f)) P h = absurd h

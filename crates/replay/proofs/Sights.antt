@@ -24,7 +24,7 @@ use Rattle.http_requests.specs.declared.messages.What.TheVariants.{Request, Bad}
 use Rattle.cost_model.specs.Services.{CostTable}
 use Rattle.replay.specs.declared.sight.Sight.{Sight}
 use Rattle.replay.specs.declared.sight.Sight.TheVariants.{Unseen, Asked, Found, Priced}
-use Rattle.replay.specs.declared.incoming.Incoming.{Incoming}
+use Rattle.arrivals.specs.declared.incoming.Incoming.{Incoming}
 use Rattle.replay.specs.declared.sight.Sighted.{Sighted}
 use Rattle.std.specs.Prelude.{Option}
 use Rattle.paths.specs.Targets.{asked}

@@ -5,14 +5,14 @@ use Rattle.std.proofs.lemmas.List.{map-append, length-append, length-map}
 use Rattle.paths.specs.declared.file.File.{File}
 use Rattle.cost_model.specs.Services.{CostTable}
 use Rattle.replay.specs.Choices.{Terms}
-use Rattle.replay.specs.Arrivals.{Arrival}
+use Rattle.arrivals.specs.Arrivals.{Arrival}
 use Rattle.replay.specs.Offers.{handled_next, handled_behind}
 use Rattle.replay.specs.Replies.{slip_of}
 use Rattle.replay.specs.Serving.{Stands, AreBy}
 use Rattle.replay.specs.Fronts.{front_value, sight_of}
 use Rattle.replay.specs.Backs.{is_back, slip_of_ticket}
 use Rattle.replay.specs.Ticketing.{incoming_of, AreSighted, InTime}
-use Rattle.replay.specs.declared.incoming.Incoming.{Incoming}
+use Rattle.arrivals.specs.declared.incoming.Incoming.{Incoming}
 use Rattle.replay.specs.declared.sight.Sighted.{Sighted}
 use Rattle.replay.specs.declared.ticket.Ticket.{Ticket}
 use Rattle.replay.specs.declared.back_state.BackState.TheVariants.{Due as Waits}

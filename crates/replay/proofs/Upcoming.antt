@@ -9,17 +9,17 @@ use Rattle.paths.specs.declared.file.File.{File}
 use Rattle.cost_model.specs.Services.{CostTable}
 use Rattle.responses.specs.Records.{record_text}
 use Rattle.replay.specs.Choices.{Terms}
-use Rattle.replay.specs.Arrivals.{Arrival}
+use Rattle.arrivals.specs.Arrivals.{Arrival}
 use Rattle.replay.specs.Offers.{Handled}
 use Rattle.replay.specs.Replies.{slip_of, replies_of, reply_of}
 use Rattle.replay.specs.Serving.{Stands, records_behind, Written, WrittenInPart}
 use Rattle.replay.specs.Fronts.{front_value}
 use Rattle.replay.specs.Backs.{slip_of_ticket, reply_to}
-use Rattle.replay.specs.Batches.{joined}
+use Rattle.arrivals.specs.Batches.{joined}
 use Rattle.replay.specs.Ticketing.{incoming_of, AreOf, AreSighted, InTime}
 use Rattle.replay.specs.Outcomes.{AppendsInPart, IsWriteOrMemory, IfTooMany, IfCutShort}
 use Rattle.replay.specs.Waiting.{Upcoming}
-use Rattle.replay.specs.declared.incoming.Incoming.{Incoming}
+use Rattle.arrivals.specs.declared.incoming.Incoming.{Incoming}
 use Rattle.replay.specs.declared.sight.Sighted.{Sighted}
 use Rattle.replay.specs.declared.ticket.Ticket.{Ticket}
 use Rattle.replay.specs.declared.desk.Desk.{Desk}

@@ -6,10 +6,10 @@ use Rattle.std.proofs.Math.Seq.{take-suc, take-append-add}
 use Rattle.std.specs.Io.KnownBytes.{Appends}
 use Rattle.http_requests.specs.declared.messages.Message.{Message}
 use Rattle.responses.specs.Records.{record_text}
-use Rattle.replay.specs.declared.origin.Origin.{Origin}
+use Rattle.arrivals.specs.declared.origin.Origin.{Origin}
 use Rattle.replay.specs.Choices.{Terms}
-use Rattle.replay.specs.Arrivals.{Arrival}
-use Rattle.replay.specs.Connections.{arrivals_with}
+use Rattle.arrivals.specs.Arrivals.{Arrival}
+use Rattle.arrivals.specs.Connections.{arrivals_with}
 use Rattle.replay.specs.Offers.{handled_next, handled_behind, handled}
 use Rattle.replay.specs.Replies.{reply_of, replies_of, first_line, text_before_stop}
 use Rattle.replay.specs.Outcomes.{AppendsInPart}

@@ -9,7 +9,7 @@ use Rattle.admission.specs.Controls.{controls_until}
 use Rattle.admission.specs.Decisions.{decided}
 use Rattle.admission.specs.Fits.{tick_from}
 use Rattle.replay.specs.Choices.{Terms}
-use Rattle.replay.specs.Arrivals.{Arrival}
+use Rattle.arrivals.specs.Arrivals.{Arrival}
 use Rattle.replay.specs.Answers.{given}
 use Rattle.replay.specs.Offers.{Handled, offers_of, handled}
 use Rattle.replay.specs.declared.summary.Counts.{Counts}

@@ -27,7 +27,7 @@ use Rattle.admission.specs.Controls.{controls_until}
 use Rattle.admission.specs.OneTier.{decide_alone, decided_alone}
 use Rattle.admission.specs.Fits.{tick_from}
 use Rattle.replay.specs.declared.summary.Counts.{Counts}
-use Rattle.replay.specs.Arrivals.{Arrival, Precedes, text_of, messages_of}
+use Rattle.arrivals.specs.Arrivals.{Arrival, Precedes, text_of, messages_of}
 use Rattle.replay.specs.Answers.{is_head, answers_head, link_of, answer}
 use Rattle.replay.specs.Offers.{Handled, length_given, is_unmodified_file}
 use Rattle.replay.specs.Counting.{bypassed_of, rejected_of}

@@ -12,7 +12,7 @@ use Rattle.replay.specs.Answers.{is_head}
 use Rattle.replay.specs.Offers.{is_unmodified_file, length_given}
 use Rattle.replay.specs.declared.sight.Sight.{Sight}
 use Rattle.replay.specs.declared.sight.Sight.TheVariants.{Unseen, Asked, Found, Priced}
-use Rattle.replay.specs.declared.incoming.Incoming.{Incoming}
+use Rattle.arrivals.specs.declared.incoming.Incoming.{Incoming}
 use Rattle.replay.specs.declared.sight.Sighted.{Sighted}
 
 -- what is known of a message after one more step; one that breaks a rule passes unchanged

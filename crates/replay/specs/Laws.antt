@@ -7,7 +7,7 @@ use Rattle.admission.specs.Rules.{rules_of}
 use Rattle.paths.specs.declared.file.File.{File}
 use Rattle.replay.specs.declared.outcome.Outcome.{Outcome}
 use Rattle.replay.specs.declared.summary.Tally.{Tally}
-use Rattle.replay.specs.Arrivals.{Arrival, AreArrivals}
+use Rattle.arrivals.specs.Arrivals.{Arrival}
 use Rattle.replay.specs.Choices.{Choice, Terms, terms_of}
 use Rattle.replay.specs.Offers.{Handled, handled}
 use Rattle.replay.specs.Outcomes.{Answers}
@@ -24,15 +24,6 @@ abbrev pub OneAnswer : Type 0
 OneAnswer = (terms : Terms) (input old new other : Option (List ℕ)) (outcome another : Outcome)
     → is_some input ≡ true → is_some old ≡ true
     → Answers terms input old new outcome → Answers terms input old other another → (new ≡ other) × (outcome ≡ another)
-
--- two lists of the arrivals of the same records are one
-abbrev pub OneListOfArrivals : Type 0
-OneListOfArrivals = (records : List Record) (xs ys : List Arrival) → AreArrivals records xs → AreArrivals records ys → xs ≡ ys
-
--- more records add arrivals at the end
-abbrev pub ArrivalsBegin : Type 0
-ArrivalsBegin = (records more : List Record) (xs ys : List Arrival) → AreArrivals records xs → AreArrivals (records ++ more) ys
-    → (rest : List Arrival) × (ys ≡ xs ++ rest)
 
 -- more arrivals change nothing of the numbers and the rejections of those before
 abbrev pub HandledBegin : Type 0

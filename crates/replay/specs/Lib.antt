@@ -1,6 +1,3 @@
-pub mod Arrivals
-pub mod Tiers
-pub mod Connections
 pub mod Choices
 pub mod Answers
 pub mod Offers
@@ -14,7 +11,5 @@ pub mod Former
 pub mod Laws
 pub mod Fronts
 pub mod Backs
-pub mod Batches
 pub mod Ticketing
-pub mod Places
 pub mod Waiting

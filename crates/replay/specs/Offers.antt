@@ -14,8 +14,8 @@ use Rattle.admission.specs.Rules.{Rules}
 use Rattle.admission.specs.Requests.{Offer, is_rejected}
 use Rattle.admission.specs.Decisions.{decide, decided}
 use Rattle.replay.specs.Choices.{Terms}
-use Rattle.replay.specs.Arrivals.{Arrival}
-use Rattle.replay.specs.declared.origin.Origin.{Origin}
+use Rattle.arrivals.specs.Arrivals.{Arrival}
+use Rattle.arrivals.specs.declared.origin.Origin.{Origin}
 use Rattle.replay.specs.Answers.{is_head, is_unmodified}
 
 -- how many bytes the file has that a request is answered with, and whether they were not modified since the date that it names

@@ -12,7 +12,7 @@ use Rattle.captures.specs.Readers.{FailsNext}
 use Rattle.replay.specs.declared.replay_fault.ReplayFault.{ReplayFault}
 use Rattle.replay.specs.declared.replay_fault.ReplayFault.TheVariants.{Capture, TooMany, Memory, Write as Unwritten}
 use Rattle.replay.specs.declared.outcome.Outcome.{Outcome}
-use Rattle.replay.specs.Arrivals.{Arrival, AreArrivals}
+use Rattle.arrivals.specs.Arrivals.{Arrival, AreArrivals}
 use Rattle.replay.specs.Choices.{Terms}
 use Rattle.replay.specs.Offers.{handled}
 use Rattle.replay.specs.Counting.{rejected_of, summary_of}

@@ -7,12 +7,12 @@ use Rattle.responses.specs.Records.{record_text}
 use Rattle.admission.specs.Fits.{Fits}
 use Rattle.admission.specs.Standing.{policies_of}
 use Rattle.replay.specs.Choices.{Terms}
-use Rattle.replay.specs.Arrivals.{Arrival, AreArrivals}
-use Rattle.replay.specs.Connections.{HaveRead}
+use Rattle.arrivals.specs.Arrivals.{Arrival, AreArrivals}
+use Rattle.arrivals.specs.Connections.{HaveRead}
 use Rattle.replay.specs.Offers.{offers_of, handled_behind}
 use Rattle.replay.specs.Replies.{replies_of}
 use Rattle.replay.specs.Totals.{totals_of}
-use Rattle.replay.specs.declared.connection.Connection.{Connection}
+use Rattle.arrivals.specs.declared.connection.Connection.{Connection}
 use Rattle.replay.specs.declared.desk.Desk.{Desk}
 
 -- these messages were decided on and counted

@@ -2,10 +2,10 @@
 use Rattle.std.specs.Prelude.{◌≡◌, ◌<◌, ◌≤◌, List, [], ◌∷◌, ◌++◌, map}
 use Rattle.paths.specs.declared.file.File.{File}
 use Rattle.cost_model.specs.Services.{CostTable}
-use Rattle.replay.specs.Arrivals.{Arrival}
+use Rattle.arrivals.specs.Arrivals.{Arrival}
 use Rattle.replay.specs.Serving.{AreBy}
 use Rattle.replay.specs.Fronts.{front_value}
-use Rattle.replay.specs.declared.incoming.Incoming.{Incoming}
+use Rattle.arrivals.specs.declared.incoming.Incoming.{Incoming}
 use Rattle.replay.specs.declared.sight.Sighted.{Sighted}
 
 -- what an arrival brings: its message, and where that came from

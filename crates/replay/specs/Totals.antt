@@ -1,7 +1,7 @@
 -- What the engines count of the messages that they answered.
 use Rattle.std.specs.Prelude.{ℕ, ◌+◌, Bool, List, length, if◌then◌else◌}
 use Rattle.replay.specs.Choices.{Terms}
-use Rattle.replay.specs.Arrivals.{Arrival}
+use Rattle.arrivals.specs.Arrivals.{Arrival}
 use Rattle.replay.specs.Offers.{offers_of, handled}
 use Rattle.replay.specs.Counting.{counts_of, bypassed_of, rejected_of, samples_of, with_status}
 use Rattle.replay.specs.declared.summary.Counts.{Counts}

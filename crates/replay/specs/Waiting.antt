@@ -1,57 +1,18 @@
--- How a batch of records is read: its pieces wait at the seats of their connections.
-use Rattle.std.specs.Prelude.{◌≡◌, ℕ, ◌+◌, ◌≤◌, List, [], ◌∷◌, ◌++◌, map, Option, None, Ok, Err}
+-- A batch between its being read and served: its pieces wait at the seats of their connections.
+use Rattle.std.specs.Prelude.{◌≡◌, ℕ, ◌≤◌, List, [], ◌++◌, map}
 use Rattle.captures.specs.declared.record.Record.{Record}
-use Rattle.captures.specs.declared.progress.Progress.{Progress}
 use Rattle.captures.specs.declared.version.Version.{Version}
 use Rattle.captures.specs.Captures.{IsCapture, sizes_of}
-use Rattle.captures.specs.CaptureFaults.{failures_of}
-use Rattle.captures.specs.Readers.{Fits, Gave, FailsNext}
-use Rattle.replay.specs.Arrivals.{Arrival}
-use Rattle.replay.specs.Batches.{pieces_to, origins_of, tiers_of}
+use Rattle.arrivals.specs.Arrivals.{Arrival}
+use Rattle.arrivals.specs.Batches.{pieces_to, origins_of, tiers_of}
+use Rattle.arrivals.specs.Places.{Place, place_at}
+use Rattle.arrivals.specs.declared.connection.Connection.{Connection}
+use Rattle.arrivals.specs.declared.incoming.Incoming.{Incoming}
+use Rattle.arrivals.specs.declared.origin.Origin.{Origin}
 use Rattle.replay.specs.Choices.{Terms}
-use Rattle.replay.specs.Places.{Place, place_at}
 use Rattle.replay.specs.Serving.{Serves, Stands}
 use Rattle.replay.specs.Ticketing.{AreOf, InTime}
-use Rattle.replay.specs.declared.batch.Ending.{Ending}
-use Rattle.replay.specs.declared.batch.Ending.TheVariants.{More, End, Fault}
-use Rattle.replay.specs.declared.connection.Connection.{Connection}
 use Rattle.replay.specs.declared.desk.Desk.{Desk}
-use Rattle.replay.specs.declared.incoming.Incoming.{Incoming}
-use Rattle.replay.specs.declared.origin.Origin.{Origin}
-
--- a seat with more pieces behind those that wait
-abbrev pub with_pieces : Place → List (List ℕ) → Place
-with_pieces p pieces = record { connection = p.connection; pieces = p.pieces ++ pieces; lists = p.lists }
-
--- these records, in a batch: each seat has the pieces that they bring to its connection behind its own
-abbrev pub Adds : List Record → List Place → List Place → Type 0
-Adds rs old new = (c : ℕ) → place_at new c ≡ with_pieces (place_at old c) (pieces_to c rs)
-
-abbrev pub AddsOne : Record → List Place → List Place → Type 0
-AddsOne r old new = Adds (r ∷ []) old new
-
--- the reader has given these records, and after them what the ending says
-abbrev pub EndsWith : Version → Option (List ℕ) → ℕ → List Record → Ending → Progress → Option (List ℕ) → Type 0
-EndsWith v text start records More p now = Fits v text start records p now
-EndsWith v text start records End p now = Gave v text start records (Ok None) p now
-EndsWith v text start records (Fault f) p now =
-    Gave v text start records (Err f) p now × FailsNext v text start records (Err f) now
-
-pub record ReadOn (v : Version) (text : Option (List ℕ)) (start : ℕ) (records : List Record) (ending : Ending) (p : Progress)
-    (now : Option (List ℕ)) : Type 0 where
-  pub progress : Progress
-  pub ahead : Option (List ℕ)
-  pub fits : Fits v text start records progress ahead
-  pub ends : EndsWith v text start records ending p now
-
--- how often the reader failed
-abbrev pub CountsEnding : ℕ → ℕ → Ending → Type 0
-CountsEnding old new (Fault f) = new ≡ old + failures_of f.kind
-CountsEnding old new other = new ≡ old
-
-abbrev pub IfMore : Ending → Type 0 → Type 0
-IfMore More P = P
-IfMore other P = Unit {0}
 
 -- the connections at the seats
 abbrev pub connections_of : List Place → List Connection

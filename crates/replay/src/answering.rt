@@ -1,8 +1,8 @@
 ghost use Rattle.std.specs.Prelude.{◌≡◌, ◌<◌, ◌≤◌, ◌-◌, ◌+◌, ◌^◌, ◌++◌, ◌∷◌, [], ℕ, List, true, length, take, OnOk};
 ghost use Rattle.std.specs.Prelude.{IfOk, IfErr};
 ghost use Rattle.replay.specs.Choices.{terms_of};
-ghost use Rattle.replay.specs.Arrivals.{Arrival};
-ghost use Rattle.replay.specs.Connections.{arrivals_with};
+ghost use Rattle.arrivals.specs.Arrivals.{Arrival};
+ghost use Rattle.arrivals.specs.Connections.{arrivals_with};
 ghost use Rattle.replay.specs.Outcomes.{CountsBy, writer_failures, IsOwn, IfTooMany, IfCutShort};
 ghost use Rattle.replay.specs.Serving.{Stands, AreBy, Written, WrittenInPart};
 ghost use Rattle.replay.specs.Fronts.{sight_of};
@@ -12,11 +12,11 @@ ghost use Rattle.replay.specs.declared.back_state.BackState.TheVariants.{Due as 
 use crate::answers::{answers_head, service_of};
 use crate::deciding::settle;
 use crate::desk::Desk;
-use crate::origin::Origin;
 use crate::service_time::ServiceTime;
 use crate::sight::Sight;
 use crate::ticket::{Due, Ticket};
 use crate::{MOST_MESSAGES, ReplayFault, Settings};
+use arrivals::Origin;
 use cost_model::Costs;
 use http_requests::{Message, What as Meaning};
 use page_cache::Page;

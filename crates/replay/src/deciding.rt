@@ -1,7 +1,7 @@
 ghost use Rattle.std.specs.Prelude.{◌≡◌, ◌<◌, ◌≤◌, ◌+◌, ◌∷◌, ◌++◌, [], true, List, length, map, IfOk, OnOk};
 ghost use Rattle.std.specs.List.{list_all};
 ghost use Rattle.replay.specs.Choices.{terms_of};
-ghost use Rattle.replay.specs.Arrivals.{Arrival};
+ghost use Rattle.arrivals.specs.Arrivals.{Arrival};
 ghost use Rattle.replay.specs.Offers.{handled_next, handled_behind};
 ghost use Rattle.replay.specs.Replies.{slip_of};
 ghost use Rattle.replay.specs.Serving.{Stands, AreBy};
@@ -12,10 +12,10 @@ ghost use Rattle.replay.specs.declared.back_state.BackState.TheVariants.{Due as 
 
 use crate::answers::{answers_head, link_of};
 use crate::desk::Desk;
-use crate::origin::Origin;
 use crate::sight::{Sight, Sighted};
 use crate::ticket::Ticket;
 use crate::{MOST_MESSAGES, Settings};
+use arrivals::Origin;
 use http_requests::What as Meaning;
 use paths::{Snapshot, Tree};
 use std::alloc::{AllocError, Global};

@@ -11,12 +11,12 @@ ghost use Rattle.replay.specs.Fronts.{sight_of};
 ghost use Rattle.replay.specs.Backs.{told, only_head, has_location, is_due};
 
 use crate::answers::{answers_head, fault_status, outcome_answer};
-use crate::origin::Origin;
 use crate::sight::Sight;
 use crate::ticket::Due;
 use crate::totals::Totals;
 use crate::{MOST_MESSAGES, Settings};
 use admission::{Controller, Decision, MAX_SERVICE, MAX_TICK};
+use arrivals::Origin;
 use http_requests::What as Meaning;
 use paths::{Snapshot, Tree};
 use responses::{Status, What};

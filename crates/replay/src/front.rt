@@ -6,9 +6,9 @@ ghost use Rattle.stage_graph.specs.Steps.{value_of};
 ghost use Rattle.replay.specs.Fronts.{sight_after, front_step, unseen, unseen_at, IsSight};
 
 use crate::answers::{answers_head, service_of};
-use crate::incoming::Incoming;
 use crate::service_time::ServiceTime;
 use crate::sight::{Sight, Sighted};
+use arrivals::Incoming;
 use cost_model::Costs;
 use http_requests::What as Meaning;
 use paths::{Snapshot, Tree, inspect, locate};
@@ -22,7 +22,7 @@ use std::thread::Threads;
 pub trait Fronts {
     ghost use Rattle.std.specs.Prelude.{List};
     ghost use Rattle.cost_model.specs.Services.{CostTable};
-    ghost use Rattle.replay.specs.declared.incoming.Incoming.{Incoming};
+    ghost use Rattle.arrivals.specs.declared.incoming.Incoming.{Incoming};
 
     ghost messages: { List Incoming };
 

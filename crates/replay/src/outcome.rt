@@ -1,4 +1,5 @@
-use crate::{Series, Summary};
+use crate::Summary;
+use arrivals::Series;
 
 /// What a replay has come to.
 #[derive(Debug, Drop)]

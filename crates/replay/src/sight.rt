@@ -1,5 +1,5 @@
-use crate::incoming::Incoming;
 use crate::service_time::ServiceTime;
+use arrivals::Incoming;
 use paths::{Asked, Outcome};
 
 /// How far a message was looked into before it is decided on.

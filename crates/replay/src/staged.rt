@@ -1,25 +1,21 @@
 ghost use Rattle.std.specs.Prelude.{◌≡◌, ◌<◌, ◌≤◌, ◌-◌, ◌+◌, ◌^◌, ◌++◌, ◌⊎◌, [], ℕ, List};
 ghost use Rattle.std.specs.Prelude.{IfOk, IfErr, OnOk, OnErr};
 ghost use Rattle.captures.specs.declared.record.Record.{Record as ARecord};
-ghost use Rattle.replay.specs.Arrivals.{Arrival};
+ghost use Rattle.arrivals.specs.Arrivals.{Arrival};
 ghost use Rattle.replay.specs.Choices.{terms_of};
 ghost use Rattle.replay.specs.Outcomes.{Answers, IfCapture, IfTooMany, IfCutShort, IsCutShort, IsOwn, Stops};
 ghost use Rattle.replay.specs.Outcomes.{StopsFull, CountsBy, BlamedOnce, reader_failures, writer_failures};
 ghost use Rattle.replay.specs.Serving.{ServesMore, ServesFull, ServesInPart};
 ghost use Rattle.replay.specs.Waiting.{ComeNext, Waiting, connections_of};
 
-use crate::batch::{Ending, read_batch};
 use crate::desk::Desk;
-use crate::origin::Origin;
 use crate::outcome::Outcome;
-use crate::parts::parts_of;
 use crate::plain::{outcome_of, write_first_line, write_last_line};
-use crate::seats::Seats;
 use crate::serving::serve_parts;
-use crate::tiers::Tiers;
 use crate::totals::Totals;
 use crate::{MOST_MESSAGES, ReplayFault, Settings};
 use admission::Controller;
+use arrivals::{Ending, Origin, Seats, Tiers, parts_of, read_batch};
 use captures::CaptureReader;
 use page_cache::PageCache;
 use paths::{Input, Output, Snapshot, Tree};

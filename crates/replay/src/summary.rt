@@ -1,5 +1,5 @@
-use crate::Series;
 use admission::Control;
+use arrivals::Series;
 
 /// How many messages were answered with each status.
 #[derive(Clone, Copy, Debug, PartialEq, Eq)]

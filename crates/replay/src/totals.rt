@@ -4,10 +4,10 @@ ghost use Rattle.replay.specs.Counting.{AreBelow, breaks_a_rule};
 ghost use Rattle.replay.specs.Totals.{no_counts, noted};
 ghost use Rattle.replay.specs.Backs.{told};
 
-use crate::Series;
 use crate::counting::{NONE, breaks_a_rule};
 use crate::summary::Counts;
 use crate::ticket::Due;
+use arrivals::Series;
 use http_requests::What as Meaning;
 use paths::Tree;
 use responses::What;

@@ -3,7 +3,5 @@
 
 mod percentiles;
 mod reports;
-#[cfg(test)]
-mod tests;
 
 pub use reports::report;

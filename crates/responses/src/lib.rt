@@ -10,8 +10,6 @@ mod reply;
 mod shared_page;
 mod slip;
 mod status;
-#[cfg(test)]
-mod tests;
 mod what;
 mod write_fault;
 

@@ -112,7 +112,7 @@ fn shared_page<F: Tree>(what: What<F>) -> Option<SharedPage<F>>
     }
 }
 
-/// The reply of a slip. The page is shared, and its bytes are not copied. An `Err` is want of memory.
+/// The reply of a slip. The page is shared, and its bytes are not copied. An `Err` is out of memory.
 ///
 /// A client that reads it from a connection finds this status and this body, whatever follows (RFC 9112, section 6.3).
 pub fn render<F: Tree>(alloc: Global, slip: Slip<F>) -> Result<Reply<F>, AllocError>

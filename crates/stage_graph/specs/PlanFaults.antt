@@ -15,7 +15,7 @@ plan_fault cuts crews capacities =
     else Some Workers)
     else Some Order)
 
--- an answer names the fault, or want of memory where there is none
+-- an answer names the fault, or out of memory where there is none
 abbrev pub AnswersFault : Option PlanFault → Result Layout PlanFault → Type 0
 AnswersFault fault (Ok p) = fault ≡ None
 AnswersFault fault (Err Empty) = fault ≡ Some Empty

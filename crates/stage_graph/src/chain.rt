@@ -39,7 +39,7 @@ pub trait Chain {
     fn steps(&self) -> usize
         ensures { result ≡ steps };
 
-    /// Does one more step. `Err` is want of memory, and gives the item back with its number and its steps.
+    /// Does one more step. `Err` is out of memory, and gives the item back with its number and its steps.
     fn work(&self, item: Self::Item) -> Result<Self::Item, Self::Item>
         requires { Self.Item.done_of item < steps }
         ensures ok { IfOk result (λ x. (Self.Item.number_of x ≡ Self.Item.number_of item) × (Self.Item.done_of x ≡ Self.Item.done_of item + 1)) }

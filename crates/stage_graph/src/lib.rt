@@ -20,6 +20,3 @@ pub use plan::{Plan, PlanFault};
 pub use run::{Gate, NoGate, run_floor};
 pub use stage_queue::Memory;
 pub use unrun::Unrun;
-
-#[cfg(test)]
-mod tests;

@@ -36,7 +36,7 @@ fn two_slots(rt: HostRuntime) -> Result<(), Fail> {
     Ok(())
 }
 
-// A room that no memory can hold is refused, and taken for want of memory.
+// A room that no memory can hold is refused, and taken for out of memory.
 #[test]
 fn room_past_all_memory(rt: HostRuntime) -> Result<(), Fail> {
     let queue: Result<Queue<u64>, Memory> = Queue::new(rt.alloc(), usize::MAX);

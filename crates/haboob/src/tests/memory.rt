@@ -4,7 +4,7 @@ use super::reports::{CAPTURE, REPORT};
 use super::running::{FIRST_RUN, Narrow, REPLIES, SNAPSHOT, run_tight};
 use crate::program::run_program;
 use crate::told::Told;
-use options::Engine;
+use command_line::Engine;
 use std::alloc::AllocGlobal;
 use std::process::Abort;
 use std::sync::Wait;

@@ -2,8 +2,8 @@ use Rattle.std.proofs.Common.{◌≡◌, ℕ, ◌+◌, List, [], ◌∷◌, ◌+
 use Rattle.std.proofs.lemmas.Grind.{common_steps}
 use Rattle.std.proofs.lemmas.List.{append_assoc}
 use Rattle.replay.specs.Choices.{terms_of}
-use Rattle.replay.specs.Arrivals.{Arrival}
-use Rattle.replay.specs.Connections.{arrivals_with}
+use Rattle.arrivals.specs.Arrivals.{Arrival}
+use Rattle.arrivals.specs.Connections.{arrivals_with}
 use Rattle.replay.specs.Serving.{Written}
 use Rattle.replay.proofs.Writing.{arrivals_step, written_none, written_more, part_more}
 use Rattle.replay.proofs.Judging.{by_more, passed_on, on_many, on_cut}

@@ -1,7 +1,7 @@
 use Rattle.std.proofs.Common.{◌≡◌, ℕ, ◌+◌, ◌++◌, List, take}
 use Rattle.replay.specs.Choices.{terms_of}
-use Rattle.replay.specs.Arrivals.{Arrival}
-use Rattle.replay.specs.Connections.{arrivals_with}
+use Rattle.arrivals.specs.Arrivals.{Arrival}
+use Rattle.arrivals.specs.Connections.{arrivals_with}
 use Rattle.replay.specs.Serving.{Stands, Written}
 use Rattle.replay.proofs.answering.answer_all.Given as goal
 

@@ -1,6 +1,6 @@
 use Rattle.std.proofs.Common.{ap, rules}
-use Rattle.replay.specs.declared.incoming.Incoming.{Incoming}
-use Rattle.replay.proofs.Laid.{none_left}
+use Rattle.arrivals.specs.declared.incoming.Incoming.{Incoming}
+use Rattle.arrivals.proofs.Laid.{none_left}
 use Rattle.replay.proofs.Ticketed.{settled_none, next_is, settled_more, settled_last}
 use Rattle.replay.proofs.deciding.decide_all.Goals as goal
 

@@ -1,4 +1,4 @@
-use Rattle.replay.proofs.ArrivalLaws as lemmas
+use Rattle.replay.proofs.Handling as lemmas
 use Rattle.replay.proofs.laws.floors_change_nothing.Goals as goal
 
 pub returns : goal.returns

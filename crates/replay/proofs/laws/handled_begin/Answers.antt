@@ -1,4 +1,4 @@
-use Rattle.replay.proofs.ArrivalLaws as lemmas
+use Rattle.replay.proofs.Handling as lemmas
 use Rattle.replay.proofs.laws.handled_begin.Goals as goal
 
 pub returns : goal.returns

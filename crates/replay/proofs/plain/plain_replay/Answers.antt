@@ -6,7 +6,8 @@ use Rattle.replay.specs.Replies.{replies_of, text_before_stop}
 use Rattle.replay.specs.Outcomes.{Stops, IsCutShort}
 use Rattle.replay.proofs.Writing.{part_all}
 use Rattle.replay.proofs.Judging.{stands_none, cut_short, passed_on, on_many, on_cut}
-use Rattle.replay.proofs.Server.{serves_none, no_tiers, first_written, more_written, sizes_left, is_later, gave_some, gave_end, answers_all, ends_in_part, told, told_short, own_capture, stops_first, stops_told, stops_full, short_among, short_part}
+use Rattle.arrivals.proofs.Gathering.{gave_some}
+use Rattle.replay.proofs.Server.{serves_none, no_tiers, first_written, more_written, sizes_left, is_later, gave_end, answers_all, ends_in_part, told, told_short, own_capture, stops_first, stops_told, stops_full, short_among, short_part}
 use Rattle.replay.proofs.plain.plain_replay.Goals as goal
 
 pub returns-in-Err-clause-stops : goal.returns-in-Err-clause-stops

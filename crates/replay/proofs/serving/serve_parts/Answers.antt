@@ -1,7 +1,7 @@
 use Rattle.std.proofs.Common.{◌≡◌, ◌≤◌, ◌+◌, ◌∙◌, ◌++◌, take, drop, length, refl, ap, arith, rules}
 use Rattle.replay.proofs.Judging.{passed_on, on_many, on_cut}
 use Rattle.replay.proofs.Writing.{written_more, part_more}
-use Rattle.replay.proofs.Laid.{none_left}
+use Rattle.arrivals.proofs.Laid.{none_left}
 use Rattle.replay.proofs.Upcoming.{served_none, next_come_as, answered_now, served_more, served_all, taken_behind}
 use Rattle.replay.proofs.serving.serve_parts.Goals as goal
 

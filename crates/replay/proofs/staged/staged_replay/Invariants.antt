@@ -4,11 +4,11 @@ use Rattle.captures.specs.declared.version.Version.{Version}
 use Rattle.captures.specs.Readers.{Fits}
 use Rattle.captures.specs.declared.record.Record.{Record}
 use Rattle.replay.specs.Choices.{terms_of}
-use Rattle.replay.specs.Arrivals.{Arrival}
+use Rattle.arrivals.specs.Arrivals.{Arrival}
 use Rattle.replay.specs.Offers.{handled}
 use Rattle.replay.specs.Replies.{replies_of, text_before_stop}
 use Rattle.replay.specs.Serving.{Serves}
-use Rattle.replay.specs.Tiers.{AreTiers}
+use Rattle.arrivals.specs.Tiers.{AreTiers}
 use Rattle.replay.specs.Waiting.{Waiting, connections_of}
 use Rattle.replay.proofs.staged.staged_replay.Given as goal
 

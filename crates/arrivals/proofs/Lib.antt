@@ -1,0 +1,9 @@
+pub mod Reading
+pub mod Arriving
+pub mod Merging
+pub mod ArrivalLaws
+pub mod CutBatches
+pub mod Merges
+pub mod Laid
+pub mod Tiered
+pub mod Gathering

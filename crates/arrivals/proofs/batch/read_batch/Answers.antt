@@ -1,0 +1,84 @@
+use Rattle.std.proofs.Common.{◌∷◌, ◌++◌, [], ◌∙◌, refl, sym, ap, arith, append_assoc, append-nil}
+use Rattle.arrivals.specs.Batches.{origins_of, tiers_of}
+use Rattle.arrivals.proofs.Gathering.{adds_none, adds_more, origins_push, gave_some}
+use Rattle.arrivals.proofs.batch.read_batch.Goals as goal
+
+pub loop-alloc-init : goal.loop-alloc-init
+loop-alloc-init g c =
+    let none = c.new-origins.ensures.items in
+    let len = c.new-origins.ensures.len in (
+      (
+        [],
+        adds_none c.args.seats.now,
+        λ records are. (none, rw (append-nil records) are),
+        λ v text start records fits. rw (append-nil records) fits,
+      ),
+      c.requires.stage,
+      omega (arith, len),
+      refl,
+      refl,
+    )
+
+pub returns-in-Ok-None-clause-batch : goal.returns-in-Ok-None-clause-batch
+returns-in-Ok-None-clause-batch g c =
+    let inv = c.loop-alloc.invariant.0 in (
+      inv.0,
+      inv.1,
+      inv.2,
+      λ v text start records fits. record {
+        progress = _;
+        ahead = _;
+        fits = inv.3 v text start records fits;
+        ends = rw c.in-Ok-None.field-0-is at (c.in-Ok-None.ensures.next v text start (records ++ inv.0) (inv.3 v text start records fits));
+      },
+    )
+
+pub returns-in-Err-clause-batch : goal.returns-in-Err-clause-batch
+returns-in-Err-clause-batch g c =
+    let inv = c.loop-alloc.invariant.0 in (
+      inv.0,
+      inv.1,
+      inv.2,
+      λ v text start records fits. record {
+        progress = _;
+        ahead = _;
+        fits = inv.3 v text start records fits;
+        ends = (
+          c.in-Err.ensures.next v text start (records ++ inv.0) (inv.3 v text start records fits),
+          c.in-Err.ensures.failed v text start (records ++ inv.0) (inv.3 v text start records fits),
+        );
+      },
+    )
+
+pub take_record-requires : goal.take_record-requires
+take_record-requires g c = record { limits = (c.loop-alloc.capture.progress.version, rw c.in-Ok-Some.field-0-is at c.in-Ok-Some.ensures.limits) }
+
+pub loop-alloc-preserved : goal.loop-alloc-preserved
+loop-alloc-preserved g c =
+    let inv = c.loop-alloc.invariant in
+    let r = c.in-Ok-Some.next in
+    let took = c.in_ok-take_record.ensures in
+    let read = c.in-Ok-Some.ensures in
+    let room = rw c.in-Ok-Some.field-0-is at read.room in
+    let before = inv.2 in (
+      (
+        inv.0.0 ++ r ∷ [],
+        adds_more inv.0.0 r _ _ _ inv.0.1 took.seats,
+        λ records tiers.
+            (let own = inv.0.2 records tiers in (
+              took.origins (records ++ inv.0.0) own.1 ∙ ap (λ os. os ++ origins_of (tiers_of (records ++ inv.0.0)) (r ∷ [])) own.0 ∙ sym (origins_push records inv.0.0 r),
+              rw (append_assoc records inv.0.0 (r ∷ [])) at (took.tiers (records ++ inv.0.0) own.1),
+            )),
+        λ v text start records fits.
+            rw (append_assoc records inv.0.0 (r ∷ [])) at (gave_some v text _ start (records ++ inv.0.0) _ _ r c.in-Ok-Some.field-0-is (read.next v text start (records ++ inv.0.0) (inv.0.3 v text start records fits))),
+      ),
+      rw c.in-Ok-Some.field-0-is at read.stage,
+      (let few = took.len in omega (arith, room, before, few)),
+      read.count ∙ inv.3,
+      read.same ∙ inv.4,
+    )
+
+pub returns-clause-batch : goal.returns-clause-batch
+returns-clause-batch g c =
+    let inv = c.loop-alloc.invariant.0 in
+    (inv.0, inv.1, inv.2, λ v text start records fits. record { progress = _; ahead = _; fits = inv.3 v text start records fits; ends = inv.3 v text start records fits })

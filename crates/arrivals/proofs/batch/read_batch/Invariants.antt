@@ -1,0 +1,22 @@
+use Rattle.std.proofs.Common.{◌≡◌, ◌+◌, ◌≤◌, ℕ, List, Option, ◌++◌, vec_len}
+use Rattle.captures.specs.declared.version.Version.{Version}
+use Rattle.captures.specs.Readers.{Fits}
+use Rattle.captures.specs.declared.record.Record.{Record}
+use Rattle.captures.specs.declared.stage.Stage.TheVariants.{Reading}
+use Rattle.arrivals.specs.Batches.{origins_of, tiers_of}
+use Rattle.arrivals.specs.Tiers.{AreTiers}
+use Rattle.arrivals.specs.Gathering.{Adds}
+use Rattle.arrivals.proofs.batch.read_batch.Given as goal
+
+-- some records were read, their pieces wait, and their connections have the tiers that they gave
+abbrev pub invariant-loop-alloc : goal.invariant-loop-alloc
+invariant-loop-alloc g l =
+    ((rs : List Record) × Adds rs l.fn.seats l.seats
+    × ((records : List Record) → AreTiers records l.fn.tiers → (l.origins.items ≡ origins_of (tiers_of records) rs) × AreTiers (records ++ rs) l.tiers)
+    × ((v : Version) (text : Option (List ℕ)) (start : ℕ) (records : List Record) → Fits v text start records l.fn.capture.progress l.fn.capture.input.now.0
+    → Fits v text start (records ++ rs) l.capture.progress l.capture.input.now.0))
+    × (l.capture.progress.stage ≡ Reading) × (l.capture.progress.room + vec_len l.origins ≤ l.fn.capture.progress.room)
+    × (l.capture.input.now.1 ≡ l.fn.capture.input.now.1) × (l.capture.input.ghost_name ≡ l.fn.capture.input.ghost_name)
+
+abbrev pub decreases-loop-alloc : goal.decreases-loop-alloc
+decreases-loop-alloc g l = l.capture.progress.room

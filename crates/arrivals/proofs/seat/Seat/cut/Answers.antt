@@ -1,0 +1,22 @@
+use Rattle.std.proofs.Common.{◌≡◌, ◌+◌, ◌<◌, length, [], ◌∷◌, ◌++◌, take, drop, get_or, sym, ap, ◌∙◌}
+use Rattle.std.proofs.lemmas.List.{drop_more, take_more}
+use Rattle.arrivals.specs.Batches.{Reads}
+use Rattle.arrivals.proofs.CutBatches.{reads_push, can_read_more}
+use Rattle.arrivals.proofs.seat.Seat.cut.Goals as goal
+
+-- one more piece is read
+pub loop-piece-preserved : goal.loop-piece-preserved
+loop-piece-preserved c =
+    let inv = c.loop-piece.invariant in
+    let pieces = c.args.self.pieces in
+    let i = c.loop-piece.piece-index in
+    let p = c.piece-item.result in
+    let same : pieces ≡ c.deref-piece-items.result.now = ap (λ p. p.pieces) (sym c.self.view_is) ∙ sym c.deref-piece-items.ensures.value in
+    let lt : i < length pieces = rw same c.loop-piece-test.true in
+    let at : get_or pieces i p ≡ p = rw same (sym c.piece-item.is) in
+    let front : take (i + 1) pieces ≡ take i pieces ++ p ∷ [] = take_more pieces i p lt ∙ ap (λ x. take i pieces ++ x ∷ []) at in
+    let behind : drop i pieces ≡ p ∷ drop (i + 1) pieces = drop_more pieces i p lt ∙ ap (λ x. x ∷ drop (i + 1) pieces) at in
+    let reads : Reads c.loop-piece.connection p c.from_vec.result c.in_ok-connection.connection = rw (← c.as_slice.ensures, c.from_vec.ensures) c.in_ok-connection.ensures in (
+      rw (front, c.in_ok-push.ensures.items) (reads_push c.args.self.connection c.loop-piece.connection c.in_ok-connection.connection (take i pieces) p c.loop-piece.lists.items c.from_vec.result inv.0 reads),
+      can_read_more c.loop-piece.connection c.in_ok-connection.connection p (drop (i + 1) pieces) c.from_vec.result (rw behind at inv.1) reads,
+    )

@@ -1,0 +1,44 @@
+-- What is kept of the connections of a capture between two of its records.
+use Rattle.std.specs.Prelude.{◌≡◌, ℕ, ◌+◌, ◌≤◌, Bool, List, [], ◌++◌, length, map, slice_index_or}
+use Rattle.std.specs.List.{list_any}
+use Rattle.captures.specs.declared.record.Record.{Record}
+use Rattle.http_requests.specs.declared.messages.Message.{Message}
+use Rattle.http_requests.specs.Framing.{MessagesOf, closes}
+use Rattle.http_requests.specs.Cutting.{Fits, EndBetween}
+use Rattle.arrivals.specs.Arrivals.{Arrival, text_of, messages_of}
+use Rattle.arrivals.specs.declared.origin.Origin.{Origin}
+use Rattle.arrivals.specs.declared.connection.Connection.{Connection}
+use Rattle.arrivals.specs.declared.connection.Connection.TheVariants.{Silent, Open, Closed}
+
+-- the connection has read this text, whose messages are these; those of a closed one stay, whatever follows
+abbrev pub HasRead : Connection → List ℕ → List Message → Type 0
+HasRead Silent text ms = (text ≡ []) × (ms ≡ [])
+HasRead (Open cutter) text ms = Fits text ms cutter
+HasRead Closed text ms = (more : List ℕ) → MessagesOf (text ++ more) ms
+
+-- the connection may read so many bytes more
+abbrev pub HasRoom : Connection → ℕ → Type 0
+HasRoom Silent n = n ≤ 1073741824
+HasRoom (Open cutter) n = cutter.read + n ≤ 1073741824
+HasRoom Closed n = Unit {0}
+
+-- some message closes the connection
+abbrev pub some_closes : List Message → Bool
+some_closes ms = list_any (λ m. closes m.what) ms
+
+-- one more piece was read: these are the messages that end in it
+pub record ReadMore (text : List ℕ) (ms : List Message) (after : Connection) (piece : List ℕ) (more : List Message) : Type 0 where
+  pub has : HasRead after (text ++ piece) (ms ++ more)
+  pub in_piece : EndBetween (length text) (length text + length piece) more
+
+-- the connection of a number, silent where none is kept
+abbrev pub connection_at : List Connection → ℕ → Connection
+connection_at connections c = slice_index_or connections c Silent
+
+-- each connection has read its text of these records, and the arrivals are the messages of all
+pub record HaveRead (records : List Record) (arrivals : List Arrival) (connections : List Connection) : Type 0 where
+  pub each : (c : ℕ) → HasRead (connection_at connections c) (text_of c records) (messages_of c arrivals)
+
+-- the arrivals of these messages with the piece at this place
+abbrev pub arrivals_with : ℕ → Origin → List Message → List Arrival
+arrivals_with place origin ms = map (λ m. record { origin = origin; place = place; message = m }) ms

@@ -1,0 +1,45 @@
+-- How a batch of records is read: its pieces wait at the seats of their connections.
+use Rattle.std.specs.Prelude.{◌≡◌, ℕ, ◌+◌, List, [], ◌∷◌, ◌++◌, Option, None, Ok, Err}
+use Rattle.captures.specs.declared.record.Record.{Record}
+use Rattle.captures.specs.declared.progress.Progress.{Progress}
+use Rattle.captures.specs.declared.version.Version.{Version}
+use Rattle.captures.specs.CaptureFaults.{failures_of}
+use Rattle.captures.specs.Readers.{Fits, Gave, FailsNext}
+use Rattle.arrivals.specs.Batches.{pieces_to}
+use Rattle.arrivals.specs.Places.{Place, place_at}
+use Rattle.arrivals.specs.declared.batch.Ending.{Ending}
+use Rattle.arrivals.specs.declared.batch.Ending.TheVariants.{More, End, Fault}
+
+-- a seat with more pieces behind those that wait
+abbrev pub with_pieces : Place → List (List ℕ) → Place
+with_pieces p pieces = record { connection = p.connection; pieces = p.pieces ++ pieces; lists = p.lists }
+
+-- these records, in a batch: each seat has the pieces that they bring to its connection behind its own
+abbrev pub Adds : List Record → List Place → List Place → Type 0
+Adds rs old new = (c : ℕ) → place_at new c ≡ with_pieces (place_at old c) (pieces_to c rs)
+
+abbrev pub AddsOne : Record → List Place → List Place → Type 0
+AddsOne r old new = Adds (r ∷ []) old new
+
+-- the reader has given these records, and after them what the ending says
+abbrev pub EndsWith : Version → Option (List ℕ) → ℕ → List Record → Ending → Progress → Option (List ℕ) → Type 0
+EndsWith v text start records More p now = Fits v text start records p now
+EndsWith v text start records End p now = Gave v text start records (Ok None) p now
+EndsWith v text start records (Fault f) p now =
+    Gave v text start records (Err f) p now × FailsNext v text start records (Err f) now
+
+pub record ReadOn (v : Version) (text : Option (List ℕ)) (start : ℕ) (records : List Record) (ending : Ending) (p : Progress)
+    (now : Option (List ℕ)) : Type 0 where
+  pub progress : Progress
+  pub ahead : Option (List ℕ)
+  pub fits : Fits v text start records progress ahead
+  pub ends : EndsWith v text start records ending p now
+
+-- how often the reader failed
+abbrev pub CountsEnding : ℕ → ℕ → Ending → Type 0
+CountsEnding old new (Fault f) = new ≡ old + failures_of f.kind
+CountsEnding old new other = new ≡ old
+
+abbrev pub IfMore : Ending → Type 0 → Type 0
+IfMore More P = P
+IfMore other P = Unit {0}

@@ -1,0 +1,112 @@
+ghost use Rattle.std.specs.Prelude.{◌≡◌, ◌<◌, ◌≤◌, ◌-◌, ◌^◌, ◌++◌, ◌∷◌, [], ℕ, List, Option, length, vec_len, ◌+◌};
+ghost use Rattle.std.specs.Prelude.{IfOk, IfErr, OnOk, MatchResult};
+ghost use Rattle.captures.specs.declared.version.Version.{Version as AVersion};
+ghost use Rattle.captures.specs.Captures.{IsRecord};
+ghost use Rattle.captures.specs.Readers.{Fits};
+ghost use Rattle.captures.specs.declared.record.Record.{Record as ARecord};
+ghost use Rattle.captures.specs.declared.stage.Stage.TheVariants.{Reading};
+ghost use Rattle.arrivals.specs.Batches.{origins_of, tiers_of};
+ghost use Rattle.arrivals.specs.Tiers.{AreTiers};
+ghost use Rattle.arrivals.specs.Gathering.{AddsOne, Adds, ReadOn, CountsEnding, IfMore};
+
+use crate::origin::Origin;
+use crate::seats::Seats;
+use crate::tiers::Tiers;
+use captures::{CaptureFault, CaptureReader, Record};
+use std::alloc::{AllocError, Global};
+use std::io::Read;
+
+/// What came after the records of a batch.
+#[derive(Drop)]
+pub enum Ending {
+    /// There may be more records.
+    More,
+    /// The last line, and the end of the input.
+    End,
+    /// A fault of the capture.
+    Fault(CaptureFault),
+}
+
+/// A batch of records: where its pieces came from, and what came after it.
+#[derive(Drop)]
+pub struct Batch {
+    pub origins: Vec<Origin>,
+    pub ending: Ending,
+}
+
+/// Takes a record into a batch: the bytes of a piece wait at the seat of its connection, which has the tier that it was given.
+fn take_record(
+    alloc: Global,
+    next: Record,
+    seats: &mut Seats,
+    tiers: &mut Tiers,
+    origins: &mut Vec<Origin>,
+) -> Result<(), AllocError>
+    requires limits { (version : AVersion) × IsRecord version next }
+    ensures seats { OnOk result (AddsOne next seats.old seats.new) }
+    ensures tiers { OnOk result ((records : List ARecord) → AreTiers records tiers.old
+        → AreTiers (records ++ next ∷ []) tiers.new) }
+    ensures origins { OnOk result ((records : List ARecord) → AreTiers records tiers.old
+        → origins.new.items ≡ origins.old.items ++ origins_of (tiers_of records) (next ∷ [])) }
+    ensures len { OnOk result (vec_len origins.new ≤ vec_len origins.old + 1) }
+{
+    match next {
+        Record::End { .. } => Ok(()),
+        Record::Tier { conn, tier } => tiers.give(conn, tier),
+        Record::Piece { tick, conn, bytes } => {
+            seats.add(alloc, usize::from(conn), bytes)?;
+            let tier = tiers.of(conn);
+            origins.push(Origin { conn, tick, tier })?;
+            Ok(())
+        }
+    }
+}
+
+/// Reads the next batch: so many pieces, with the other records between them, or those before the end of the capture or its
+/// fault.
+pub fn read_batch<'a, R: Read>(
+    alloc: Global,
+    capture: &mut CaptureReader<'a, R>,
+    pieces: usize,
+    seats: &mut Seats,
+    tiers: &mut Tiers,
+) -> Result<Batch, AllocError>
+    requires count { capture.old.input.now.1 < 2 ^ 64 - 1 }
+    requires stage { capture.old.progress.stage ≡ Reading }
+    ensures batch { IfOk result (λ batch. (rs : List ARecord) × Adds rs seats.old seats.new
+        × ((records : List ARecord) → AreTiers records tiers.old
+        → (batch.origins.items ≡ origins_of (tiers_of records) rs) × AreTiers (records ++ rs) tiers.new)
+        × ((version : AVersion) (text : Option (List ℕ)) (start : ℕ) (records : List ARecord)
+        → Fits version text start records capture.old.progress capture.old.input.now.0
+        → ReadOn version text start (records ++ rs) batch.ending capture.new.progress capture.new.input.now.0)) }
+    ensures room { IfOk result (λ batch. IfMore batch.ending (0 < pieces
+        → capture.new.progress.room < capture.old.progress.room)) }
+    ensures count { MatchResult result
+        (λ batch. CountsEnding capture.old.input.now.1 capture.new.input.now.1 batch.ending)
+        (λ _. capture.new.input.now.1 ≡ capture.old.input.now.1) }
+    ensures same { capture.new.input.ghost_name ≡ capture.old.input.ghost_name }
+{
+    let mut origins = Vec::new(alloc);
+    while origins.len() < pieces {
+        let next = match capture.next_record(alloc) {
+            Ok(Some(next)) => next,
+            Ok(None) => {
+                return Ok(Batch {
+                    origins,
+                    ending: Ending::End,
+                });
+            }
+            Err(fault) => {
+                return Ok(Batch {
+                    origins,
+                    ending: Ending::Fault(fault),
+                });
+            }
+        };
+        take_record(alloc, next, seats, tiers, &mut origins)?;
+    }
+    Ok(Batch {
+        origins,
+        ending: Ending::More,
+    })
+}

@@ -1,0 +1,20 @@
+//! Laws of the definitions that the engines' contracts cite. Each function is there for its clause alone.
+
+ghost use Rattle.arrivals.specs.Batches.{MergedArrivals};
+ghost use Rattle.arrivals.specs.Laws.{ArrivalsBegin, OneListOfArrivals};
+
+/// The records of a capture have one list of arrivals.
+pub fn one_list_of_arrivals()
+    ensures { OneListOfArrivals }
+{}
+
+/// The arrivals of the first records are the first arrivals.
+pub fn arrivals_begin()
+    ensures { ArrivalsBegin }
+{}
+
+/// The messages that each connection finds in its pieces of a batch, merged in the order of the records, are the arrivals of
+/// the batch.
+pub fn merged_arrivals()
+    ensures { MergedArrivals }
+{}

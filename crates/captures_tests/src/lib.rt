@@ -1,0 +1,5 @@
+//! Tests of the crate `captures`.
+#![tactic(auto)]
+
+#[cfg(test)]
+mod tests;

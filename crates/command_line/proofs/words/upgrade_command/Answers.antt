@@ -1,0 +1,24 @@
+use Rattle.std.proofs.Common.{◌≡◌, codes, true, false, ap}
+use Rattle.std.proofs.lemmas.Result.{IfOk-weaker}
+use Rattle.clap.specs.Words.{Rule, app_of, new_app, rule_of}
+use Rattle.clap.specs.declared.builder.Command.TheViews.{out-Command}
+use Rattle.command_line.specs.CommandLine.{required_of, upgrade_command}
+use Rattle.command_line.proofs.Commands.{added, still_local}
+use Rattle.command_line.proofs.words.upgrade_command.Goals as goal
+
+pub returns-clause-app : goal.returns-clause-app
+unfolding upgrade_command
+returns-clause-app c =
+    let capture : rule_of c.required-capture.result ≡ required_of (codes "capture") =
+    rw c.required-capture.ensures (ap (λ (r : Rule). record r { required = true }) c.file_option.ensures.rule) in
+    let output : rule_of c.required-output.result ≡ required_of (codes "output") =
+    rw c.required-output.ensures (ap (λ (r : Rule). record r { required = true }) c.file_option-2.ensures.rule) in
+    let start : app_of c.after_help.result ≡ new_app (codes "upgrade") = rw (c.after_help.ensures, c.about.ensures) c.new.ensures.app in
+    let one = added c.after_help.result c.in_ok-arg.field-0 c.required-capture.result _ _ c.in_ok-arg.ensures (rw c.required-capture.ensures c.file_option.ensures.local) start capture in
+    IfOk-weaker c.arg-2.result _ _ (λ whole adds. added c.in_ok-arg.field-0 whole c.required-output.result _ _ adds (rw c.required-output.ensures c.file_option-2.ensures.local) one output) c.arg-2.ensures
+
+pub returns-clause-local : goal.returns-clause-local
+returns-clause-local c =
+    let start : (out-Command c.after_help.result).has_globals ≡ false = rw (c.after_help.ensures, c.about.ensures) c.new.ensures.local in
+    let one = still_local c.after_help.result c.in_ok-arg.field-0 c.required-capture.result c.in_ok-arg.ensures (rw c.required-capture.ensures c.file_option.ensures.local) start in
+    IfOk-weaker c.arg-2.result _ _ (λ whole adds. still_local c.in_ok-arg.field-0 whole c.required-output.result adds (rw c.required-output.ensures c.file_option-2.ensures.local) one) c.arg-2.ensures

@@ -1,0 +1,5 @@
+//! Tests of the crate `http_requests`.
+#![tactic(auto)]
+
+#[cfg(test)]
+mod tests;

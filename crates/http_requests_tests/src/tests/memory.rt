@@ -1,0 +1,90 @@
+//! Out of memory: `rt try --test --fail-alloc 1..` refuses each growth in turn.
+use http_requests::{Cutter, Message, Version, What};
+use std::test::Fail;
+
+static TEXT: &str =
+    "GET /a HTTP/1.1\r\nHost: a\r\n\r\nPOST /b HTTP/1.1\r\nHost: a\r\nContent-Length: 1\r\n\r\nxGET /c HTTP/1.1\r\nHost: a\r\nIf-Modified-Since: Sun, 06 Nov 1994 08:49:37 GMT\r\nConnection: close\r\n\r\n";
+
+/// A message of the text, apart from its version, which is 1.1.
+struct Want {
+    end: u64,
+    method: &'static str,
+    target: &'static str,
+    closes: bool,
+    modified_since: Option<u64>,
+}
+
+static MESSAGES: [Want; 3] = [
+    Want {
+        end: 28,
+        method: "GET",
+        target: "/a",
+        closes: false,
+        modified_since: None,
+    },
+    Want {
+        end: 77,
+        method: "POST",
+        target: "/b",
+        closes: false,
+        modified_since: None,
+    },
+    Want {
+        end: 174,
+        method: "GET",
+        target: "/c",
+        closes: true,
+        modified_since: Some(784_111_777),
+    },
+];
+
+/// Whether this is such a message.
+fn is_like(message: &Message, want: &Want) -> bool {
+    match &message.what {
+        What::Request {
+            method,
+            target,
+            version,
+            closes,
+            modified_since,
+        } => {
+            message.end == want.end
+                && method.as_slice() == want.method.as_bytes()
+                && target.as_slice() == want.target.as_bytes()
+                && *version == Version::Http11
+                && *closes == want.closes
+                && *modified_since == want.modified_since
+        }
+        What::Bad(_) => false,
+    }
+}
+
+/// A growth that is refused leaves the first of the right messages, and each later piece is refused
+/// and adds nothing. Where none is refused, all are there.
+#[test]
+fn each_growth_refused(rt: HostRuntime) -> Result<(), Fail> {
+    let text = TEXT.as_bytes();
+    assert!(rt; text.len() <= 1000);
+    for size in [5, 1000] {
+        let mut cutter = Cutter::new(rt.alloc());
+        let mut out = Vec::new(rt.alloc());
+        let mut failed = false;
+        let mut at: usize = 0;
+        while at < text.len() {
+            let end = text.len().min(at + size);
+            let had = out.len();
+            let answer = cutter.feed(&text[at..end], &mut out);
+            if failed {
+                assert!(rt; answer.is_err());
+                assert_eq!(rt; out.len(), had);
+            }
+            failed = answer.is_err();
+            at = end;
+        }
+        assert!(rt; failed || out.len() == MESSAGES.len());
+        for (message, want) in out.iter().zip(&MESSAGES) {
+            assert!(rt; is_like(message, want), "{message:?}");
+        }
+    }
+    Ok(())
+}

@@ -1,2 +1,0 @@
-mod config;
-mod words;

@@ -1,0 +1,5 @@
+//! Tests of the crate `options`.
+#![tactic(auto)]
+
+#[cfg(test)]
+mod tests;

@@ -1,0 +1,5 @@
+//! Tests of the crate `paths`.
+#![tactic(auto)]
+
+#[cfg(test)]
+mod tests;

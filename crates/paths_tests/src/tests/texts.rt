@@ -1,0 +1,94 @@
+//! Lines and runs at the end of what a text may take.
+use paths::{Input, Stop, number, read_byte_of, read_line, read_run};
+
+/// A text, how many bytes of it may be taken, and the length of its first line.
+static LINES: [(&str, usize, Result<usize, Stop>); 8] = [
+    ("ab\ncd", 100, Ok(2)),
+    ("\n", 100, Ok(0)),
+    ("ab", 100, Err(Stop::Cut)),
+    ("ab", 2, Err(Stop::Cut)),
+    ("ab\n", 2, Err(Stop::TooLarge)),
+    ("ab\n", 3, Ok(2)),
+    (
+        "xxxxxxxxxxxxxxxxxxxxxxxxxxxxxxxxxxxxxxxxxxxxxxxxxxxxxxxxxxxxxxxxxx",
+        65,
+        Err(Stop::TooLong),
+    ),
+    (
+        "xxxxxxxxxxxxxxxxxxxxxxxxxxxxxxxxxxxxxxxxxxxxxxxxxxxxxxxxxxxxxxxxxx",
+        64,
+        Err(Stop::TooLarge),
+    ),
+];
+
+#[test]
+fn lines(rt: HostRuntime) {
+    for (text, limit, want) in &LINES {
+        let mut input = Input::new(text.as_bytes());
+        let mut left = *limit;
+        let got = match read_line(&mut input, &mut left) {
+            Ok(line) => Ok(line.as_slice().len()),
+            Err(stop) => Err(stop),
+        };
+        assert_eq!(rt; got, *want);
+    }
+}
+
+/// A text, how many bytes of it may be taken, the length of a run, and how many bytes may be taken then.
+static RUNS: [(&str, usize, usize, Result<usize, Stop>); 7] = [
+    ("abc", 100, 3, Ok(97)),
+    ("abc", 3, 3, Ok(0)),
+    ("abc", 0, 0, Ok(0)),
+    ("abc", 2, 3, Err(Stop::TooLarge)),
+    ("ab", 2, 3, Err(Stop::Cut)),
+    ("ab", 100, 3, Err(Stop::Cut)),
+    ("", 0, 1, Err(Stop::Cut)),
+];
+
+#[test]
+fn runs(rt: HostRuntime) {
+    for (text, limit, count, want) in &RUNS {
+        let mut input = Input::new(text.as_bytes());
+        let mut left = *limit;
+        let got = match read_run(rt.alloc(), &mut input, &mut left, *count) {
+            Ok(_) => Ok(left),
+            Err(stop) => Err(stop),
+        };
+        assert_eq!(rt; got, *want);
+    }
+}
+
+#[test]
+fn a_byte_further(rt: HostRuntime) {
+    let mut input = Input::new(b"ab".as_slice());
+    let mut left = 1;
+    let first = (read_byte_of(&mut input, &mut left), left);
+    assert_eq!(rt; first, (Ok(b'a'), 0));
+    let second = read_byte_of(&mut input, &mut left);
+    let third = read_byte_of(&mut input, &mut left);
+    assert_eq!(rt; (second, third), (Err(Stop::TooLarge), Err(Stop::Cut)));
+}
+
+static DECIMALS: [(&str, Option<u64>); 11] = [
+    ("0", Some(0)),
+    ("1073741824", Some(1_073_741_824)),
+    ("18446744073709551615", Some(18_446_744_073_709_551_615)),
+    ("18446744073709551616", Some(18_446_744_073_709_551_615)),
+    (
+        "99999999999999999999999999999999999999999999",
+        Some(18_446_744_073_709_551_615),
+    ),
+    ("", None),
+    ("00", None),
+    ("01", None),
+    ("-1", None),
+    ("1 ", None),
+    ("1a", None),
+];
+
+#[test]
+fn decimals(rt: HostRuntime) {
+    for (field, want) in &DECIMALS {
+        assert_eq!(rt; number(field.as_bytes()), *want, "{field}");
+    }
+}

@@ -1,0 +1,5 @@
+//! Tests of the crate `replay`.
+#![tactic(auto)]
+
+#[cfg(test)]
+mod tests;

@@ -1,0 +1,11 @@
+mod batches;
+mod devices;
+mod faults;
+mod gates;
+mod many;
+mod memory;
+mod rejections;
+mod rows;
+mod running;
+mod settings;
+mod tiers;

@@ -1,0 +1,209 @@
+//! What a gate sees of a replay, and when replies are written.
+use super::running::{
+    A, DEFAULT_SHAPE, Engine, FILES, Shape, capture_of, default_costs, default_policy, outline,
+    run_devices, run_engine, shaped,
+};
+use paths::{Input, Output};
+use replay::Settings;
+use stage_graph::{Gate, NoGate};
+use std::alloc::AllocGlobal;
+use std::io;
+use std::io::{Read, Write};
+use std::process::Abort;
+use std::sync::Wait;
+use std::sync::atomic::{AtomicU64, Ordering};
+use std::test::Fail;
+use std::thread::Threads;
+use std::time::{Clock, Duration};
+
+/// Settings of the default stages with batches of so many pieces.
+fn in_batches(rt: &(impl Abort + AllocGlobal), batch: usize) -> Settings {
+    let costs = default_costs().expect(rt, "costs");
+    let policy = default_policy().expect(rt, "a policy");
+    let shape = Shape {
+        batch,
+        ..DEFAULT_SHAPE
+    };
+    shaped(rt.alloc(), shape, costs, policy).expect(rt, "settings")
+}
+
+/// The unit in which a message at a stage is counted: 6 bits for each of the five stages of message 0, and then of
+/// message 1. Any other message or stage has the highest.
+fn unit_of(stage: usize, number: usize) -> u64 {
+    if number < 2 && stage < 5 {
+        1 << (6 * (5 * number + stage))
+    } else {
+        1 << 60
+    }
+}
+
+/// Each of the two messages once at each of the five stages.
+const EACH_ONCE: u64 = 0o01_01_01_01_01_01_01_01_01_01;
+
+/// Counts the messages that enter and leave each stage, and holds message 0 in the first until message 1 has left it, for
+/// at most 10,000 turns of a millisecond, where it holds.
+#[derive(Drop)]
+struct Hold<R: Clock + Drop> {
+    rt: R,
+    holds: bool,
+    entered: AtomicU64,
+    left: AtomicU64,
+    /// Whether message 1 has left the first stage.
+    gone: AtomicU64,
+    /// Whether message 0 was let go because the turns were over.
+    over: AtomicU64,
+}
+
+impl<R: Clock + Drop> Gate for Hold<R> {
+    fn enter(&self, stage: usize, number: usize) {
+        self.entered
+            .fetch_add(unit_of(stage, number), Ordering::SeqCst);
+        if !self.holds || number != 0 || stage != 0 {
+            return;
+        }
+        for _ in 0..10000 {
+            if self.gone.load(Ordering::SeqCst) != 0 {
+                return;
+            }
+            let _ = std::thread::sleep(&self.rt, Duration::from_millis(1));
+        }
+        self.over.store(1, Ordering::SeqCst);
+    }
+
+    fn left(&self, stage: usize, number: usize) {
+        self.left
+            .fetch_add(unit_of(stage, number), Ordering::SeqCst);
+        if stage == 0 && number == 1 {
+            self.gone.store(1, Ordering::SeqCst);
+        }
+    }
+}
+
+/// Replays two requests in batches of so many pieces, with a gate that holds the first of them or doesn't.
+fn check<R: Abort + AllocGlobal + Threads + Wait + Sync + Clock + Drop>(
+    rt: &R,
+    clock: R,
+    holds: bool,
+    batch: usize,
+) -> Result<(), Fail> {
+    let gate = Hold {
+        rt: clock,
+        holds,
+        entered: AtomicU64::new(0),
+        left: AtomicU64::new(0),
+        gone: AtomicU64::new(0),
+        over: AtomicU64::new(0),
+    };
+    let alloc = rt.alloc();
+    let capture = capture_of(alloc, &[(0, 0, A), (0, 1, A)])?;
+    let settings = in_batches(rt, batch);
+    let bytes = capture.as_bytes();
+    let ran = run_engine(rt, alloc, Engine::Staged, FILES, &settings, &gate, bytes).expect(
+        rt,
+        "a snapshot",
+    );
+    let want = "reply 0 0 150; 200 OK;reply 1 1 150; 200 OK;stop 2;";
+    assert_eq!(rt; outline(alloc, &ran.text)?.as_str(), want);
+    assert_eq!(rt; gate.entered.load(Ordering::SeqCst), EACH_ONCE);
+    assert_eq!(rt; gate.left.load(Ordering::SeqCst), EACH_ONCE);
+    assert_eq!(rt; gate.over.load(Ordering::SeqCst), 0);
+    Ok(())
+}
+
+/// Two workers are inside their handlers at once: message 1 leaves the first stage while message 0 is held there.
+#[test]
+fn two_workers_overlap(rt: HostRuntime) -> Result<(), Fail> {
+    check(&rt, rt.clone()?, true, 2)
+}
+
+/// In batches of one message each, both floors number it 0: the gate sees its number among all messages.
+#[test]
+fn numbers_in_batches(rt: HostRuntime) -> Result<(), Fail> {
+    check(&rt, rt.clone()?, false, 1)
+}
+
+/// Gives one record a read, and notes how much was written when the last line is asked for.
+#[derive(Drop)]
+struct Records<'a> {
+    bytes: &'a [u8],
+    /// How many bytes each record that follows has.
+    sizes: &'a [usize],
+    /// How many bytes are left of this record.
+    left: usize,
+    written: &'a AtomicU64,
+    at_last: &'a AtomicU64,
+}
+
+impl<'a> Read for Records<'a> {
+    fn read(&mut self, room: &mut [u8]) -> io::Result<usize> {
+        if self.left == 0 && !self.sizes.is_empty() {
+            self.left = self.sizes[0];
+            self.sizes = &self.sizes[1..];
+            if self.sizes.is_empty() {
+                let written = self.written.load(Ordering::SeqCst);
+                self.at_last.store(written, Ordering::SeqCst);
+            }
+        }
+        let count = room.len().min(self.left).min(self.bytes.len());
+        room[..count].copy_from_slice(&self.bytes[..count]);
+        self.bytes = &self.bytes[count..];
+        self.left -= count;
+        Ok(count)
+    }
+}
+
+/// Counts the bytes that are written.
+#[derive(Drop)]
+struct Counted<'a> {
+    written: &'a AtomicU64,
+}
+
+impl<'a> Write for Counted<'a> {
+    fn write(&mut self, bytes: &[u8]) -> io::Result<usize> {
+        self.written.fetch_add(bytes.len() as u64, Ordering::SeqCst);
+        Ok(bytes.len())
+    }
+
+    fn flush(&mut self) -> io::Result<()> {
+        Ok(())
+    }
+}
+
+/// Three messages, whose replies are 150 bytes each: with its line and a line feed, 165.
+static CAPTURE: &str =
+    "haboob-capture 1 784111777\npiece 0 0 32\nGET /a.txt HTTP/1.1\r\nHost: a\r\n\r\n\npiece 0 0 32\nGET /a.txt HTTP/1.1\r\nHost: a\r\n\r\n\npiece 0 0 32\nGET /a.txt HTTP/1.1\r\nHost: a\r\n\r\n\nstop 3\n";
+
+/// How many bytes its first line, its records and its last line have.
+static SIZES: [usize; 5] = [27, 46, 46, 46, 7];
+
+/// The replies of a batch are written before the next batch is read.
+#[test]
+fn written_before_the_next_batch(rt: HostRuntime) -> Result<(), Fail> {
+    for (batch, before) in [(1, 17 + 3 * 165), (2, 17 + 2 * 165), (4, 17)] {
+        let (written, at_last) = (AtomicU64::new(0), AtomicU64::new(0));
+        let settings = in_batches(&rt, batch);
+        let mut reader = Input::new(Records {
+            bytes: CAPTURE.as_bytes(),
+            sizes: &SIZES,
+            left: 0,
+            written: &written,
+            at_last: &at_last,
+        });
+        let mut writer = Output::new(Counted { written: &written });
+        let ran = run_devices(
+            &rt,
+            rt.alloc(),
+            Engine::Staged,
+            FILES,
+            &settings,
+            &NoGate,
+            &mut reader,
+            &mut writer,
+        );
+        assert!(rt; ran.expect(&rt, "a snapshot").is_ok());
+        let at_last = at_last.load(Ordering::SeqCst);
+        assert_eq!(rt; at_last, before, "batches of {batch}");
+        assert_eq!(rt; written.load(Ordering::SeqCst), 17 + 3 * 165 + 7);
+    }
+    Ok(())
+}

@@ -1,0 +1,5 @@
+//! Tests of the crate `report`.
+#![tactic(auto)]
+
+#[cfg(test)]
+mod tests;

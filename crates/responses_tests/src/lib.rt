@@ -1,0 +1,5 @@
+//! Tests of the crate `responses`.
+#![tactic(auto)]
+
+#[cfg(test)]
+mod tests;

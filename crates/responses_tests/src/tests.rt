@@ -1,0 +1,72 @@
+//! What no clause says: that the definitions mean what the rules say, and that calls succeed.
+ghost use Rattle.std.specs.Prelude.{◌≡◌, ◌≤◌, ◌<◌, true, length};
+ghost use Rattle.std.specs.List.{list_all};
+ghost use Rattle.responses.specs.Replies.{OnlyHead, HasLocation};
+
+use page_cache::Page;
+use paths::{Bytes, Input, Output, Snapshot, Tree};
+use responses::{Link, SharedPage, Slip, What, render, write_reply};
+use std::alloc::Global;
+use std::marker::Brand;
+use std::test::Fail;
+
+mod memory;
+mod replies;
+mod writers;
+
+/// The time of the replies.
+const NOW: u64 = 784_111_777;
+
+/// `a.txt`, with `hi` and a line feed, of the time of the replies; `docs/index.html`, a second later; and an empty `e`.
+static FILES: &str =
+    "haboob-snapshot 1\nfile 784111777 5 3\na.txt\nhi\n\nfile 784111778 15 1\ndocs/index.html\nb\nfile 784111777 1 0\ne\n\nend 3\n";
+
+/// The snapshot of these files.
+fn snapshot(alloc: Global) -> Result<Snapshot, Fail> {
+    let mut input = Input::new(FILES.as_bytes());
+    Ok(Snapshot::read(alloc, &mut input)?)
+}
+
+/// The record of the reply to message 0 of connection 7, at the time of the replies.
+fn record<F: Tree>(alloc: Global, head: bool, link: Link, what: What<F>) -> Result<Vec<u8>, Fail>
+    requires known { OnlyHead head what }
+    requires location { HasLocation what }
+{
+    let slip = Slip {
+        number: 0,
+        conn: 7,
+        date: NOW,
+        head,
+        link,
+        what,
+    };
+    let reply = render(alloc, slip)?;
+    let mut bytes = Vec::new(alloc);
+    let mut output = Output::new(&mut bytes);
+    write_reply(&mut output, &reply)?;
+    Ok(bytes)
+}
+
+/// The record that gives a file, in a snapshot that a type names.
+fn page_in<F: Tree>(
+    alloc: Global,
+    files: &Snapshot,
+    file: usize,
+    link: Link,
+) -> Result<Vec<u8>, Fail>
+    requires snapshot { files.now ≡ F.files }
+    requires file { file < length files.now }
+{
+    let page = SharedPage::new(Page::<F>::build(alloc, files, file)?);
+    let mtime = files.mtime(file);
+    record(alloc, false, link, What::Page { page, mtime })
+}
+
+/// The record that gives a file.
+fn page(alloc: Global, file: usize, link: Link) -> Result<Vec<u8>, Fail> {
+    let files = snapshot(alloc)?;
+    if file >= files.len() {
+        return Ok(Vec::new(alloc));
+    }
+    page_in::<Brand>(alloc, &files, file, link)
+}

@@ -1,0 +1,58 @@
+//! Out of memory: `rt try --test --fail-alloc N` refuses the Nth growth of each test.
+use paths::{Bytes, Output};
+use responses::{Link, Slip, Status, What, render, write_reply};
+use std::marker::Brand;
+
+static BUSY: &[u8] =
+    b"reply 1 2 178\nHTTP/1.1 503 Service Unavailable\r\nDate: Fri, 31 Dec 9999 23:59:59 GMT\r\nContent-Type: text/plain\r\nContent-Length: 24\r\nRetry-After: 1\r\nConnection: close\r\n\r\n503 Service Unavailable\n\n";
+
+static LONG: &[u8; 141] =
+    b"/a%20b-c_d.e~f/a%20b-c_d.e~f/a%20b-c_d.e~f/a%20b-c_d.e~f/a%20b-c_d.e~f/a%20b-c_d.e~f/a%20b-c_d.e~f/a%20b-c_d.e~f/a%20b-c_d.e~f/a%20b-c_d.e~f/";
+
+static MOVED: &[u8] =
+    b"reply 0 0 292\nHTTP/1.1 301 Moved Permanently\r\nDate: Sun, 06 Nov 1994 08:49:37 GMT\r\nContent-Type: text/plain\r\nContent-Length: 22\r\nLocation: /a%20b-c_d.e~f/a%20b-c_d.e~f/a%20b-c_d.e~f/a%20b-c_d.e~f/a%20b-c_d.e~f/a%20b-c_d.e~f/a%20b-c_d.e~f/a%20b-c_d.e~f/a%20b-c_d.e~f/a%20b-c_d.e~f/\r\n\r\n301 Moved Permanently\n\n";
+
+/// A growth that is refused is answered so; else the reply is right.
+#[test]
+fn each_growth_refused(rt: HostRuntime) {
+    let slip = Slip {
+        number: 1,
+        conn: 2,
+        date: 253_402_300_799,
+        head: false,
+        link: Link::Close,
+        what: What::<Brand>::Plain {
+            status: Status::ServiceUnavailable { retry_after: 1 },
+        },
+    };
+    if let Ok(reply) = render(rt.alloc(), slip) {
+        let mut room = [0; 256];
+        let mut output = Output::new(room.as_mut_slice());
+        assert!(rt; write_reply(&mut output, &reply).is_ok());
+        assert!(rt; room.starts_with(BUSY));
+    }
+}
+
+/// The same where the head outgrows its room.
+#[test]
+fn long_head(rt: HostRuntime) {
+    let Ok(location) = Vec::from_slice(rt.alloc(), LONG) else {
+        return;
+    };
+    let slip = Slip {
+        number: 0,
+        conn: 0,
+        date: 784_111_777,
+        head: false,
+        link: Link::Silent,
+        what: What::<Brand>::Moved {
+            location: Bytes::from_vec(location),
+        },
+    };
+    if let Ok(reply) = render(rt.alloc(), slip) {
+        let mut room = [0; 512];
+        let mut output = Output::new(room.as_mut_slice());
+        assert!(rt; write_reply(&mut output, &reply).is_ok());
+        assert!(rt; room.starts_with(MOVED));
+    }
+}

@@ -1,0 +1,70 @@
+//! A writer that takes a byte at a time, and one that fails at one of its writes.
+use crate::tests::page;
+use paths::Output;
+use responses::{Link, Slip, Status, What, Write, render, write_reply};
+use std::io;
+use std::marker::Brand;
+use std::test::Fail;
+
+/// A writer over memory that takes at most one byte a write, and fails behind so many writes.
+#[derive(Drop)]
+struct Slow<'a> {
+    taken: &'a mut Vec<u8>,
+    good: usize,
+}
+
+impl<'a> io::Write for Slow<'a> {
+    fn write(&mut self, bytes: &[u8]) -> io::Result<usize> {
+        if self.good == 0 {
+            return Err(io::Error::other("refused"));
+        }
+        self.good -= 1;
+        match bytes.first() {
+            Some(byte) => {
+                self.taken.push(*byte)?;
+                Ok(1)
+            }
+            None => Ok(0),
+        }
+    }
+
+    fn flush(&mut self) -> io::Result<()> {
+        Ok(())
+    }
+}
+
+static WANT: &[u8; 139] =
+    b"reply 3 12 123\nHTTP/1.1 404 Not Found\r\nDate: Thu, 01 Jan 1970 00:00:00 GMT\r\nContent-Type: text/plain\r\nContent-Length: 14\r\n\r\n404 Not Found\n\n";
+
+/// For each k, the writer that fails at its write k has taken the first k bytes, and has failed once.
+#[test]
+fn each_write_failing(rt: HostRuntime) -> Result<(), Fail> {
+    let slip = Slip {
+        number: 3,
+        conn: 12,
+        date: 0,
+        head: false,
+        link: Link::Silent,
+        what: What::<Brand>::Plain {
+            status: Status::NotFound,
+        },
+    };
+    let reply = render(rt.alloc(), slip)?;
+    assert_eq!(rt; reply.number(), 3);
+    assert_eq!(rt; reply.conn(), 12);
+    for good in 0..WANT.len() + 1 {
+        let mut taken = Vec::new(rt.alloc());
+        let mut output = Output::new(Slow {
+            taken: &mut taken,
+            good,
+        });
+        let answer = write_reply(&mut output, &reply);
+        let failures = output.failures();
+        let whole = good == WANT.len();
+        assert_eq!(rt; answer.is_ok(), whole);
+        assert_eq!(rt; failures == 0, whole);
+        assert!(rt; failures <= 1);
+        assert_eq!(rt; taken.as_slice(), &WANT[..good]);
+    }
+    Ok(())
+}

@@ -1,0 +1,5 @@
+//! Tests of the crate `stage_graph`.
+#![tactic(auto)]
+
+#[cfg(test)]
+mod tests;
