@@ -1,5 +1,6 @@
 #!/usr/bin/env python3
-"""Compares the program's replays with those of reference.py: status, line on standard error, replies and report.
+"""Compares the program's replays and upgrades with those of reference.py: status, line on standard error and what is
+written.
 
     checks/compare_replays.py PROGRAM [COUNT [FIRST]]
 
@@ -7,7 +8,11 @@ Two runs of 100,000 requests come first, then replays at the limits and just pas
 without it), made from the seeds FIRST (0 without it), FIRST + 1 and so on: the same seed gives the same replay. About
 a third of these have a fault. Each is run with both engines, and compared byte for byte. The cuts of the steps into
 stages, the workers, the capacities, the batch and the cache are drawn at random for each, but for the first, which has
-those of the default settings: nothing that is written may depend on them. Exits with 1 where anything differs.
+those of the default settings: nothing that is written may depend on them.
+
+The capture of each is also upgraded, and the upgraded text once more, which leaves it as it is. Where that text differs
+from the capture, it is replayed with both engines: replies and report are those of the capture. For each seed a capture
+with a fault is upgraded besides. Exits with 1 where anything differs.
 """
 import datetime
 import os
@@ -23,9 +28,15 @@ sys.dont_write_bytecode = True
 import reference
 
 SECONDS = 120
+HANGS = -1000
 ENGINES = [["--engine", "plain"], []]
 OLD_REPLIES = b"old replies\n"
+PARTS = {
+    "replay": ("status", "line", "replies", "report"),
+    "upgrade": ("status", "line", "output", "standard output"),
+}
 START = 784111777
+FAULTS = ("", "", "", "", "", "snapshot", "capture", "settings")
 
 FILES = [(b"a.txt", START, b"hi\n")]
 SNAPSHOT = b"haboob-snapshot 1\nfile 784111777 5 3\na.txt\nhi\n\nend 1\n"
@@ -402,17 +413,25 @@ def value_text(chance, value):
     return chance.choice(("+%d" % value, format(value, "#x"), format(value, "#o"), format(value, "#b"), format(value, "_")))
 
 
-def random_replay(seed):
-    """Snapshot, capture and settings that a seed gives."""
+def random_replay(seed, faults=FAULTS):
+    """Snapshot, capture and settings that a seed gives; one of the faults is in the text that it names."""
     chance = random.Random(seed)
     start = chance.choice((START, START, 0, reference.START_LIMIT, chance.randrange(reference.START_LIMIT)))
     files = random_files(chance, start)
-    fault = chance.choice(("", "", "", "", "", "snapshot", "capture", "settings"))
+    fault = chance.choice(faults)
     times = [start, start + 1, chance.randrange(reference.START_LIMIT)] + [time for _, time, _ in files]
     version = chance.choice((1, 2))
     records = random_records(chance, [name for name, _, _ in files], times, version)
     snapshot = snapshot_text(chance, files, fault == "snapshot")
     return snapshot, capture_text(chance, version, start, records, fault == "capture"), random_settings(chance, fault == "settings")
+
+
+def faulty_capture(seed):
+    """The text of a capture with a fault, that a seed gives."""
+    chance = random.Random("a fault, %d" % seed)
+    version = chance.choice((1, 2))
+    names = [name for name, _, _ in random_files(chance, START)]
+    return capture_text(chance, version, START, random_records(chance, names, [START], version), True)
 
 
 def limit_replays():
@@ -441,27 +460,38 @@ def hundred_thousand():
     return b"haboob-capture 1 %d\n%sstop 100000\n" % (START, pieces)
 
 
-def run_program(program, engine, snapshot, capture, settings):
-    """Status, line on standard error, replies and report of the program."""
+def run_program(program, words, files, written, seconds=SECONDS):
+    """Status, line on standard error, what a file holds after the run, and standard output, of a run over these files;
+    the status HANGS where it doesn't end."""
     with tempfile.TemporaryDirectory() as folder:
-        files = {"snapshot": snapshot, "capture": capture, "settings": settings, "replies": OLD_REPLIES}
-        words = [program, "replay"] + engine
         for name, data in files.items():
             with open(os.path.join(folder, name), "wb") as file:
-                file.write(data or b"")
-            if data is not None:
-                words += ["--" + name, name]
+                file.write(data)
+        words = [program] + words + [word for name in files for word in ("--" + name, name)]
         try:
-            child = subprocess.run(words, cwd=folder, stdin=subprocess.DEVNULL, capture_output=True, timeout=SECONDS)
+            child = subprocess.run(words, cwd=folder, stdin=subprocess.DEVNULL, capture_output=True, timeout=seconds)
         except subprocess.TimeoutExpired:
-            return -1, b"it hangs", b"", b""
-        with open(os.path.join(folder, "replies"), "rb") as file:
+            return HANGS, b"it hangs", b"", b""
+        with open(os.path.join(folder, written), "rb") as file:
             return child.returncode, child.stderr, file.read(), child.stdout
 
 
-def difference(wanted, got):
-    """The first place where two texts differ, with what stands there, or None."""
-    for part, one, other in zip(("status", "line", "replies", "report"), wanted, got):
+def run_replay(program, engine, snapshot, capture, settings, seconds=SECONDS):
+    """Status, line on standard error, replies and report of a replay."""
+    files = {"snapshot": snapshot, "capture": capture, "replies": OLD_REPLIES}
+    if settings is not None:
+        files["settings"] = settings
+    return run_program(program, ["replay"] + engine, files, "replies", seconds)
+
+
+def run_upgrade(program, capture):
+    """Status, line on standard error, output and standard output of an upgrade."""
+    return run_program(program, ["upgrade"], {"capture": capture, "output": OLD_REPLIES}, "output")
+
+
+def difference(parts, wanted, got):
+    """The first place where two answers differ, with what stands there, or None."""
+    for part, one, other in zip(parts, wanted, got):
         one, other = (text if isinstance(text, bytes) else b"%d" % text for text in (one, other))
         if one != other:
             at = len(os.path.commonprefix((one, other)))
@@ -470,63 +500,88 @@ def difference(wanted, got):
     return None
 
 
-def compare(program, name, snapshot, capture, settings):
-    """What the reference answers, and how many engines answer otherwise, which is printed."""
-    status, line, replies, report = reference.replay(snapshot, capture, settings or b"")
-    wanted = status, line, OLD_REPLIES if replies is None else replies, report
-    wrong = 0
-    for engine in ENGINES:
-        found = difference(wanted, run_program(program, engine, snapshot, capture, settings))
+class Comparison:
+    """Runs the program, and counts the runs and those that answer otherwise than they should, which it prints."""
+
+    def __init__(self, program):
+        self.program, self.replays, self.upgrades, self.wrong = program, 0, 0, 0
+
+    def judge(self, verb, name, wanted, got):
+        """Prints where an answer is wrong."""
+        found = difference(PARTS[verb], wanted, got)
         if found:
-            wrong += 1
-            print("%s %s: WRONG: %s" % (name, " ".join(engine), found), flush=True)
-    return wanted, wrong
+            self.wrong += 1
+            print("%s, %s: WRONG: %s" % (name, verb, found), flush=True)
+
+    def replay(self, name, wanted, *texts):
+        """Replays with both engines."""
+        for engine in ENGINES:
+            self.replays += 1
+            self.judge("replay", " ".join([name] + engine), wanted, run_replay(self.program, engine, *texts))
+
+    def upgrade(self, name, capture):
+        """Upgrades a capture, and the upgraded text once more; what is wanted then stands in the output."""
+        status, line, wanted = reference.upgrade(capture)
+        got = run_upgrade(self.program, capture)
+        self.judge("upgrade", name, (status, line, wanted, b""), got)
+        self.upgrades += 2
+        status, line, _ = reference.upgrade(wanted)
+        again = run_upgrade(self.program, got[2])
+        self.judge("upgrade", name + ", upgraded again", (status, line, wanted, b""), again)
+        return got[0], got[2]
+
+    def compare(self, name, snapshot, capture, settings):
+        """Replays and upgrades; what the reference answers to the replay."""
+        status, line, replies, report = reference.replay(snapshot, capture, settings or b"")
+        wanted = status, line, OLD_REPLIES if replies is None else replies, report
+        self.replay(name, wanted, snapshot, capture, settings)
+        ended, upgraded = self.upgrade(name, capture)
+        if ended == 0 and upgraded != capture:
+            self.replay(name + ", upgraded", wanted, snapshot, upgraded, settings)
+        return wanted
 
 
-def compare_large(program, name, settings):
+def compare_large(comparison, name, settings):
     """Compares a run of 100,000 requests, and prints what happens in it."""
-    (_, _, _, report), wrong = compare(program, name, SNAPSHOT, hundred_thousand(), settings)
-    if not wrong:
-        print("%-30s %s" % (name, ", ".join(re.findall(r"(?m)^(?:admitted|rejected|controls) \d+", report.decode()))), flush=True)
-    return wrong
+    _, _, _, report = comparison.compare(name, SNAPSHOT, hundred_thousand(), settings)
+    happened = re.findall(r"(?m)^(?:admitted|rejected|controls) \d+", report.decode())
+    print("%-30s %s" % (name, ", ".join(happened)), flush=True)
 
 
-def compare_limits(program, chance):
+def compare_limits(comparison, chance):
     """Compares replays at and past the limits."""
-    count, wrong = 0, 0
+    count = 0
     for name, files, version, start, records, settings in limit_replays():
         texts = snapshot_text(None, files, False), capture_text(None, version, start, records, False)
-        wrong += compare(program, "limit of " + name, *texts, with_floor(chance, settings, 1))[1]
+        comparison.compare("limit of " + name, *texts, with_floor(chance, settings, 1))
         count += 1
     print("%-30s %d replays" % ("limits", count), flush=True)
-    return count, wrong
 
 
-def compare_random(program, count, first):
+def compare_random(comparison, count, first):
     """Compares random replays, and prints how many of them end with which status."""
-    ends, wrong = {}, 0
+    ends = {}
     for seed in range(first, first + count):
-        wanted, differing = compare(program, "seed %d" % seed, *random_replay(seed))
-        ends[wanted[0]] = ends.get(wanted[0], 0) + 1
-        wrong += differing
+        status, *_ = comparison.compare("seed %d" % seed, *random_replay(seed))
+        ends[status] = ends.get(status, 0) + 1
+        comparison.upgrade("seed %d, a fault" % seed, faulty_capture(seed))
     text = ", ".join("%d with status %d" % (number, status) for status, number in sorted(ends.items()))
     print("%-30s %s" % ("seeds %d to %d" % (first, first + count - 1), text))
-    return wrong
 
 
 def main():
     if not 2 <= len(sys.argv) <= 4:
         sys.exit(__doc__)
-    program = os.path.abspath(sys.argv[1])
+    comparison = Comparison(os.path.abspath(sys.argv[1]))
     count, first = (int(word) for word in (sys.argv[2:] + ["40", "0"][len(sys.argv) - 2:]))
     chance = random.Random(first)
-    wrong = compare_large(program, "hundred thousand requests", None)
+    compare_large(comparison, "hundred thousand requests", None)
     # With a batch of one piece, starting threads would take minutes.
-    wrong += compare_large(program, "hundred thousand, tight bucket", with_floor(chance, TIGHT, 1000))
-    limits, limits_wrong = compare_limits(program, chance)
-    wrong += limits_wrong + compare_random(program, count, first)
-    print("%d replays, %d wrong" % ((2 + limits + count) * len(ENGINES), wrong))
-    return wrong != 0
+    compare_large(comparison, "hundred thousand, tight bucket", with_floor(chance, TIGHT, 1000))
+    compare_limits(comparison, chance)
+    compare_random(comparison, count, first)
+    print("%d replays, %d upgrades, %d wrong" % (comparison.replays, comparison.upgrades, comparison.wrong))
+    return comparison.wrong != 0
 
 
 if __name__ == "__main__":

@@ -287,14 +287,35 @@ def read_pieces(text, version, pieces):
 
 
 def read_capture(data):
-    """The start of a capture, the pieces before its first fault, and that fault (docs/FORMATS.md, Capture)."""
-    text, start, pieces = Text(data), 0, []
+    """The start of a capture (None where its first line has a fault), the records before its first fault, and that fault
+    (docs/FORMATS.md, Capture)."""
+    text, start, pieces = Text(data), None, []
     try:
         version, start = read_start(text)
         read_pieces(text, version, pieces)
     except Refused as kind:
         return start, pieces, Fault(5, "capture: record %d: %s" % (text.entry, kind))
     return start, pieces, None
+
+
+def record_text(record):
+    """A record of a capture as it stands in version 2 (docs/FORMATS.md, Capture)."""
+    if record.body:
+        return b"piece %d %d %d\n%s\n" % (record.tick, record.conn, len(record.body), record.body)
+    if record.tier is not None:
+        return b"tier %d %d\n" % (record.conn, record.tier)
+    return b"end %d %d\n" % (record.tick, record.conn)
+
+
+def upgrade(capture):
+    """Status, line of a fault and output of an upgrade (docs/FORMATS.md, Capture)."""
+    start, records, fault = read_capture(capture)
+    if start is None:
+        return fault.status, fault.line, b""
+    output = b"haboob-capture 2 %d\n" % start + b"".join(map(record_text, records))
+    if fault:
+        return fault.status, fault.line, output
+    return 0, b"", output + b"stop %d\n" % len(records)
 
 
 def date_seconds(text):

@@ -3,11 +3,12 @@
 
 usage: refuse_memory.py PROGRAM
 
-For N = 1, 2, .. the Nth request is refused, until some runs make fewer. Each such run says `haboob: memory`, with status 7, a
-prefix of the replies that the run has with ample memory, and no report; or it ends as with ample memory, where the program
-can do without. Then it counts the requests of 64 GETs of one file, with the cache of pages and without: each page that the
-cache spares is a request less, so a staged engine that goes round its cache shows. It needs a C compiler (CC, or cc) and the
-C library of GNU; without a compiler nothing is tried.
+For N = 1, 2, .. the Nth request is refused, until some runs make fewer. Each such run, a replay or an upgrade, says
+`haboob: memory`, with status 7, a prefix of the replies or of the upgraded capture that the run writes with ample
+memory, and no report; or it ends as with ample memory, where the program can do without. Then it counts the requests of
+64 GETs of one file, with the cache of pages and without: each page that the cache spares is a request less, so a staged
+engine that goes round its cache shows. It needs a C compiler (CC, or cc) and the C library of GNU; without a compiler
+nothing is tried.
 """
 import os
 import shutil
@@ -22,8 +23,10 @@ TOP = os.path.dirname(os.path.dirname(os.path.abspath(__file__)))
 SITE = os.path.join(TOP, "examples", "site.snapshot")
 BURST = os.path.join(TOP, "examples", "burst.capture")
 TIGHT = os.path.join(TOP, "examples", "tight.toml")
+TIERS = os.path.join(TOP, "examples", "tiers.capture")
 FIRST_RUN = os.path.join(TOP, "crates", "haboob", "stdin")
-REPLAY = ["replay", "--snapshot", SITE, "--capture", BURST, "--replies", "replies"]
+CUT = "cut"  # a capture without its last line, in the folder of the runs
+REPLAY = ["replay", "--snapshot", SITE, "--capture", BURST, "--replies", "written"]
 
 # The words of each run, and its standard input.
 RUNS = [
@@ -31,16 +34,20 @@ RUNS = [
     ("a replay on one thread", REPLAY + ["--settings", TIGHT, "--engine", "plain"], os.devnull),
     ("a replay on many threads", REPLAY + ["--settings", TIGHT], os.devnull),
     ("a fault of the settings", REPLAY + ["--settings", SITE], os.devnull),
-    ("a fault of the capture", ["replay", "--snapshot", SITE, "--capture", SITE, "--replies", "replies"], os.devnull),
+    ("a fault of the capture", ["replay", "--snapshot", SITE, "--capture", SITE, "--replies", "written"], os.devnull),
     ("too few words", ["replay", "--snapshot", SITE], os.devnull),
+    ("an upgrade from version 1", ["upgrade", "--capture", BURST, "--output", "written"], os.devnull),
+    ("an upgrade from version 2", ["upgrade", "--capture", TIERS, "--output", "written"], os.devnull),
+    ("an upgrade with a fault", ["upgrade", "--capture", CUT, "--output", "written"], os.devnull),
+    ("an upgrade, too few words", ["upgrade", "--capture", BURST], os.devnull),
 ]
 
 
 class Ending:
-    """How a run ended: its status, its line, what it wrote to standard output and into the replies file."""
+    """How a run ended: its status, its line, what it wrote to standard output and into its file."""
 
-    def __init__(self, ran, replies):
-        self.status, self.line, self.output, self.replies = ran.returncode, ran.stderr, ran.stdout, replies
+    def __init__(self, ran, written):
+        self.status, self.line, self.output, self.written = ran.returncode, ran.stderr, ran.stdout, written
 
     def is_same(self, other):
         return vars(self) == vars(other)
@@ -49,28 +56,29 @@ class Ending:
         """Whether it says that memory ran out, with a prefix of what was due."""
         said = (self.status, self.line) == (7, b"haboob: memory\n")
         whole = self.output == b"" if has_words else ample.output.startswith(self.output)
-        return said and whole and ample.replies.startswith(self.replies)
+        return said and whole and ample.written.startswith(self.written)
 
 
 def run(program, words, given, folder, refuser, number):
     """How a run ends, and whether the request of this number was refused in it."""
-    replies = os.path.join(folder, "replies")
-    with open(replies, "wb"):
+    written = os.path.join(folder, "written")
+    with open(written, "wb"):
         pass
     reader, writer = os.pipe()
     shim = dict(os.environ, LD_PRELOAD=refuser, REFUSE_AT=str(number), REFUSED=str(writer))
+    how = {"cwd": folder, "env": shim, "pass_fds": [writer], "capture_output": True, "timeout": SECONDS}
     with open(given, "rb") as stdin:
-        ran = subprocess.run([program, *words], cwd=folder, stdin=stdin, capture_output=True, env=shim, pass_fds=[writer], timeout=SECONDS)
+        ran = subprocess.run([program, *words], stdin=stdin, **how)
     os.close(writer)
     was_refused = os.read(reader, 1) == b"x"
     os.close(reader)
-    with open(replies, "rb") as file:
+    with open(written, "rb") as file:
         return Ending(ran, file.read()), was_refused
 
 
 def sweep(program, title, words, given, folder, refuser):
-    """Refuses each request of a run in turn; how many of these runs ended otherwise than they may. (Runs on many threads
-    make some requests more or less.)"""
+    """Refuses each request of a run in turn; how many of these runs ended otherwise than they may. (Runs on many
+    threads make some requests more or less.)"""
     ample, _ = run(program, words, given, folder, refuser, 0)
     number, missed, wrong = 0, 0, 0
     while missed < MISSED:
@@ -125,6 +133,8 @@ def main():
         refuser = os.path.join(folder, "refuse_memory.so")
         source = os.path.join(TOP, "checks", "refuse_memory.c")
         subprocess.run([compiler, "-shared", "-fPIC", "-O1", "-o", refuser, source], check=True)
+        with open(TIERS, "rb") as whole, open(os.path.join(folder, CUT), "wb") as cut:
+            cut.writelines(whole.readlines()[:-1])
         wrong = sum(sweep(program, *it, folder, refuser) for it in RUNS)
         wrong += builds_each_page(program, folder, refuser)
         return int(wrong != 0)

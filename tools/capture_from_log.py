@@ -29,9 +29,9 @@ What a log can't tell, and what stands in its place:
   version       HTTP/2.0 and later are written as HTTP/1.1; an HTTP/1.0 request gets
                 Connection: keep-alive, since others come behind it under its number
   bodies        none: a POST comes without its body and without Content-Length
-  connections   each request is one of its own, for --sample too. They get the numbers 0 to 4,095 in
-                turn; so in a long log several requests stand behind one another under one number,
-                as over a connection that is kept alive.
+  connections   each request is one of its own, for --sample too. They get the numbers 0 to 65,535 in
+                turn; so in a long log several requests of one tier stand behind one another under
+                one number, as over a connection that is kept alive.
   time          logs hold the second at which a request was answered (nginx) or came (Apache): the
                 requests of a second are spread evenly over it, in the log's order; a line that is
                 earlier than the one before counts in that one's second. With $msec the time is
@@ -43,10 +43,14 @@ that don't fit the format; lines whose request isn't a method, a target of visib
 and a version, or whose head is longer than 8,192 bytes (the answer would be 400, and the
 connection closed); fields with control characters; records beyond 1,048,576 messages or 1 GiB.
 
+""" + capture_writer.TIERS_EXPLAINED + """\
+The client's address is $remote_addr, which the format then needs.
+
 examples:
   tools/capture_from_log.py --output site.capture --host www.example.org access.log
   zcat access.log.2.gz | tools/capture_from_log.py --output site.capture /dev/stdin
   tools/capture_from_log.py --output site.capture --log-format '$msec "$request" $status' access.log
+  tools/capture_from_log.py --tier 10.1.0.0/16=1 --tier '~[.](css|js)$=2' --output site.capture access.log
 """
 
 LINE_LIMIT = 65_536  # bytes; a longer line doesn't fit
@@ -141,11 +145,13 @@ class Conversion:
         self.time_name = next(name for name in TIMES if name in self.pattern.groupindex)
         self.exact = self.time_name == "msec"
         self.host = options.host.encode()
+        if "remote_addr" not in self.pattern.groupindex and any(rule.about == "client" for rule in options.tier):
+            raise Fault(2, "--tier: an address needs $remote_addr in --log-format")
+        self.numbers = {tier: collections.deque() for tier in {0, *(rule.tier for rule in options.tier)}}
         self.first_misfits = {}  # the number of the first line of each kind that is left out
         self.fitting = 0
         self.seen = 0  # requests, out of which each Nth is taken
-        self.written = 0  # requests that got a number
-        self.second = []  # the heads of the requests of one second, or of one moment
+        self.second = []  # the heads and tiers of the requests of one second, or of one moment
         self.time = None  # that second or moment, in microseconds since 1970
         self.first = None  # the time of tick 0
         self.writer = None
@@ -172,7 +178,8 @@ class Conversion:
         if (self.seen - 1) % self.options.sample:
             self.left_out["requests between the sampled ones"] += 1
             return
-        self.take(time, head)
+        client = capture_writer.client_of(values.get("remote_addr", b"").decode("latin-1"))
+        self.take(time, head, capture_writer.tier_of(self.options.tier, client, capture_writer.target_of(head)))
 
     def leave_out(self, kind, number):
         """Counts a line that is left out."""
@@ -204,7 +211,7 @@ class Conversion:
         self.remarks["requests of later versions, written as HTTP/1.1"] += version not in (b"1.0", b"1.1")
         return head
 
-    def take(self, time, head):
+    def take(self, time, head, tier):
         """Holds a head with those of its second; writes these first where it is of a later second."""
         if self.time is None:
             self.first = time
@@ -213,18 +220,24 @@ class Conversion:
             self.write_second()
             self.time = time
         self.remarks["lines earlier than the one before, moved to its time"] += time < self.time
-        self.second.append(head)
+        self.second.append((head, tier))
 
     def write_second(self):
         """Writes the heads that are held, spread evenly over their second; all at once where the time is exact."""
-        for place, head in enumerate(self.second):
+        for place, (head, tier) in enumerate(self.second):
             part = 0 if self.exact else place * TICKS_IN_SECOND // len(self.second)
-            number = self.written % capture_writer.CONNECTIONS_LIMIT
-            if self.written < capture_writer.CONNECTIONS_LIMIT:
-                self.writer.connect()
-            self.writer.piece(self.time + part - self.first, number, head)
-            self.written += 1
+            self.writer.piece(self.time + part - self.first, self.number_for(tier), head)
         self.second = []
+
+    def number_for(self, tier):
+        """The number of a request of this tier: a new one while others have one left, then its own in turn."""
+        own = self.numbers[tier]
+        kept = sum(not numbers for other, numbers in self.numbers.items() if other != tier)
+        if self.writer.connections + kept < capture_writer.CONNECTIONS_LIMIT:
+            own.append(self.writer.connect(tier))
+        else:
+            own.rotate(-1)
+        return own[-1]
 
     def finish(self):
         """Writes what is held, and the last line."""

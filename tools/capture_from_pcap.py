@@ -26,14 +26,19 @@ packet to a server port. A connection gets the next number when its first bytes 
 client's FIN or at a RST from either side.
 
 Left out, and counted: connections whose first bytes are those of TLS (record them where TLS is
-already taken off); those with bytes before --from; those beyond 4,096 (--sample chooses among more);
+already taken off); those with bytes before --from; those beyond 65,536 (--sample chooses among more);
 records beyond 1,048,576 messages or 1 GiB; fragments of IP packets. In a pcapng the first
 interface's kind of link and clock stand for all. Where the file is cut or broken, the capture holds
 what is before that place, and the status is 1.
 
-example:
+""" + capture_writer.TIERS_EXPLAINED + """\
+A connection's target is that of its first request; where the request line isn't whole in the
+connection's first bytes, no pattern of a target fits, and the connection is counted.
+
+examples:
   tcpdump -i eth0 -s 0 -w site.pcap 'tcp port 80'
   tools/capture_from_pcap.py --port 80 --output site.capture site.pcap
+  tools/capture_from_pcap.py --port 80 --tier 10.1.0.0/16=1 --tier /api/=2 --output site.capture site.pcap
 """
 
 BLOCK_LIMIT = 16_777_216  # bytes; no packet of a sound file is longer
@@ -45,6 +50,7 @@ TLS_BEGIN = b"\x16\x03"
 LEFT_OUT = -1  # in the place of a connection's number
 MIDDLE = "connections whose begin isn't in the file"
 LOST = "connections ended by lost bytes"
+NO_TARGET = "connections whose first bytes hold no whole request line, for --tier"
 
 # How the packets of each kind of link are read (the numbers of www.tcpdump.org/linktypes.html).
 LINKS = {
@@ -152,7 +158,7 @@ class Conversion:
         place = stream.place_of(segment.sequence + (segment.flags & dpkt.tcp.TH_SYN != 0))
         data = stream.take(place, segment.data)
         if data:
-            self.send(time, stream, data)
+            self.send(time, stream, data, segment.source[0])
         if segment.flags & dpkt.tcp.TH_FIN:
             stream.end = place + len(segment.data)
         if segment.flags & dpkt.tcp.TH_RST or stream.place == stream.end or stream.waiting_bytes > WAITING_LIMIT:
@@ -181,17 +187,23 @@ class Conversion:
             self.streams[key] = Stream(segment.sequence, True)
         return self.streams.get(key)
 
-    def send(self, time, stream, data):
-        """Writes bytes that are in order; the first ones decide whether the connection is taken."""
+    def send(self, time, stream, data, client):
+        """Writes bytes that are in order; the first ones decide whether the connection is taken, and its tier."""
         if stream.number is None:
             reason = self.reason_against(time, data)
             if reason:
                 self.left_out[reason] += 1
-            number = None if reason else self.writer.connect()
+            number = None if reason else self.writer.connect(self.tier_of(client, data))
             stream.number = LEFT_OUT if number is None else number
             self.remarks[MIDDLE] += stream.middle and number is not None
         if stream.number != LEFT_OUT:
             self.writer.piece(time - self.first, stream.number, data)
+
+    def tier_of(self, client, data):
+        """The tier of a connection with these first bytes."""
+        rules, target = self.options.tier, capture_writer.target_of(data)
+        self.remarks[NO_TARGET] += target is None and any(rule.about == "target" for rule in rules)
+        return capture_writer.tier_of(rules, capture_writer.client_of(client), target)
 
     def reason_against(self, time, data):
         """Why a connection with these first bytes is left out, or None."""

@@ -7,13 +7,14 @@ import argparse
 import collections
 import contextlib
 import datetime
+import ipaddress
 import os
 import re
 import sys
 
 START_LIMIT = 4_102_444_800  # seconds since 1970
 TICK_LIMIT = 10**15  # ticks, which are microseconds
-CONNECTIONS_LIMIT = 4_096  # connections, numbered 0 to 4,095
+CONNECTIONS_LIMIT = 65_536  # connections, numbered 0 to 65,535
 PIECE_LIMIT = 65_536  # bytes
 MESSAGES_LIMIT = 1_048_576
 TEXT_LIMIT = 1_073_741_824  # bytes of a capture
@@ -24,6 +25,7 @@ TICKS_IN_SECOND = 10**6
 
 EMPTY_LINES = re.compile(rb"(?:\r?\n)*")
 BLOCK_END = re.compile(rb"\n\r?\n")
+TARGET = re.compile(rb"(?:\r?\n)*[^ \r\n]+ ([^ \r\n]+)[ \r\n]")
 CONTENT_LENGTH = re.compile(rb"^content-length:[ \t]*([0-9]+)[ \t]*\r?$", re.IGNORECASE | re.MULTILINE)
 
 
@@ -89,18 +91,21 @@ class CaptureWriter:
         self.counters = {}  # a MessageCounter for each connection that hasn't ended
         self.full = None  # the limit that was met
         self.left_out = collections.Counter()
-        first_line = b"haboob-capture 1 %d\n" % start
+        first_line = b"haboob-capture 2 %d\n" % start
         self.size = len(first_line)
         self.file.write(first_line)
 
-    def connect(self):
-        """The number of the next connection, from 0; None, counted as left out, where all numbers are given."""
+    def connect(self, tier=0):
+        """The number of the next connection, from 0, which gets this tier; None, counted as left out, where all numbers
+        are given."""
         if self.connections == CONNECTIONS_LIMIT:
             self.left_out["connections beyond %d" % CONNECTIONS_LIMIT] += 1
             return None
         number = self.connections
         self.connections += 1
         self.counters[number] = MessageCounter()
+        if tier:
+            self._write(None, b"tier", (number, tier), 0)
         return number
 
     def piece(self, tick, number, data):
@@ -108,23 +113,27 @@ class CaptureWriter:
         counter = self.counters[number]
         for at in range(0, len(data), PIECE_LIMIT):
             part = data[at:at + PIECE_LIMIT]
-            written = self._write(tick, b"piece %d %d %d\n%b\n", (number, len(part), part), counter.feed(part))
+            written = self._write(tick, b"piece", (number, len(part)), counter.feed(part), part + b"\n")
             self.bytes += len(part) if written else 0
 
     def end(self, tick, number):
         """Writes that a connection, which hasn't ended, ends at a tick."""
         del self.counters[number]
-        self._write(tick, b"end %d %d\n", (number,), 0)
+        self._write(tick, b"end", (number,), 0)
 
     def stop(self):
         """Writes the last line, and closes the file."""
         self.file.write(b"stop %d\n" % self.records)
         self.file.close()
 
-    def _write(self, tick, form, values, messages):
-        """Writes a record that ends so many messages, and tells whether it was written."""
-        raised = max(tick, self.tick)
-        text = form % (raised, *values)
+    def _write(self, tick, kind, numbers, messages, data=b""):
+        """Writes a record that ends so many messages, and tells whether it was written. A tier has no tick."""
+        if tick is None:
+            tick = raised = self.tick
+        else:
+            raised = max(tick, self.tick)
+            numbers = (raised, *numbers)
+        text = kind + b"".join(b" %d" % number for number in numbers) + b"\n" + data
         self.full = self.full or self._limit(raised, len(text), messages)
         if self.full:
             self.left_out["records beyond %s" % self.full] += 1
@@ -146,6 +155,47 @@ class CaptureWriter:
         if self.size + size + STOP_ROOM > TEXT_LIMIT:
             return "%d bytes of text" % TEXT_LIMIT
         return None
+
+
+# What a connection's client or target (about) has to be for its tier.
+TierRule = collections.namedtuple("TierRule", "about fits tier")
+
+
+def tier_rule(text):
+    """The rule of a word PATTERN=N of the command line."""
+    pattern, _, tier = text.rpartition("=")
+    if not pattern or tier not in ("0", "1", "2", "3"):
+        raise argparse.ArgumentTypeError("%r is no PATTERN=N with N from 0 to 3" % text)
+    try:
+        if pattern.startswith("/"):
+            prefix = pattern.encode()
+            return TierRule("target", lambda target: target.startswith(prefix), int(tier))
+        if pattern.startswith("~"):
+            return TierRule("target", re.compile(pattern[1:].encode()).search, int(tier))
+        network = ipaddress.ip_network(pattern, strict=False)
+        return TierRule("client", lambda client: client in network, int(tier))
+    except (ValueError, re.error) as error:
+        raise argparse.ArgumentTypeError("%r: %s" % (text, error)) from None
+
+
+def tier_of(rules, client, target):
+    """The tier of the first rule that fits a connection's client or target (None where it isn't known), or 0."""
+    known = {"client": client, "target": target}
+    return next((rule.tier for rule in rules if known[rule.about] is not None and rule.fits(known[rule.about])), 0)
+
+
+def client_of(address):
+    """The address of a client, from its text or its bytes; None where it is none."""
+    try:
+        return ipaddress.ip_address(address)
+    except ValueError:
+        return None
+
+
+def target_of(data):
+    """The target of the request that begins a connection's bytes; None where its request line isn't whole."""
+    found = TARGET.match(data)
+    return found and found[1]
 
 
 def moment(text):
@@ -175,7 +225,18 @@ def add_common_options(parser):
     parser.add_argument("--to", dest="end", type=moment, default=None, metavar="TIME",
                         help="leave out what is at this time or after it")
     parser.add_argument("--sample", type=count, default=1, metavar="N", help="take each Nth connection only")
+    parser.add_argument("--tier", type=tier_rule, action="append", default=[], metavar="PATTERN=N",
+                        help="the tier, 0 to 3, of connections that fit (see below); may be given several times")
     parser.add_argument("--output", required=True, metavar="FILE", help="the capture that is written")
+
+
+TIERS_EXPLAINED = """\
+--tier PATTERN=N gives connections the tier N. The first that fits a connection counts; one that
+none fits is of tier 0. PATTERN is
+  10.0.0.7, 10.1.0.0/16, fd00::/8   the client's address, or a network that it is in
+  /api/                             a prefix of the target, as it stands in the request line
+  ~[.](css|js)$                     a regular expression (Python's) that is found in the target
+"""
 
 
 @contextlib.contextmanager

@@ -61,12 +61,12 @@ def frame(data):
 def pcap(packets, order="<", ticks_in_second=10**6, link=1):
     """A pcap of packets, each with its tick behind START; an IP packet is framed for link 1, raw for link 101."""
     magic = 0xA1B2C3D4 if ticks_in_second == 10**6 else 0xA1B23C4D
-    text = struct.pack(order + "IHHiIII", magic, 2, 4, 0, 0, 65535, link)
+    parts = [struct.pack(order + "IHHiIII", magic, 2, 4, 0, 0, 65535, link)]
     for tick, data in packets:
         data = frame(data) if link == 1 else data
         part = tick % 10**6 * (ticks_in_second // 10**6)
-        text += struct.pack(order + "IIII", START + tick // 10**6, part, len(data), len(data)) + data
-    return text
+        parts += [struct.pack(order + "IIII", START + tick // 10**6, part, len(data), len(data)), data]
+    return b"".join(parts)
 
 
 def block(kind, body):
@@ -89,29 +89,39 @@ def pcapng(packets):
 
 
 def capture(*records, start=START):
-    """A capture's text of records (tick, connection, bytes), or (tick, connection) for an end."""
-    text = b"haboob-capture 1 %d\n" % start
+    """The text of a capture: (tick, connection, bytes), (tick, connection) of an end, ("tier", connection, tier)."""
+    parts = [b"haboob-capture 2 %d\n" % start]
     for tick, connection, *data in records:
-        if data:
-            text += b"piece %d %d %d\n%b\n" % (tick, connection, len(data[0]), data[0])
+        if tick == "tier":
+            parts.append(b"tier %d %d\n" % (connection, data[0]))
+        elif data:
+            parts.append(b"piece %d %d %d\n%b\n" % (tick, connection, len(data[0]), data[0]))
         else:
-            text += b"end %d %d\n" % (tick, connection)
-    return text + b"stop %d\n" % len(records)
+            parts.append(b"end %d %d\n" % (tick, connection))
+    return b"".join(parts) + b"stop %d\n" % len(records)
 
 
 def read_capture(text):
     """The start and the records of a capture's text, as capture() takes them; fails where it breaks a rule."""
-    first, at = re.match(rb"haboob-capture 1 (0|[1-9]\d*)\n", text), None
-    records, at, last, ended = [], first.end(), 0, set()
+    first, at = re.match(rb"haboob-capture 2 (0|[1-9]\d*)\n", text), None
+    records, at, last, ended, begun = [], first.end(), 0, set(), set()
     while not (stop := re.compile(rb"stop (\d+)\n").fullmatch(text, at)):
+        tier = re.compile(rb"tier (\d+) ([0-3])\n").match(text, at)
+        if tier:
+            connection, at = int(tier[1]), tier.end()
+            assert connection <= 65535 and connection not in ended | begun
+            records.append(("tier", connection, int(tier[2])))
+            begun.add(connection)
+            continue
         line = re.compile(rb"(?:piece (\d+) (\d+) (\d+)|end (\d+) (\d+))\n").match(text, at)
         tick, connection = (int(line[1] or line[4]), int(line[2] or line[5]))
-        assert last <= tick <= 10**15 and connection <= 4095 and connection not in ended
+        assert last <= tick <= 10**15 and connection <= 65535 and connection not in ended
         at, last = line.end(), tick
         if line[3]:
             length = int(line[3])
             assert 1 <= length <= 65536 and text[at + length:at + length + 1] == b"\n"
             records.append((tick, connection, text[at:at + length]))
+            begun.add(connection)
             at += length + 1
         else:
             records.append((tick, connection))
@@ -314,10 +324,30 @@ class Packets(ToolTest):
         self.assertIn("1 connections begun before --from", said)
 
     def test_more_connections_than_numbers(self):
-        packets = [(tick, packet(1, GET, ACK, (bytes([10, 1, tick % 256, tick // 256]), 4000))) for tick in range(4099)]
+        packets = [(tick, packet(1, GET, ACK, (struct.pack(">I", tick), 4000))) for tick in range(65539)]
         text, said = self.convert(pcap(packets))
-        self.assertEqual(text, capture(*((tick, tick, GET) for tick in range(4096))))
-        self.assertIn("left out: 3 connections beyond 4096", said)
+        self.assertEqual(text, capture(*((tick, tick, GET) for tick in range(65536))))
+        self.assertIn("left out: 3 connections beyond 65536", said)
+
+    def test_tiers(self):
+        clients = [(bytes([10, number, 0, 1]), 4000) for number in range(4)]
+        targets = [b"/", b"/api/x", b"/a.css", b"/api/y"]
+        gets = [GET.replace(b"/ ", target + b" ") for target in targets]
+        packets = [(tick, packet(1, get, ACK, client)) for tick, (get, client) in enumerate(zip(gets, clients))]
+        packets += [(4, packet(1, gets[0], ACK, CLIENT6, SERVER6)), (5, packet(1, gets[1][:8], ACK, (CLIENT[0], 4001))),
+                    (6, packet(9, gets[1][8:], ACK, (CLIENT[0], 4001)))]
+        words = ["--tier", "10.3.0.0/16=0", "--tier", "/api/=2", "--tier", "~[.]css$=3", "--tier", "::1=1"]
+        self.expect(packets, (0, 0, gets[0]), ("tier", 1, 2), (1, 1, gets[1]), ("tier", 2, 3), (2, 2, gets[2]),
+                    (3, 3, gets[3]), ("tier", 4, 1), (4, 4, gets[0]), (5, 5, gets[1][:8]), (6, 5, gets[1][8:]),
+                    words=words, said="note: 1 connections whose first bytes hold no whole request line, for --tier")
+
+    def test_the_first_tier_that_fits(self):
+        words = ["--tier", "10.0.0.1=3", "--tier", "10.0.0.0/8=2", "--tier", "/=1"]
+        other = (bytes([10, 9, 9, 9]), 4000)
+        self.expect([(0, packet(1, GET)), (1, packet(1, GET, ACK, other)), (2, packet(1, GET, ACK, CLIENT6, SERVER6)),
+                     (3, packet(28, GET))],
+                    ("tier", 0, 3), (0, 0, GET), ("tier", 1, 2), (1, 1, GET), ("tier", 2, 1), (2, 2, GET), (3, 0, GET),
+                    words=words, said="7 records, 3 connections, 108 bytes")
 
     def test_kinds_of_files(self):
         packets = [(250000, packet(99, b"", SYN)), (250007, packet(100, GET)),
@@ -474,8 +504,40 @@ class Logs(ToolTest):
         self.assertIn("5 requests between the sampled ones", said)
 
     def test_numbers_in_turn(self):
-        text, _ = self.convert(self.LINE % (b"08:49:37", b"GET / HTTP/1.1") * 5000, "--host", "a")
-        self.assertEqual(text, capture(*((number * 200, number % 4096, GET) for number in range(5000))))
+        text, _ = self.convert(self.LINE % (b"08:49:37", b"GET / HTTP/1.1") * 80000, "--host", "a")
+        self.assertEqual(text, capture(*((number * 25 // 2, number % 65536, GET) for number in range(80000))))
+
+    def test_tiers(self):
+        lines = [b"%b %b 784111777.250 GET %b HTTP/1.1\n" % it for it in [
+            (b"10.1.2.3", b"a", b"/"), (b"fd00::9", b"a", b"/"), (b"unix:", b"a", b"/api/"),
+            (b"10.1.2.3", b"a", b"/api/")]]
+        words = ["--log-format", "$remote_addr $host $msec $request", "--tier", "fd00::/8=3", "--tier", "/api/=1",
+                 "--tier", "10.1.2.0/24=2"]
+        text, _ = self.convert(b"".join(lines), *words)
+        api = GET.replace(b"/ ", b"/api/ ")
+        self.assertEqual(text, capture(("tier", 0, 2), (0, 0, GET), ("tier", 1, 3), (0, 1, GET), ("tier", 2, 1),
+                                       (0, 2, api), ("tier", 3, 1), (0, 3, api)))
+
+    def test_numbers_of_each_tier_in_turn(self):
+        targets = [b"/", b"/", b"/", b"/", b"/", b"/a", b"/", b"/a", b"/b", b"/b", b"/"]
+        lines = b"".join(b"784111777.250 GET %b HTTP/1.1\n" % target for target in targets)
+        words = ["--log-format", "$msec $request", "--host", "a", "--tier", "/a=1", "--tier", "/b=3"]
+        with unittest.mock.patch.object(capture_writer, "CONNECTIONS_LIMIT", 5):
+            text, said = self.convert(lines, *words)
+        numbers, records = [0, 1, 2, 0, 1, 3, 2, 3, 4, 4, 0], []
+        for target, number in zip(targets, numbers):
+            tier = {b"/": 0, b"/a": 1, b"/b": 3}[target]
+            records += [("tier", number, tier)] * bool(tier and ("tier", number, tier) not in records)
+            records.append((0, number, GET.replace(b"/ ", target + b" ")))
+        self.assertEqual(text, capture(*records))
+        self.assertEqual(said, "capture_from_log: 13 records, 5 connections, 301 bytes\n")
+
+    def test_tiers_that_are_refused(self):
+        _, said = self.convert(b"x\n", "--log-format", "$msec $request", "--tier", "10.0.0.1=1", status=2)
+        self.assertEqual(said, "capture_from_log: --tier: an address needs $remote_addr in --log-format\n")
+        for word in ("10.0.0.1=4", "=1", "/a", "10.0.0.256=1", "~(=1", "a=1", "/a=-1"):
+            _, said = self.convert(b"x\n", "--tier", word, status=2)
+            self.assertIn("argument --tier: '%s'" % word, said)
 
     def test_recorded_log(self):
         text, said = self.convert("nginx.log", "--host", "example.org")
@@ -575,6 +637,12 @@ class Limits(unittest.TestCase):
         writer.piece(0, 0, b"x")
         self.assertEqual(self.written(writer), [(0, 0, b"x" * 24), (0, 0, b"x")])
         self.assertEqual(dict(writer.left_out), {"records beyond 1073741824 bytes of text": 1})
+
+    def test_a_tier_counts_among_the_bytes(self):
+        writer = capture_writer.CaptureWriter(self.file, START)
+        writer.size = 2**30 - 32 - 8  # one byte too few for the tier's 9
+        writer.piece(0, writer.connect(1), b"x")
+        self.assertEqual((self.written(writer), writer.left_out.total()), ([], 2))
 
     def test_nothing_comes_behind_what_is_left_out(self):
         writer = capture_writer.CaptureWriter(self.file, START)

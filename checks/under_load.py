@@ -1,0 +1,67 @@
+#!/usr/bin/env python3
+"""Replays on the staged engine while all cores are busy, and compares what it writes with the plain engine's.
+
+    checks/under_load.py [--first SEED] [--seconds N] [--busy N] PROGRAM [COUNT]
+
+COUNT replays (1,000 without it) are drawn at random as those of compare_replays.py are, with their cuts, workers,
+capacities, batches and caches; a fourth has a fault in its capture. As many other processes as there are cores
+(--busy) do nothing but count meanwhile, so that threads lose their core at any place. A run that takes longer than
+--seconds (300 without it) counts as hung: with a batch of one piece the program starts up to 80 threads for each piece,
+which takes half a minute on busy cores. Prints each such run, and each that differs, with its seed, and then how many
+there were. Exits with 1 where there was one.
+"""
+import argparse
+import multiprocessing
+import os
+import sys
+
+# The folder stays as it is.
+sys.dont_write_bytecode = True
+import compare_replays
+
+FAULTS = ("", "", "", "capture")
+TURNS = 10**6
+
+
+def count_on(parent):
+    """Keeps a core busy as long as the script runs."""
+    while os.getppid() == parent:
+        for _ in range(TURNS):
+            pass
+
+
+def is_same(program, seed, seconds):
+    """Whether the staged engine answers as the plain one; None where it hangs."""
+    texts = compare_replays.random_replay(seed, FAULTS)
+    plain = compare_replays.run_replay(program, ["--engine", "plain"], *texts)
+    staged = compare_replays.run_replay(program, ["--engine", "staged"], *texts, seconds)
+    if staged[0] == compare_replays.HANGS:
+        print("seed %d: HUNG" % seed, flush=True)
+        return None
+    found = compare_replays.difference(compare_replays.PARTS["replay"], plain, staged)
+    if found:
+        print("seed %d: DIFFERS: %s" % (seed, found), flush=True)
+    return not found
+
+
+def main():
+    parser = argparse.ArgumentParser(description=__doc__, formatter_class=argparse.RawDescriptionHelpFormatter)
+    parser.add_argument("program")
+    parser.add_argument("count", nargs="?", type=int, default=1000)
+    parser.add_argument("--first", type=int, default=0, metavar="SEED", help="the first seed; 0 without it")
+    parser.add_argument("--seconds", type=float, default=300, metavar="N", help="the longest that a run may take")
+    parser.add_argument("--busy", type=int, default=os.cpu_count(), metavar="N", help="processes that keep cores busy")
+    options = parser.parse_args()
+    program = os.path.abspath(options.program)
+    busy = [multiprocessing.Process(target=count_on, args=(os.getpid(),), daemon=True) for _ in range(options.busy)]
+    for process in busy:
+        process.start()
+    seeds = range(options.first, options.first + options.count)
+    results = [is_same(program, seed, options.seconds) for seed in seeds]
+    hung, differing = results.count(None), results.count(False)
+    print("%d runs with %d busy processes: %d hung, %d differing" % (len(results), options.busy, hung, differing))
+    return int(hung + differing > 0)
+
+
+if __name__ == "__main__":
+    sys.exit(main())
