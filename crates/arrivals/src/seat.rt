@@ -9,15 +9,16 @@ use std::alloc::{AllocError, Global};
 use std::collections::VecDeque;
 use std::marker::Model;
 
-/// A connection, the pieces that wait to be cut, and for each piece that was cut the messages that end in it.
+/// What is kept of a connection that sent something: itself, the pieces that wait to be cut, and for each piece that was cut
+/// the messages that end in it.
 #[derive(Drop)]
-pub struct Seat {
+struct Taken {
     connection: Connection,
     pieces: Vec<Bytes>,
     lists: VecDeque<Series<Message>>,
 }
 
-impl Model for Seat {
+impl Model for Taken {
     ghost use Rattle.arrivals.specs.Places.{Place};
 
     ghost Value = { Place };
@@ -25,12 +26,12 @@ impl Model for Seat {
     ghost view = { λ s. record { connection = s.connection; pieces = s.pieces.items; lists = s.lists.items } };
 }
 
-impl Seat {
+impl Taken {
     /// A connection of which nothing came yet.
-    pub(crate) fn new(alloc: Global) -> Seat
+    fn new(alloc: Global) -> Taken
         ensures { result ≡ empty_place }
     {
-        Seat {
+        Taken {
             connection: Connection::Silent,
             pieces: Vec::new(alloc),
             lists: VecDeque::new(alloc),
@@ -38,7 +39,7 @@ impl Seat {
     }
 
     /// A piece came.
-    pub(crate) fn add(&mut self, piece: Bytes) -> Result<(), AllocError>
+    fn add(&mut self, piece: Bytes) -> Result<(), AllocError>
         ensures { OnOk result (self.new ≡ with_piece piece self.old) }
     {
         self.pieces.push(piece)?;
@@ -46,11 +47,11 @@ impl Seat {
     }
 
     /// Cuts the pieces.
-    pub(crate) fn cut(self, alloc: Global) -> Result<Seat, AllocError>
+    fn cut(self, alloc: Global) -> Result<Taken, AllocError>
         requires { IsReady self }
         ensures { IfOk result (IsCutOf self) }
     {
-        let Seat {
+        let Taken {
             connection,
             pieces,
             lists: _lists,
@@ -62,7 +63,7 @@ impl Seat {
             connection = connection.read(alloc, piece.as_slice(), &mut more)?;
             lists.push(Series::from_vec(more))?;
         }
-        Ok(Seat {
+        Ok(Taken {
             connection,
             pieces: Vec::new(alloc),
             lists: VecDeque::from_vec(lists),
@@ -70,10 +71,76 @@ impl Seat {
     }
 
     /// The messages that end in the next piece.
-    pub(crate) fn next(&mut self) -> Series<Message>
+    fn next(&mut self) -> Series<Message>
         requires { 0 < length self.old.lists }
         ensures { self.old ≡ with_lists (result ∷ self.new.lists) self.new }
     {
         self.lists.pop_front().unwrap()
+    }
+}
+
+/// The seat of a connection. It takes no more than a pointer until something comes.
+#[derive(Drop)]
+pub struct Seat {
+    taken: Option<Box<Taken>>,
+}
+
+impl Model for Seat {
+    ghost use Rattle.std.specs.Option.{option_map_or};
+    ghost use Rattle.arrivals.specs.Places.{Place, empty_place};
+
+    ghost Value = { Place };
+
+    ghost view = { λ s. option_map_or (λ b. b.value) s.taken empty_place };
+}
+
+impl Seat {
+    /// A connection of which nothing came yet.
+    pub(crate) fn new() -> Seat
+        ensures { result ≡ empty_place }
+    {
+        Seat { taken: None }
+    }
+
+    /// A piece came.
+    pub(crate) fn add(&mut self, alloc: Global, piece: Bytes) -> Result<(), AllocError>
+        ensures { OnOk result (self.new ≡ with_piece piece self.old) }
+    {
+        match &mut self.taken {
+            Some(taken) => taken.add(piece),
+            None => {
+                let mut taken = Taken::new(alloc);
+                taken.add(piece)?;
+                self.taken = Some(Box::new(alloc, taken)?);
+                Ok(())
+            }
+        }
+    }
+
+    /// Cuts the pieces.
+    pub(crate) fn cut(self, alloc: Global) -> Result<Seat, AllocError>
+        requires { IsReady self }
+        ensures { IfOk result (IsCutOf self) }
+    {
+        match self.taken {
+            Some(taken) => {
+                let cut = Box::into_inner(taken).cut(alloc)?;
+                Ok(Seat {
+                    taken: Some(Box::new(alloc, cut)?),
+                })
+            }
+            None => Ok(Seat { taken: None }),
+        }
+    }
+
+    /// The messages that end in the next piece.
+    pub(crate) fn next(&mut self) -> Series<Message>
+        requires { 0 < length self.old.lists }
+        ensures { self.old ≡ with_lists (result ∷ self.new.lists) self.new }
+    {
+        match &mut self.taken {
+            Some(taken) => taken.next(),
+            None => unreachable!(),
+        }
     }
 }

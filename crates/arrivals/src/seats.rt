@@ -43,12 +43,12 @@ impl Seats {
     }
 
     /// Makes a place for a connection.
-    fn reach(&mut self, alloc: Global, conn: usize) -> Result<(), AllocError>
+    fn reach(&mut self, conn: usize) -> Result<(), AllocError>
         ensures place { OnOk result (conn < length self.new) }
         ensures same { (c : ℕ) → place_at self.new c ≡ place_at self.old c }
     {
         while self.list.len() <= conn {
-            self.list.push(Seat::new(alloc))?;
+            self.list.push(Seat::new())?;
         }
         Ok(())
     }
@@ -58,8 +58,8 @@ impl Seats {
         ensures own { OnOk result (place_at self.new conn ≡ with_piece piece (place_at self.old conn)) }
         ensures others { OnOk result ((c : ℕ) → c ≢ conn → place_at self.new c ≡ place_at self.old c) }
     {
-        self.reach(alloc, conn)?;
-        self.list[conn].add(piece)
+        self.reach(conn)?;
+        self.list[conn].add(alloc, piece)
     }
 
     /// Cuts the pieces of each connection, the connections in parallel.

@@ -2,7 +2,7 @@ use Rattle.std.proofs.Common.{◌≡◌, ◌+◌, ◌<◌, length, [], ◌∷◌
 use Rattle.std.proofs.lemmas.List.{drop_more, take_more}
 use Rattle.arrivals.specs.Batches.{Reads}
 use Rattle.arrivals.proofs.CutBatches.{reads_push, can_read_more}
-use Rattle.arrivals.proofs.seat.Seat.cut.Goals as goal
+use Rattle.arrivals.proofs.seat.Taken.cut.Goals as goal
 
 -- one more piece is read
 pub loop-piece-preserved : goal.loop-piece-preserved
