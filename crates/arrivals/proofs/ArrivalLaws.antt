@@ -1,5 +1,5 @@
 -- The laws of the definitions: one list of arrivals, of which those of the first records are the first.
-mod LateMessages
+pub mod LateMessages
 mod OnePlace
 use Rattle.std.proofs.Common.{◌≡◌, ◌≢◌, ℕ, suc, zero, ◌+◌, ◌<◌, ◌≤◌, inl, inr, List, [], ◌∷◌, ◌++◌, length, take, drop, get_or, Some, refl, sym, ap, ◌∙◌, subst, arith, All, zero-add}
 use Rattle.std.specs.Prelude.{slice_get}

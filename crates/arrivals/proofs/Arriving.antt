@@ -198,18 +198,26 @@ pub reads_tier : (records : List Record) (came : List Arrival) (connections : Li
     → HaveRead records came connections → HaveRead (records ++ Tier conn tier ∷ []) came connections
 reads_tier records came connections conn tier have = record { each = λ c. rw (text_more c records (Tier conn tier), append-nil (text_of c records)) (have.each c) }
 
-pub arrives_piece : (records : List Record) (came : List Arrival) (after : List Connection) (tier tick conn : ℕ) (bytes : List ℕ) (ms : List Message)
+-- the messages that end in a piece arrive with it
+pub arrive_with_piece : (records : List Record) (came : List Arrival) (tier tick conn : ℕ) (bytes : List ℕ) (ms : List Message)
     → tier ≡ tier_of conn records → AreArrivals records came → EndBetween (length (text_of conn records)) (length (text_of conn records) + length bytes) ms
-    → HaveRead (records ++ Piece tick conn bytes ∷ []) (came ++ arrivals_with (length records) (from_piece tier tick conn) ms) after
+    → ((c : ℕ) → MessagesOf (text_of c (records ++ Piece tick conn bytes ∷ [])) (messages_of c (came ++ arrivals_with (length records) (from_piece tier tick conn) ms)))
     → AreArrivals (records ++ Piece tick conn bytes ∷ []) (came ++ arrivals_with (length records) (from_piece tier tick conn) ms)
-arrives_piece records came after tier tick conn bytes ms own are ends have = record {
-  each = λ c. has_messages (connection_at after c) _ _ (have.each c);
+arrive_with_piece records came tier tick conn bytes ms own are ends each = record {
+  each = each;
   with = All-append (ArrivesWith (records ++ Piece tick conn bytes ∷ [])) came (arrivals_with (length records) (from_piece tier tick conn) ms)
       (λ k d lt. arrived_stays records (Piece tick conn bytes) _ (are.with k d lt))
       (all_arrive records tier tick conn (length (text_of conn records)) bytes ms own (omega arith) ends);
   order = order_more (length records) tier tick conn (length (text_of conn records)) (length (text_of conn records) + length bytes) came ms are.order
       (λ k d lt. arrived_before records (length (text_of conn records)) _ (are.with k d lt)) ends;
 }
+
+pub arrives_piece : (records : List Record) (came : List Arrival) (after : List Connection) (tier tick conn : ℕ) (bytes : List ℕ) (ms : List Message)
+    → tier ≡ tier_of conn records → AreArrivals records came → EndBetween (length (text_of conn records)) (length (text_of conn records) + length bytes) ms
+    → HaveRead (records ++ Piece tick conn bytes ∷ []) (came ++ arrivals_with (length records) (from_piece tier tick conn) ms) after
+    → AreArrivals (records ++ Piece tick conn bytes ∷ []) (came ++ arrivals_with (length records) (from_piece tier tick conn) ms)
+arrives_piece records came after tier tick conn bytes ms own are ends have =
+    arrive_with_piece records came tier tick conn bytes ms own are ends (λ c. has_messages (connection_at after c) _ _ (have.each c))
 
 pub arrives_end : (records : List Record) (came : List Arrival) (after : List Connection) (tick conn : ℕ)
     → AreArrivals records came → HaveRead (records ++ End tick conn ∷ []) came after → AreArrivals (records ++ End tick conn ∷ []) came

@@ -2,6 +2,7 @@ pub mod Reading
 pub mod Arriving
 pub mod Merging
 pub mod ArrivalLaws
+pub mod ArrivalsExist
 pub mod CutBatches
 pub mod Merges
 pub mod Laid

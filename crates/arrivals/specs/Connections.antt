@@ -1,6 +1,7 @@
 -- What is kept of the connections of a capture between two of its records.
 use Rattle.std.specs.Prelude.{◌≡◌, ℕ, ◌+◌, ◌≤◌, Bool, List, [], ◌++◌, length, map, slice_index_or}
 use Rattle.std.specs.List.{list_any}
+use Rattle.captures.specs.Captures.{longest_text}
 use Rattle.captures.specs.declared.record.Record.{Record}
 use Rattle.http_requests.specs.declared.messages.Message.{Message}
 use Rattle.http_requests.specs.Framing.{MessagesOf, closes}
@@ -18,8 +19,8 @@ HasRead Closed text ms = (more : List ℕ) → MessagesOf (text ++ more) ms
 
 -- the connection may read so many bytes more
 abbrev pub HasRoom : Connection → ℕ → Type 0
-HasRoom Silent n = n ≤ 1073741824
-HasRoom (Open cutter) n = cutter.read + n ≤ 1073741824
+HasRoom Silent n = n ≤ longest_text
+HasRoom (Open cutter) n = cutter.read + n ≤ longest_text
 HasRoom Closed n = Unit {0}
 
 -- some message closes the connection

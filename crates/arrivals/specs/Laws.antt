@@ -1,7 +1,18 @@
 -- What follows from the definition of the arrivals.
-use Rattle.std.specs.Prelude.{◌≡◌, List, ◌++◌}
+use Rattle.std.specs.Prelude.{◌≡◌, ℕ, List, ◌++◌}
 use Rattle.captures.specs.declared.record.Record.{Record}
-use Rattle.arrivals.specs.Arrivals.{Arrival, AreArrivals}
+use Rattle.http_requests.specs.declared.messages.Message.{Message}
+use Rattle.http_requests.specs.Framing.{MessagesOf}
+use Rattle.arrivals.specs.Arrivals.{Arrival, AreArrivals, text_of}
+
+-- the text of each connection has a list of messages
+abbrev pub HasMessages : List Record → Type 0
+HasMessages records = (c : ℕ) → (ms : List Message) × MessagesOf (text_of c records) ms
+
+-- such records have a list of arrivals
+abbrev pub ArrivalsOfMessages : Type 0
+ArrivalsOfMessages = (records : List Record) → HasMessages records
+    → (arrivals : List Arrival) × AreArrivals records arrivals
 
 -- two lists of the arrivals of the same records are one
 abbrev pub OneListOfArrivals : Type 0

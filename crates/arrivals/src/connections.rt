@@ -1,4 +1,5 @@
 ghost use Rattle.std.specs.Prelude.{◌≡◌, ◌≢◌, ◌<◌, ◌≤◌, ◌++◌, [], ℕ, List, length, ◌+◌, OnOk, IfOk, IfSome, IfNone};
+ghost use Rattle.captures.specs.Captures.{longest_text};
 ghost use Rattle.http_requests.specs.declared.messages.Message.{Message as AMessage};
 ghost use Rattle.http_requests.specs.Framing.{closes};
 ghost use Rattle.http_requests.specs.Cutting.{Fits};
@@ -33,7 +34,7 @@ impl Connection {
     fn into_cutter(self, alloc: Global) -> Option<Cutter>
         ensures reads { IfSome result (λ cutter. (text : List ℕ) (ms : List AMessage) → HasRead self text ms
             → Fits text ms cutter) }
-        ensures room { IfSome result (λ cutter. (n : ℕ) → HasRoom self n → cutter.read + n ≤ 1073741824) }
+        ensures room { IfSome result (λ cutter. (n : ℕ) → HasRoom self n → cutter.read + n ≤ longest_text) }
         ensures closed { IfNone result (self ≡ Closed) }
     {
         match self {

@@ -276,3 +276,31 @@ few_records v bytes s rs c =
     let long = ap length c.text in
     let size = c.size in
     omega (arith, sizes_below rs, length-append (header_text v s) (flat_map record_text rs), length-append (text_before_stop v s rs) (stop_text (length rs)))
+
+-- ---- for callers
+
+-- the first line and the records of both: the version and the start are one, and one list begins with the other
+pub agree_on : (bytes : List ℕ) (v w : Version) (s t : ℕ) (rs ss : List Record) (x y : List ℕ) → IsCapture v s rs → IsCapture w t ss
+    → bytes ≡ text_before_stop v s rs ++ x → bytes ≡ text_before_stop w t ss ++ y → (v ≡ w) × (s ≡ t) × Agrees rs x ss y
+agree_on bytes v w s t rs ss x y a b g h =
+    let both = starts_agree v w s t rs ss x y bytes a.in_time b.in_time g h in
+    (both.0, both.1, agree v rs ss x y a.each (subst (λ (u : Version). All (IsRecord u) ss) (sym both.0) b.each) both.2)
+
+-- no last line stands where a record does
+pub no_last_line : (n : ℕ) (r : Record) (y : List ℕ) → stop_text n ≡ record_text r ++ y → ⊥
+no_last_line n r y h = stop_apart n r [] y (append-nil (stop_text n) ∙ h)
+
+-- no fault of the first line stands in bytes that begin with one
+pub no_header_fault : (v : Version) (bytes : List ℕ) (s : ℕ) (rs : List Record) (rest : List ℕ) (f : CaptureFault) → IsCapture v s rs
+    → bytes ≡ text_before_stop v s rs ++ rest → length (text_before_stop v s rs) ≤ longest_text → IsHeaderFault bytes f → ⊥
+no_header_fault v bytes s rs rest f rules is size fault =
+    header_good v bytes s (flat_map record_text rs ++ rest) f rules.in_time (omega (arith, size, header_below v s rs)) (behind v s rs rest bytes is) fault
+
+-- nor any behind the first of records that stand whole, within the limit
+pub no_fault_among : (v w : Version) (bytes : List ℕ) (s t : ℕ) (rs ss : List Record) (f : CaptureFault) (x y : List ℕ) (q : Record) (more : List Record) → FaultsBehind v bytes s rs f x
+    → IsCapture w t ss → length (text_before_stop w t ss) ≤ longest_text → v ≡ w → s ≡ t → ss ≡ rs ++ q ∷ more → x ≡ flat_map record_text (q ∷ more) ++ y → ⊥
+no_fault_among v w bytes s t rs ss f x y q more fault rules size same start is rest =
+    let whole : IsCapture v s (rs ++ q ∷ more) = subst (λ (p : Version × (ℕ × List Record)). IsCapture p.0 p.1.0 p.1.1) (λ i. (sym same i, (sym start i, is i))) rules in
+    let long : length (text_before_stop v s (rs ++ q ∷ more)) ≤ longest_text = subst (λ (p : Version × (ℕ × List Record)). length (text_before_stop p.0 p.1.0 p.1.1) ≤ longest_text) (λ i. (sym same i, (sym start i, is i))) size in
+    record_good v bytes s rs f x q (flat_map record_text more ++ y) fault (rest ∙ append_assoc (record_text q) (flat_map record_text more) y)
+    (follows_front v s rs more q whole) (omega (arith, long, one_more_text v s rs more q))

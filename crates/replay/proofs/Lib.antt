@@ -6,6 +6,7 @@ pub mod Judging
 pub mod Writing
 pub mod Server
 pub mod OneAnswer
+pub mod OneOutcome
 pub mod Sights
 pub mod Ticketed
 pub mod Upcoming

@@ -10,7 +10,7 @@ use Rattle.replay.specs.declared.outcome.Outcome.{Outcome}
 use Rattle.arrivals.proofs.ArrivalLaws.{one_list_of_arrivals}
 
 -- known bytes grow by the same text in one way
-grows_once : (old new other : Option (List ℕ)) (xs ys : List ℕ) → is_some old ≡ true → xs ≡ ys → Appends old new xs → Appends old other ys → new ≡ other
+pub grows_once : (old new other : Option (List ℕ)) (xs ys : List ℕ) → is_some old ≡ true → xs ≡ ys → Appends old new xs → Appends old other ys → new ≡ other
 grows_once None new other xs ys known same h g = absurd (let never : false ≡ true = known in cc)
 grows_once (Some before) None other xs ys known same h g = absurd h
 grows_once (Some before) (Some x) None xs ys known same h g = absurd g

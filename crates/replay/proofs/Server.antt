@@ -463,6 +463,7 @@ taken terms v input now start records arrivals p fits arrived = record {
   arrivals = arrivals;
   rules = fits.rules;
   begins = fits.front;
+  size = λ known. (let left = fits.left known in omega (arith, left));
   arrived = arrived;
 }
 

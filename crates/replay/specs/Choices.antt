@@ -5,7 +5,6 @@ use Rattle.stage_graph.specs.Stands.{last_cut}
 use Rattle.cost_model.specs.Services.{CostTable}
 use Rattle.admission.specs.Rules.{Rules}
 use Rattle.paths.specs.declared.file.File.{File}
-use Rattle.replay.specs.declared.settings.TheConstants.{FRONT_STEPS, BACK_STEPS, MOST_RECORDS, MOST_CACHE, LONGEST_RETRY}
 use Rattle.replay.specs.declared.settings.SettingsFault.{SettingsFault}
 use Rattle.replay.specs.declared.settings.SettingsFault.TheVariants.{Front, Back, Batch, Cache, Retry}
 
@@ -20,14 +19,31 @@ pub record Choice : Type 0 where
   pub policies : List Rules
   pub retry_after : ℕ
 
+-- how many steps a request takes on the front floor and on the back floor, the most records of a batch, the most bytes
+-- of the cache, and the longest wait of a rejected request, in seconds
+abbrev pub front_steps : ℕ
+front_steps = 3
+
+abbrev pub back_steps : ℕ
+back_steps = 2
+
+abbrev pub most_records : ℕ
+most_records = 65536
+
+abbrev pub most_cache : ℕ
+most_cache = 1073741824
+
+abbrev pub longest_retry : ℕ
+longest_retry = 86400
+
 -- the first of the faults in their order
 abbrev pub settings_fault : Choice → Option SettingsFault
 settings_fault c =
-    if nat_eq (last_cut c.front) FRONT_STEPS then (
-    if nat_eq (last_cut c.back) BACK_STEPS then (
-    if nat_le 1 c.batch && nat_le c.batch MOST_RECORDS then (
-    if nat_le c.cache MOST_CACHE then (
-    if nat_le c.retry_after LONGEST_RETRY then None
+    if nat_eq (last_cut c.front) front_steps then (
+    if nat_eq (last_cut c.back) back_steps then (
+    if nat_le 1 c.batch && nat_le c.batch most_records then (
+    if nat_le c.cache most_cache then (
+    if nat_le c.retry_after longest_retry then None
     else Some Retry)
     else Some Cache)
     else Some Batch)
@@ -36,11 +52,11 @@ settings_fault c =
 
 -- the ranges that all settings keep
 pub record IsChoice (c : Choice) : Type 0 where
-  pub front : last_cut c.front ≡ FRONT_STEPS
-  pub back : last_cut c.back ≡ BACK_STEPS
-  pub batch : (1 ≤ c.batch) × (c.batch ≤ MOST_RECORDS)
-  pub cache : c.cache ≤ MOST_CACHE
-  pub retry_after : c.retry_after ≤ LONGEST_RETRY
+  pub front : last_cut c.front ≡ front_steps
+  pub back : last_cut c.back ≡ back_steps
+  pub batch : (1 ≤ c.batch) × (c.batch ≤ most_records)
+  pub cache : c.cache ≤ most_cache
+  pub retry_after : c.retry_after ≤ longest_retry
 
 -- What an answer depends on besides its capture. The graphs of the floors, the batch and the cache are none of it.
 pub record Terms : Type 0 where

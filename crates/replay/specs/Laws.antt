@@ -1,7 +1,9 @@
 -- What follows from the definitions.
-use Rattle.std.specs.Prelude.{◌≡◌, ℕ, List, [], ◌∷◌, ◌++◌, length, Option, Some, true, is_some}
+use Rattle.std.specs.Prelude.{◌≡◌, ℕ, List, [], ◌∷◌, ◌++◌, length, Option, Some, true, false, is_some}
 use Rattle.captures.specs.declared.record.Record.{Record}
 use Rattle.captures.specs.declared.version.Version.TheVariants.{One}
+use Rattle.captures.specs.declared.capture_fault.CaptureFault.{CaptureFault}
+use Rattle.captures.specs.CaptureFaults.{is_unforeseen_kind}
 use Rattle.captures.specs.Upgrades.{IsUpgrade}
 use Rattle.admission.specs.Rules.{rules_of}
 use Rattle.paths.specs.declared.file.File.{File}
@@ -10,7 +12,7 @@ use Rattle.replay.specs.declared.summary.Tally.{Tally}
 use Rattle.arrivals.specs.Arrivals.{Arrival}
 use Rattle.replay.specs.Choices.{Choice, Terms, terms_of}
 use Rattle.replay.specs.Offers.{Handled, handled}
-use Rattle.replay.specs.Outcomes.{Answers}
+use Rattle.replay.specs.Outcomes.{Answers, Stops, StopsFull}
 use Rattle.replay.specs.Former.{FormerTerms, FormerOutcome, FormerAnswers}
 
 -- settings with the same service times, policies and wait have the same answers, whatever their graphs, batch and cache
@@ -24,6 +26,35 @@ abbrev pub OneAnswer : Type 0
 OneAnswer = (terms : Terms) (input old new other : Option (List ℕ)) (outcome another : Outcome)
     → is_some input ≡ true → is_some old ≡ true
     → Answers terms input old new outcome → Answers terms input old other another → (new ≡ other) × (outcome ≡ another)
+
+-- No input of known bytes has two of these: an answer; a fault of the capture that isn't a failed read or being out of
+-- memory; messages beyond the limit. Settings make no difference.
+abbrev pub AnsweredNotFaulty : Type 0
+AnsweredNotFaulty = (terms others : Terms) (input ahead old new before after : Option (List ℕ)) (outcome : Outcome)
+    → (f : CaptureFault) → is_some input ≡ true → is_unforeseen_kind f.kind ≡ false
+    → Answers terms input old new outcome → Stops others input ahead before after f → ⊥
+
+abbrev pub AnsweredNotFull : Type 0
+AnsweredNotFull = (terms others : Terms) (input old new before after : Option (List ℕ)) (outcome : Outcome) (number : ℕ)
+    → is_some input ≡ true → Answers terms input old new outcome → StopsFull others input before after number → ⊥
+
+abbrev pub FaultyNotFull : Type 0
+FaultyNotFull = (terms others : Terms) (input ahead old new before after : Option (List ℕ)) (f : CaptureFault)
+    → (number : ℕ) → is_some input ≡ true → is_unforeseen_kind f.kind ≡ false
+    → Stops terms input ahead old new f → StopsFull others input before after number → ⊥
+
+-- such a fault is one, and so is what is written to a device of known bytes
+abbrev pub OneFault : Type 0
+OneFault = (terms : Terms) (input ahead behind old new other : Option (List ℕ)) (f g : CaptureFault)
+    → is_some input ≡ true → is_some old ≡ true → is_unforeseen_kind f.kind ≡ false → is_unforeseen_kind g.kind ≡ false
+    → Stops terms input ahead old new f → Stops terms input behind old other g → (new ≡ other) × (f ≡ g)
+
+-- what is written up to the limit is one too
+abbrev pub OneLimit : Type 0
+OneLimit = (terms : Terms) (input old new other : Option (List ℕ)) (number another : ℕ)
+    → is_some input ≡ true → is_some old ≡ true
+    → StopsFull terms input old new number → StopsFull terms input old other another
+    → (new ≡ other) × (number ≡ another)
 
 -- more arrivals change nothing of the numbers and the rejections of those before
 abbrev pub HandledBegin : Type 0

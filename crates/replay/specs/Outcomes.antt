@@ -6,7 +6,7 @@ use Rattle.captures.specs.declared.capture_fault.CaptureFault.{CaptureFault}
 use Rattle.captures.specs.declared.capture_fault.CaptureFaultKind.{CaptureFaultKind}
 use Rattle.captures.specs.declared.capture_fault.CaptureFaultKind.TheVariants as kinds
 use Rattle.captures.specs.declared.version.Version.{Version}
-use Rattle.captures.specs.Captures.{IsCapture, IsCaptureText, text_before_stop as records_text}
+use Rattle.captures.specs.Captures.{IsCapture, IsCaptureText, longest_text, text_before_stop as records_text}
 use Rattle.captures.specs.CaptureFaults.{is_unforeseen_kind, IsHeaderFault, IsFaultBehind, failures_of}
 use Rattle.captures.specs.Readers.{FailsNext}
 use Rattle.replay.specs.declared.replay_fault.ReplayFault.{ReplayFault}
@@ -85,7 +85,8 @@ pub record StopsFirst (input old new : Option (List ℕ)) (f : CaptureFault) : T
   pub written : Appends old new first_line
   pub fault : is_unforeseen_kind f.kind ≡ false → WhereKnown input (λ bytes. IsHeaderFault bytes f)
 
--- Records that were read: they keep the rules, and their texts are a prefix of the input. These are their arrivals.
+-- Records that were read: they keep the rules, and their texts are a prefix of the input, within the limit of a
+-- capture's text. These are their arrivals.
 pub record Taken (input : Option (List ℕ)) : Type 0 where
   pub version : Version
   pub start : ℕ
@@ -94,6 +95,7 @@ pub record Taken (input : Option (List ℕ)) : Type 0 where
   pub arrivals : List Arrival
   pub rules : IsCapture version start records
   pub begins : WhereKnown input (λ bytes. bytes ≡ records_text version start records ++ rest)
+  pub size : WhereKnown input (λ bytes. length (records_text version start records) ≤ longest_text)
   pub arrived : AreArrivals records arrivals
 
 -- The replay stopped at the record after these: it has written the replies to the messages that arrived with them, and no

@@ -10,6 +10,7 @@ use Rattle.replay.specs.Choices.{Terms}
 use Rattle.arrivals.specs.Arrivals.{Arrival, AreArrivals}
 use Rattle.arrivals.specs.Connections.{HaveRead}
 use Rattle.replay.specs.Offers.{offers_of, handled_behind}
+use Rattle.replay.specs.Outcomes.{most_messages}
 use Rattle.replay.specs.Replies.{replies_of}
 use Rattle.replay.specs.Totals.{totals_of}
 use Rattle.arrivals.specs.declared.connection.Connection.{Connection}
@@ -20,7 +21,7 @@ pub record Stands (terms : Terms) (arrivals : List Arrival) (desk : Desk) : Type
   pub policies : policies_of desk.controller ≡ terms.policies
   pub fits : Fits (offers_of terms arrivals) desk.controller
   pub totals : desk.totals ≡ totals_of terms arrivals
-  pub few : length arrivals ≤ 1048576
+  pub few : length arrivals ≤ most_messages
 
 -- none of them came later than this tick
 abbrev pub AreBy : ℕ → List Arrival → Type 0
@@ -65,7 +66,7 @@ pub record ServesFull (terms : Terms) (start : ℕ) (records : List Record) (arr
   pub more : List Arrival
   pub arrived : ArriveNext records arrivals rs more
   pub within : ℕ
-  pub full : length arrivals + within ≡ 1048576
+  pub full : length arrivals + within ≡ most_messages
   pub beyond : within < length more
   pub written : Written terms start arrivals (take within more) old new
 
@@ -74,5 +75,5 @@ pub record ServesInPart (terms : Terms) (start : ℕ) (records : List Record) (a
   pub more : List Arrival
   pub arrived : ArriveNext records arrivals rs more
   pub within : ℕ
-  pub few : length arrivals + within ≤ 1048576
+  pub few : length arrivals + within ≤ most_messages
   pub written : WrittenInPart terms start arrivals (take within more) old new

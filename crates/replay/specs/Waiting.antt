@@ -2,7 +2,7 @@
 use Rattle.std.specs.Prelude.{◌≡◌, ℕ, ◌≤◌, List, [], ◌++◌, map}
 use Rattle.captures.specs.declared.record.Record.{Record}
 use Rattle.captures.specs.declared.version.Version.{Version}
-use Rattle.captures.specs.Captures.{IsCapture, sizes_of}
+use Rattle.captures.specs.Captures.{IsCapture, longest_text, sizes_of}
 use Rattle.arrivals.specs.Arrivals.{Arrival}
 use Rattle.arrivals.specs.Batches.{pieces_to, origins_of, tiers_of}
 use Rattle.arrivals.specs.Places.{Place, place_at}
@@ -29,7 +29,7 @@ pub record ComeNext (terms : Terms) (records rs : List Record) (arrivals : List 
   pub origins_are : origins ≡ origins_of (tiers_of records) rs
   pub version : Version
   pub rules : IsCapture version desk.start (records ++ rs)
-  pub small : sizes_of (records ++ rs) ≤ 1073741824
+  pub small : sizes_of (records ++ rs) ≤ longest_text
 
 -- these messages come next, behind those that were served: they are those of the arrivals, in time
 pub record Upcoming (terms : Terms) (arrivals more : List Arrival) (messages : List Incoming) (desk : Desk) : Type 0 where

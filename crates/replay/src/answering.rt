@@ -1,5 +1,6 @@
 ghost use Rattle.std.specs.Prelude.{◌≡◌, ◌<◌, ◌≤◌, ◌-◌, ◌+◌, ◌^◌, ◌++◌, ◌∷◌, [], ℕ, List, true, length, take, OnOk};
 ghost use Rattle.std.specs.Prelude.{IfOk, IfErr};
+ghost use Rattle.captures.specs.Captures.{latest_start};
 ghost use Rattle.replay.specs.Choices.{terms_of};
 ghost use Rattle.arrivals.specs.Arrivals.{Arrival};
 ghost use Rattle.arrivals.specs.Connections.{arrivals_with};
@@ -109,7 +110,7 @@ fn answer_message<F: Tree, W: Write>(
     writer: &mut Output<W>,
 ) -> Result<(), ReplayFault>
     requires snapshot { snapshot.now ≡ F.files }
-    requires start { desk.old.start ≤ 4102444800 }
+    requires start { desk.old.start ≤ latest_start }
     requires tick { origin.tick ≤ 1000000000000000 }
     requires tier { origin.tier < 4 }
     requires stands { (arrivals : List Arrival) × Stands (terms_of F.files settings.now) arrivals desk.old
@@ -154,7 +155,7 @@ pub(crate) fn answer_all<F: Tree, W: Write>(
     writer: &mut Output<W>,
 ) -> Result<(), ReplayFault>
     requires snapshot { snapshot.now ≡ F.files }
-    requires start { desk.old.start ≤ 4102444800 }
+    requires start { desk.old.start ≤ latest_start }
     requires tick { origin.tick ≤ 1000000000000000 }
     requires tier { origin.tier < 4 }
     requires stands { (arrivals : List Arrival) × Stands (terms_of F.files settings.now) arrivals desk.old

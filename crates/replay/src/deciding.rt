@@ -1,8 +1,10 @@
 ghost use Rattle.std.specs.Prelude.{◌≡◌, ◌<◌, ◌≤◌, ◌+◌, ◌∷◌, ◌++◌, [], true, List, length, map, IfOk, OnOk};
 ghost use Rattle.std.specs.List.{list_all};
+ghost use Rattle.captures.specs.Captures.{latest_start};
 ghost use Rattle.replay.specs.Choices.{terms_of};
 ghost use Rattle.arrivals.specs.Arrivals.{Arrival};
 ghost use Rattle.replay.specs.Offers.{handled_next, handled_behind};
+ghost use Rattle.replay.specs.Outcomes.{most_messages};
 ghost use Rattle.replay.specs.Replies.{slip_of};
 ghost use Rattle.replay.specs.Serving.{Stands, AreBy};
 ghost use Rattle.replay.specs.Fronts.{sight_of};
@@ -30,7 +32,7 @@ pub(crate) fn settle<F: Tree>(
     desk: &mut Desk,
 ) -> Result<Ticket<F>, AllocError>
     requires snapshot { snapshot.now ≡ F.files }
-    requires start { desk.old.start ≤ 4102444800 }
+    requires start { desk.old.start ≤ latest_start }
     requires tick { origin.tick ≤ 1000000000000000 }
     requires tier { origin.tier < 4 }
     requires few { desk.old.totals.answered < MOST_MESSAGES }
@@ -72,11 +74,11 @@ pub(crate) fn decide_all<F: Tree>(
     desk: &mut Desk,
 ) -> Result<Vec<Ticket<F>>, AllocError>
     requires snapshot { snapshot.now ≡ F.files }
-    requires start { desk.old.start ≤ 4102444800 }
+    requires start { desk.old.start ≤ latest_start }
     requires arrived { (arrivals : List Arrival) × (more : List Arrival)
         × Stands (terms_of F.files settings.now) arrivals desk.old
         × AreSighted F.files settings.now.costs more sights.items × InTime arrivals more
-        × (length arrivals + length more ≤ 1048576) }
+        × (length arrivals + length more ≤ most_messages) }
     ensures stands { OnOk result ((arrivals more : List Arrival)
         → Stands (terms_of F.files settings.now) arrivals desk.old
         → AreSighted F.files settings.now.costs more sights.items

@@ -1,6 +1,8 @@
 //! Laws of the definitions that the engines' contracts cite. Each function is there for its clause alone.
 
-ghost use Rattle.replay.specs.Laws.{FloorsChangeNothing, FormerAnswersHold, HandledBegin, OneAnswer, SameInVersionOne, UpgradeKeepsAnswers};
+ghost use Rattle.replay.specs.Laws.{AnsweredNotFaulty, AnsweredNotFull, FaultyNotFull, OneFault, OneLimit};
+ghost use Rattle.replay.specs.Laws.{FloorsChangeNothing, FormerAnswersHold, HandledBegin, OneAnswer, SameInVersionOne};
+ghost use Rattle.replay.specs.Laws.{UpgradeKeepsAnswers};
 
 /// The graphs of the floors, the records of a batch and the bytes of the cache change no answer.
 pub fn floors_change_nothing()
@@ -10,6 +12,24 @@ pub fn floors_change_nothing()
 /// A capture has one answer.
 pub fn one_answer()
     ensures { OneAnswer }
+{}
+
+/// Of an answer, a fault of its capture, and messages beyond the limit, no input of known bytes has two, whatever the
+/// settings. (Failed reads and writes and being out of memory come where they happen.)
+pub fn one_outcome()
+    ensures not_faulty { AnsweredNotFaulty }
+    ensures not_full { AnsweredNotFull }
+    ensures faulty_not_full { FaultyNotFull }
+{}
+
+/// An input of known bytes has one fault of its capture at most, and one text is written up to it.
+pub fn one_fault()
+    ensures { OneFault }
+{}
+
+/// Where messages go beyond the limit, one text is written up to it.
+pub fn one_limit()
+    ensures { OneLimit }
 {}
 
 /// What becomes of a message depends on the messages before it alone.

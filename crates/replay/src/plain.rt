@@ -2,7 +2,7 @@ ghost use Rattle.std.specs.Prelude.{◌≡◌, ◌+◌, ◌≤◌, ◌<◌, ◌-
 ghost use Rattle.std.specs.Prelude.{IfOk, IfErr, OnOk, OnErr};
 ghost use Rattle.std.specs.Io.KnownBytes.{Appends};
 ghost use Rattle.captures.specs.declared.version.Version.{Version as AVersion};
-ghost use Rattle.captures.specs.Captures.{IsRecord, Follows, past_of, size_of, sizes_of};
+ghost use Rattle.captures.specs.Captures.{IsRecord, Follows, past_of, size_of, sizes_of, latest_start, longest_text};
 ghost use Rattle.captures.specs.declared.record.Record.{Record as ARecord};
 ghost use Rattle.replay.specs.Choices.{Terms, terms_of};
 ghost use Rattle.arrivals.specs.Arrivals.{Arrival};
@@ -110,11 +110,11 @@ fn answer_record<F: Tree, W: Write>(
     writer: &mut Output<W>,
 ) -> Result<(), ReplayFault>
     requires snapshot { snapshot.now ≡ F.files }
-    requires start { desk.old.start ≤ 4102444800 }
+    requires start { desk.old.start ≤ latest_start }
     requires record { (version : AVersion) × IsRecord version next.now }
     requires room { (records : List ARecord) × (arrivals : List Arrival)
         × Serves (terms_of F.files settings.now) records arrivals connections.old desk.old
-        × (sizes_of records + size_of next.now ≤ 1073741824) × IsLater next.now arrivals }
+        × (sizes_of records + size_of next.now ≤ longest_text) × IsLater next.now arrivals }
     requires failures { writer.old.1 < 2 ^ 64 - 1 }
     ensures tiers { OnOk result ((records : List ARecord) → AreTiers records tiers.old
         → AreTiers (records ++ next.now ∷ []) tiers.new) }

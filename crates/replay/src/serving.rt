@@ -1,11 +1,12 @@
 ghost use Rattle.std.specs.Prelude.{◌≡◌, ◌<◌, ◌≤◌, ◌-◌, ◌+◌, ◌^◌, ◌++◌, ℕ, List, take, flat_map, length, IfErr, OnOk};
 ghost use Rattle.std.specs.Prelude.{OnErr};
+ghost use Rattle.captures.specs.Captures.{latest_start};
 ghost use Rattle.responses.specs.Records.{record_text};
 ghost use Rattle.arrivals.specs.Arrivals.{Arrival};
 ghost use Rattle.arrivals.specs.Batches.{joined};
 ghost use Rattle.replay.specs.Choices.{terms_of};
 ghost use Rattle.replay.specs.Outcomes.{AppendsInPart, CountsBy, writer_failures, IsOwn, IsWriteOrMemory, IfTooMany};
-ghost use Rattle.replay.specs.Outcomes.{IfCutShort};
+ghost use Rattle.replay.specs.Outcomes.{IfCutShort, most_messages};
 ghost use Rattle.replay.specs.Serving.{Stands, Written, WrittenInPart};
 ghost use Rattle.replay.specs.Waiting.{Upcoming};
 ghost use Rattle.std.specs.Io.KnownBytes.{Appends};
@@ -56,10 +57,10 @@ fn serve_few<F: Tree + Send + Sync, G: Gate + Sync, T: Threads + Wait + Sync, W:
     writer: &mut Output<W>,
 ) -> Result<(), ReplayFault>
     requires snapshot { snapshot.now ≡ F.files }
-    requires start { desk.old.start ≤ 4102444800 }
+    requires start { desk.old.start ≤ latest_start }
     requires next { (arrivals : List Arrival) × (more : List Arrival)
         × Upcoming (terms_of F.files settings.now) arrivals more messages.items desk.old
-        × (length arrivals + length more ≤ 1048576) }
+        × (length arrivals + length more ≤ most_messages) }
     requires failures { writer.old.1 < 2 ^ 64 - 1 }
     ensures stands { OnOk result ((arrivals more : List Arrival)
         → Upcoming (terms_of F.files settings.now) arrivals more messages.items desk.old
@@ -123,7 +124,7 @@ fn serve_part<F: Tree + Send + Sync, G: Gate + Sync, T: Threads + Wait + Sync, W
     writer: &mut Output<W>,
 ) -> Result<(), ReplayFault>
     requires snapshot { snapshot.now ≡ F.files }
-    requires start { desk.old.start ≤ 4102444800 }
+    requires start { desk.old.start ≤ latest_start }
     requires next { (arrivals : List Arrival) × (more : List Arrival)
         × Upcoming (terms_of F.files settings.now) arrivals more messages.items desk.old }
     requires failures { writer.old.1 < 2 ^ 64 - 1 }
@@ -179,7 +180,7 @@ pub(crate) fn serve_parts<
     writer: &mut Output<W>,
 ) -> Result<(), ReplayFault>
     requires snapshot { snapshot.now ≡ F.files }
-    requires start { desk.old.start ≤ 4102444800 }
+    requires start { desk.old.start ≤ latest_start }
     requires next { (arrivals : List Arrival) × (more : List Arrival)
         × Upcoming (terms_of F.files settings.now) arrivals more (joined parts.items) desk.old }
     requires failures { writer.old.1 < 2 ^ 64 - 1 }

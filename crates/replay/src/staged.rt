@@ -1,5 +1,6 @@
 ghost use Rattle.std.specs.Prelude.{◌≡◌, ◌<◌, ◌≤◌, ◌-◌, ◌+◌, ◌^◌, ◌++◌, ◌⊎◌, [], ℕ, List};
 ghost use Rattle.std.specs.Prelude.{IfOk, IfErr, OnOk, OnErr};
+ghost use Rattle.captures.specs.Captures.{latest_start};
 ghost use Rattle.captures.specs.declared.record.Record.{Record as ARecord};
 ghost use Rattle.arrivals.specs.Arrivals.{Arrival};
 ghost use Rattle.replay.specs.Choices.{terms_of};
@@ -40,7 +41,7 @@ fn serve_batch<F: Tree + Send + Sync, G: Gate + Sync, T: Threads + Wait + Sync, 
     writer: &mut Output<W>,
 ) -> Result<Seats, ReplayFault>
     requires snapshot { snapshot.now ≡ F.files }
-    requires start { desk.old.start ≤ 4102444800 }
+    requires start { desk.old.start ≤ latest_start }
     requires next { (records : List ARecord) × (rs : List ARecord) × (arrivals : List Arrival)
         × ComeNext (terms_of F.files settings.now) records rs arrivals seats origins.now desk.old }
     requires failures { writer.old.1 < 2 ^ 64 - 1 }

@@ -41,7 +41,7 @@ front_shorter s y w k le (inr h) =
     })
 
 -- nor does the message behind the empty lines need them
-next_shorter : (r y : List ℕ) (w : What) (k : ℕ) → k ≤ length r → IsNext (r ++ y) w k → IsNext r w k
+pub next_shorter : (r y : List ℕ) (w : What) (k : ℕ) → k ≤ length r → IsNext (r ++ y) w k → IsNext r w k
 next_shorter r y w k le h =
     let is = h.k_is in
     let two = front_two _ w h.j h.front in
