@@ -1,4 +1,6 @@
+pub mod Buffering
 pub mod Bundling
 pub mod Programs
 pub mod Reporting
+pub mod Settling
 pub mod Upgraded

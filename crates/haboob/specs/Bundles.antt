@@ -83,3 +83,10 @@ IsProgramFault input (Replay f) = is_some input ≡ true →
 IsProgramFault input (Write Replies) = Unit {0}
 IsProgramFault input Memory = Unit {0}
 IsProgramFault input other = ⊥
+
+-- what a run says of its input, and of what it was to leave at the device; what of the input wasn't read is what a reader
+-- before the buffer has left
+abbrev pub BundleSays : Option (List ℕ) → Option (List ℕ) → Result Unit Fault → Option (List ℕ) → Type 0
+BundleSays input old ran whole = (ahead : Option (List ℕ)) × (count : ℕ) × MatchResult ran
+    (λ done. is_some input ≡ true → BehindSnapshot (unwrap_or input []) (WritesAnswer old whole))
+    (λ f. IsBundleFault input ahead (old, 0) (whole, count) f)

@@ -1,5 +1,5 @@
 -- The run over a snapshot and a capture, each in an input of its own, with a report.
-use Rattle.std.specs.Prelude.{◌≡◌, ℕ, ◌<◌, true, false, List, [], length, take, Option, is_some, unwrap_or}
+use Rattle.std.specs.Prelude.{◌≡◌, ℕ, ◌<◌, true, false, List, [], length, take, Option, Result, MatchResult, is_some, unwrap_or}
 use Rattle.std.specs.Io.KnownBytes.{Appends}
 use Rattle.paths.specs.declared.file.File.{File}
 use Rattle.paths.specs.Snapshots.{IsSnapshotText}
@@ -79,3 +79,9 @@ IsFilesFault snapshot capture (Write Replies) = Unit {0}
 IsFilesFault snapshot capture (Write Report) = Unit {0}
 IsFilesFault snapshot capture Memory = Unit {0}
 IsFilesFault snapshot capture other = ⊥
+
+-- what a run over files says of its inputs, and of what it was to leave at the devices of the replies and of the report
+abbrev pub FilesSays : Choice → Option (List ℕ) → Option (List ℕ) → Option (List ℕ) → Option (List ℕ) → Result Unit Fault → Option (List ℕ) → Option (List ℕ) → Type 0
+FilesSays choice snapshot capture old out_old ran whole out_whole = (ahead : Option (List ℕ)) × (count : ℕ) × (out_count : ℕ) × MatchResult ran
+    (λ done. OfInput snapshot (λ files. AnswersAnd (terms_of files choice) capture old whole (λ outcome. Appends out_old out_whole (report_text outcome))))
+    (λ f. IsReplayFault choice snapshot capture ahead (old, 0) (whole, count) (out_old, 0) (out_whole, out_count) f)

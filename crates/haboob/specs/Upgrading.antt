@@ -1,12 +1,12 @@
 -- The run that writes a capture of either version as one of version 2.
-use Rattle.std.specs.Prelude.{◌≡◌, ◌≢◌, ℕ, true, false, List, [], Option, is_some, unwrap_or}
+use Rattle.std.specs.Prelude.{◌≡◌, ◌≢◌, ℕ, true, false, List, [], Option, Result, MatchResult, is_some, unwrap_or}
 use Rattle.captures.specs.declared.capture_fault.CaptureFaultKind.TheVariants as kinds
 use Rattle.captures.specs.declared.record.Record.{Record}
 use Rattle.captures.specs.declared.upgrade_fault.UpgradeFault.{UpgradeFault}
 use Rattle.captures.specs.declared.version.Version.{Version}
 use Rattle.captures.specs.Captures.{IsCaptureText}
 use Rattle.captures.specs.CaptureFaults.{is_unforeseen_kind, IsFirstFault}
-use Rattle.captures.specs.Upgrades.{IfCapture, IfCutShort, IsCutShort, Stops}
+use Rattle.captures.specs.Upgrades.{IfCapture, IfCutShort, IsCutShort, Stops, Upgrades}
 use Rattle.replay.specs.Outcomes.{WhereKnown}
 use Rattle.haboob.specs.declared.fault.Fault.{Fault}
 use Rattle.haboob.specs.declared.fault.Fault.TheVariants.{Upgrade, Write, Memory}
@@ -39,3 +39,9 @@ IsUpgradeFilesFault input (Upgrade f) =
 IsUpgradeFilesFault input (Write Output) = Unit {0}
 IsUpgradeFilesFault input Memory = Unit {0}
 IsUpgradeFilesFault input other = ⊥
+
+-- what an upgrade says of its input, and of what it was to leave at the device
+abbrev pub UpgradeSays : Option (List ℕ) → Option (List ℕ) → Result Unit Fault → Option (List ℕ) → Type 0
+UpgradeSays input old ran whole = (ahead : Option (List ℕ)) × MatchResult ran
+    (λ done. is_some input ≡ true → Upgrades (unwrap_or input []) old whole)
+    (λ f. IsUpgradeFault input ahead old whole f)

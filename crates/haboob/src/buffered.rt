@@ -1,47 +1,86 @@
-ghost use Rattle.std.specs.Prelude.{◌≡◌, ◌⊎◌, Err, OnOk, IfErr};
+ghost use Rattle.std.specs.Prelude.{◌≡◌, ◌⊎◌, [], OnOk, IfErr};
 ghost use Rattle.replay.specs.Outcomes.{WhereKnown};
 ghost use Rattle.haboob.specs.Bundles.{HoldsCapture};
-ghost use Rattle.haboob.specs.Replays.{OfInput, IsFilesFault};
-ghost use Rattle.haboob.specs.declared.fault.Fault.TheVariants.{Write as Unwritten};
-ghost use Rattle.haboob.specs.declared.place.Place.TheVariants.{Report};
+ghost use Rattle.haboob.specs.Devices.{AtDevices, Refused, is_fault};
+ghost use Rattle.haboob.specs.Replays.{OfInput, IsFilesFault, FilesSays};
 
+use crate::buffer::{Buffered, Device, ROOM, Stood};
 use crate::fault::Fault;
 use crate::place::Place;
-use crate::program::{ROOM, write_rest};
+use crate::program::{is_cut, write_rest};
 use crate::replaying::run_replay;
 use command_line::Engine;
 use paths::{Input, Output};
 use replay::Settings;
 use std::alloc::Global;
-use std::io::{BufReader, BufWriter, Read, Write};
+use std::io::{BufReader, Read, Write};
+use std::marker::Brand;
 use std::sync::Wait;
 use std::thread::Threads;
 
-/// Writes what the buffer of the report still holds, where the run came to its end.
-fn write_rest_of_report<O: Write + Drop>(
-    mut report: BufWriter<O>,
-    ran: Result<(), Fault>,
-) -> Result<(), Fault>
-    ensures { (result ≡ ran) ⊎ (result ≡ Err (Unwritten Report)) }
+/// Whether a run came to no end.
+fn is_fault(ran: &Result<(), Fault>) -> bool
+    ensures { result ≡ is_fault ran.now }
 {
-    let rest = match ran {
-        Ok(()) => report.flush(),
-        Err(_) => Ok(()),
-    };
-    let _ = report.into_parts();
-    match rest {
-        Ok(()) => ran,
-        Err(_) => Err(Fault::Write(Place::Report)),
-    }
+    ran.is_err()
 }
 
-/// Replays a capture against a snapshot, with a buffer in front of each device, and writes the report to `out`.
+/// Runs over buffers that were made. Behind a fault, no more of the report is written.
+fn run_files_behind<
+    M: Stood,
+    N: Stood,
+    T: Threads + Wait + Sync,
+    S: Read + Drop,
+    C: Read + Drop,
+    W: Write + Drop,
+    O: Write + Drop,
+>(
+    rt: &T,
+    alloc: Global,
+    settings: &Settings,
+    engine: Engine,
+    snapshot: BufReader<S>,
+    capture: BufReader<C>,
+    replies: W,
+    out: O,
+    waiting: Vec<u8>,
+    report_waiting: Vec<u8>,
+) -> (Result<(), Fault>, W, O)
+    requires replies { W.contents replies ≡ M.stood }
+    requires out { O.contents out ≡ N.stood }
+    requires waiting { waiting.items ≡ [] }
+    requires report_waiting { report_waiting.items ≡ [] }
+    ensures { AtDevices (FilesSays settings.now (⟦<BufReader<S> as Read>⟧.remaining snapshot)
+        (⟦<BufReader<C> as Read>⟧.remaining capture) (W.contents replies) (O.contents out))
+        (W.contents replies) (W.contents result.1) (O.contents out) (O.contents result.2) result.0 }
+{
+    let mut replies = Output::new(Buffered::<M, W>::new(Device::new(replies), waiting));
+    let mut report = Output::new(Buffered::<N, O>::new(Device::new(out), report_waiting));
+    let ran = run_replay(
+        rt,
+        alloc,
+        settings,
+        engine,
+        &mut Input::new(snapshot),
+        &mut Input::new(capture),
+        &mut replies,
+        &mut report,
+    );
+    let cut = is_cut(&ran);
+    let (ran, replies) = write_rest(replies.into_writer(), Place::Replies, cut, ran);
+    let cut = is_fault(&ran);
+    let (ran, out) = write_rest(report.into_writer(), Place::Report, cut, ran);
+    (ran, replies, out)
+}
+
+/// Replays a capture against a snapshot, with a buffer in front of each device, writes the report to `out`, and gives
+/// both writers back.
 ///
 /// # Errors
 ///
-/// Those of [`run_replay`]; `Memory` where there is none for the buffers; `Write` of the replies or of the report where
-/// what its buffer held at the end couldn't be written. The replies were due before any other fault; behind one, no more
-/// of the report is written.
+/// Those of [`run_replay`]; `Memory` where there is none for the buffers, and then nothing is written; `Write` of the
+/// replies or of the report where what its buffer held at the end couldn't be written. The replies were due before any
+/// other fault; behind one, no more of the report is written.
 pub fn run_files<
     T: Threads + Wait + Sync,
     S: Read + Drop,
@@ -57,33 +96,39 @@ pub fn run_files<
     capture: C,
     replies: W,
     out: O,
-) -> Result<(), Fault>
+) -> (Result<(), Fault>, W, O)
+    ensures device { (Refused (W.contents replies) (W.contents result.1) result.0
+        × Refused (O.contents out) (O.contents result.2) result.0)
+        ⊎ AtDevices (FilesSays settings.now (S.remaining snapshot) (C.remaining capture)
+        (W.contents replies) (O.contents out))
+        (W.contents replies) (W.contents result.1) (O.contents out) (O.contents result.2) result.0 }
     // Where the bytes of the inputs are known, they were a snapshot's text and a capture's, or a fault is their first.
-    ensures ok { OnOk result (OfInput (S.remaining snapshot) (λ files. WhereKnown (C.remaining capture) (HoldsCapture files))) }
-    ensures fault { IfErr result (IsFilesFault (S.remaining snapshot) (C.remaining capture)) }
+    ensures ok { OnOk result.0 (OfInput (S.remaining snapshot)
+        (λ files. WhereKnown (C.remaining capture) (HoldsCapture files))) }
+    ensures fault { IfErr result.0 (IsFilesFault (S.remaining snapshot) (C.remaining capture)) }
 {
+    let (Ok(waiting), Ok(report_waiting)) = (
+        Vec::with_capacity(alloc, ROOM),
+        Vec::with_capacity(alloc, ROOM),
+    ) else {
+        return (Err(Fault::Memory), replies, out);
+    };
     let Ok(snapshot) = BufReader::with_capacity(alloc, ROOM, snapshot) else {
-        return Err(Fault::Memory);
+        return (Err(Fault::Memory), replies, out);
     };
     let Ok(capture) = BufReader::with_capacity(alloc, ROOM, capture) else {
-        return Err(Fault::Memory);
+        return (Err(Fault::Memory), replies, out);
     };
-    let Ok(mut replies) = BufWriter::with_capacity(alloc, ROOM, replies) else {
-        return Err(Fault::Memory);
-    };
-    let Ok(mut report) = BufWriter::with_capacity(alloc, ROOM, out) else {
-        return Err(Fault::Memory);
-    };
-    let ran = run_replay(
+    run_files_behind::<Brand, Brand, T, S, C, W, O>(
         rt,
         alloc,
         settings,
         engine,
-        &mut Input::new(snapshot),
-        &mut Input::new(capture),
-        &mut Output::new(&mut replies),
-        &mut Output::new(&mut report),
-    );
-    let ran = write_rest(replies, Place::Replies, ran);
-    write_rest_of_report(report, ran)
+        snapshot,
+        capture,
+        replies,
+        out,
+        waiting,
+        report_waiting,
+    )
 }

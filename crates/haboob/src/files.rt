@@ -100,7 +100,7 @@ pub fn run_words<T: Threads + Wait + Sync>(rt: &HostRuntime, threads: &T) -> Res
     let alloc = rt.alloc();
     let words = words_of(rt)?;
     match read_words(alloc, &words)? {
-        Job::Bundle => run_program(alloc, rt.stdin(), rt.stdout()),
+        Job::Bundle => run_program(alloc, rt.stdin(), rt.stdout()).0,
         Job::Replay {
             snapshot,
             capture,
@@ -122,11 +122,12 @@ pub fn run_words<T: Threads + Wait + Sync>(rt: &HostRuntime, threads: &T) -> Res
                 replies,
                 rt.stdout(),
             )
+            .0
         }
         Job::Upgrade { capture, output } => {
             let capture = open(rt, capture, Place::Capture)?;
             let output = create_beside(rt, output, Place::Output, &capture)?;
-            upgrade_files(alloc, capture, output)
+            upgrade_files(alloc, capture, output).0
         }
     }
 }

@@ -6,6 +6,7 @@
 //! A fault is told by one line on standard error, and by the status that the program ends with.
 #![tactic(auto)]
 
+mod buffer;
 mod buffered;
 mod bundle;
 mod fault;

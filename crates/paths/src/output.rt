@@ -33,6 +33,13 @@ impl<W: Write> Output<W> {
         }
     }
 
+    /// The writer again.
+    pub fn into_writer(self) -> W
+        ensures { W.contents result ≡ self.0 }
+    {
+        self.writer
+    }
+
     /// How often a call answered [`Failed`].
     pub fn failures(&self) -> u64
         ensures { result ≡ self.now.1 }

@@ -8,7 +8,10 @@ use captures::CaptureFaultKind;
 use paths::{Input, Output, SnapshotFaultKind};
 use replay::ReplayFault;
 use std::alloc::AllocGlobal;
+use std::io;
+use std::io::{ErrorKind, Write};
 use std::process::Abort;
+use std::test::Fail;
 
 /// The place that couldn't be read.
 fn unread(fault: Fault) -> Option<Place> {
@@ -90,21 +93,74 @@ fn each_write_failing(rt: HostRuntime) {
 #[test]
 fn buffered_replies(rt: HostRuntime) {
     let mut replies = Narrow::new(8, usize::MAX);
-    let ran = run_program(rt.alloc(), FIRST_RUN.as_bytes(), &mut replies);
+    let (ran, _) = run_program(rt.alloc(), FIRST_RUN.as_bytes(), &mut replies);
     assert_eq!(rt; ran, Ok(()));
     assert_eq!(rt; replies.text(), REPLIES.as_bytes());
 
     let mut replies = Narrow::ample();
-    let ran = run_program(rt.alloc(), SNAPSHOT.as_bytes(), &mut replies);
+    let (ran, _) = run_program(rt.alloc(), SNAPSHOT.as_bytes(), &mut replies);
     assert!(rt; matches!(ran, Err(Fault::Replay(ReplayFault::Capture(_)))));
     assert_eq!(rt; replies.text(), b"haboob-replies 1\n".as_slice());
 
     let mut replies = Narrow::new(8, 3);
-    let ran = run_program(rt.alloc(), FIRST_RUN.as_bytes(), &mut replies);
+    let (ran, _) = run_program(rt.alloc(), FIRST_RUN.as_bytes(), &mut replies);
     assert_eq!(rt; ran, Err(Fault::Write(Place::Replies)));
     assert_eq!(rt; replies.text(), b"haboob-replies 1\nreply 0".as_slice());
 
     let mut replies = Narrow::new(8, 0);
-    let ran = run_program(rt.alloc(), SNAPSHOT.as_bytes(), &mut replies);
+    let (ran, _) = run_program(rt.alloc(), SNAPSHOT.as_bytes(), &mut replies);
     assert_eq!(rt; ran, Err(Fault::Write(Place::Replies)));
+}
+
+/// A writer that takes so many bytes a write, and is interrupted once.
+#[derive(Drop)]
+struct Interrupted {
+    taken: Narrow,
+    /// How many writes are made before the one that is interrupted.
+    good: usize,
+    /// How many writes were asked for.
+    calls: usize,
+}
+
+impl Write for Interrupted {
+    fn write(&mut self, bytes: &[u8]) -> io::Result<usize> {
+        let call = self.calls;
+        self.calls = call.saturating_add(1);
+        if call == self.good {
+            return Err(io::Error::from(ErrorKind::Interrupted));
+        }
+        self.taken.write(bytes)
+    }
+
+    fn flush(&mut self) -> io::Result<()> {
+        Ok(())
+    }
+}
+
+/// A write that was interrupted is a failed one, and the device gets no other.
+#[test]
+fn interrupted_write(rt: HostRuntime) {
+    let device = Interrupted {
+        taken: Narrow::new(8, usize::MAX),
+        good: 3,
+        calls: 0,
+    };
+    let (ran, device) = run_program(rt.alloc(), FIRST_RUN.as_bytes(), device);
+    assert_eq!(rt; ran, Err(Fault::Write(Place::Replies)));
+    assert_eq!(rt; device.calls, 4);
+    assert_eq!(rt;
+        device.taken.text(),
+        b"haboob-replies 1\nreply 0".as_slice()
+    );
+}
+
+/// After a run the whole answer stands behind what stood at the device before.
+#[test]
+fn answer_at_a_vector(rt: HostRuntime) -> Result<(), Fail> {
+    let before = Vec::from_slice(rt.alloc(), b"before")?;
+    let (ran, device) = run_program(rt.alloc(), FIRST_RUN.as_bytes(), before);
+    assert_eq!(rt; ran, Ok(()));
+    assert_eq!(rt; device[..6], *b"before".as_slice());
+    assert_eq!(rt; device[6..], *REPLIES.as_bytes());
+    Ok(())
 }

@@ -14,7 +14,7 @@ use std::thread::Threads;
 #[test]
 fn each_growth_refused(rt: HostRuntime) {
     let mut replies = Narrow::ample();
-    match run_program(rt.alloc(), FIRST_RUN.as_bytes(), &mut replies) {
+    match run_program(rt.alloc(), FIRST_RUN.as_bytes(), &mut replies).0 {
         Ok(()) => assert_eq!(rt; replies.text(), REPLIES.as_bytes()),
         Err(fault) => {
             assert!(rt; matches!(fault.told(), Told::Memory));

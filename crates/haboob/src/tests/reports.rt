@@ -173,6 +173,7 @@ fn run_buffered<T: Threads + Wait + Sync>(
         replies,
         report,
     )
+    .0
 }
 
 /// What the buffers hold at the end is written, first the replies and then the report; where one can't be written, that is

@@ -21,7 +21,7 @@ static NEWER: &str =
 /// Upgrades a text with buffers.
 fn check(rt: &(impl Abort + AllocGlobal), text: &str, want: Result<(), Fault>, stands: &str) {
     let mut output = Narrow::ample();
-    let ran = upgrade_files(rt.alloc(), text.as_bytes(), &mut output);
+    let (ran, _) = upgrade_files(rt.alloc(), text.as_bytes(), &mut output);
     assert_eq!(rt; ran, want);
     assert_eq!(rt; output.text(), stands.as_bytes());
 }
@@ -97,7 +97,7 @@ fn whole_before(length: usize) -> (usize, usize) {
 fn truncations(rt: HostRuntime) {
     for length in 0..OLDER.len() {
         let mut output = Narrow::ample();
-        let ran = upgrade_files(rt.alloc(), &OLDER.as_bytes()[..length], &mut output);
+        let (ran, _) = upgrade_files(rt.alloc(), &OLDER.as_bytes()[..length], &mut output);
         let (at, written) = whole_before(length);
         assert_eq!(rt; ran, capture_fault(at, CaptureFaultKind::Cut));
         assert_eq!(rt; output.text().len(), written);
@@ -143,7 +143,7 @@ fn ends_writing(rt: &(impl Abort + AllocGlobal), good: usize) -> bool {
         &mut Output::new(&mut output),
     );
     let mut buffered = Narrow::new(8, good);
-    let behind = upgrade_files(rt.alloc(), OLDER.as_bytes(), &mut buffered);
+    let (behind, _) = upgrade_files(rt.alloc(), OLDER.as_bytes(), &mut buffered);
     assert!(rt; NEWER.as_bytes().starts_with(output.text()));
     assert!(rt; NEWER.as_bytes().starts_with(buffered.text()));
     assert!(rt; matches!(ran, Ok(()) | Err(Fault::Upgrade(UpgradeFault::Write))));
@@ -169,7 +169,7 @@ fn each_write_failing(rt: HostRuntime) {
 #[test]
 fn fault_with_a_dead_writer(rt: HostRuntime) {
     let mut output = Narrow::new(8, 0);
-    let ran = upgrade_files(rt.alloc(), &OLDER.as_bytes()[..50], &mut output);
+    let (ran, _) = upgrade_files(rt.alloc(), &OLDER.as_bytes()[..50], &mut output);
     assert_eq!(rt; ran, Err(Fault::Write(Place::Output)));
     assert!(rt; output.text().is_empty());
 }
@@ -178,7 +178,7 @@ fn fault_with_a_dead_writer(rt: HostRuntime) {
 #[test]
 fn each_growth_refused(rt: HostRuntime) {
     let mut output = Narrow::ample();
-    match upgrade_files(rt.alloc(), OLDER.as_bytes(), &mut output) {
+    match upgrade_files(rt.alloc(), OLDER.as_bytes(), &mut output).0 {
         Ok(()) => assert_eq!(rt; output.text(), NEWER.as_bytes()),
         Err(fault) => {
             assert!(rt; matches!(fault.told(), Told::Memory));

@@ -1,8 +1,11 @@
-use Rattle.std.proofs.Common.{rules, ◌≡◌}
-use Rattle.haboob.proofs.Programs.{told_of_program}
+use Rattle.std.proofs.Common.{rules}
+use Rattle.haboob.specs.declared.place.Place.TheVariants.{Replies}
+use Rattle.haboob.specs.Bundles.{BundleSays}
+use Rattle.haboob.specs.Devices.{AtDevice}
+use Rattle.haboob.proofs.Settling.{program_fault}
 use Rattle.haboob.proofs.program.run_program.Goals as goal
 
 pub returns-clause-fault : goal.returns-clause-fault
 returns-clause-fault g c =
-    let known : c.new.result.0 ≡ g.R.Read.remaining c.args.reader = search rules in
-    rw (← known) (told_of_program _ _ _ _ _ _ c.run_bundle-ran.ensures.fault c.write_rest.ensures)
+    let at : AtDevice Replies (BundleSays (g.R.Read.remaining c.args.reader) (g.W.Write.contents c.args.writer)) (g.W.Write.contents c.args.writer) (g.W.Write.contents c.run_behind.result.1) c.run_behind.result.0 = search rules in
+    program_fault _ _ _ _ at

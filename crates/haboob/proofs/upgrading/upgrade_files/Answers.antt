@@ -1,13 +1,11 @@
-use Rattle.std.proofs.Common.{rules, ◌≡◌}
-use Rattle.haboob.proofs.Upgraded.{ok_of_upgraded_files, told_of_upgraded_files}
+use Rattle.std.proofs.Common.{rules}
+use Rattle.haboob.specs.declared.place.Place.TheVariants.{Output}
+use Rattle.haboob.specs.Upgrading.{UpgradeSays}
+use Rattle.haboob.specs.Devices.{AtDevice}
+use Rattle.haboob.proofs.Settling.{upgraded_fault}
 use Rattle.haboob.proofs.upgrading.upgrade_files.Goals as goal
-
-pub returns-clause-ok : goal.returns-clause-ok
-returns-clause-ok g c =
-    let known : c.new.result.0 ≡ g.R.Read.remaining c.args.reader = search rules in
-    rw (← known) (ok_of_upgraded_files _ _ _ _ _ c.run_upgrade-ran.ensures.ok c.write_rest.ensures)
 
 pub returns-clause-fault : goal.returns-clause-fault
 returns-clause-fault g c =
-    let known : c.new.result.0 ≡ g.R.Read.remaining c.args.reader = search rules in
-    rw (← known) (told_of_upgraded_files _ _ _ _ _ _ c.run_upgrade-ran.ensures.fault c.write_rest.ensures)
+    let at : AtDevice Output (UpgradeSays (g.R.Read.remaining c.args.reader) (g.W.Write.contents c.args.writer)) (g.W.Write.contents c.args.writer) (g.W.Write.contents c.upgrade_behind.result.1) c.upgrade_behind.result.0 = search rules in
+    upgraded_fault _ _ _ _ at
