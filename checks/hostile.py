@@ -1,0 +1,158 @@
+#!/usr/bin/env python3
+"""Runs the program on damaged snapshots and captures, and compares it with reference.py: status, line, replies, report.
+
+    checks/hostile.py PROGRAM [COUNT [FIRST]]
+
+COUNT runs (100 without it) are made from the seeds FIRST (0 without it), FIRST + 1 and so on. Each takes a random replay
+of compare_replays.py, and damages its snapshot, its capture or both a few times: bytes are changed, cut out, doubled or
+put in, lines change places or come twice, numbers become others or stand at a limit. Each is run on both engines, with
+limits of time and memory. Exits with 1 where a run answers otherwise than the reference, hangs, is killed, or takes more
+memory than MEMORY.
+"""
+import os
+import random
+import re
+import subprocess
+import sys
+import tempfile
+
+# The folder stays as it is.
+sys.dont_write_bytecode = True
+import compare_replays
+import reference
+
+SECONDS = 120
+
+# The most memory of a run, in bytes: the inputs have less than a megabyte.
+MEMORY = 128 * 2**20
+
+LIMITS = (
+    0, 1, 3, 4, 64, 255, 256, 1023, 1024, 1025, 4095, 4096, 8191, 8192, 65_535, 65_536, 65_537, 2**20, 2**24, 2**24 + 1,
+    2**30, 2**32, 4_102_444_800, 10**15, 10**15 + 1, 2**63, 2**64 - 1, 2**64, 10**25,
+)
+WORDS = (b"\n", b"\r\n", b" ", b"\0", b"\xff", b"piece 0 0 1\n", b"end 0 0\n", b"tier 0 1\n", b"stop 0\n", b"file 0 1 1\n",
+         b"haboob-capture 2 0\n", b"GET / HTTP/1.1\r\n", b"Content-Length: 65537\r\n", b"Host:\r\n", b"\r\n\r\n")
+
+
+def lines_exchanged(chance, text):
+    """Two lines change places."""
+    lines = text.split(b"\n")
+    one, other = chance.randrange(len(lines)), chance.randrange(len(lines))
+    lines[one], lines[other] = lines[other], lines[one]
+    return b"\n".join(lines)
+
+
+def line_doubled(chance, text):
+    """A line comes twice."""
+    lines = text.split(b"\n")
+    lines.insert(chance.randrange(len(lines) + 1), chance.choice(lines))
+    return b"\n".join(lines)
+
+
+def number_changed(chance, text):
+    """A number becomes the next, the one before, a limit, or has a nought before it."""
+    numbers = list(re.finditer(rb"\d+", text))
+    if not numbers:
+        return text
+    found = chance.choice(numbers)
+    value = int(found[0][:30])
+    new = chance.choice((value + 1, max(0, value - 1), chance.choice(LIMITS)))
+    written = chance.choice((b"%d" % new, b"%d" % new, b"0%d" % new))
+    return text[:found.start()] + written + text[found.end():]
+
+
+def byte_changed(chance, text):
+    """A byte becomes another."""
+    at = chance.randrange(len(text))
+    return text[:at] + bytes([chance.choice((text[at] ^ (1 << chance.randrange(8)), chance.randrange(256)))]) + text[at + 1:]
+
+
+def cut_out(chance, text):
+    """Some bytes go, at times all to the end."""
+    at = chance.randrange(len(text))
+    return text[:at] + (b"" if chance.random() < 0.3 else text[at + chance.randrange(1, 40):])
+
+
+def part_doubled(chance, text):
+    """Some bytes come twice."""
+    at = chance.randrange(len(text))
+    part = text[at:at + chance.randrange(1, 200)]
+    return text[:at] + part + text[at:]
+
+
+def word_put_in(chance, text):
+    """A word of the formats, or one that is in none, comes in."""
+    at = chance.randrange(len(text) + 1)
+    return text[:at] + chance.choice(WORDS) + text[at:]
+
+
+DAMAGES = (lines_exchanged, line_doubled, number_changed, number_changed, byte_changed, cut_out, part_doubled, word_put_in)
+
+
+def damaged(chance, text):
+    """A text that was damaged a few times."""
+    for _ in range(chance.choice((1, 1, 1, 2, 3, 8))):
+        if text:
+            text = chance.choice(DAMAGES)(chance, text)
+    return text
+
+
+def hostile_replay(seed):
+    """Snapshot, capture and settings of a seed, with damage in the first two."""
+    snapshot, capture, settings = compare_replays.random_replay(seed, ("",))
+    chance = random.Random("hostile, %d" % seed)
+    which = chance.choice(("snapshot", "capture", "capture", "capture", "both"))
+    if which != "capture":
+        snapshot = damaged(chance, snapshot)
+    if which != "snapshot":
+        capture = damaged(chance, capture)
+    return snapshot, capture, settings
+
+
+def run(program, engine, snapshot, capture, settings):
+    """Status, line, replies and report of a run, and the most memory that it took, in bytes."""
+    with tempfile.TemporaryDirectory() as folder:
+        files = {"snapshot": snapshot, "capture": capture, "replies": compare_replays.OLD_REPLIES}
+        if settings is not None:
+            files["settings"] = settings
+        for name, data in files.items():
+            with open(os.path.join(folder, name), "wb") as file:
+                file.write(data)
+        words = [program, "replay", *engine, *(word for name in files for word in ("--" + name, name))]
+        with open(os.path.join(folder, "out"), "wb+") as out, open(os.path.join(folder, "err"), "wb+") as err:
+            child = subprocess.Popen(["timeout", "--signal=KILL", str(SECONDS), *words], cwd=folder, stdin=subprocess.DEVNULL,
+                                     stdout=out, stderr=err)
+            _, status, used = os.wait4(child.pid, 0)
+            child.returncode = os.waitstatus_to_exitcode(status)
+            out.seek(0)
+            err.seek(0)
+            with open(os.path.join(folder, "replies"), "rb") as replies:
+                answer = child.returncode, err.read(), replies.read(), out.read()
+        return answer, used.ru_maxrss * 1024
+
+
+def main():
+    if not 2 <= len(sys.argv) <= 4:
+        sys.exit(__doc__)
+    program = os.path.abspath(sys.argv[1])
+    count, first = (int(word) for word in (sys.argv[2:] + ["100", "0"][len(sys.argv) - 2:]))
+    wrong, most, ends = 0, 0, {}
+    for seed in range(first, first + count):
+        texts = hostile_replay(seed)
+        status, line, replies, report = reference.replay(texts[0], texts[1], texts[2] or b"")
+        wanted = status, line, compare_replays.OLD_REPLIES if replies is None else replies, report
+        ends[status] = ends.get(status, 0) + 1
+        for engine in compare_replays.ENGINES:
+            got, memory = run(program, engine, *texts)
+            most = max(most, memory)
+            found = compare_replays.difference(compare_replays.PARTS["replay"], wanted, got)
+            if found or memory > MEMORY:
+                wrong += 1
+                print("seed %d %s: WRONG: %s" % (seed, " ".join(engine), found or "%d bytes of memory" % memory), flush=True)
+    text = ", ".join("%d with status %d" % (number, status) for status, number in sorted(ends.items()))
+    print("%d damaged inputs (%s), %d MiB at most, %d wrong" % (count, text, most >> 20, wrong))
+    return int(wrong > 0)
+
+
+if __name__ == "__main__":
+    sys.exit(main())
