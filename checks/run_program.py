@@ -136,10 +136,17 @@ RUNS = [
     ("an empty name", ["--snapshot", ""] + GOOD[2:], 6, b"haboob: open: snapshot\n", OLD, b""),
     ("no capture file", GOOD[:2] + ["--capture", "absent"] + GOOD[4:], 6, b"haboob: open: capture\n", OLD, b""),
     ("replies into no folder", GOOD[:4] + ["--replies", "absent/replies"], 6, b"haboob: open: replies\n", OLD, b""),
-    ("a folder as snapshot", ["--snapshot", "folder"] + GOOD[2:], 6, b"haboob: read: snapshot\n", b"", b""),
+    ("a folder as snapshot", ["--snapshot", "folder"] + GOOD[2:], 6, b"haboob: read: snapshot\n", OLD, b""),
     ("a folder as capture", GOOD[:2] + ["--capture", "folder"] + GOOD[4:], 6, b"haboob: read: capture\n", FIRST_LINE, b""),
-    ("a byte behind the snapshot", ["--snapshot", "behind"] + GOOD[2:], 4, b"haboob: snapshot: entry 2: Trailing\n", b"", b""),
+    ("a byte behind the snapshot", ["--snapshot", "behind"] + GOOD[2:], 4, b"haboob: snapshot: entry 2: Trailing\n", OLD, b""),
     ("an empty capture", GOOD[:2] + ["--capture", "empty"] + GOOD[4:], 5, b"haboob: capture: record 0: Cut\n", FIRST_LINE, b""),
+    ("no replies before", GOOD[:4] + ["--replies", "new"], 0, b"", OLD, OPEN_REPORT),
+    ("the capture as replies", GOOD[:4] + ["--replies", "capture"], 6, b"haboob: open: replies\n", OLD, b""),
+    ("the capture by another name", GOOD[:4] + ["--replies", "./folder/../capture"], 6, b"haboob: open: replies\n", OLD, b""),
+    ("the snapshot by a link as replies", GOOD[:4] + ["--replies", "link"], 6, b"haboob: open: replies\n", OLD, b""),
+    ("the settings by a hard link as replies", GOOD[:4] + ["--replies", "same", "--settings", "settings"], 6, b"haboob: open: replies\n", OLD, b""),
+    ("that file where it isn't the settings", GOOD[:4] + ["--replies", "other"], 0, b"", OLD, OPEN_REPORT),
+    ("a device as an input and as replies", ["--snapshot", "/dev/null"] + GOOD[2:4] + ["--replies", "/dev/null"], 4, b"haboob: snapshot: entry 0: Cut\n", OLD, b""),
     ("replies into a full device", GOOD[:4] + ["--replies", "/dev/full"], 6, b"haboob: write: replies\n", OLD, b""),
 ]
 FILES.update({
@@ -284,14 +291,20 @@ def little_memory(program):
 
 
 def replay(program, words, folder, out):
-    """The status, the text on standard error, the replies and the report of one run over files."""
+    """The status, the text on standard error, the replies and the report of one run over files, which keep their bytes."""
     os.mkdir(os.path.join(folder, "folder"))
-    for name, data in [("replies", OLD), *FILES.items()]:
+    for name, data in [("replies", OLD), ("other", OLD), *FILES.items()]:
         with open(os.path.join(folder, name), "wb") as file:
             file.write(data)
+    os.symlink("snapshot", os.path.join(folder, "link"))
+    os.link(os.path.join(folder, "settings"), os.path.join(folder, "same"))
     child = subprocess.run(
         [os.path.abspath(program), "replay", *words], cwd=folder, stdin=subprocess.DEVNULL, stdout=out, stderr=subprocess.PIPE, timeout=SECONDS,
     )
+    for name, data in FILES.items():
+        with open(os.path.join(folder, name), "rb") as file:
+            if file.read() != data:
+                sys.exit("WRONG: %s: the file %s was changed" % (" ".join(words), name))
     with open(os.path.join(folder, "replies"), "rb") as file:
         return child.returncode, child.stderr, file.read(), child.stdout
 

@@ -1,26 +1,22 @@
-use crate::buffered::run_files;
-use crate::fault::Fault;
-use crate::place::Place;
-use crate::program::run_program;
-use crate::upgrading::upgrade_files;
-use command_line::{Job, WordFault, read_words};
+use command_line::{Engine, Job, WordFault, read_words};
 use options::{LONGEST_SETTINGS, default_settings, read_settings};
 use replay::Settings;
-use std::env;
-use std::fs::{File, Metadata, OpenOptions};
-use std::io::{ErrorKind, Read};
+use runs::{Fault, Place, run_files, run_program, upgrade_files};
+use std::fs::{File, OpenOptions};
+use std::io::{ErrorKind, Read, Write};
 use std::os::unix::fs::MetadataExt;
 use std::sync::Wait;
 use std::thread::Threads;
+use std::{env, io};
 
 /// How many bytes of a settings file are read: one more than it may have.
 const MOST_READ: u64 = LONGEST_SETTINGS as u64 + 1;
 
-/// What is said of words that are no text.
+/// What is said of arguments that are no text.
 const NOT_TEXT: &str = "error: a word is not UTF-8\n\nFor more information, try '--help'.\n";
 
-/// The words behind the program's name.
-fn words_of(rt: &HostRuntime) -> Result<Vec<String>, Fault> {
+/// The arguments after the program's name.
+fn arguments_of(rt: &HostRuntime) -> Result<Vec<String>, Fault> {
     match env::args(rt) {
         Ok(words) => Ok(words.skip(1).collect(rt.alloc())?),
         Err(error) if error.kind() == ErrorKind::OutOfMemory => Err(Fault::Memory),
@@ -39,67 +35,156 @@ fn open(rt: &HostRuntime, name: &str, place: Place) -> Result<File, Fault> {
     }
 }
 
-/// A file to be written, which is emptied where it is there.
-fn create(rt: &HostRuntime, name: &str, place: Place) -> Result<File, Fault> {
-    match File::create(rt, name) {
-        Ok(file) => Ok(file),
-        Err(_) => Err(Fault::Open(place)),
+/// Which file an open one is, whatever its name: a node of a device.
+#[derive(Clone, Copy, PartialEq)]
+struct Node {
+    device: u64,
+    inode: u64,
+    /// Whether it is a file that keeps its bytes, and no pipe or device.
+    is_regular: bool,
+}
+
+impl Node {
+    /// The node of an open file.
+    fn of(file: &File, place: Place) -> Result<Node, Fault> {
+        match file.metadata() {
+            Ok(known) => Ok(Node {
+                device: known.dev(),
+                inode: known.ino(),
+                is_regular: known.is_file(),
+            }),
+            Err(_) => Err(Fault::Open(place)),
+        }
     }
 }
 
-/// Whether two files are one, whatever their names: the same node of the same device.
-fn are_one(file: &Metadata, other: &Metadata) -> bool {
-    file.dev() == other.dev() && file.ino() == other.ino()
+/// A file to be written. Where it is there it keeps its bytes until the first byte is written, and is emptied then.
+/// What can't be emptied, as a pipe, is written as it is.
+#[derive(Drop)]
+struct Overwritten {
+    file: File,
+    /// Whether it is still to be emptied.
+    is_full: bool,
 }
 
-/// What the system says of an open file.
-fn metadata_of(file: &File, place: Place) -> Result<Metadata, Fault> {
-    file.metadata().map_err(|_| Fault::Open(place))
-}
-
-/// A file to be written, which is emptied where it is there. One that is the input itself is refused, and keeps its
-/// bytes. What can't be emptied, as a pipe, is taken as it is.
-fn create_beside(rt: &HostRuntime, name: &str, place: Place, input: &File) -> Result<File, Fault> {
-    let opened = OpenOptions::new().write(true).create(true).open(rt, name);
-    let Ok(file) = opened else {
-        return Err(Fault::Open(place));
-    };
-    let node = metadata_of(&file, place)?;
-    if are_one(&node, &metadata_of(input, place)?) {
-        return Err(Fault::Open(place));
+impl Overwritten {
+    /// Opens a file to be written. A regular one that is among the inputs is refused, and keeps its bytes.
+    fn open(
+        rt: &HostRuntime,
+        name: &str,
+        place: Place,
+        inputs: &[Node],
+    ) -> Result<Overwritten, Fault> {
+        let opened = OpenOptions::new().write(true).create(true).open(rt, name);
+        let Ok(file) = opened else {
+            return Err(Fault::Open(place));
+        };
+        let node = Node::of(&file, place)?;
+        if node.is_regular && inputs.contains(&node) {
+            return Err(Fault::Open(place));
+        }
+        Ok(Overwritten {
+            file,
+            is_full: node.is_regular,
+        })
     }
-    if node.is_file() && file.set_len(0).is_err() {
-        return Err(Fault::Open(place));
+
+    /// Empties the file, where that is still to be done.
+    fn empty(&mut self) -> io::Result<()> {
+        if self.is_full {
+            self.file.set_len(0)?;
+            self.is_full = false;
+        }
+        Ok(())
     }
-    Ok(file)
 }
 
-/// The settings of a file, or the default ones without it.
-fn settings_in(rt: &HostRuntime, name: Option<&str>) -> Result<Settings, Fault> {
+impl Write for Overwritten {
+    fn write(&mut self, bytes: &[u8]) -> io::Result<usize> {
+        self.empty()?;
+        self.file.write(bytes)
+    }
+
+    fn flush(&mut self) -> io::Result<()> {
+        self.file.flush()
+    }
+}
+
+/// The settings of a file, and which file it is; or the default ones without it.
+fn settings_in(rt: &HostRuntime, name: Option<&str>) -> Result<(Settings, Option<Node>), Fault> {
     let alloc = rt.alloc();
     let Some(name) = name else {
-        return Ok(default_settings(alloc)?);
+        return Ok((default_settings(alloc)?, None));
     };
     let file = open(rt, name, Place::Settings)?;
+    let node = Node::of(&file, Place::Settings)?;
     let mut bytes = Vec::new(alloc);
     match file.take(MOST_READ).read_to_end(&mut bytes) {
-        Ok(_) => Ok(read_settings(alloc, &bytes)?),
+        Ok(_) => Ok((read_settings(alloc, &bytes)?, Some(node))),
         Err(error) if error.kind() == ErrorKind::OutOfMemory => Err(Fault::Memory),
         Err(_) => Err(Fault::Read(Place::Settings)),
     }
 }
 
-/// Does what the words after the program's name ask for: a run from standard input to standard output, one over files
-/// with its report on standard output, or an upgrade of a capture. The files are opened in the order settings,
-/// snapshot, capture, and then replies or output; the settings are read before the snapshot is opened. `threads` is the runtime
-/// once more, for the engine that starts threads.
+/// Writes the upgraded text of a capture file to another.
+fn upgrade_named(rt: &HostRuntime, capture: &str, output: &str) -> Result<(), Fault> {
+    let capture = open(rt, capture, Place::Capture)?;
+    let inputs = [Node::of(&capture, Place::Capture)?];
+    let mut output = Overwritten::open(rt, output, Place::Output, &inputs)?;
+    if output.empty().is_err() {
+        return Err(Fault::Open(Place::Output));
+    }
+    upgrade_files(rt.alloc(), capture, output).0
+}
+
+/// The names of a replay's files, and its engine.
+#[derive(Drop)]
+struct Names<'a> {
+    snapshot: &'a str,
+    capture: &'a str,
+    replies: &'a str,
+    settings: Option<&'a str>,
+    engine: Engine,
+}
+
+/// Replays one file against another, with the report on standard output. The files are opened in the order settings,
+/// snapshot, capture, replies; the settings are read before the snapshot is opened. `threads` is the runtime once more,
+/// for the engine that starts threads.
+fn replay_named<T: Threads + Wait + Sync>(
+    rt: &HostRuntime,
+    threads: &T,
+    names: &Names,
+) -> Result<(), Fault> {
+    let (settings, node) = settings_in(rt, names.settings)?;
+    let snapshot = open(rt, names.snapshot, Place::Snapshot)?;
+    let capture = open(rt, names.capture, Place::Capture)?;
+    let first = Node::of(&snapshot, Place::Snapshot)?;
+    let second = Node::of(&capture, Place::Capture)?;
+    let inputs = [first, second, node.unwrap_or(second)];
+    let replies = Overwritten::open(rt, names.replies, Place::Replies, &inputs)?;
+    let (alloc, out) = (rt.alloc(), rt.stdout());
+    run_files(
+        threads,
+        alloc,
+        &settings,
+        names.engine,
+        snapshot,
+        capture,
+        replies,
+        out,
+    )
+    .0
+}
+
+/// Does what the arguments ask for: a run from standard input to standard output, one over files, or an upgrade of a
+/// capture.
 ///
-/// Which words there are, and what the files hold, is the system's to say: no contract can. Tests do, and
+/// Which arguments there are, and what the files hold, is the system's to say: no contract can. Tests do, and
 /// checks/run_program.py.
-pub fn run_words<T: Threads + Wait + Sync>(rt: &HostRuntime, threads: &T) -> Result<(), Fault> {
+pub fn run_arguments<T: Threads + Wait + Sync>(rt: &HostRuntime, threads: &T) -> Result<(), Fault> {
     let alloc = rt.alloc();
-    let words = words_of(rt)?;
-    match read_words(alloc, &words)? {
+    let arguments = arguments_of(rt)?;
+    match read_words(alloc, &arguments)? {
         Job::Bundle => run_program(alloc, rt.stdin(), rt.stdout()).0,
         Job::Replay {
             snapshot,
@@ -108,26 +193,15 @@ pub fn run_words<T: Threads + Wait + Sync>(rt: &HostRuntime, threads: &T) -> Res
             settings,
             engine,
         } => {
-            let settings = settings_in(rt, settings)?;
-            let snapshot = open(rt, snapshot, Place::Snapshot)?;
-            let capture = open(rt, capture, Place::Capture)?;
-            let replies = create(rt, replies, Place::Replies)?;
-            run_files(
-                threads,
-                alloc,
-                &settings,
-                engine,
+            let names = Names {
                 snapshot,
                 capture,
                 replies,
-                rt.stdout(),
-            )
-            .0
+                settings,
+                engine,
+            };
+            replay_named(rt, threads, &names)
         }
-        Job::Upgrade { capture, output } => {
-            let capture = open(rt, capture, Place::Capture)?;
-            let output = create_beside(rt, output, Place::Output, &capture)?;
-            upgrade_files(alloc, capture, output).0
-        }
+        Job::Upgrade { capture, output } => upgrade_named(rt, capture, output),
     }
 }

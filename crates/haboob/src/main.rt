@@ -1,35 +1,22 @@
 //! Haboob replays recorded web traffic against a snapshot of a file tree.
 //!
-//! Without words it reads from standard input a snapshot directly followed by a capture, and writes the replies to
-//! standard output. `haboob replay` reads them from files, writes the replies to a file, and a report to standard output.
-//! `haboob upgrade` writes a capture of an older version as one of version 2.
-//! A fault is told by one line on standard error, and by the status that the program ends with.
+//! Without arguments it reads from standard input a snapshot directly followed by a capture, and writes the replies to
+//! standard output. `haboob replay` reads them from files, writes the replies to a file, and a report to standard
+//! output. `haboob upgrade` writes a capture of an older version as one of version 2. A fault is reported by one line
+//! on standard error, and by the status that the program ends with.
 #![tactic(auto)]
 
-mod buffer;
-mod buffered;
-mod bundle;
-mod fault;
-mod fault_line;
 mod files;
-mod kind_names;
-mod place;
-mod program;
-mod replaying;
-#[cfg(test)]
-mod tests;
-mod told;
-mod upgrading;
 
-use files::run_words;
+use files::run_arguments;
 use paths::Output;
 use std::process::ExitCode;
 
 fn main(rt: HostRuntime) -> ExitCode {
-    match run_words(&rt, &rt) {
+    match run_arguments(&rt, &rt) {
         Ok(()) => ExitCode::SUCCESS,
         Err(fault) => {
-            // Where standard error can't be written either, the status alone tells of the fault.
+            // Where standard error can't be written either, the status alone reports the fault.
             let _ = fault.write_line(&mut Output::new(rt.stderr()));
             ExitCode::from(fault.status())
         }

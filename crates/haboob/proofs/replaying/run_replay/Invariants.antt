@@ -1,4 +1,0 @@
-use Rattle.haboob.proofs.replaying.run_replay.Given as goal
-
-abbrev pub ghosts-run_engine : goal.ghosts-run_engine
-ghosts-run_engine g a = record { files = a.files.now }

@@ -1,0 +1,99 @@
+-- From what the parts of a run with a report say to what the run says, and to what the program says.
+use Rattle.std.proofs.Common.{◌≡◌, ◌⊎◌, inl, inr, ℕ, List, Option, Result, Ok, Err, OnOk, IfErr}
+use Rattle.paths.specs.declared.file.File.{File}
+use Rattle.paths.specs.SnapshotFaults.{ReadsWhole}
+use Rattle.replay.specs.declared.outcome.Outcome.{Outcome}
+use Rattle.replay.specs.declared.replay_fault.ReplayFault.{ReplayFault}
+use Rattle.replay.specs.Choices.{Choice, terms_of}
+use Rattle.replay.specs.Outcomes.{IfCapture, IfTooMany, IfCutShort, Stops, StopsFull, IsCutShort, WhereKnown}
+use Rattle.runs.specs.declared.fault.Fault.{Fault}
+use Rattle.runs.specs.declared.fault.Fault.TheVariants.{Words, Settings, Snapshot, Replay, Upgrade, Open, Read, Write, Memory}
+use Rattle.runs.specs.declared.place.Place.{Place}
+use Rattle.runs.specs.declared.place.Place.TheVariants as places
+use Rattle.runs.specs.Bundles.{StopsAs, HoldsCapture}
+use Rattle.runs.specs.Replays.{OfInput, AnswersAnd, IsReplayFault, IsFilesFault}
+use Rattle.runs.proofs.Programs.{first_of_replay}
+
+-- a replay after a whole snapshot came to no end
+pub stops_behind : (choice : Choice) (snapshot read capture ahead : Option (List ℕ)) (files : List File) (old new : Option (List ℕ)) (f : ReplayFault) → ReadsWhole snapshot read files
+    → IfCapture f (Stops (terms_of files choice) capture ahead old new)
+    → IfTooMany f (StopsFull (terms_of files choice) capture old new)
+    → IfCutShort f (IsCutShort (terms_of files choice) capture old new)
+    → OfInput snapshot (λ its. StopsAs (terms_of its choice) capture ahead old new f)
+stops_behind choice snapshot read capture ahead files old new f whole is_stop is_many is_part known = record {
+  files = files;
+  text = whole.text known;
+  holds = record { stops = is_stop; many = is_many; part = is_part };
+}
+
+-- a weaker fact of the files
+inputs_weaker : (snapshot : Option (List ℕ)) (P Q : List File → Type 0) → ((files : List File) → P files → Q files) → OfInput snapshot P → OfInput snapshot Q
+inputs_weaker snapshot P Q weaker holds known =
+    let whole = holds known in
+    record {
+      files = whole.files;
+      text = whole.text;
+      holds = weaker whole.files whole.holds;
+    }
+
+-- a fault of the run is one of the program
+pub told_of_replay : (choice : Choice) (snapshot capture ahead : Option (List ℕ)) (old new out_old out_new : Option (List ℕ) × ℕ) (f : Fault) → IsReplayFault choice snapshot capture ahead old new out_old out_new f → IsFilesFault snapshot capture f
+told_of_replay choice snapshot capture ahead old new out_old out_new (Words f) says = absurd says
+told_of_replay choice snapshot capture ahead old new out_old out_new (Settings f) says = absurd says
+told_of_replay choice snapshot capture ahead old new out_old out_new (Snapshot f) says = says.0
+told_of_replay choice snapshot capture ahead old new out_old out_new (Replay f) says =
+    inputs_weaker snapshot (λ files. StopsAs (terms_of files choice) capture ahead old.0 new.0 f) _ (λ files told. first_of_replay (terms_of files choice) capture ahead old.0 new.0 f told.stops) says.0
+told_of_replay choice snapshot capture ahead old new out_old out_new (Upgrade f) says = absurd says
+told_of_replay choice snapshot capture ahead old new out_old out_new (Open place) says = absurd says
+told_of_replay choice snapshot capture ahead old new out_old out_new (Read place) says = absurd says
+told_of_replay choice snapshot capture ahead old new out_old out_new (Write places.Settings) says = absurd says
+told_of_replay choice snapshot capture ahead old new out_old out_new (Write places.Snapshot) says = absurd says
+told_of_replay choice snapshot capture ahead old new out_old out_new (Write places.Capture) says = absurd says
+told_of_replay choice snapshot capture ahead old new out_old out_new (Write places.Replies) says = absurd says
+told_of_replay choice snapshot capture ahead old new out_old out_new (Write places.Report) says = tt
+told_of_replay choice snapshot capture ahead old new out_old out_new (Write places.Output) says = absurd says
+told_of_replay choice snapshot capture ahead old new out_old out_new Memory says = tt
+
+told_of_ran : (choice : Choice) (snapshot capture ahead : Option (List ℕ)) (old new out_old out_new : Option (List ℕ) × ℕ) (ran : Result Unit Fault) → IfErr ran (IsReplayFault choice snapshot capture ahead old new out_old out_new) → IfErr ran (IsFilesFault snapshot capture)
+told_of_ran choice snapshot capture ahead old new out_old out_new (Ok x) says = tt
+told_of_ran choice snapshot capture ahead old new out_old out_new (Err f) says = told_of_replay choice snapshot capture ahead old new out_old out_new f says
+
+-- a fault after it is that the rest of an output can't be written
+told_of_rest : (snapshot capture : Option (List ℕ)) (place : Place) (ran told : Result Unit Fault) → IsFilesFault snapshot capture (Write place) → IfErr ran (IsFilesFault snapshot capture)
+    → (told ≡ ran) ⊎ (told ≡ Err (Write place)) → IfErr told (IsFilesFault snapshot capture)
+told_of_rest snapshot capture place ran told allowed says (inl same) = rw same says
+told_of_rest snapshot capture place ran told allowed says (inr unwritten) = rw unwritten allowed
+
+pub told_of_files : (choice : Choice) (snapshot capture ahead : Option (List ℕ)) (old new out_old out_new : Option (List ℕ) × ℕ) (ran rest told : Result Unit Fault)
+    → IfErr ran (IsReplayFault choice snapshot capture ahead old new out_old out_new)
+    → (rest ≡ ran) ⊎ (rest ≡ Err (Write places.Replies))
+    → (told ≡ rest) ⊎ (told ≡ Err (Write places.Report)) → IfErr told (IsFilesFault snapshot capture)
+told_of_files choice snapshot capture ahead old new out_old out_new ran rest told says replies_rest report_rest =
+    told_of_rest snapshot capture places.Report rest told tt
+    (told_of_rest snapshot capture places.Replies ran rest tt (told_of_ran choice snapshot capture ahead old new out_old out_new ran says) replies_rest)
+    report_rest
+
+-- where the program came to its end, so did the run, and the capture that it answered is a capture's text
+ok_weaker : (P Q : Type 0) (ran : Result Unit Fault) → (P → Q) → OnOk ran P → OnOk ran Q
+ok_weaker P Q (Ok x) weaker says = weaker says
+ok_weaker P Q (Err f) weaker says = tt
+
+ok_of_rest : (P : Type 0) (f : Fault) (ran told : Result Unit Fault) → OnOk ran P → (told ≡ ran) ⊎ (told ≡ Err f) → OnOk told P
+ok_of_rest P f ran told says (inl same) = rw same says
+ok_of_rest P f ran told says (inr unwritten) = rw unwritten tt
+
+-- the capture that was answered, where its bytes are known
+abbrev pub Holds : Option (List ℕ) → List File → Type 0
+Holds capture files = WhereKnown capture (HoldsCapture files)
+
+pub ok_of_files : (choice : Choice) (snapshot capture old new : Option (List ℕ)) (P : Outcome → Type 0) (ran rest told : Result Unit Fault)
+    → OnOk ran (OfInput snapshot (λ files. AnswersAnd (terms_of files choice) capture old new P))
+    → (rest ≡ ran) ⊎ (rest ≡ Err (Write places.Replies))
+    → (told ≡ rest) ⊎ (told ≡ Err (Write places.Report)) → OnOk told (OfInput snapshot (Holds capture))
+ok_of_files choice snapshot capture old new P ran rest told says replies_rest report_rest =
+    let answered : List File → Type 0 = λ files. AnswersAnd (terms_of files choice) capture old new P in
+    ok_of_rest (OfInput snapshot (Holds capture)) (Write places.Report) rest told
+    (ok_of_rest (OfInput snapshot (Holds capture)) (Write places.Replies) ran rest
+    (ok_weaker (OfInput snapshot answered) (OfInput snapshot (Holds capture)) ran
+    (inputs_weaker snapshot answered (Holds capture) (λ files answer known. (answer.answer.version, answer.answer.start, answer.answer.records, answer.answer.capture known))) says) replies_rest)
+    report_rest

@@ -1,0 +1,139 @@
+-- From what a run says and what its buffers leave to what the program says.
+use Rattle.std.proofs.Common.{◌≡◌, ◌⊎◌, inl, inr, ℕ, Bool, true, List, [], Option, refl, subst, ◌∙◌, Result, Ok, Err, OnOk, IfErr, is_some, unwrap_or}
+use Rattle.std.specs.Io.KnownBytes.{Appends, append_known}
+use Rattle.captures.specs.Upgrades.{Upgrades}
+use Rattle.replay.specs.Choices.{Choice, terms_of}
+use Rattle.replay.specs.Outcomes.{WhereKnown}
+use Rattle.report.specs.Reports.{report_text}
+use Rattle.runs.specs.declared.fault.Fault.{Fault}
+use Rattle.runs.specs.declared.fault.Fault.TheVariants.{Write}
+use Rattle.runs.specs.declared.place.Place.{Place}
+use Rattle.runs.specs.declared.place.Place.TheVariants as places
+use Rattle.runs.specs.Bundles.{BehindSnapshot, WritesAnswer, HoldsCapture, IsBundleFault, IsProgramFault, BundleSays}
+use Rattle.runs.specs.Devices.{Settles, AtDevice, AtDevices, is_cut, is_fault}
+use Rattle.runs.specs.Replays.{OfInput, AnswersAnd, IsReplayFault, IsFilesFault, FilesSays}
+use Rattle.runs.specs.Upgrading.{IsCaptureOfSomeVersion, IsUpgradeFault, IsUpgradeFilesFault, UpgradeSays}
+use Rattle.runs.proofs.Buffering.{append_nothing}
+use Rattle.runs.proofs.Programs.{behind_weaker, told_of_program}
+use Rattle.runs.proofs.Reporting.{ok_of_files, told_of_files}
+use Rattle.runs.proofs.Upgraded.{ok_of_upgraded_files, told_of_upgraded_files}
+
+pub settled : (cut its : Bool) (place : Place) (stood old mid whole new : Option (List ℕ)) (ran told : Result Unit Fault) → old ≡ stood → mid ≡ whole → cut ≡ its
+    → Settles cut place stood mid new ran told → Settles its place old whole new ran told
+settled cut its place stood old mid whole new ran told from to same stands = rw (from, ← to, ← same) stands
+
+told_by : (cut : Bool) (place : Place) (old whole new : Option (List ℕ)) (ran told : Result Unit Fault) → Settles cut place old whole new ran told
+    → (told ≡ ran) ⊎ (told ≡ Err (Write place))
+told_by cut place old whole new ran told (inl all) = inl all.0
+told_by cut place old whole new ran told (inr (inl stopped)) = inl stopped.0
+told_by cut place old whole new ran told (inr (inr failed)) = inr failed.0
+
+-- a buffer that is empty shows what stands at its device
+pub opened : (known its : Option (List ℕ)) (items : List ℕ) (view : Option (List ℕ) × ℕ) → view ≡ (append_known its items, 0) → its ≡ known → items ≡ [] → view ≡ (known, 0)
+opened known its items view is same none = is ∙ rw (same, none, append_nothing known) refl
+
+pub bundle_says : (input old : Option (List ℕ)) (seen left before after : Option (List ℕ) × ℕ) (ran : Result Unit Fault) → seen ≡ (input, 0) → before ≡ (old, 0)
+    → OnOk ran (is_some seen.0 ≡ true → BehindSnapshot (unwrap_or seen.0 []) (WritesAnswer before.0 after.0))
+    → IfErr ran (IsBundleFault seen.0 left.0 before after) → BundleSays input old ran after.0
+bundle_says input old seen left before after (Ok done) shows is answer fault =
+    let P : Option (List ℕ) × ℕ → Type 0 = λ s. is_some s.0 ≡ true → BehindSnapshot (unwrap_or s.0 []) (WritesAnswer before.0 after.0) in
+    let Q : Option (List ℕ) × ℕ → Type 0 = λ b. is_some input ≡ true → BehindSnapshot (unwrap_or input []) (WritesAnswer b.0 after.0) in
+    (left.0, after.1, subst Q is (subst P shows answer))
+bundle_says input old seen left before after (Err f) shows is answer fault =
+    let P : Option (List ℕ) × ℕ → Type 0 = λ s. IsBundleFault s.0 left.0 before after f in
+    let Q : Option (List ℕ) × ℕ → Type 0 = λ b. IsBundleFault input left.0 b after f in
+    (left.0, after.1, subst Q is (subst P shows fault))
+
+fault_of : (input ahead old whole : Option (List ℕ)) (count : ℕ) (ran : Result Unit Fault) (says : BundleSays input old ran whole)
+    → IfErr ran (IsBundleFault input says.0 (old, 0) (whole, says.1))
+fault_of input ahead old whole count (Ok done) says = tt
+fault_of input ahead old whole count (Err f) says = says.2
+
+pub program_fault : (input old new : Option (List ℕ)) (told : Result Unit Fault) → AtDevice places.Replies (BundleSays input old) old new told → IfErr told (IsProgramFault input)
+program_fault input old new told at =
+    told_of_program input at.says.0 (old, 0) (at.whole, at.says.1) at.ran told (fault_of input at.says.0 old at.whole at.says.1 at.ran at.says)
+    (told_by (is_cut at.ran) places.Replies old at.whole new at.ran told at.stands)
+
+answered : (input old whole : Option (List ℕ)) (ran told : Result Unit Fault) → BundleSays input old ran whole
+    → (told ≡ ran) ⊎ (told ≡ Err (Write places.Replies)) → OnOk told (is_some input ≡ true → BehindSnapshot (unwrap_or input []) HoldsCapture)
+answered input old whole (Ok done) told says (inl same) =
+    rw same (λ known. behind_weaker _ (WritesAnswer old whole) HoldsCapture (λ files bytes answer. (answer.1.version, answer.1.start, answer.1.records, answer.1.capture refl)) (says.2 known))
+answered input old whole (Err f) told says (inl same) = rw same tt
+answered input old whole ran told says (inr unwritten) = rw unwritten tt
+
+pub program_ok : (input old new : Option (List ℕ)) (told : Result Unit Fault) → AtDevice places.Replies (BundleSays input old) old new told
+    → OnOk told (is_some input ≡ true → BehindSnapshot (unwrap_or input []) HoldsCapture)
+program_ok input old new told at = answered input old at.whole at.ran told at.says (told_by (is_cut at.ran) places.Replies old at.whole new at.ran told at.stands)
+
+pub upgrade_says : (input old : Option (List ℕ)) (seen left before after : Option (List ℕ) × ℕ) (ran : Result Unit Fault) → seen ≡ (input, 0) → before ≡ (old, 0)
+    → OnOk ran (is_some seen.0 ≡ true → Upgrades (unwrap_or seen.0 []) before.0 after.0)
+    → IfErr ran (IsUpgradeFault seen.0 left.0 before.0 after.0) → UpgradeSays input old ran after.0
+upgrade_says input old seen left before after (Ok done) shows is upgraded fault =
+    let P : Option (List ℕ) × ℕ → Type 0 = λ s. is_some s.0 ≡ true → Upgrades (unwrap_or s.0 []) before.0 after.0 in
+    let Q : Option (List ℕ) × ℕ → Type 0 = λ b. is_some input ≡ true → Upgrades (unwrap_or input []) b.0 after.0 in
+    (left.0, subst Q is (subst P shows upgraded))
+upgrade_says input old seen left before after (Err f) shows is upgraded fault =
+    let P : Option (List ℕ) × ℕ → Type 0 = λ s. IsUpgradeFault s.0 left.0 before.0 after.0 f in
+    let Q : Option (List ℕ) × ℕ → Type 0 = λ b. IsUpgradeFault input left.0 b.0 after.0 f in
+    (left.0, subst Q is (subst P shows fault))
+
+upgrade_fault_of : (input old whole : Option (List ℕ)) (ran : Result Unit Fault) (says : UpgradeSays input old ran whole) → IfErr ran (IsUpgradeFault input says.0 old whole)
+upgrade_fault_of input old whole (Ok done) says = tt
+upgrade_fault_of input old whole (Err f) says = says.1
+
+upgrade_ok_of : (input old whole : Option (List ℕ)) (ran : Result Unit Fault) → UpgradeSays input old ran whole → OnOk ran (is_some input ≡ true → Upgrades (unwrap_or input []) old whole)
+upgrade_ok_of input old whole (Ok done) says = says.1
+upgrade_ok_of input old whole (Err f) says = tt
+
+pub upgraded_fault : (input old new : Option (List ℕ)) (told : Result Unit Fault) → AtDevice places.Output (UpgradeSays input old) old new told → IfErr told (IsUpgradeFilesFault input)
+upgraded_fault input old new told at =
+    told_of_upgraded_files input at.says.0 old at.whole at.ran told (upgrade_fault_of input old at.whole at.ran at.says)
+    (told_by (is_cut at.ran) places.Output old at.whole new at.ran told at.stands)
+
+pub upgraded_ok : (input old new : Option (List ℕ)) (told : Result Unit Fault) → AtDevice places.Output (UpgradeSays input old) old new told → OnOk told (WhereKnown input IsCaptureOfSomeVersion)
+upgraded_ok input old new told at =
+    ok_of_upgraded_files input old at.whole at.ran told (upgrade_ok_of input old at.whole at.ran at.says)
+    (told_by (is_cut at.ran) places.Output old at.whole new at.ran told at.stands)
+
+pub files_says : (choice : Choice) (snapshot capture old out_old : Option (List ℕ)) (snapshot_seen capture_seen left before after out_before out_after : Option (List ℕ) × ℕ) (ran : Result Unit Fault)
+    → snapshot_seen ≡ (snapshot, 0) → capture_seen ≡ (capture, 0) → before ≡ (old, 0) → out_before ≡ (out_old, 0)
+    → OnOk ran (OfInput snapshot_seen.0 (λ files. AnswersAnd (terms_of files choice) capture_seen.0 before.0 after.0 (λ outcome. Appends out_before.0 out_after.0 (report_text outcome))))
+    → IfErr ran (IsReplayFault choice snapshot_seen.0 capture_seen.0 left.0 before after out_before out_after) → FilesSays choice snapshot capture old out_old ran after.0 out_after.0
+files_says choice snapshot capture old out_old snapshot_seen capture_seen left before after out_before out_after (Ok done) shows capture_shows is out_is answer fault =
+    let P : Option (List ℕ) × ℕ → Type 0 = λ s. OfInput s.0 (λ files. AnswersAnd (terms_of files choice) capture_seen.0 before.0 after.0 (λ outcome. Appends out_before.0 out_after.0 (report_text outcome))) in
+    let Q : Option (List ℕ) × ℕ → Type 0 = λ s. OfInput snapshot (λ files. AnswersAnd (terms_of files choice) s.0 before.0 after.0 (λ outcome. Appends out_before.0 out_after.0 (report_text outcome))) in
+    let R : Option (List ℕ) × ℕ → Type 0 = λ b. OfInput snapshot (λ files. AnswersAnd (terms_of files choice) capture b.0 after.0 (λ outcome. Appends out_before.0 out_after.0 (report_text outcome))) in
+    let S : Option (List ℕ) × ℕ → Type 0 = λ b. OfInput snapshot (λ files. AnswersAnd (terms_of files choice) capture old after.0 (λ outcome. Appends b.0 out_after.0 (report_text outcome))) in
+    (left.0, after.1, out_after.1, subst S out_is (subst R is (subst Q capture_shows (subst P shows answer))))
+files_says choice snapshot capture old out_old snapshot_seen capture_seen left before after out_before out_after (Err f) shows capture_shows is out_is answer fault =
+    let P : Option (List ℕ) × ℕ → Type 0 = λ s. IsReplayFault choice s.0 capture_seen.0 left.0 before after out_before out_after f in
+    let Q : Option (List ℕ) × ℕ → Type 0 = λ s. IsReplayFault choice snapshot s.0 left.0 before after out_before out_after f in
+    let R : Option (List ℕ) × ℕ → Type 0 = λ b. IsReplayFault choice snapshot capture left.0 b after out_before out_after f in
+    let S : Option (List ℕ) × ℕ → Type 0 = λ b. IsReplayFault choice snapshot capture left.0 (old, 0) after b out_after f in
+    (left.0, after.1, out_after.1, subst S out_is (subst R is (subst Q capture_shows (subst P shows fault))))
+
+files_fault_of : (choice : Choice) (snapshot capture old whole out_old out_whole : Option (List ℕ)) (ran : Result Unit Fault) (says : FilesSays choice snapshot capture old out_old ran whole out_whole)
+    → IfErr ran (IsReplayFault choice snapshot capture says.0 (old, 0) (whole, says.1) (out_old, 0) (out_whole, says.2))
+files_fault_of choice snapshot capture old whole out_old out_whole (Ok done) says = tt
+files_fault_of choice snapshot capture old whole out_old out_whole (Err f) says = says.3
+
+files_ok_of : (choice : Choice) (snapshot capture old whole out_old out_whole : Option (List ℕ)) (ran : Result Unit Fault) → FilesSays choice snapshot capture old out_old ran whole out_whole
+    → OnOk ran (OfInput snapshot (λ files. AnswersAnd (terms_of files choice) capture old whole (λ outcome. Appends out_old out_whole (report_text outcome))))
+files_ok_of choice snapshot capture old whole out_old out_whole (Ok done) says = says.3
+files_ok_of choice snapshot capture old whole out_old out_whole (Err f) says = tt
+
+pub files_fault : (choice : Choice) (snapshot capture old new out_old out_new : Option (List ℕ)) (told : Result Unit Fault)
+    → AtDevices (FilesSays choice snapshot capture old out_old) old new out_old out_new told → IfErr told (IsFilesFault snapshot capture)
+files_fault choice snapshot capture old new out_old out_new told at =
+    told_of_files choice snapshot capture at.says.0 (old, 0) (at.whole, at.says.1) (out_old, 0) (at.out_whole, at.says.2) at.ran at.rest told
+    (files_fault_of choice snapshot capture old at.whole out_old at.out_whole at.ran at.says)
+    (told_by (is_cut at.ran) places.Replies old at.whole new at.ran at.rest at.replies)
+    (told_by (is_fault at.rest) places.Report out_old at.out_whole out_new at.rest told at.report)
+
+pub files_ok : (choice : Choice) (snapshot capture old new out_old out_new : Option (List ℕ)) (told : Result Unit Fault)
+    → AtDevices (FilesSays choice snapshot capture old out_old) old new out_old out_new told → OnOk told (OfInput snapshot (λ files. WhereKnown capture (HoldsCapture files)))
+files_ok choice snapshot capture old new out_old out_new told at =
+    ok_of_files choice snapshot capture old at.whole (λ outcome. Appends out_old at.out_whole (report_text outcome)) at.ran at.rest told
+    (files_ok_of choice snapshot capture old at.whole out_old at.out_whole at.ran at.says)
+    (told_by (is_cut at.ran) places.Replies old at.whole new at.ran at.rest at.replies)
+    (told_by (is_fault at.rest) places.Report out_old at.out_whole out_new at.rest told at.report)

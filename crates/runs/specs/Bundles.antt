@@ -1,0 +1,98 @@
+-- The run over one input that holds a snapshot's text and, after it, a capture.
+use Rattle.std.specs.Prelude.{◌≡◌, ℕ, ◌+◌, ◌≤◌, true, false, List, [], ◌++◌, length, Option, Some, is_some, unwrap_or}
+use Rattle.std.specs.Prelude.{Result, MatchResult}
+use Rattle.paths.specs.declared.file.File.{File}
+use Rattle.paths.specs.Snapshots.{snapshot_text, longest_text, IsSnapshot}
+use Rattle.paths.specs.SnapshotFaults.{IsFrontFault, IsForeseen, failures_of}
+use Rattle.captures.specs.declared.record.Record.{Record}
+use Rattle.captures.specs.declared.version.Version.{Version}
+use Rattle.captures.specs.Captures.{IsCaptureText}
+use Rattle.captures.specs.CaptureFaults.{is_unforeseen_kind, IsFirstFault}
+use Rattle.replay.specs.declared.outcome.Outcome.{Outcome}
+use Rattle.replay.specs.declared.replay_fault.ReplayFault.{ReplayFault}
+use Rattle.replay.specs.Choices.{Terms, terms_of}
+use Rattle.replay.specs.Outcomes.{Answers, IfCapture, IfTooMany, IfCutShort, Stops, StopsFull, IsCutShort}
+use Rattle.options.specs.SettingsTable.{default_choice}
+use Rattle.replay.specs.Outcomes as replays
+use Rattle.runs.specs.declared.fault.Fault.{Fault}
+use Rattle.captures.specs.Upgrades as upgrades
+use Rattle.runs.specs.declared.fault.Fault.TheVariants.{Snapshot, Replay, Upgrade, Write, Memory}
+use Rattle.runs.specs.declared.place.Place.TheVariants.{Replies}
+
+-- a snapshot's text stands in front of the input, and P holds of its files and of the rest after it
+pub record BehindSnapshot (input : List ℕ) (P : List File → List ℕ → Type 0) : Type 0 where
+  pub files : List File
+  pub rest : List ℕ
+  pub text : input ≡ snapshot_text files ++ rest
+  pub rules : IsSnapshot files
+  pub size : length (snapshot_text files) ≤ longest_text
+  pub behind : P files rest
+
+-- the answer of the reference server with the default settings, to this capture, was written
+abbrev pub default_terms : List File → Terms
+default_terms files = terms_of files default_choice
+
+abbrev pub WritesAnswer : Option (List ℕ) → Option (List ℕ) → List File → List ℕ → Type 0
+WritesAnswer old new files capture = (outcome : Outcome) × Answers (default_terms files) (Some capture) old new outcome
+
+-- what a fault of the replay says of its capture, of what of it wasn't read, and of what was written
+pub record StopsAs (terms : Terms) (capture ahead old new : Option (List ℕ)) (f : ReplayFault) : Type 0 where
+  pub stops : IfCapture f (Stops terms capture ahead old new)
+  pub many : IfTooMany f (StopsFull terms capture old new)
+  pub part : IfCutShort f (IsCutShort terms capture old new)
+
+-- What a fault of the run says, with what of the input wasn't read, and the output's bytes and failures before and
+-- after. One of the snapshot is its first and nothing was written; one of the replay comes after a whole snapshot, and
+-- says what it says of the rest; memory may run out between the two, and then nothing was written either. None else
+-- comes.
+abbrev pub IsBundleFault : Option (List ℕ) → Option (List ℕ) → Option (List ℕ) × ℕ → Option (List ℕ) × ℕ → Fault
+  → Type 0
+IsBundleFault input ahead old new (Snapshot f) = IsForeseen IsFrontFault input f × (new ≡ old)
+IsBundleFault input ahead old new (Replay f) = is_some input ≡ true →
+    BehindSnapshot (unwrap_or input [])
+    (λ files capture. StopsAs (default_terms files) (Some capture) ahead old.0 new.0 f)
+IsBundleFault input ahead old new Memory = new ≡ old
+IsBundleFault input ahead old new other = ⊥
+
+-- how often the reader and the writer failed in a run that answered this fault
+abbrev pub reader_failures : Fault → ℕ
+reader_failures (Snapshot f) = failures_of f.kind
+reader_failures (Replay f) = replays.reader_failures f
+reader_failures (Upgrade f) = upgrades.reader_failures f
+reader_failures other = 0
+
+abbrev pub writer_failures : Fault → ℕ
+writer_failures (Replay f) = replays.writer_failures f
+writer_failures (Upgrade f) = upgrades.writer_failures f
+writer_failures other = 0
+
+-- a device's count rose by one exactly where the fault is its own
+abbrev pub CountsBy : {X : Type 0} → (Fault → ℕ) → ℕ → ℕ → Result X Fault → Type 0
+CountsBy failures old new r = MatchResult r (λ _. new ≡ old) (λ f. new ≡ old + failures f)
+
+-- a device failed at most once in a run, and is blamed only where it did
+abbrev pub BlamedOnce : {X : Type 0} → (Fault → ℕ) → ℕ → ℕ → Result X Fault → Type 0
+BlamedOnce failures old new r = MatchResult r (λ _. new ≡ old) (λ f. (old + failures f ≤ new) × (new ≤ old + 1))
+
+-- the bytes after the snapshot are the text of a capture
+abbrev pub HoldsCapture : List File → List ℕ → Type 0
+HoldsCapture files bytes = (version : Version) × (start : ℕ) × (records : List Record)
+  × IsCaptureText version bytes start records
+
+-- What a fault of the program says of its input: that of a snapshot or a capture is the first, but for a failed read
+-- and out of memory. Other faults are that the replies can't be written to their end, and out of memory.
+abbrev pub IsProgramFault : Option (List ℕ) → Fault → Type 0
+IsProgramFault input (Snapshot f) = IsForeseen IsFrontFault input f
+IsProgramFault input (Replay f) = is_some input ≡ true →
+    BehindSnapshot (unwrap_or input [])
+    (λ files bytes. IfCapture f (λ g. is_unforeseen_kind g.kind ≡ false → IsFirstFault bytes g))
+IsProgramFault input (Write Replies) = Unit {0}
+IsProgramFault input Memory = Unit {0}
+IsProgramFault input other = ⊥
+
+-- what a run says of its input, and of what it was to leave at the device; what of the input wasn't read is what a
+-- reader before the buffer has left
+abbrev pub BundleSays : Option (List ℕ) → Option (List ℕ) → Result Unit Fault → Option (List ℕ) → Type 0
+BundleSays input old ran whole = (ahead : Option (List ℕ)) × (count : ℕ) × MatchResult ran
+    (λ done. is_some input ≡ true → BehindSnapshot (unwrap_or input []) (WritesAnswer old whole))
+    (λ f. IsBundleFault input ahead (old, 0) (whole, count) f)

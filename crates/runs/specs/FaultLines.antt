@@ -1,0 +1,150 @@
+-- How a fault is told: the status that the program ends with, and the line on standard error.
+use Rattle.std.specs.Prelude.{ℕ, List, ◌++◌, codes, decimal, string_bytes, Option, Some, None, unwrap_or}
+use Rattle.paths.specs.declared.snapshot_fault.SnapshotFault.{SnapshotFault}
+use Rattle.paths.specs.declared.snapshot_fault.SnapshotFaultKind.{SnapshotFaultKind}
+use Rattle.paths.specs.declared.snapshot_fault.SnapshotFaultKind.TheVariants as entries
+use Rattle.captures.specs.declared.capture_fault.CaptureFault.{CaptureFault}
+use Rattle.captures.specs.declared.capture_fault.CaptureFaultKind.{CaptureFaultKind}
+use Rattle.captures.specs.declared.capture_fault.CaptureFaultKind.TheVariants as records
+use Rattle.captures.specs.declared.upgrade_fault.UpgradeFault.{UpgradeFault}
+use Rattle.captures.specs.declared.upgrade_fault.UpgradeFault.TheVariants as upgrades
+use Rattle.replay.specs.declared.replay_fault.ReplayFault.{ReplayFault}
+use Rattle.replay.specs.declared.replay_fault.ReplayFault.TheVariants as replays
+use Rattle.command_line.specs.declared.words.WordFault.{WordFault}
+use Rattle.command_line.specs.declared.words.WordFault.TheVariants as words
+use Rattle.options.specs.declared.config_fault.ConfigFault.{ConfigFault}
+use Rattle.options.specs.declared.config_fault.ConfigFaultKind.{ConfigFaultKind}
+use Rattle.options.specs.declared.config_fault.ConfigFaultKind.TheVariants as settings
+use Rattle.options.specs.ConfigFaults.{fault_text}
+use Rattle.runs.specs.declared.place.Place.{Place}
+use Rattle.runs.specs.declared.place.Place.TheVariants as places
+use Rattle.runs.specs.declared.fault.Fault.{Fault}
+use Rattle.runs.specs.declared.fault.Fault.TheVariants as faults
+use Rattle.runs.specs.declared.told.Told.{Told}
+use Rattle.runs.specs.declared.told.Told.TheVariants.{Usage, Engine, Settings, Entry, Record, TooMany, Open, Read}
+use Rattle.runs.specs.declared.told.Told.TheVariants.{Write, Memory}
+
+-- a failed read or write and out of memory are told alike, whatever fault they stand in
+abbrev pub told_entry : SnapshotFaultKind → SnapshotFault → Told
+told_entry entries.Read f = Read places.Snapshot
+told_entry entries.Memory f = Memory
+told_entry other f = Entry f
+
+abbrev pub told_record : CaptureFaultKind → CaptureFault → Told
+told_record records.Read f = Read places.Capture
+told_record records.Memory f = Memory
+told_record other f = Record f
+
+abbrev pub told_replay : ReplayFault → Told
+told_replay (replays.Capture f) = told_record f.kind f
+told_replay (replays.TooMany number) = TooMany number
+told_replay replays.Write = Write places.Replies
+told_replay replays.Memory = Memory
+
+abbrev pub told_upgrade : UpgradeFault → Told
+told_upgrade (upgrades.Capture f) = told_record f.kind f
+told_upgrade upgrades.Write = Write places.Output
+told_upgrade upgrades.Memory = Memory
+
+abbrev pub told_words : WordFault → Told
+told_words (words.Words text) = Usage
+told_words words.Engine = Engine
+told_words words.Memory = Memory
+
+abbrev pub told_settings : ConfigFaultKind → ConfigFault → Told
+told_settings settings.Memory f = Memory
+told_settings other f = Settings f
+
+abbrev pub told : Fault → Told
+told (faults.Words f) = told_words f
+told (faults.Settings f) = told_settings f.kind f
+told (faults.Snapshot f) = told_entry f.kind f
+told (faults.Replay f) = told_replay f
+told (faults.Upgrade f) = told_upgrade f
+told (faults.Open place) = Open place
+told (faults.Read place) = Read place
+told (faults.Write place) = Write place
+told faults.Memory = Memory
+
+-- the status that the program ends with
+abbrev pub status_of : Told → ℕ
+status_of Usage = 2
+status_of Engine = 2
+status_of (Settings f) = 3
+status_of (Entry f) = 4
+status_of (Record f) = 5
+status_of (TooMany number) = 5
+status_of (Open place) = 6
+status_of (Read place) = 6
+status_of (Write place) = 6
+status_of Memory = 7
+
+-- the names of the files and of what can be wrong in them
+abbrev pub place_name : Place → List ℕ
+place_name places.Settings = codes "settings"
+place_name places.Snapshot = codes "snapshot"
+place_name places.Capture = codes "capture"
+place_name places.Replies = codes "replies"
+place_name places.Report = codes "report"
+place_name places.Output = codes "output"
+
+abbrev pub snapshot_kind_name : SnapshotFaultKind → List ℕ
+snapshot_kind_name entries.Cut = codes "Cut"
+snapshot_kind_name entries.Header = codes "Header"
+snapshot_kind_name entries.Kind = codes "Kind"
+snapshot_kind_name entries.Number = codes "Number"
+snapshot_kind_name entries.TooLarge = codes "TooLarge"
+snapshot_kind_name entries.Name = codes "Name"
+snapshot_kind_name entries.Order = codes "Order"
+snapshot_kind_name entries.Conflict = codes "Conflict"
+snapshot_kind_name entries.Length = codes "Length"
+snapshot_kind_name entries.Count = codes "Count"
+snapshot_kind_name entries.Trailing = codes "Trailing"
+snapshot_kind_name entries.Read = codes "Read"
+snapshot_kind_name entries.Memory = codes "Memory"
+
+abbrev pub capture_kind_name : CaptureFaultKind → List ℕ
+capture_kind_name records.Cut = codes "Cut"
+capture_kind_name records.Header = codes "Header"
+capture_kind_name records.Kind = codes "Kind"
+capture_kind_name records.Number = codes "Number"
+capture_kind_name records.Tick = codes "Tick"
+capture_kind_name records.Connection = codes "Connection"
+capture_kind_name records.Ended = codes "Ended"
+capture_kind_name records.Tier = codes "Tier"
+capture_kind_name records.Length = codes "Length"
+capture_kind_name records.Count = codes "Count"
+capture_kind_name records.Trailing = codes "Trailing"
+capture_kind_name records.TooLarge = codes "TooLarge"
+capture_kind_name records.Read = codes "Read"
+capture_kind_name records.Memory = codes "Memory"
+
+-- the line on standard error
+abbrev pub text_of : Told → List ℕ
+text_of Usage = codes "usage"
+text_of Engine = codes "engine"
+text_of (Settings f) = codes "settings: " ++ fault_text f
+text_of (Entry f) = codes "snapshot: entry " ++ decimal f.entry ++ codes ": " ++ snapshot_kind_name f.kind
+text_of (Record f) = codes "capture: record " ++ decimal f.at ++ codes ": " ++ capture_kind_name f.kind
+text_of (TooMany number) = codes "capture: message " ++ decimal number ++ codes ": TooMany"
+text_of (Open place) = codes "open: " ++ place_name place
+text_of (Read place) = codes "read: " ++ place_name place
+text_of (Write place) = codes "write: " ++ place_name place
+text_of Memory = codes "memory"
+
+abbrev pub line_of : Told → List ℕ
+line_of t = codes "haboob: " ++ text_of t ++ codes "\n"
+
+-- what the command line says of words that it doesn't take
+abbrev pub usage_in : WordFault → Option (List ℕ)
+usage_in (words.Words text) = Some (string_bytes text)
+usage_in words.Engine = None
+usage_in words.Memory = None
+
+abbrev pub usage_of : Fault → Option (List ℕ)
+usage_of (faults.Words f) = usage_in f
+usage_of other = None
+
+-- what is written of a fault: that, or the line
+abbrev pub text_told : Fault → List ℕ
+text_told f = unwrap_or (usage_of f) (line_of (told f))

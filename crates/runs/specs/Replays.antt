@@ -1,0 +1,97 @@
+-- The run over a snapshot and a capture, each in an input of its own, with a report.
+use Rattle.std.specs.Prelude.{◌≡◌, ℕ, ◌<◌, true, false, List, [], length, take, Option, Result, MatchResult, is_some}
+use Rattle.std.specs.Prelude.{unwrap_or}
+use Rattle.std.specs.Io.KnownBytes.{Appends}
+use Rattle.paths.specs.declared.file.File.{File}
+use Rattle.paths.specs.Snapshots.{IsSnapshotText}
+use Rattle.paths.specs.SnapshotFaults.{IsFirstFault, IsForeseen, failures_of}
+use Rattle.captures.specs.CaptureFaults.{is_unforeseen_kind}
+use Rattle.captures.specs.CaptureFaults as captures
+use Rattle.replay.specs.declared.outcome.Outcome.{Outcome}
+use Rattle.replay.specs.Choices.{Choice, Terms, terms_of}
+use Rattle.replay.specs.Outcomes.{Answers, IfCapture, WhereKnown}
+use Rattle.replay.specs.Outcomes as replays
+use Rattle.report.specs.Reports.{report_text}
+use Rattle.runs.specs.Bundles.{StopsAs}
+use Rattle.runs.specs.declared.fault.Fault.{Fault}
+use Rattle.runs.specs.declared.fault.Fault.TheVariants.{Snapshot, Replay, Write, Memory}
+use Rattle.runs.specs.declared.place.Place.TheVariants.{Replies, Report}
+
+-- Where the bytes of the first input are known, they are the text of a snapshot, and P holds of its files.
+pub record OfSnapshot (snapshot : List ℕ) (P : List File → Type 0) : Type 0 where
+  pub files : List File
+  pub text : IsSnapshotText snapshot files
+  pub holds : P files
+
+abbrev pub OfInput : Option (List ℕ) → (List File → Type 0) → Type 0
+OfInput snapshot P = is_some snapshot ≡ true → OfSnapshot (unwrap_or snapshot []) P
+
+-- the answer of the reference server to the capture was written, and P holds of its outcome
+pub record AnswersAnd (terms : Terms) (capture old new : Option (List ℕ)) (P : Outcome → Type 0) : Type 0 where
+  pub outcome : Outcome
+  pub answer : Answers terms capture old new outcome
+  pub holds : P outcome
+
+-- a prefix of a text was written, and not all of it
+abbrev pub WritesPart : Option (List ℕ) → Option (List ℕ) → List ℕ → Type 0
+WritesPart old new text = (n : ℕ) × (n < length text) × Appends old new (take n text)
+
+-- what a fault of the report says of its text and of the output: no memory for it, or a failed write
+abbrev pub IsReportFault : List ℕ → Option (List ℕ) × ℕ → Option (List ℕ) × ℕ → Fault → Type 0
+IsReportFault text old new (Write Report) = WritesPart old.0 new.0 text
+IsReportFault text old new Memory = new ≡ old
+IsReportFault text old new other = ⊥
+
+-- What a fault of the run says, with what of the capture wasn't read, and the bytes and failures of the replies and of
+-- the report's output before and after. One of the snapshot is its first, and nothing was written. One of the replay
+-- comes after a whole snapshot, and says what it says of the capture; no report was written. Else the whole answer was
+-- written, and there was no memory for the report, or a prefix of it stands. None else comes.
+abbrev pub IsReplayFault : Choice → Option (List ℕ) → Option (List ℕ) → Option (List ℕ) → Option (List ℕ) × ℕ
+  → Option (List ℕ) × ℕ → Option (List ℕ) × ℕ → Option (List ℕ) × ℕ → Fault → Type 0
+IsReplayFault choice snapshot capture ahead old new out_old out_new (Snapshot f) =
+    IsForeseen IsFirstFault snapshot f × (new ≡ old) × (out_new ≡ out_old)
+IsReplayFault choice snapshot capture ahead old new out_old out_new (Replay f) =
+    OfInput snapshot (λ files. StopsAs (terms_of files choice) capture ahead old.0 new.0 f) × (out_new ≡ out_old)
+IsReplayFault choice snapshot capture ahead old new out_old out_new (Write Report) =
+    OfInput snapshot (λ files. AnswersAnd (terms_of files choice) capture old.0 new.0
+    (λ outcome. WritesPart out_old.0 out_new.0 (report_text outcome)))
+IsReplayFault choice snapshot capture ahead old new out_old out_new Memory =
+    OfInput snapshot (λ files. AnswersAnd (terms_of files choice) capture old.0 new.0 (λ outcome. Unit {0}))
+    × (out_new ≡ out_old)
+IsReplayFault choice snapshot capture ahead old new out_old out_new other = ⊥
+
+-- how often each device failed in a run that answered this fault (the replies' is `writer_failures` of Bundles)
+abbrev pub snapshot_failures : Fault → ℕ
+snapshot_failures (Snapshot f) = failures_of f.kind
+snapshot_failures other = 0
+
+abbrev pub capture_failures : Fault → ℕ
+capture_failures (Replay f) = replays.reader_failures f
+capture_failures other = 0
+
+abbrev pub report_failures : Fault → ℕ
+report_failures (Write Report) = 1
+report_failures other = 0
+
+-- What a fault of the program over files says of its inputs: that of a snapshot or a capture is the first, but for a
+-- failed read and out of memory. Other faults are that the replies or the report can't be written to their end, and out
+-- of memory.
+abbrev pub IsFilesFault : Option (List ℕ) → Option (List ℕ) → Fault → Type 0
+IsFilesFault snapshot capture (Snapshot f) = IsForeseen IsFirstFault snapshot f
+IsFilesFault snapshot capture (Replay f) =
+    OfInput snapshot (λ files. IfCapture f
+    (λ g. is_unforeseen_kind g.kind ≡ false → WhereKnown capture (λ bytes. captures.IsFirstFault bytes g)))
+IsFilesFault snapshot capture (Write Replies) = Unit {0}
+IsFilesFault snapshot capture (Write Report) = Unit {0}
+IsFilesFault snapshot capture Memory = Unit {0}
+IsFilesFault snapshot capture other = ⊥
+
+-- what a run over files says of its inputs, and of what it was to leave at the devices of the replies and of the report
+abbrev pub FilesSays : Choice → Option (List ℕ) → Option (List ℕ) → Option (List ℕ) → Option (List ℕ)
+  → Result Unit Fault → Option (List ℕ) → Option (List ℕ) → Type 0
+FilesSays choice snapshot capture old out_old ran whole out_whole = (ahead : Option (List ℕ)) × (count : ℕ)
+  × (out_count : ℕ) × MatchResult ran
+    (λ done. OfInput snapshot
+    (λ files. AnswersAnd (terms_of files choice) capture old whole
+    (λ outcome. Appends out_old out_whole (report_text outcome))))
+    (λ f. IsReplayFault choice snapshot capture ahead (old, 0) (whole, count) (out_old, 0) (out_whole, out_count) f)

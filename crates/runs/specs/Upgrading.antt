@@ -1,0 +1,47 @@
+-- The run that writes a capture of either version as one of version 2.
+use Rattle.std.specs.Prelude.{◌≡◌, ◌≢◌, ℕ, true, false, List, [], Option, Result, MatchResult, is_some, unwrap_or}
+use Rattle.captures.specs.declared.capture_fault.CaptureFaultKind.TheVariants as kinds
+use Rattle.captures.specs.declared.record.Record.{Record}
+use Rattle.captures.specs.declared.upgrade_fault.UpgradeFault.{UpgradeFault}
+use Rattle.captures.specs.declared.version.Version.{Version}
+use Rattle.captures.specs.Captures.{IsCaptureText}
+use Rattle.captures.specs.CaptureFaults.{is_unforeseen_kind, IsFirstFault}
+use Rattle.captures.specs.Upgrades.{IfCapture, IfCutShort, IsCutShort, Stops, Upgrades}
+use Rattle.replay.specs.Outcomes.{WhereKnown}
+use Rattle.runs.specs.declared.fault.Fault.{Fault}
+use Rattle.runs.specs.declared.fault.Fault.TheVariants.{Upgrade, Write, Memory}
+use Rattle.runs.specs.declared.place.Place.TheVariants.{Output}
+
+-- the bytes are the text of a capture
+abbrev pub IsCaptureOfSomeVersion : List ℕ → Type 0
+IsCaptureOfSomeVersion bytes =
+    (version : Version) × (start : ℕ) × (records : List Record) × IsCaptureText version bytes start records
+
+-- What a fault of the upgrade says, with what of the input wasn't read, and the output's bytes before and after. After
+-- a fault of the capture exactly the first line and the whole records before it stand; after a failed write and out of
+-- memory a prefix of what was due.
+pub record EndsAs (input ahead old new : Option (List ℕ)) (f : UpgradeFault) : Type 0 where
+  pub stops : IfCapture f (λ fault. is_some input ≡ true → Stops (unwrap_or input []) ahead old new fault)
+  pub part : IfCutShort f (is_some input ≡ true → IsCutShort (unwrap_or input []) old new)
+  pub memory : IfCapture f (λ fault. fault.kind ≢ kinds.Memory)
+
+-- no other fault comes
+abbrev pub IsUpgradeFault :
+    Option (List ℕ) → Option (List ℕ) → Option (List ℕ) → Option (List ℕ) → Fault → Type 0
+IsUpgradeFault input ahead old new (Upgrade f) = EndsAs input ahead old new f
+IsUpgradeFault input ahead old new other = ⊥
+
+-- What a fault of the program says of its input: that of a capture is the first, but for a failed read. Other faults
+-- are that the output can't be written to its end, and out of memory.
+abbrev pub IsUpgradeFilesFault : Option (List ℕ) → Fault → Type 0
+IsUpgradeFilesFault input (Upgrade f) =
+    IfCapture f (λ g. is_unforeseen_kind g.kind ≡ false → WhereKnown input (λ bytes. IsFirstFault bytes g))
+IsUpgradeFilesFault input (Write Output) = Unit {0}
+IsUpgradeFilesFault input Memory = Unit {0}
+IsUpgradeFilesFault input other = ⊥
+
+-- what an upgrade says of its input, and of what it was to leave at the device
+abbrev pub UpgradeSays : Option (List ℕ) → Option (List ℕ) → Result Unit Fault → Option (List ℕ) → Type 0
+UpgradeSays input old ran whole = (ahead : Option (List ℕ)) × MatchResult ran
+    (λ done. is_some input ≡ true → Upgrades (unwrap_or input []) old whole)
+    (λ f. IsUpgradeFault input ahead old whole f)

@@ -1,0 +1,116 @@
+ghost use Rattle.std.specs.Prelude.{◌≡◌, ◌-◌, ◌<◌, ◌^◌, OnOk, IfOk, IfErr};
+ghost use Rattle.std.specs.Io.KnownBytes.{Appends};
+ghost use Rattle.replay.specs.Choices.{terms_of};
+ghost use Rattle.replay.specs.Outcomes.{Answers, IfCapture, IfTooMany, IfCutShort, IsCutShort, Stops, StopsFull};
+ghost use Rattle.replay.specs.Outcomes as replays;
+ghost use Rattle.report.specs.Reports.{report_text};
+ghost use Rattle.runs.specs.Bundles.{CountsBy, BlamedOnce, writer_failures};
+ghost use Rattle.runs.specs.Replays.{OfInput, AnswersAnd, IsReplayFault, IsReportFault, snapshot_failures};
+ghost use Rattle.runs.specs.Replays.{capture_failures, report_failures};
+
+use crate::fault::Fault;
+use crate::place::Place;
+use command_line::Engine;
+use paths::{Input, Output, Snapshot, Tree};
+use replay::{Outcome, ReplayFault, Settings, plain_replay, staged_replay};
+use report::report;
+use responses::write_all;
+use stage_graph::NoGate;
+use std::alloc::Global;
+use std::io::{Read, Write};
+use std::marker::Brand;
+use std::sync::Wait;
+use std::thread::Threads;
+
+/// Writes the report of an outcome.
+fn write_report<O: Write>(
+    alloc: Global,
+    outcome: &Outcome,
+    out: &mut Output<O>,
+) -> Result<(), Fault>
+    requires { out.old.1 < 2 ^ 64 - 1 }
+    ensures ok { OnOk result (Appends out.old.0 out.new.0 (report_text outcome.now)) }
+    ensures fault { IfErr result (IsReportFault (report_text outcome.now) out.old out.new) }
+    ensures count { CountsBy report_failures out.old.1 out.new.1 result }
+{
+    let text = report(alloc, outcome)?;
+    match write_all(out, text.as_bytes()) {
+        Ok(()) => Ok(()),
+        Err(_) => Err(Fault::Write(Place::Report)),
+    }
+}
+
+/// Replays a capture against a snapshot on an engine.
+fn run_engine<F: Tree + Send + Sync, T: Threads + Wait + Sync, C: Read, W: Write>(
+    rt: &T,
+    alloc: Global,
+    engine: Engine,
+    files: &Snapshot,
+    settings: &Settings,
+    capture: &mut Input<C>,
+    replies: &mut Output<W>,
+) -> Result<Outcome, ReplayFault>
+    requires files { files.now ≡ F.files }
+    requires capture { capture.old.1 < 2 ^ 64 - 1 }
+    requires replies { replies.old.1 < 2 ^ 64 - 1 }
+    ensures stops { IfErr result (λ f. IfCapture f
+        (Stops (terms_of F.files settings.now) capture.old.0 capture.new.0 replies.old.0 replies.new.0)) }
+    ensures many { IfErr result (λ f. IfTooMany f
+        (StopsFull (terms_of F.files settings.now) capture.old.0 replies.old.0 replies.new.0)) }
+    ensures part { IfErr result (λ f. IfCutShort f
+        (IsCutShort (terms_of F.files settings.now) capture.old.0 replies.old.0 replies.new.0)) }
+    ensures reads { replays.BlamedOnce replays.reader_failures capture.old.1 capture.new.1 result }
+    ensures writes { replays.CountsBy replays.writer_failures replies.old.1 replies.new.1 result }
+    ensures ok { IfOk result
+        (Answers (terms_of F.files settings.now) capture.old.0 replies.old.0 replies.new.0) }
+{
+    match engine {
+        Engine::Plain => plain_replay::<F, C, W>(alloc, files, settings, capture, replies),
+        Engine::Staged => {
+            staged_replay::<F, NoGate, T, C, W>(
+                rt, alloc, files, settings, &NoGate, capture, replies,
+            )
+        }
+    }
+}
+
+/// Replays a capture against a snapshot on the engine of this name, and then writes the report of what it has come to.
+///
+/// # Errors
+///
+/// `Snapshot` with the snapshot's first fault, or where its reader failed, and then nothing is written; else `Replay`
+/// with the fault of the replay, and then no report is written. After a whole answer, `Memory` where there is none for
+/// the report, and then nothing of it is written; `Write` of the report where its writer failed. No other fault.
+pub fn run_replay<T: Threads + Wait + Sync, S: Read, C: Read, W: Write, O: Write>(
+    rt: &T,
+    alloc: Global,
+    settings: &Settings,
+    engine: Engine,
+    snapshot: &mut Input<S>,
+    capture: &mut Input<C>,
+    replies: &mut Output<W>,
+    out: &mut Output<O>,
+) -> Result<(), Fault>
+    requires snapshot { snapshot.old.1 < 2 ^ 64 - 1 }
+    requires capture { capture.old.1 < 2 ^ 64 - 1 }
+    requires replies { replies.old.1 < 2 ^ 64 - 1 }
+    requires out { out.old.1 < 2 ^ 64 - 1 }
+    ensures ok { OnOk result (OfInput snapshot.old.0 (λ files.
+        AnswersAnd (terms_of files settings.now) capture.old.0 replies.old.0 replies.new.0
+        (λ outcome. Appends out.old.0 out.new.0 (report_text outcome)))) }
+    ensures fault { IfErr result
+        (IsReplayFault settings.now snapshot.old.0 capture.old.0 capture.new.0
+        replies.old replies.new out.old out.new) }
+    // A device is blamed only where it failed in this call. A read of the capture that failed may not be told: where
+    // another fault comes before it.
+    ensures reads_snapshot { CountsBy snapshot_failures snapshot.old.1 snapshot.new.1 result }
+    ensures reads_capture { BlamedOnce capture_failures capture.old.1 capture.new.1 result }
+    ensures writes_replies { CountsBy writer_failures replies.old.1 replies.new.1 result }
+    ensures writes_report { CountsBy report_failures out.old.1 out.new.1 result }
+{
+    let files = Snapshot::read(alloc, snapshot)?;
+    let outcome = run_engine::<Brand, T, C, W>(
+        rt, alloc, engine, &files, settings, capture, replies,
+    )?;
+    write_report(alloc, &outcome, out)
+}

@@ -1,0 +1,5 @@
+//! Tests of the crate `runs`.
+#![tactic(auto)]
+
+#[cfg(test)]
+mod tests;
