@@ -4,7 +4,7 @@ use Rattle.std.specs.Prelude.{◌⊎◌}
 use Rattle.std.proofs.lemmas.Bool.{cases_eq}
 use Rattle.std.proofs.Math.Nat.{div-le_of_le-mul}
 use Rattle.std.proofs.lemmas.List.Sums.{sum_by_push}
-use Rattle.token_bucket.specs.declared.TheConstants.{TOKEN}
+use Rattle.token_bucket.specs.Limits.{TOKEN}
 use Rattle.token_bucket.specs.Accrual.{accrual}
 use Rattle.admission.specs.declared.control.Decision.TheVariants.{Admitted, Rejected}
 use Rattle.admission.specs.Rules.{Rules, rules_of, IsInRange}

@@ -2,7 +2,7 @@
 use Rattle.std.proofs.Common.{◌≡◌, ℕ, ◌+◌, ◌*◌, ◌≤◌, List, [], drop, map, refl, sym, ◌∙◌, ap, arith}
 use Rattle.std.proofs.Math.Nat.{zero-div}
 use Rattle.std.specs.List.{range_with_len}
-use Rattle.token_bucket.specs.declared.TheConstants.{TOKEN}
+use Rattle.token_bucket.specs.Limits.{TOKEN}
 use Rattle.token_bucket.specs.Calls.{Past, made}
 use Rattle.token_bucket.specs.Fits.{Fits as FitsCalls, last_rate}
 use Rattle.token_bucket.specs.Standing as bucket

@@ -6,7 +6,7 @@ use Rattle.std.proofs.lemmas.List.{map-append, length-map}
 use Rattle.std.proofs.lemmas.Grind.{common_steps}
 use Rattle.std.proofs.lemmas.List.Sums.{count_by-le-length, sum_by_push}
 use Rattle.circular_buffer.specs.Buffer.{keep_last}
-use Rattle.token_bucket.specs.declared.TheConstants.{TOKEN}
+use Rattle.token_bucket.specs.Limits.{TOKEN}
 use Rattle.token_bucket.specs.Calls.{Past, TryTake, and_then}
 use Rattle.token_bucket.specs.Fits.{Fits as FitsCalls}
 use Rattle.token_bucket.specs.Running.{after}

@@ -4,7 +4,7 @@ use Rattle.std.specs.Prelude.{slice_index, nat_le}
 use Rattle.std.specs.List.{range_with_len}
 use Rattle.std.proofs.lemmas.Bool.{cases_lt, lt-leb}
 use Rattle.std.proofs.lemmas.List.Sums.{count_by-le-length}
-use Rattle.token_bucket.specs.declared.TheConstants.{TOKEN}
+use Rattle.token_bucket.specs.Limits.{TOKEN}
 use Rattle.token_bucket.specs.Accrual.{accrual}
 use Rattle.token_bucket.specs.Calls.{Advance, SetRate}
 use Rattle.token_bucket.specs.Running.{after}

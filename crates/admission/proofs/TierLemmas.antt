@@ -4,8 +4,8 @@ use Rattle.std.proofs.Math.Seq.{map-set_same}
 use Rattle.std.proofs.lemmas.Bool.{cases_eq}
 use Rattle.std.proofs.lemmas.List.{map-append, length-set}
 use Rattle.std.proofs.lemmas.Option.{get_or_from_slice_get}
-use Rattle.token_bucket.specs.declared.TheConstants.{TOKEN, MAX_TICK}
-use Rattle.admission.specs.declared.TheConstants.{MAX_OFFERS, MAX_SERVICE}
+use Rattle.token_bucket.specs.Limits.{TOKEN, MAX_TICK}
+use Rattle.admission.specs.Limits.{MAX_OFFERS, MAX_SERVICE}
 use Rattle.admission.specs.declared.control.Control.{Control}
 use Rattle.admission.specs.declared.control.Decision.{Decision}
 use Rattle.admission.specs.declared.control.Decision.TheVariants.{Admitted, Rejected}

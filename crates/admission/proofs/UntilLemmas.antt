@@ -31,7 +31,7 @@ filter_first p f a (suc m) (suc j) ones others =
 product_some : (k e : ℕ) → 0 < e → 1 ≤ k → 1 ≤ k * e
 product_some k e some first = let e_le : e ≤ k * e = grind arith in omega arith
 
--- a control in force has its instant behind it
+-- a control in force has its instant after it
 reached : (rules : Rules) (requests : List Served) (hi tick k : ℕ) → 0 < rules.every → IsRising 0 hi (finishes requests)
     → 1 ≤ k → k ≤ done requests tick / rules.every → (control_at rules requests k).instant ≤ tick
 reached rules requests hi tick k some rising first within =

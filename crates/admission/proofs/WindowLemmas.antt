@@ -9,7 +9,7 @@ use Rattle.std.proofs.lemmas.Bool.{lt-ltb, le-ltb, cases_lt, cases_eq}
 use Rattle.std.proofs.lemmas.List.{length-replicate}
 use Rattle.std.proofs.lemmas.Option.{slice_get_past}
 use Rattle.circular_buffer.specs.Buffer.{keep_last}
-use Rattle.admission.specs.declared.TheConstants.{MAX_WINDOW}
+use Rattle.admission.specs.Limits.{MAX_WINDOW}
 use Rattle.admission.specs.Percentile.{insert_sorted, sorted, rank, percentile}
 use Rattle.admission.specs.Tally.{expanded, AllCounted, count_in, remove_one, IsTally}
 use Rattle.admission.proofs.SortLemmas.{sorted_push, remove-insert, length-sorted}

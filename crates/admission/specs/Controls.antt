@@ -1,5 +1,6 @@
 -- The controls of served requests, and the rate in force.
-use Rattle.std.specs.Prelude.{ℕ, zero, suc, ◌+◌, ◌-◌, ◌*◌, ◌/◌, min, max, List, length, map, filter, take, slice_index, unwrap_or, nat_lt, nat_le, if◌then◌else◌}
+use Rattle.std.specs.Prelude.{ℕ, zero, suc, ◌+◌, ◌-◌, ◌*◌, ◌/◌, min, max, List, length, map, filter, take, slice_index}
+use Rattle.std.specs.Prelude.{unwrap_or, nat_lt, nat_le, if◌then◌else◌}
 use Rattle.std.specs.List.{range_with_len}
 use Rattle.circular_buffer.specs.Buffer.{keep_last}
 use Rattle.admission.specs.declared.control.Control.{Control}
@@ -11,7 +12,8 @@ use Rattle.admission.specs.Requests.{Served, finishes, done, samples}
 abbrev pub percentile_at : Rules → List ℕ → ℕ → ℕ
 percentile_at rules taken k = unwrap_or (percentile (keep_last rules.window (take (k * rules.every) taken))) 0
 
--- the smoothed percentile after a control: `smoothing` thousandths of the one before it, the rest of its own, rounded down
+-- the smoothed percentile after a control: `smoothing` thousandths of the one before it, the rest of its own, rounded
+-- down
 abbrev pub smoother : Rules → ℕ → ℕ → ℕ
 smoother rules before own = (rules.smoothing * before + (1000 - rules.smoothing) * own) / 1000
 

@@ -1,6 +1,6 @@
 -- Which offered requests are admitted.
 use Rattle.std.specs.Prelude.{ℕ, ◌+◌, ◌-◌, ◌*◌, min, List, [], ◌∷◌, ◌++◌, count_by, nat_le, if◌then◌else◌}
-use Rattle.token_bucket.specs.declared.TheConstants.{TOKEN}
+use Rattle.token_bucket.specs.Limits.{TOKEN}
 use Rattle.token_bucket.specs.Accrual.{accrual}
 use Rattle.admission.specs.declared.control.Decision.{Decision}
 use Rattle.admission.specs.declared.control.Decision.TheVariants.{Admitted, Rejected}
@@ -8,7 +8,8 @@ use Rattle.admission.specs.Rules.{Rules, rules_of}
 use Rattle.admission.specs.Requests.{Offer, Decided, served, of_tier, is_admitted, finish_behind}
 use Rattle.admission.specs.Controls.{rate_at}
 
--- a full bucket's units, with what accrues from the first of these requests up to `tick`, without the tokens that they took
+-- a full bucket's units, with what accrues from the first of these requests up to `tick`, without the tokens that they
+-- took
 abbrev pub balance : (ℕ → ℕ) → ℕ → ℕ → Decided → List Decided → ℕ
 balance rate full tick request requests =
     full + accrual rate request.offer.tick tick - TOKEN * count_by (λ r. is_admitted r.decision) (request ∷ requests)
@@ -23,8 +24,8 @@ least_balance rate full tick (request ∷ requests) =
 abbrev pub credit : Rules → List Decided → ℕ → ℕ
 credit rules past tick = least_balance (rate_at rules (served past)) (rules.depth * TOKEN) tick past
 
--- a request is admitted exactly where its credit, by the rules of its tier over the requests of its tier, holds a token;
--- it is served after the admitted requests of all tiers
+-- a request is admitted exactly where its credit, by the rules of its tier over the requests of its tier, holds a
+-- token; it is served after the admitted requests of all tiers
 abbrev pub decide : List Rules → List Decided → Offer → Decision
 decide policies past offer =
     if nat_le TOKEN (credit (rules_of policies offer.tier) (of_tier offer.tier past) offer.tick)

@@ -1,13 +1,14 @@
 -- What a controller keeps of the offers so far.
 use Rattle.std.specs.Prelude.{◌≡◌, ℕ, ◌+◌, ◌*◌, ◌/◌, ◌<◌, ◌≤◌, List, [], ◌∷◌, length, map, count_by, Some, slice_get}
-use Rattle.token_bucket.specs.declared.TheConstants.{TOKEN}
+use Rattle.token_bucket.specs.Limits.{TOKEN}
 use Rattle.token_bucket.specs.Accrual.{accrual}
 use Rattle.token_bucket.specs.Calls.{Past}
 use Rattle.token_bucket.specs.Fits as calls
 use Rattle.token_bucket.specs.Standing as bucket
 use Rattle.admission.specs.Rules.{Rules}
 use Rattle.admission.specs.Window.{window_of}
-use Rattle.admission.specs.Requests.{Offer, Decided, of_tier, is_admitted, is_rejected, served, finishes, samples, last_finish, done}
+use Rattle.admission.specs.Requests.{Offer, Decided, of_tier, is_admitted, is_rejected, served, finishes, samples}
+use Rattle.admission.specs.Requests.{last_finish, done}
 use Rattle.admission.specs.Controls.{controls_of, rate_after, rate_at}
 use Rattle.admission.specs.Decisions.{credit, decided}
 use Rattle.admission.specs.Standing.{TierStanding, Standing, policies_of}
@@ -27,11 +28,12 @@ unfoldable pub AllCovered : (ℕ → ℕ) → ℕ → ℕ → List Decided → T
 AllCovered rate full tick [] = Unit {0}
 AllCovered rate full tick (request ∷ requests) =
     (request.offer.tick ≤ tick)
-    × (TOKEN * count_by (λ r. is_admitted r.decision) (request ∷ requests) ≤ full + accrual rate request.offer.tick tick)
+    × (TOKEN * count_by (λ r. is_admitted r.decision)
+    (request ∷ requests) ≤ full + accrual rate request.offer.tick tick)
     × AllCovered rate full tick requests
 
--- the bucket of a tier stands as these requests of the tier left it: the controls that its clock has reached are those in force, its rate
--- is theirs, and its credit that of a request which comes now
+-- the bucket of a tier stands as these requests of the tier left it: the controls that its clock has reached are those
+-- in force, its rate is theirs, and its credit that of a request which comes now
 pub record Stands (rules : Rules) (past : List Decided) (b : bucket.Standing) (reached : ℕ) : Type 0 where
   pub depth : b.depth ≡ rules.depth
   pub rate : b.rate ≡ rate_after rules (samples (served past)) reached

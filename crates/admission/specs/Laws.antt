@@ -1,6 +1,6 @@
 -- What follows from the definitions.
 use Rattle.std.specs.Prelude.{◌≡◌, ℕ, ◌+◌, ◌-◌, ◌*◌, ◌<◌, ◌≤◌, min, max, List, [], ◌∷◌, ◌++◌, map, if◌then◌else◌}
-use Rattle.token_bucket.specs.declared.TheConstants.{TOKEN}
+use Rattle.token_bucket.specs.Limits.{TOKEN}
 use Rattle.token_bucket.specs.Accrual.{accrual}
 use Rattle.admission.specs.declared.control.Decision.TheVariants.{Rejected}
 use Rattle.admission.specs.Rules.{Rules, rules_of, IsInRange}
@@ -78,7 +78,8 @@ FinishFromFinish = (policies : List Rules) (offers : List Offer)
 -- the first offered request of a tier finds a full bucket, whenever it comes and whatever other tiers were offered
 abbrev pub FirstCredit : Type 0
 FirstCredit = (policies : List Rules) (offers : List Offer) (tier tick : ℕ) → AreOfOthers tier offers
-    → credit (rules_of policies tier) (of_tier tier (decided policies offers)) tick ≡ (rules_of policies tier).depth * TOKEN
+    → credit (rules_of policies tier) (of_tier tier (decided policies offers)) tick
+    ≡ (rules_of policies tier).depth * TOKEN
 
 -- the credit of a tier after an offer of that tier, by the tier's rules
 abbrev pub CreditAfter : Rules → List Rules → List Offer → Offer → ℕ → Type 0
@@ -103,7 +104,8 @@ AccrualSplitsAtControl = (rules : Rules) (requests : List Served) (k s t : ℕ)
     ≡ accrual (rate_at rules requests) s (control_at rules requests k).instant
     + accrual (rate_at rules requests) (control_at rules requests k).instant t
 
--- the rate of a tier in force at a tick that no further offer of any tier comes before depends on the offers so far alone
+-- the rate of a tier in force at a tick that no further offer of any tier comes before depends on the offers so far
+-- alone
 abbrev pub RateFromOffersBefore : Type 0
 RateFromOffersBefore = (policies : List Rules) (offers more : List Offer) (tier tick : ℕ)
     → IsInRange (rules_of policies tier) → AreOffered tick more

@@ -1,3 +1,4 @@
+pub mod Limits
 pub mod Percentile
 pub mod Rules
 pub mod Tally

@@ -1,5 +1,6 @@
 -- Requests that are offered, decided and served.
-use Rattle.std.specs.Prelude.{ℕ, ◌+◌, ◌-◌, max, Bool, true, false, List, [], ◌∷◌, ◌++◌, map, filter, count_by, sum_by, nat_eq, nat_le}
+use Rattle.std.specs.Prelude.{ℕ, ◌+◌, ◌-◌, max, Bool, true, false, List, [], ◌∷◌, ◌++◌, map, filter, count_by, sum_by}
+use Rattle.std.specs.Prelude.{nat_eq, nat_le}
 use Rattle.admission.specs.declared.control.Decision.{Decision}
 use Rattle.admission.specs.declared.control.Decision.TheVariants.{Admitted, Rejected}
 
@@ -46,7 +47,7 @@ unfoldable pub last_finish : List Offer → ℕ
 last_finish [] = 0
 last_finish (offer ∷ offers) = max (offer.tick + sum_by (λ o. o.service) (offer ∷ offers)) (last_finish offers)
 
--- the offered request's finish, where it is served behind these
+-- the offered request's finish, where it is served after these
 abbrev pub finish_behind : List Served → Offer → ℕ
 finish_behind requests offer = last_finish (map (λ r. r.offer) requests ++ offer ∷ [])
 

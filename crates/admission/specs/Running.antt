@@ -1,8 +1,9 @@
 -- What one more offer makes of a tier's standing.
-use Rattle.std.specs.Prelude.{ℕ, ◌+◌, ◌%◌, max, List, [], ◌∷◌, ◌++◌, nat_le, nat_eq, if◌then◌else◌, unwrap_or, option_map}
+use Rattle.std.specs.Prelude.{ℕ, ◌+◌, ◌%◌, max, List, [], ◌∷◌, ◌++◌, nat_le, nat_eq, if◌then◌else◌, unwrap_or}
+use Rattle.std.specs.Prelude.{option_map}
 use Rattle.std.specs.List.{prefix_len}
 use Rattle.circular_buffer.specs.Buffer.{last_item}
-use Rattle.token_bucket.specs.declared.TheConstants.{TOKEN}
+use Rattle.token_bucket.specs.Limits.{TOKEN}
 use Rattle.token_bucket.specs.Calls.{Advance, SetRate}
 use Rattle.token_bucket.specs.Running.{after}
 use Rattle.token_bucket.specs.Standing as bucket
@@ -21,7 +22,8 @@ use Rattle.admission.specs.Standing.{TierStanding}
 unfoldable pub passing : bucket.Standing → List Control → ℕ → bucket.Standing
 passing b [] tick = after b (Advance tick)
 passing b (control ∷ pending) tick =
-    if nat_le control.instant tick then (passing (after (after b (Advance control.instant)) (SetRate control.rate)) pending tick)
+    if nat_le control.instant tick then
+    (passing (after (after b (Advance control.instant)) (SetRate control.rate)) pending tick)
     else (after b (Advance tick))
 
 -- how many of the pending controls it passed
@@ -46,7 +48,8 @@ next_control rules controls instant own = record {
 -- the controls with one more, where that many admitted requests make one due
 abbrev pub with_due : Rules → List Control → List ℕ → ℕ → ℕ → List Control
 with_due rules controls samples admitted instant =
-    if nat_eq (admitted % rules.every) 0 then (controls ++ next_control rules controls instant (unwrap_or (percentile samples) 0) ∷ [])
+    if nat_eq (admitted % rules.every) 0 then
+    (controls ++ next_control rules controls instant (unwrap_or (percentile samples) 0) ∷ [])
     else controls
 
 -- the tier after a rejected offer

@@ -1,14 +1,14 @@
 -- What a contract sees of a `Controller`.
 use Rattle.std.specs.Prelude.{◌≡◌, ℕ, ◌+◌, ◌*◌, ◌≤◌, List, [], ◌∷◌, length, drop, map, Some, slice_get}
-use Rattle.token_bucket.specs.declared.TheConstants.{MAX_TICK, MAX_RATE}
+use Rattle.token_bucket.specs.Limits.{MAX_TICK, MAX_RATE}
 use Rattle.token_bucket.specs.Standing as bucket
-use Rattle.admission.specs.declared.TheConstants.{MAX_OFFERS, MAX_SERVICE}
+use Rattle.admission.specs.Limits.{MAX_OFFERS, MAX_SERVICE}
 use Rattle.admission.specs.declared.control.Control.{Control}
 use Rattle.admission.specs.Rules.{Rules}
 use Rattle.admission.specs.Window.{Window}
 
--- a tier: its policy's numbers; its bucket; how many of its requests were admitted, and how many rejected; its window; its
--- controls made so far, and how many of them the bucket's clock has reached
+-- a tier: its policy's numbers; its bucket; how many of its requests were admitted, and how many rejected; its window;
+-- its controls made so far, and how many of them the bucket's clock has reached
 pub record TierStanding : Type 0 where
   pub rules : Rules
   pub bucket : bucket.Standing
@@ -18,7 +18,8 @@ pub record TierStanding : Type 0 where
   pub controls : List Control
   pub reached : ℕ
 
--- the tiers; when the one server is free; how many requests were offered, and the tick of the last one, 0 before the first
+-- the tiers; when the one server is free; how many requests were offered, and the tick of the last one, 0 before the
+-- first
 pub record Standing : Type 0 where
   pub tiers : List TierStanding
   pub free : ℕ

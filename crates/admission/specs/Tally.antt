@@ -1,9 +1,10 @@
 -- How a map counts the samples of a window.
-use Rattle.std.specs.Prelude.{◌≡◌, ℕ, ◌<◌, ◌≤◌, List, [], ◌∷◌, ◌++◌, length, replicate, nat_eq, if◌then◌else◌, unwrap_or}
+use Rattle.std.specs.Prelude.{◌≡◌, ℕ, ◌<◌, ◌≤◌, List, [], ◌∷◌, ◌++◌, length, replicate, nat_eq, if◌then◌else◌}
+use Rattle.std.specs.Prelude.{unwrap_or}
 use Rattle.std.specs.Ordering.{nat_cmp}
 use Rattle.std.specs.Map.{lookup}
 use Rattle.std.specs.BTreeMap.{is_at}
-use Rattle.admission.specs.declared.TheConstants.{MAX_WINDOW}
+use Rattle.admission.specs.Limits.{MAX_WINDOW}
 use Rattle.admission.specs.Percentile.{sorted}
 
 -- each key as often as its count says, in the order of the keys

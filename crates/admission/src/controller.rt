@@ -1,4 +1,5 @@
-ghost use Rattle.std.specs.Prelude.{◌≡◌, ◌+◌, ◌<◌, ◌≤◌, ◌++◌, [], ◌∷◌, ℕ, List, length, map, IfOk, OnOk, OnErr, count_by};
+ghost use Rattle.std.specs.Prelude.{◌≡◌, ◌+◌, ◌<◌, ◌≤◌, ◌++◌, [], ◌∷◌, ℕ, List, length, map, IfOk, OnOk, OnErr};
+ghost use Rattle.std.specs.Prelude.{count_by};
 ghost use Rattle.admission.specs.Rules.{rules_of};
 ghost use Rattle.admission.specs.Requests.{Offer, of_tier, served, is_rejected};
 ghost use Rattle.admission.specs.Controls.{controls_until};
@@ -84,11 +85,18 @@ impl Controller {
         requires room { self.old.offers < MAX_OFFERS }
 
         // The decision is that of the definitions for the offers of all tiers so far followed by this one.
-        ensures decision { IfOk result (λ decision. (offers : List Offer) → Fits offers self.old → decision ≡ decide (policies_of self.old) (decided (policies_of self.old) offers) (record { tier = tier; tick = tick; service = service })) }
-        ensures fits { OnOk result ((offers : List Offer) → Fits offers self.old → Fits (offers ++ record { tier = tier; tick = tick; service = service } ∷ []) self.new) }
+        ensures decision { IfOk result
+            (λ decision. (offers : List Offer) → Fits offers self.old
+            → decision ≡ decide (policies_of self.old) (decided (policies_of self.old) offers)
+            (record { tier = tier; tick = tick; service = service })) }
+        ensures fits { OnOk result
+            ((offers : List Offer) → Fits offers self.old
+            → Fits (offers ++ record { tier = tier; tick = tick; service = service } ∷ []) self.new) }
 
         // What the next offer asks.
-        ensures next { OnOk result ((last_tick self.new ≡ tick) × (self.new.offers ≡ self.old.offers + 1) × (policies_of self.new ≡ policies_of self.old)) }
+        ensures next { OnOk result
+            ((last_tick self.new ≡ tick) × (self.new.offers ≡ self.old.offers + 1)
+            × (policies_of self.new ≡ policies_of self.old)) }
 
         // Without memory nothing has changed.
         ensures err { OnErr result (self.new ≡ self.old) }
@@ -103,7 +111,8 @@ impl Controller {
     /// How many requests of a tier (0 to 3) were admitted.
     pub fn admitted(&self, tier: u8) -> u64
         requires { tier < 4 }
-        ensures { (offers : List Offer) → Fits offers self.now → result ≡ length (served (of_tier tier (decided (policies_of self.now) offers))) }
+        ensures { (offers : List Offer) → Fits offers self.now
+            → result ≡ length (served (of_tier tier (decided (policies_of self.now) offers))) }
     {
         let own = &self.tiers[usize::from(tier)];
         own.admitted
@@ -112,7 +121,8 @@ impl Controller {
     /// How many requests of a tier (0 to 3) were turned away.
     pub fn rejected(&self, tier: u8) -> u64
         requires { tier < 4 }
-        ensures { (offers : List Offer) → Fits offers self.now → result ≡ count_by (λ r. is_rejected r.decision) (of_tier tier (decided (policies_of self.now) offers)) }
+        ensures { (offers : List Offer) → Fits offers self.now
+            → result ≡ count_by (λ r. is_rejected r.decision) (of_tier tier (decided (policies_of self.now) offers)) }
     {
         let own = &self.tiers[usize::from(tier)];
         own.rejected
@@ -121,7 +131,9 @@ impl Controller {
     /// The controls of a tier (0 to 3) whose instant is at most the last offered tick of any tier.
     pub fn controls(&self, tier: u8) -> &[Control]
         requires { tier < 4 }
-        ensures { (offers : List Offer) → Fits offers self.now → result.now ≡ controls_until (rules_of (policies_of self.now) tier) (served (of_tier tier (decided (policies_of self.now) offers))) (tick_from 0 offers) }
+        ensures { (offers : List Offer) → Fits offers self.now
+            → result.now ≡ controls_until (rules_of (policies_of self.now) tier)
+            (served (of_tier tier (decided (policies_of self.now) offers))) (tick_from 0 offers) }
     {
         self.tiers[usize::from(tier)].controls_until(self.tick)
     }

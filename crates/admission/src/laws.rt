@@ -1,6 +1,8 @@
 //! Laws of the definitions that the controller's contracts cite. Each function is there for its clause alone.
 
-ghost use Rattle.admission.specs.Laws.{AccrualSplitsAtControl, CreditFromCredit, DecisionsBegin, FinishFromFinish, FinishRuns, FirstCredit, OtherTiersLeave, RateBefore, RateFromOffersBefore, RatesWithin, RejectedLeavesAll};
+ghost use Rattle.admission.specs.Laws.{AccrualSplitsAtControl, CreditFromCredit, DecisionsBegin, FinishFromFinish};
+ghost use Rattle.admission.specs.Laws.{FinishRuns, FirstCredit, OtherTiersLeave, RateBefore, RateFromOffersBefore};
+ghost use Rattle.admission.specs.Laws.{RatesWithin, RejectedLeavesAll};
 ghost use Rattle.admission.specs.OneTier.{OneTierAsBefore};
 
 /// A decision depends on the offers before it alone.
@@ -48,7 +50,8 @@ pub fn first_credit()
     ensures { FirstCredit }
 {}
 
-/// A credit needs the credit of the tier's offer before it alone, whether that one was admitted, and what accrues between.
+/// A credit needs the credit of the tier's offer before it alone, whether that one was admitted, and what accrues
+/// between.
 pub fn credit_from_credit()
     ensures { CreditFromCredit }
 {}

@@ -43,11 +43,47 @@ impl Model for Policy {
 
     ghost Value = { Rules };
 
-    ghost view = { λ p. record { window = p.window; every = p.every; smoothing = p.smoothing; rate = p.rate; rate_min = p.rate_min; rate_max = p.rate_max; up = p.up; down = p.down; target = p.target; low = p.low; depth = p.depth } };
+    ghost view = { λ p. record {
+      window = p.window;
+      every = p.every;
+      smoothing = p.smoothing;
+      rate = p.rate;
+      rate_min = p.rate_min;
+      rate_max = p.rate_max;
+      up = p.up;
+      down = p.down;
+      target = p.target;
+      low = p.low;
+      depth = p.depth;
+    } };
 
-    ghost invariant = { λ p. IsInRange (record { window = p.window; every = p.every; smoothing = p.smoothing; rate = p.rate; rate_min = p.rate_min; rate_max = p.rate_max; up = p.up; down = p.down; target = p.target; low = p.low; depth = p.depth }) };
+    ghost invariant = { λ p. IsInRange (record {
+      window = p.window;
+      every = p.every;
+      smoothing = p.smoothing;
+      rate = p.rate;
+      rate_min = p.rate_min;
+      rate_max = p.rate_max;
+      up = p.up;
+      down = p.down;
+      target = p.target;
+      low = p.low;
+      depth = p.depth;
+    }) };
 
-    ghost inverse = { λ p. record { window = p.window; every = p.every; smoothing = p.smoothing; rate = p.rate; rate_min = p.rate_min; rate_max = p.rate_max; up = p.up; down = p.down; target = p.target; low = p.low; depth = p.depth } };
+    ghost inverse = { λ p. record {
+      window = p.window;
+      every = p.every;
+      smoothing = p.smoothing;
+      rate = p.rate;
+      rate_min = p.rate_min;
+      rate_max = p.rate_max;
+      up = p.up;
+      down = p.down;
+      target = p.target;
+      low = p.low;
+      depth = p.depth;
+    } };
 }
 
 fn is_within(least: u64, most: u64, x: u64) -> bool
@@ -76,8 +112,44 @@ impl Policy {
         low: u64,
         depth: u64,
     ) -> Result<Self, PolicyFault>
-        ensures ok { IfOk result (λ policy. (policy_fault (record { window = window; every = every; smoothing = smoothing; rate = rate; rate_min = rate_min; rate_max = rate_max; up = up; down = down; target = target; low = low; depth = depth }) ≡ None) × (policy ≡ record { window = window; every = every; smoothing = smoothing; rate = rate; rate_min = rate_min; rate_max = rate_max; up = up; down = down; target = target; low = low; depth = depth })) }
-        ensures fault { IfErr result (λ fault. policy_fault (record { window = window; every = every; smoothing = smoothing; rate = rate; rate_min = rate_min; rate_max = rate_max; up = up; down = down; target = target; low = low; depth = depth }) ≡ Some fault) }
+        ensures ok { IfOk result (λ policy. (policy_fault (record {
+          window = window;
+          every = every;
+          smoothing = smoothing;
+          rate = rate;
+          rate_min = rate_min;
+          rate_max = rate_max;
+          up = up;
+          down = down;
+          target = target;
+          low = low;
+          depth = depth;
+        }) ≡ None) × (policy ≡ record {
+          window = window;
+          every = every;
+          smoothing = smoothing;
+          rate = rate;
+          rate_min = rate_min;
+          rate_max = rate_max;
+          up = up;
+          down = down;
+          target = target;
+          low = low;
+          depth = depth;
+        })) }
+        ensures fault { IfErr result (λ fault. policy_fault (record {
+          window = window;
+          every = every;
+          smoothing = smoothing;
+          rate = rate;
+          rate_min = rate_min;
+          rate_max = rate_max;
+          up = up;
+          down = down;
+          target = target;
+          low = low;
+          depth = depth;
+        }) ≡ Some fault) }
     {
         if !is_within(1, MAX_WINDOW, window) {
             return Err(PolicyFault::Window);

@@ -1,4 +1,5 @@
-ghost use Rattle.std.specs.Prelude.{◌≡◌, ◌+◌, ◌-◌, ◌*◌, ◌<◌, ◌≤◌, ◌++◌, [], ◌∷◌, ℕ, List, length, drop, max, vec_len, vec_capacity, unwrap_or, IsTrue, IfOk, OnOk, OnErr};
+ghost use Rattle.std.specs.Prelude.{◌≡◌, ◌+◌, ◌-◌, ◌*◌, ◌<◌, ◌≤◌, ◌++◌, [], ◌∷◌, ℕ, List, length, drop, max, vec_len};
+ghost use Rattle.std.specs.Prelude.{vec_capacity, unwrap_or, IsTrue, IfOk, OnOk, OnErr};
 ghost use Rattle.std.specs.Option.{option_copied};
 ghost use Rattle.circular_buffer.specs.Buffer.{last_item};
 ghost use Rattle.token_bucket.specs.Calls.{Past};
@@ -9,7 +10,8 @@ ghost use Rattle.admission.specs.Standing.{RiseWithin, AllRates, IsShare};
 ghost use Rattle.admission.specs.Fits.{TierFits};
 ghost use Rattle.admission.specs.TierCalls.{Decides, Takes, StaysBeside, Passes, RisesFrom, Shows};
 ghost use Rattle.admission.specs.Window.{with_sample};
-ghost use Rattle.admission.specs.Running.{passing, passed, last_rate, next_control, with_due, when_rejected, when_admitted, free_after};
+ghost use Rattle.admission.specs.Running.{passing, passed, last_rate, next_control, with_due, when_rejected};
+ghost use Rattle.admission.specs.Running.{when_admitted, free_after};
 
 use crate::{Control, Decision, MAX_OFFERS, MAX_RATE, MAX_SERVICE, MAX_TICK, Policy, SampleWindow};
 use std::alloc::{AllocError, Global};
@@ -39,9 +41,25 @@ impl Model for Tier {
 
     ghost Value = { TierStanding };
 
-    ghost view = { λ t. record { rules = t.policy; bucket = t.bucket; admitted = t.admitted; rejected = t.rejected; window = t.window; controls = t.controls.items; reached = t.reached } };
+    ghost view = { λ t. record {
+      rules = t.policy;
+      bucket = t.bucket;
+      admitted = t.admitted;
+      rejected = t.rejected;
+      window = t.window;
+      controls = t.controls.items;
+      reached = t.reached;
+    } };
 
-    ghost invariant = { λ t. IsSoundTier (record { rules = t.policy; bucket = t.bucket; admitted = t.admitted; rejected = t.rejected; window = t.window; controls = t.controls.items; reached = t.reached }) };
+    ghost invariant = { λ t. IsSoundTier (record {
+      rules = t.policy;
+      bucket = t.bucket;
+      admitted = t.admitted;
+      rejected = t.rejected;
+      window = t.window;
+      controls = t.controls.items;
+      reached = t.reached;
+    }) };
 }
 
 /// Lets time pass up to `tick`. The bucket takes on each pending control's rate at its instant, and what
@@ -53,7 +71,8 @@ fn pass(bucket: &mut Bucket, pending: &[Control], tick: u64) -> usize
     requires within { tick ≤ MAX_TICK }
     ensures reached { result ≡ passed pending.now tick }
     ensures tick { bucket.new.tick ≡ tick }
-    ensures passes { (past : Past) → FitsCalls past bucket.old → ((later : Past) × FitsCalls later bucket.new) × (bucket.new ≡ passing bucket.old pending.now tick) }
+    ensures passes { (past : Past) → FitsCalls past bucket.old → ((later : Past) × FitsCalls later bucket.new)
+        × (bucket.new ≡ passing bucket.old pending.now tick) }
 {
     let mut reached = 0;
     let mut rest = pending;
@@ -194,7 +213,8 @@ impl Tier {
         ensures decision { IfOk result (λ decision. Decides self.old free tick service decision) }
         ensures fits { IfOk result (λ decision. Takes self.old free tick decision self.new) }
         ensures share { IfOk result (λ decision. StaysBeside self.old free tick decision self.new) }
-        ensures free { IfOk result (λ decision. (free ≤ free_after free decision) × (free_after free decision ≤ max free tick + service)) }
+        ensures free { IfOk result
+            (λ decision. (free ≤ free_after free decision) × (free_after free decision ≤ max free tick + service)) }
         ensures rules { OnOk result (self.new.rules ≡ self.old.rules) }
         ensures err { OnErr result (self.new ≡ self.old) }
     {
@@ -244,7 +264,8 @@ impl Tier {
         self.reached = reached;
     }
 
-    /// Takes a request for which `bucket` gave a token, and which is finished at `finish`, `sample` ticks after it came.
+    /// Takes a request for which `bucket` gave a token, and which is finished at `finish`, `sample` ticks after it
+    /// came.
     fn admit(
         &mut self,
         bucket: Bucket,

@@ -93,7 +93,9 @@ impl SampleWindow {
 
     /// Adds a sample. A full window gives up its oldest one.
     pub fn add(&mut self, sample: u64) -> Result<(), AllocError>
-        ensures ok { OnOk result ((added : List ℕ) → self.old ≡ window_of self.old.size added → self.new ≡ window_of self.old.size (added ++ sample ∷ [])) }
+        ensures ok { OnOk result
+            ((added : List ℕ) → self.old ≡ window_of self.old.size added
+            → self.new ≡ window_of self.old.size (added ++ sample ∷ [])) }
         ensures held { OnOk result (self.new ≡ with_sample self.old sample) }
         ensures err { OnErr result (self.new ≡ self.old) }
     {

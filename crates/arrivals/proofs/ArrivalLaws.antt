@@ -55,7 +55,7 @@ first_of P c (x ∷ xs) m ms all e = elim (eqb_tells x.origin.conn c) [
 
 -- ---- one list
 
--- what the shorter text lacks of a connection's messages ends behind it
+-- what the shorter text lacks of a connection's messages ends after it
 abbrev Goes : List Record → ℕ → List Arrival → List Arrival → Type 0
 Goes all n xs ys = (c : ℕ) → (rest : List Message) × (messages_of c ys ≡ messages_of c xs ++ rest) × IsLate (length (text_of c (take n all))) rest
 
@@ -76,7 +76,7 @@ stand_rest all n x xs h = record {
 follows : (all : List Record) (n : ℕ) (x : Arrival) (xs : List Arrival) → Stand all n (x ∷ xs) → All (λ a. ArrivesWith all a × Precedes x a) xs
 follows all n x xs h = λ k d lt. (h.with (suc k) d (omega (arith, lt)), h.order 0 (suc k) d (omega arith) (omega (arith, lt)))
 
--- where a connection's first message in a list is this arrival's, the arrival is behind the list's first
+-- where a connection's first message in a list is this arrival's, the arrival is after the list's first
 first_behind : (all : List Record) (n : ℕ) (x y : Arrival) (xs : List Arrival) (ms : List Message) → Stand all n (x ∷ xs) → ArrivesWith all y
     → messages_of y.origin.conn xs ≡ y.message ∷ ms → Precedes x y
 first_behind all n x y xs ms h with_y e =
@@ -90,7 +90,7 @@ early_end all n a h lt =
     let within = h.within in
     omega (arith, past, within)
 
--- an early arrival of the longer list is one of the shorter, and so behind the shorter's first
+-- an early arrival of the longer list is one of the shorter, and so after the shorter's first
 comes_again : (all : List Record) (n : ℕ) (x y : Arrival) (xs : List Arrival) (ns rest : List Message) → Stand all n (x ∷ xs) → ArrivesWith all y → y.place < n
     → IsLate (length (text_of y.origin.conn (take n all))) rest → messages_of y.origin.conn xs ++ rest ≡ y.message ∷ ns → Precedes x y
 comes_again all n x y xs ns rest h with_y early late e = go (messages_of y.origin.conn xs) rest refl late e

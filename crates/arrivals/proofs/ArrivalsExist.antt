@@ -21,7 +21,7 @@ use Rattle.arrivals.proofs.Arriving.{from_piece, text_more, own_bytes, other_byt
 
 -- ---- texts
 
--- the step behind a first message, which closes or doesn't
+-- the step after a first message, which closes or doesn't
 rest_front : (b : Bool) (p : ℕ) (r y s : List ℕ) (ns : List Message) → s ≡ r ++ y → (Messages p (r ++ y) ns → (ms : List Message) × Messages p r ms)
     → MatchBool b (ns ≡ []) (Messages p s ns) → (ms : List Message) × MatchBool b (ms ≡ []) (Messages p r ms)
 rest_front true p r y s ns t u h = ([], refl)
@@ -64,7 +64,7 @@ ends_all p r (m ∷ ms) h =
       rest_ends (closes m.what) p h.0 m.end (p + length r) r ms e within refl (ends_all (p + h.0) (drop h.0 r) ms) h.3,
     )
 
--- the last of them, of which the first ends behind the place n
+-- the last of them, of which the first ends after the place n
 ends_rest : (n from to : ℕ) (ms rest : List Message) → EndBetween from to (ms ++ rest) → IsLate n rest → EndBetween n to rest
 ends_rest n from to [] [] h late = tt
 ends_rest n from to [] (m ∷ rest) h late = (late, h.1, h.2)

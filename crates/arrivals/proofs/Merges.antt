@@ -23,7 +23,7 @@ count_other c o os apart = elim (eqb_tells o.conn c) [
   | inr other ↦ if_false (o.conn == c) (count_to c os + 1) (count_to c os) other.0
 ]
 
--- one more list behind the others
+-- one more list after the others
 go : (b : Bool) (ms : List Message) (longer shorter more : List (List Message)) → longer ≡ shorter ++ more → (if b then ms ∷ longer else longer) ≡ (if b then ms ∷ shorter else shorter) ++ more
 go true ms longer shorter more e = ap (λ l. ms ∷ l) e
 go false ms longer shorter more e = e
@@ -62,7 +62,7 @@ some_list os k d conn n lt is e =
     let many : n ≡ count_to (get_or os k d).conn (drop (k + 1) os) + 1 = e ∙ rw (is, drop_more os k d lt) more in
     omega (arith, many)
 
--- the state of a merge behind k pieces
+-- the state of a merge after k pieces
 pub record Merged (os : List Origin) (k : ℕ) (start now : List Place) (found : List (List Message)) : Type 0 where
   pub left : (c : ℕ) → length (place_at now c).lists ≡ count_to c (drop k os)
   pub split : (c : ℕ) → (place_at start c).lists ≡ lists_to c (take k os) found ++ (place_at now c).lists

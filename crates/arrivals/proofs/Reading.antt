@@ -15,7 +15,7 @@ rest_closed : (b : Bool) (p : ℕ) (r y s : List ℕ) (ms : List Message) → s 
 rest_closed true p r y s ms t e f h = h
 rest_closed false p r y s ms t e f h = rw t (f e h)
 
--- behind a message that closes there is no other, whatever follows
+-- after a message that closes there is no other, whatever follows
 pub closed_for_good : (p : ℕ) (r y : List ℕ) (ms : List Message) → some_closes ms ≡ true → Messages p r ms → Messages p (r ++ y) ms
 closed_for_good p r y [] e h = absurd (let x : ⊥ = grind (arith, e) in x)
 closed_for_good p r y (m ∷ ms) e h =

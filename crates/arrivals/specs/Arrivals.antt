@@ -1,5 +1,6 @@
 -- The messages of a capture, in the order of their arrival.
-use Rattle.std.specs.Prelude.{◌≡◌, ℕ, ◌+◌, ◌<◌, ◌≤◌, ◌==◌, ◌⊎◌, List, [], length, take, map, filter, flat_map, All, Some, slice_get, if◌then◌else◌}
+use Rattle.std.specs.Prelude.{◌≡◌, ℕ, ◌+◌, ◌<◌, ◌≤◌, ◌==◌, ◌⊎◌, List, [], length, take, map, filter, flat_map, All}
+use Rattle.std.specs.Prelude.{Some, slice_get, if◌then◌else◌}
 use Rattle.std.specs.List.{AllPairs}
 use Rattle.captures.specs.declared.record.Record.{Record}
 use Rattle.captures.specs.declared.record.Record.TheVariants.{Piece, End, Tier}
@@ -40,8 +41,8 @@ pub record ArrivesWith (records : List Record) (a : Arrival) : Type 0 where
 abbrev pub Precedes : Arrival → Arrival → Type 0
 Precedes a b = (a.place < b.place) ⊎ ((a.place ≡ b.place) × (a.message.end < b.message.end))
 
--- The arrivals of these records: the messages of each connection's text, each with the piece that holds its last byte, in
--- the order of their pieces and of their places in a piece.
+-- The arrivals of these records: the messages of each connection's text, each with the piece that holds its last byte,
+-- in the order of their pieces and of their places in a piece.
 pub record AreArrivals (records : List Record) (arrivals : List Arrival) : Type 0 where
   pub each : (c : ℕ) → MessagesOf (text_of c records) (messages_of c arrivals)
   pub with : All (ArrivesWith records) arrivals

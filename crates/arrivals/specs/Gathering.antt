@@ -10,11 +10,11 @@ use Rattle.arrivals.specs.Places.{Place, place_at}
 use Rattle.arrivals.specs.declared.batch.Ending.{Ending}
 use Rattle.arrivals.specs.declared.batch.Ending.TheVariants.{More, End, Fault}
 
--- a seat with more pieces behind those that wait
+-- a seat with more pieces after those that wait
 abbrev pub with_pieces : Place → List (List ℕ) → Place
 with_pieces p pieces = record { connection = p.connection; pieces = p.pieces ++ pieces; lists = p.lists }
 
--- these records, in a batch: each seat has the pieces that they bring to its connection behind its own
+-- these records, in a batch: each seat has the pieces that they bring to its connection after its own
 abbrev pub Adds : List Record → List Place → List Place → Type 0
 Adds rs old new = (c : ℕ) → place_at new c ≡ with_pieces (place_at old c) (pieces_to c rs)
 
@@ -28,7 +28,8 @@ EndsWith v text start records End p now = Gave v text start records (Ok None) p 
 EndsWith v text start records (Fault f) p now =
     Gave v text start records (Err f) p now × FailsNext v text start records (Err f) now
 
-pub record ReadOn (v : Version) (text : Option (List ℕ)) (start : ℕ) (records : List Record) (ending : Ending) (p : Progress)
+pub record ReadOn (v : Version) (text : Option (List ℕ)) (start : ℕ) (records : List Record) (ending : Ending)
+  (p : Progress)
     (now : Option (List ℕ)) : Type 0 where
   pub progress : Progress
   pub ahead : Option (List ℕ)

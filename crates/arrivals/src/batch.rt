@@ -34,7 +34,8 @@ pub struct Batch {
     pub ending: Ending,
 }
 
-/// Takes a record into a batch: the bytes of a piece wait at the seat of its connection, which has the tier that it was given.
+/// Takes a record into a batch: the bytes of a piece wait at the seat of its connection, which has the tier that it was
+/// given.
 fn take_record(
     alloc: Global,
     next: Record,
@@ -62,8 +63,8 @@ fn take_record(
     }
 }
 
-/// Reads the next batch: so many pieces, with the other records between them, or those before the end of the capture or its
-/// fault.
+/// Reads the next batch: so many pieces, with the other records between them, or those before the end of the capture or
+/// its fault.
 pub fn read_batch<'a, R: Read>(
     alloc: Global,
     capture: &mut CaptureReader<'a, R>,

@@ -19,8 +19,8 @@ pub fn arrivals_begin()
     ensures { ArrivalsBegin }
 {}
 
-/// The messages that each connection finds in its pieces of a batch, merged in the order of the records, are the arrivals of
-/// the batch.
+/// The messages that each connection finds in its pieces of a batch, merged in the order of the records, are the
+/// arrivals of the batch.
 pub fn merged_arrivals()
     ensures { MergedArrivals }
 {}

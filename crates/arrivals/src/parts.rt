@@ -24,7 +24,7 @@ fn with_piece(part: Vec<Incoming>, piece: PieceMessages) -> Result<Vec<Incoming>
     Ok(part)
 }
 
-/// Puts a part behind the others where it is long enough: what is left of it.
+/// Puts a part after the others where it is long enough: what is left of it.
 fn laid_by(
     alloc: Global,
     parts: &mut Vec<Series<Incoming>>,

@@ -9,8 +9,8 @@ use std::alloc::{AllocError, Global};
 use std::collections::VecDeque;
 use std::marker::Model;
 
-/// What is kept of a connection that sent something: itself, the pieces that wait to be cut, and for each piece that was cut
-/// the messages that end in it.
+/// What is kept of a connection that sent something: itself, the pieces that wait to be cut, and for each piece that
+/// was cut the messages that end in it.
 #[derive(Drop)]
 struct Taken {
     connection: Connection,

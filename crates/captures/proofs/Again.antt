@@ -276,7 +276,7 @@ record_again v past (Tier conn tier) t l nl (live, unused, (has, few, low)) left
     ∙ (bind_is (named kind_of (line_at (record { bytes = line ++ feed ∷ t; left = l }))) _ (line, last) (named_is kind_of _ (line, last) read)
     ∙ (bind_is (heading_of v line) _ _ heading ∙ bind_is (tier_record v past (record { conn = conn; tier = tier })) _ (Tier conn tier) (tier_again v past conn tier few live unused low)))
 
--- the last line, behind which the input ends, is read as the end
+-- the last line, after which the input ends, is read as the end
 pub stop_again : (v : Version) (past : Past) (l nl : ℕ) → past.count < 2 ^ 64 - 1 → l ≡ length (stop_text past.count) + nl
     → record_at v past (record { bytes = stop_text past.count; left = l }) ≡ Ok (None, record { bytes = []; left = nl })
 stop_again v past l nl small left =

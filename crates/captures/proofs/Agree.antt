@@ -125,11 +125,11 @@ same_start v w s t x y hs ht h =
     ok_is {A = (Version × ℕ) × Ahead} {E = CaptureFaultKind} _ _ _ _ a b (ap (λ w. header_at (record { bytes = w; left = l })) h) in
     (ap (λ (p : (Version × ℕ) × Ahead). p.0.0) e, ap (λ (p : (Version × ℕ) × Ahead). p.0.1) e, ap (λ (p : (Version × ℕ) × Ahead). p.1.bytes) e)
 
--- a text up to the last line, and what is behind it
+-- a text up to the last line, and what is after it
 behind : (v : Version) (start : ℕ) (rs : List Record) (rest bytes : List ℕ) → bytes ≡ text_before_stop v start rs ++ rest → bytes ≡ header_text v start ++ (flat_map record_text rs ++ rest)
 behind v start rs rest bytes h = h ∙ append_assoc (header_text v start) (flat_map record_text rs) rest
 
--- the two versions and the two starts are one, and what is behind them too
+-- the two versions and the two starts are one, and what is after them too
 starts_agree : (v w : Version) (s t : ℕ) (rs ss : List Record) (x y bytes : List ℕ) → s ≤ latest_start → t ≤ latest_start
     → bytes ≡ text_before_stop v s rs ++ x → bytes ≡ text_before_stop w t ss ++ y → (v ≡ w) × (s ≡ t) × (flat_map record_text rs ++ x ≡ flat_map record_text ss ++ y)
 starts_agree v w s t rs ss x y bytes hs ht a b =
@@ -169,7 +169,7 @@ header_good v bytes s rest f in_time size is fault =
     let good = header_again v s rest longest_text (longest_text - length (header_text v s)) in_time (omega arith) in
     not_both _ f.kind (header_at (record { bytes = header_text v s ++ rest; left = longest_text })) good (sym (ap (λ w. header_at (record { bytes = w; left = longest_text })) is) ∙ fault.1)
 
--- nor behind records where one more stands
+-- nor after records where one more stands
 record_good : (v : Version) (bytes : List ℕ) (t : ℕ) (ss : List Record) (f : CaptureFault) (rest : List ℕ) (q : Record) (z : List ℕ) → FaultsBehind v bytes t ss f rest
     → rest ≡ record_text q ++ z → Follows v (past_of ss) q → length (text_before_stop v t ss) + length (record_text q) ≤ longest_text → ⊥
 record_good v bytes t ss f rest q z fault is follows size =
@@ -236,7 +236,7 @@ same_fault f g a k = λ i. record { at = a i; kind = k i }
 same_kind : {A : Type 0} (r : Result A CaptureFaultKind) (j k : CaptureFaultKind) → r ≡ Err j → r ≡ Err k → j ≡ k
 same_kind r j k a b = cc
 
--- of two faults one stands behind fewer records: then another record stands there
+-- of two faults one stands after fewer records: then another record stands there
 fewer : (v : Version) (bytes : List ℕ) (t u : ℕ) (ss rs : List Record) (f g : CaptureFault) (x y : List ℕ) (more : List Record) → FaultsBehind v bytes t ss f x → FaultsBehind v bytes u rs g y
     → u ≡ t → rs ≡ ss ++ more → x ≡ flat_map record_text more ++ y → f ≡ g
 fewer v bytes t u ss rs f g x y [] a b same e h =
@@ -296,7 +296,7 @@ pub no_header_fault : (v : Version) (bytes : List ℕ) (s : ℕ) (rs : List Reco
 no_header_fault v bytes s rs rest f rules is size fault =
     header_good v bytes s (flat_map record_text rs ++ rest) f rules.in_time (omega (arith, size, header_below v s rs)) (behind v s rs rest bytes is) fault
 
--- nor any behind the first of records that stand whole, within the limit
+-- nor any after the first of records that stand whole, within the limit
 pub no_fault_among : (v w : Version) (bytes : List ℕ) (s t : ℕ) (rs ss : List Record) (f : CaptureFault) (x y : List ℕ) (q : Record) (more : List Record) → FaultsBehind v bytes s rs f x
     → IsCapture w t ss → length (text_before_stop w t ss) ≤ longest_text → v ≡ w → s ≡ t → ss ≡ rs ++ q ∷ more → x ≡ flat_map record_text (q ∷ more) ++ y → ⊥
 no_fault_among v w bytes s t rs ss f x y q more fault rules size same start is rest =

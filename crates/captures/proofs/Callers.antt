@@ -8,7 +8,7 @@ use Rattle.captures.specs.declared.record.Record.{Record}
 use Rattle.captures.specs.declared.progress.Progress.{Progress}
 use Rattle.captures.specs.declared.capture_fault.CaptureFault.{CaptureFault}
 
--- one more record, which the caller put behind the others
+-- one more record, which the caller put after the others
 pub gave_record : (v : Version) (text now : Option (List ℕ)) (start : ℕ) (records more : List Record) (p : Progress) (x : Option Record) (r : Record) → x ≡ Some r → more ≡ records ++ r ∷ []
     → Gave v text start records (Ok x) p now → Fits v text start more p now
 gave_record v text now start records more p x r is put h =

@@ -120,7 +120,7 @@ next_takes v text now new start new_left records p x f h k =
     let small : length records < 2 ^ 64 - 1 = let r = f.room in omega arith in
     record_takes v (past_of records) (ahead_of now p.left) (ahead_of new new_left) x small read
 
--- a text and what was taken behind it
+-- a text and what was taken after it
 front_then : (text before taken now new : List ℕ) → text ≡ before ++ now → now ≡ taken ++ new → text ≡ (before ++ taken) ++ new
 front_then text before taken now new a b = a ∙ (ap (λ w. before ++ w) b ∙ sym (append_assoc before taken new))
 

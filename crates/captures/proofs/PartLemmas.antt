@@ -47,7 +47,7 @@ body_cut n l nl bytes is left =
     bind_is (named kind_of (run_at n (record { bytes = bytes; left = l }))) _ (bytes, mid) (named_is kind_of _ (bytes, mid) (run_alone n l nl bytes is left))
     ∙ bind_err (named kind_of (byte_at mid)) _ Cut (named_err kind_of _ stops.Cut (no_byte nl))
 
--- a read failed behind the bytes of a piece
+-- a read failed after the bytes of a piece
 pub body_fails : (n : ℕ) (o m p : Option (List ℕ)) (l ml pl : ℕ) (bytes : List ℕ) → length bytes ≡ n
     → (is_some o ≡ true → (run_at n (ahead_of o l) ≡ Ok (bytes, ahead_of m ml)) × (is_some m ≡ true))
     → (is_some m ≡ true → TookPart (λ part. part ≡ []) m ml p pl) → is_some o ≡ true

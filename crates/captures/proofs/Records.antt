@@ -17,11 +17,11 @@ use Rattle.captures.specs.declared.capture_fault.CaptureFaultKind.{CaptureFaultK
 use Rattle.captures.specs.declared.capture_fault.CaptureFaultKind.TheVariants.{Tick, Connection, Ended, Tier as LateTier, Length, Count, Trailing}
 use Rattle.captures.proofs.Lines.{bind_ok, named_ok, piece_line_inverse, end_line_inverse, tier_line_inverse, stop_line_inverse, heading_has, few_connections}
 
--- the last line behind so many records
+-- the last line after so many records
 abbrev pub stop_text : ℕ → List ℕ
 stop_text count = (codes "stop " ++ decimal count) ++ feed ∷ []
 
--- what was read behind a past: a record, or the last line, behind which the input ends
+-- what was read after a past: a record, or the last line, after which the input ends
 abbrev pub next_text : Past → Option Record → List ℕ
 next_text past None = stop_text past.count
 next_text past (Some r) = record_text r
@@ -134,7 +134,7 @@ end_parts w a b = append-nil _ ∙ simp append_assoc
 tier_parts : (w a b : List ℕ) → ((w ++ (a ++ 32 ∷ b)) ++ 10 ∷ []) ++ [] ≡ (w ++ a ++ (32 ∷ []) ++ b) ++ 10 ∷ []
 tier_parts w a b = end_parts w a b
 
--- what a heading announced takes, behind its line
+-- what a heading announced takes, after its line
 Takes : List ℕ → Past → Option Record → Ahead → Ahead → Type 0
 Takes line past o a b = (rest : List ℕ) × TakesAhead a rest b × ((line ++ feed ∷ []) ++ rest ≡ next_text past o) × EndsIfNone o b
 

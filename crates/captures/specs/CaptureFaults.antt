@@ -1,12 +1,15 @@
 -- How a capture text is read, record by record, and its first fault.
-use Rattle.std.specs.Prelude.{◌≡◌, ℕ, ◌+◌, ◌-◌, ◌≤◌, ◌==◌, ◌||◌, ◌&&◌, ◌⊎◌, Bool, true, false, List, [], ◌++◌, drop, length, Option, Some, None, Result, Ok, Err, MatchResult, codes, nat_eq, nat_lt, if◌then◌else◌, is_some, unwrap_or}
+use Rattle.std.specs.Prelude.{◌≡◌, ℕ, ◌+◌, ◌-◌, ◌≤◌, ◌==◌, ◌||◌, ◌&&◌, ◌⊎◌, Bool, true, false, List, [], ◌++◌, drop}
+use Rattle.std.specs.Prelude.{length, Option, Some, None, Result, Ok, Err, MatchResult, codes, nat_eq, nat_lt}
+use Rattle.std.specs.Prelude.{if◌then◌else◌, is_some, unwrap_or}
 use Rattle.std.specs.List.{starts_with}
 use Rattle.paths.specs.Numbers.{number_of, number_and_rest, three_numbers}
 use Rattle.paths.specs.Numbers.{◌>>=◌ as ◌>?=◌}
 use Rattle.paths.specs.Texts.{Ahead, line_at, run_at, byte_at}
 use Rattle.paths.specs.declared.stop.Stop.{Stop}
 use Rattle.paths.specs.declared.stop.Stop.TheVariants as stops
-use Rattle.captures.specs.Captures.{front, last_connection, has_tiers, feed, latest_start, latest_tick, most_bytes, longest_text, last_tier, Past, past_of, text_before_stop, IsCapture}
+use Rattle.captures.specs.Captures.{front, last_connection, has_tiers, feed, latest_start, latest_tick, most_bytes}
+use Rattle.captures.specs.Captures.{longest_text, last_tier, Past, past_of, text_before_stop, IsCapture}
 use Rattle.captures.specs.declared.version.Version.{Version}
 use Rattle.captures.specs.declared.version.Version.TheVariants.{One, Two}
 use Rattle.captures.specs.declared.record.Record.{Record}
@@ -17,7 +20,10 @@ use Rattle.captures.specs.declared.heading.Heading.{Heading}
 use Rattle.captures.specs.declared.heading.Heading.TheVariants as headings
 use Rattle.captures.specs.declared.capture_fault.CaptureFault.{CaptureFault}
 use Rattle.captures.specs.declared.capture_fault.CaptureFaultKind.{CaptureFaultKind}
-use Rattle.captures.specs.declared.capture_fault.CaptureFaultKind.TheVariants.{Cut, Header, Kind, Number, Tick, Connection, Ended, Tier as LateTier, Length, Count, Trailing, TooLarge, Read, Memory}
+use Rattle.captures.specs.declared.capture_fault.CaptureFaultKind.TheVariants.{Cut, Header, Kind, Number, Tick}
+use Rattle.captures.specs.declared.capture_fault.CaptureFaultKind.TheVariants.{Connection, Ended, Tier as LateTier}
+use Rattle.captures.specs.declared.capture_fault.CaptureFaultKind.TheVariants.{Length, Count, Trailing, TooLarge, Read}
+use Rattle.captures.specs.declared.capture_fault.CaptureFaultKind.TheVariants.{Memory}
 
 -- the fault of a record, a part of which could not be read
 abbrev pub kind_of : Stop → CaptureFaultKind
@@ -40,7 +46,8 @@ named name (Ok x) = Ok x
 named name (Err e) = Err (name e)
 
 infixl 10 ◌>>=◌
-abbrev pub ◌>>=◌ : {A B : Type 0} → Result A CaptureFaultKind → (A → Result B CaptureFaultKind) → Result B CaptureFaultKind
+abbrev pub ◌>>=◌ : {A B : Type 0} → Result A CaptureFaultKind → (A → Result B CaptureFaultKind)
+  → Result B CaptureFaultKind
 (Ok x) >>= f = f x
 (Err e) >>= f = Err e
 
@@ -55,7 +62,7 @@ start_of line =
     else if starts_with nat_eq line (front Two) then start_heading Two (number_of (drop (length (front Two)) line))
     else Err Header
 
--- the first line: its version and its start, behind it the records
+-- the first line: its version and its start, after it the records
 abbrev pub header_at : Ahead → Result ((Version × ℕ) × Ahead) CaptureFaultKind
 header_at a = do
   line ← named header_kind_of (line_at a)
@@ -99,14 +106,14 @@ IsHeadingOf v (headings.End line) = Unit {0}
 IsHeadingOf v (headings.Tier line) = has_tiers v ≡ true
 IsHeadingOf v (headings.Stop count) = Unit {0}
 
--- the connection that a record behind this past may name
+-- the connection that a record after this past may name
 abbrev pub open_connection : Version → Past → ℕ → Result ℕ CaptureFaultKind
 open_connection v past conn =
     if nat_lt (last_connection v) conn then Err Connection
     else if past.ended conn then Err Ended
     else Ok conn
 
--- the connection of a piece or an end, whose tick and connection may stand behind this past
+-- the connection of a piece or an end, whose tick and connection may stand after this past
 abbrev pub allowed : Version → Past → ℕ → ℕ → Result ℕ CaptureFaultKind
 allowed v past tick conn =
     if nat_lt latest_tick tick || nat_lt tick past.tick then Err Tick
@@ -138,7 +145,7 @@ tier_record v past line = do
 abbrev pub close_at : Ahead → Result (Unit {0} × Ahead) CaptureFaultKind
 close_at a = if length a.bytes == 0 then Ok (tt, a) else Err Trailing
 
--- what a heading announces: a record, or the end of the capture (None), behind which the input ends
+-- what a heading announces: a record, or the end of the capture (None), after which the input ends
 abbrev pub announced : Version → Past → Heading → Ahead → Result (Option Record × Ahead) CaptureFaultKind
 announced v past (headings.Piece line) a = do
   piece ← piece_at v past line a
@@ -155,7 +162,7 @@ announced v past (headings.Stop count) a =
       Ok (None, end.1))
     else Err Count
 
--- the record behind this past, or None where the capture ends
+-- the record after this past, or None where the capture ends
 abbrev pub record_at : Version → Past → Ahead → Result (Option Record × Ahead) CaptureFaultKind
 record_at v past a = do
   line ← named kind_of (line_at a)
@@ -168,19 +175,21 @@ is_unforeseen_kind Read = true
 is_unforeseen_kind Memory = true
 is_unforeseen_kind _ = false
 
--- Nothing whole was read: the text is cut, or it ends behind the last line.
+-- Nothing whole was read: the text is cut, or it ends after the last line.
 abbrev pub IsUnfinished : Result (Option Record × Ahead) CaptureFaultKind → Type 0
 IsUnfinished r = (r ≡ Err Cut) ⊎ ((left : ℕ) × (r ≡ Ok (None, record { bytes = []; left = left })))
 
--- The fault of the record behind these, whose texts stand whole in front of it. (The last line is a record here too.)
-pub record FaultsBehind (v : Version) (text : List ℕ) (start : ℕ) (records : List Record) (f : CaptureFault) (rest : List ℕ) : Type 0 where
+-- The fault of the record after these, whose texts stand whole in front of it. (The last line is a record here too.)
+pub record FaultsBehind (v : Version) (text : List ℕ) (start : ℕ) (records : List Record) (f : CaptureFault)
+  (rest : List ℕ) : Type 0 where
   pub whole : text ≡ text_before_stop v start records ++ rest
   pub rules : IsCapture v start records
   pub size : length (text_before_stop v start records) ≤ longest_text
   pub at : f.at ≡ length records + 1
-  pub kind : record_at v (past_of records) (record { bytes = rest; left = longest_text - length (text_before_stop v start records) }) ≡ Err f.kind
+  pub kind : record_at v (past_of records)
+    (record { bytes = rest; left = longest_text - length (text_before_stop v start records) }) ≡ Err f.kind
 
--- The first fault of bytes that are no capture text: that of the first line, which is record 0, or of the record behind
+-- The first fault of bytes that are no capture text: that of the first line, which is record 0, or of the record after
 -- those that stand whole, by the rules of the version that the first line gave.
 abbrev pub IsHeaderFault : List ℕ → CaptureFault → Type 0
 IsHeaderFault text f = (f.at ≡ 0) × (header_at (record { bytes = text; left = longest_text }) ≡ Err f.kind)

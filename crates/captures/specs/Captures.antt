@@ -1,12 +1,14 @@
 -- The text of a capture, in either version of the format.
-use Rattle.std.specs.Prelude.{◌≡◌, ℕ, ◌-◌, ◌<◌, ◌≤◌, ◌==◌, Bool, true, false, List, [], ◌∷◌, ◌++◌, length, All, codes, decimal, slice_index, flat_map, sum_by, if◌then◌else◌}
+use Rattle.std.specs.Prelude.{◌≡◌, ℕ, ◌-◌, ◌<◌, ◌≤◌, ◌==◌, Bool, true, false, List, [], ◌∷◌, ◌++◌, length, All, codes}
+use Rattle.std.specs.Prelude.{decimal, slice_index, flat_map, sum_by, if◌then◌else◌}
 use Rattle.std.specs.List.{list_any, AllPairs}
 use Rattle.captures.specs.declared.version.Version.{Version}
 use Rattle.captures.specs.declared.version.Version.TheVariants.{One, Two}
 use Rattle.captures.specs.declared.record.Record.{Record}
 use Rattle.captures.specs.declared.record.Record.TheVariants.{Piece, End, Tier}
 
--- What a version sets: the first line up to the start, the greatest number of a connection, and whether there are tiers.
+-- What a version sets: the first line up to the start, the greatest number of a connection, and whether there are
+-- tiers.
 abbrev pub front : Version → List ℕ
 front One = codes "haboob-capture 1 "
 front Two = codes "haboob-capture 2 "
@@ -120,8 +122,8 @@ LetsFollow r (Piece tick conn bytes) = Unit {0}
 LetsFollow r (End tick conn) = Unit {0}
 LetsFollow r (Tier conn tier) = is_use_of conn r ≡ false
 
--- The rules of a capture: ticks don't fall, nothing of a connection comes after its end, and its tier comes first. (An end
--- may come without a piece.)
+-- The rules of a capture: ticks don't fall, nothing of a connection comes after its end, and its tier comes first. (An
+-- end may come without a piece.)
 pub record IsCapture (v : Version) (start : ℕ) (records : List Record) : Type 0 where
   pub in_time : start ≤ latest_start
   pub each : All (IsRecord v) records
@@ -135,8 +137,8 @@ pub record IsCaptureText (v : Version) (bytes : List ℕ) (start : ℕ) (records
   pub rules : IsCapture v start records
   pub size : length bytes ≤ longest_text
 
--- What the rules ask of the records so far when one more comes: how many they are, the last tick (0 where none gave one),
--- which connections have ended, and which had a piece or a tier.
+-- What the rules ask of the records so far when one more comes: how many they are, the last tick (0 where none gave
+-- one), which connections have ended, and which had a piece or a tier.
 pub record Past : Type 0 where
   pub count : ℕ
   pub tick : ℕ
@@ -151,7 +153,7 @@ past_of records = record {
   used = λ c. list_any (is_use_of c) records;
 }
 
--- a record that may stand behind this past
+-- a record that may stand after this past
 abbrev pub Follows : Version → Past → Record → Type 0
 Follows v past (Piece tick conn bytes) =
     (past.tick ≤ tick) × (past.ended conn ≡ false) × IsRecord v (Piece tick conn bytes)

@@ -1,5 +1,7 @@
 -- A reader of a capture, which gives record after record.
-use Rattle.std.specs.Prelude.{◌≡◌, ℕ, ◌+◌, ◌-◌, ◌≤◌, ◌/◌, ◌%◌, Bool, true, ◌||◌, ◌==◌, List, [], ◌∷◌, ◌++◌, length, Option, Some, None, Result, Ok, Err, MatchResult, IfErr, slice_index_or, is_some, unwrap_or}
+use Rattle.std.specs.Prelude.{◌≡◌, ℕ, ◌+◌, ◌-◌, ◌≤◌, ◌/◌, ◌%◌, Bool, true, ◌||◌, ◌==◌, List, [], ◌∷◌, ◌++◌, length}
+use Rattle.std.specs.Prelude.{Option, Some, None, Result, Ok, Err, MatchResult, IfErr, slice_index_or, is_some}
+use Rattle.std.specs.Prelude.{unwrap_or}
 use Rattle.std.specs.Int.{bit_at}
 use Rattle.captures.specs.Captures.{Past, past_of, longest_text, text_before_stop, IsCapture, IsCaptureText, sizes_of}
 use Rattle.captures.specs.CaptureFaults.{IsFaultBehind, IsForeseen, IsUnfinished, record_at, failures_of}
@@ -23,7 +25,7 @@ is_in set c = bit_at (slice_index_or set.words (c / 64) 0) (c % 64) == 1
 abbrev pub seen : SoFar → Past
 seen s = record { count = s.count; tick = s.tick; ended = is_in s.ended; used = is_in s.used }
 
--- the past behind one more record
+-- the past after one more record
 abbrev pub after : Past → Record → Past
 after past (Piece tick conn bytes) =
     record { count = past.count + 1; tick = tick; ended = past.ended; used = λ c. past.used c || conn == c }
@@ -34,7 +36,8 @@ after past (Tier conn tier) =
 
 -- A reader has given these records of a text, and no others: they keep the rules, and where the bytes of the input are
 -- known, the first line and the texts of the records were taken from their front, and the rest is ahead.
-pub record Fits (v : Version) (text : Option (List ℕ)) (start : ℕ) (records : List Record) (p : Progress) (now : Option (List ℕ)) : Type 0 where
+pub record Fits (v : Version) (text : Option (List ℕ)) (start : ℕ) (records : List Record) (p : Progress)
+  (now : Option (List ℕ)) : Type 0 where
   pub stage : p.stage ≡ Reading
   pub version : p.version ≡ v
   pub begun : p.start ≡ start
@@ -45,12 +48,14 @@ pub record Fits (v : Version) (text : Option (List ℕ)) (start : ℕ) (records 
   pub left : is_some text ≡ true → longest_text ≡ length (text_before_stop v start records) + p.left
   pub known : is_some text ≡ true → is_some now ≡ true
 
--- What the next call on such a reader answers: one more record; `None` only where the text is the capture of these records;
--- or a fault of the record behind these, which is the text's (unless a read failed, or memory ran out).
-abbrev pub Gave : Version → Option (List ℕ) → ℕ → List Record → Result (Option Record) CaptureFault → Progress → Option (List ℕ) → Type 0
+-- What the next call on such a reader answers: one more record; `None` only where the text is the capture of these
+-- records; or a fault of the record after these, which is the text's (unless a read failed, or memory ran out).
+abbrev pub Gave : Version → Option (List ℕ) → ℕ → List Record → Result (Option Record) CaptureFault → Progress
+  → Option (List ℕ) → Type 0
 Gave v text start records (Ok (Some r)) p now = Fits v text start (records ++ r ∷ []) p now
 Gave v text start records (Ok None) p now = is_some text ≡ true → IsCaptureText v (unwrap_or text []) start records
-Gave v text start records (Err f) p now = (f.at ≡ length records + 1) × IsForeseen (λ bytes. IsFaultBehind v bytes start records) text f
+Gave v text start records (Err f) p now = (f.at ≡ length records + 1)
+  × IsForeseen (λ bytes. IsFaultBehind v bytes start records) text f
 
 -- how far a reader has come by this answer
 abbrev pub stage_after : Result (Option Record) CaptureFault → Stage
@@ -58,7 +63,7 @@ stage_after (Ok (Some r)) = Reading
 stage_after (Ok None) = Ended
 stage_after (Err f) = Failed f
 
--- behind the end, and from a fault on, the answer is repeated, and nothing changes
+-- after the end, and from a fault on, the answer is repeated, and nothing changes
 abbrev pub Repeats : Stage → Result (Option Record) CaptureFault → Type 0 → Type 0
 Repeats Reading r Unchanged = Unit {0}
 Repeats Ended r Unchanged = (r ≡ Ok None) × Unchanged
@@ -75,23 +80,30 @@ abbrev pub CountsNext : Stage → ℕ → ℕ → Result (Option Record) Capture
 CountsNext stage old new r = MatchResult r (λ _. new ≡ old) (λ f. new ≡ old + failures_next stage f.kind)
 
 -- the same of a reader that names the kind of a fault alone
-abbrev pub GaveKind : Version → Option (List ℕ) → ℕ → List Record → Result (Option Record) CaptureFaultKind → Progress → Option (List ℕ) → Type 0
+abbrev pub GaveKind : Version → Option (List ℕ) → ℕ → List Record → Result (Option Record) CaptureFaultKind → Progress
+  → Option (List ℕ) → Type 0
 GaveKind v text start records (Ok next) p now = Gave v text start records (Ok next) p now
-GaveKind v text start records (Err kind) p now = Gave v text start records (Err (record { at = length records + 1; kind = kind })) p now
+GaveKind v text start records (Err kind) p now = Gave v text start records
+  (Err (record { at = length records + 1; kind = kind })) p now
 
--- A read failed in the record behind these: their texts were taken whole, and of what follows only a part, in which no whole
--- record lies.
-pub record FailsInRecord (v : Version) (text : List ℕ) (start : ℕ) (records : List Record) (part rest : List ℕ) : Type 0 where
+-- A read failed in the record after these: their texts were taken whole, and of what follows only a part, in which no
+-- whole record lies.
+pub record FailsInRecord (v : Version) (text : List ℕ) (start : ℕ) (records : List Record)
+  (part rest : List ℕ) : Type 0 where
   pub taken : text ≡ (text_before_stop v start records ++ part) ++ rest
   pub size : length (text_before_stop v start records) + length part ≤ longest_text
-  pub unfinished : IsUnfinished (record_at v (past_of records) (record { bytes = part; left = longest_text - length (text_before_stop v start records) }))
+  pub unfinished : IsUnfinished
+    (record_at v (past_of records)
+    (record { bytes = part; left = longest_text - length (text_before_stop v start records) }))
 
 -- so it is where a reader that has given these records answers a failed read, and the bytes of the input are known
-abbrev pub FailsNext : Version → Option (List ℕ) → ℕ → List Record → Result (Option Record) CaptureFault → Option (List ℕ) → Type 0
+abbrev pub FailsNext : Version → Option (List ℕ) → ℕ → List Record → Result (Option Record) CaptureFault
+  → Option (List ℕ) → Type 0
 FailsNext v text start records r now = IfErr r (λ f. f.kind ≡ Read → is_some text ≡ true
     → (part : List ℕ) × FailsInRecord v (unwrap_or text []) start records part (unwrap_or now []))
 
 -- the same of a reader that names the kind of a fault alone
-abbrev pub FailsNextKind : Version → Option (List ℕ) → ℕ → List Record → Result (Option Record) CaptureFaultKind → Option (List ℕ) → Type 0
+abbrev pub FailsNextKind : Version → Option (List ℕ) → ℕ → List Record → Result (Option Record) CaptureFaultKind
+  → Option (List ℕ) → Type 0
 FailsNextKind v text start records r now = IfErr r (λ kind. kind ≡ Read → is_some text ≡ true
     → (part : List ℕ) × FailsInRecord v (unwrap_or text []) start records part (unwrap_or now []))

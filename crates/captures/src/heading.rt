@@ -1,5 +1,5 @@
-/// The line in front of a piece: its tick, its connection, and how many bytes follow. A number past 64 bits stands as the
-/// greatest of 64 bits, which is past every limit.
+/// The line in front of a piece: its tick, its connection, and how many bytes follow. A number past 64 bits stands as
+/// the greatest of 64 bits, which is past every limit.
 #[derive(Clone, Copy, Debug)]
 pub struct PieceLine {
     pub tick: u64,
@@ -21,8 +21,8 @@ pub struct TierLine {
     pub tier: u64,
 }
 
-/// What a line of a capture announces: a piece, the end of a connection, its tier, or the end of the capture after so many
-/// records.
+/// What a line of a capture announces: a piece, the end of a connection, its tier, or the end of the capture after so
+/// many records.
 #[derive(Clone, Copy, Debug)]
 pub enum Heading {
     Piece(PieceLine),

@@ -1,7 +1,9 @@
-ghost use Rattle.std.specs.Prelude.{◌≡◌, ◌+◌, ◌<◌, ◌≤◌, ◌-◌, ◌^◌, [], ℕ, List, Option, IfNone, IfOk, IfErr, IfSome, ◌≢◌};
+ghost use Rattle.std.specs.Prelude.{◌≡◌, ◌+◌, ◌<◌, ◌≤◌, ◌-◌, ◌^◌, [], ℕ, List, Option, IfNone, IfOk, IfErr, IfSome};
+ghost use Rattle.std.specs.Prelude.{◌≢◌};
 ghost use Rattle.captures.specs.Captures.{IsRecord, size_of};
 ghost use Rattle.captures.specs.CaptureFaults.{IsForeseen, IsHeaderFault, IsFaultBehind, CountsFault, CountsKind};
-ghost use Rattle.captures.specs.Readers.{Fits, Gave, GaveKind, FailsNext, FailsNextKind, stage_after, Repeats, CountsNext};
+ghost use Rattle.captures.specs.Readers.{Fits, Gave, GaveKind, FailsNext, FailsNextKind, stage_after, Repeats};
+ghost use Rattle.captures.specs.Readers.{CountsNext};
 ghost use Rattle.captures.specs.declared.record.Record.{Record as ARecord};
 ghost use Rattle.captures.specs.declared.version.Version.{Version as AVersion};
 
@@ -24,14 +26,14 @@ pub struct Progress {
     pub start: u64,
     /// How many bytes the text may still take.
     pub left: usize,
-    /// How many bytes further records may bring, with one for each record. `left` is the sharper bound, but it is known to
-    /// fall only where the bytes of the device are known; this one falls with each record of any device.
+    /// How many bytes further records may bring, with one for each record. `left` is the sharper bound, but it is known
+    /// to fall only where the bytes of the device are known; this one falls with each record of any device.
     pub room: usize,
     pub so_far: SoFar,
     pub stage: Stage,
 }
 
-/// How many bytes records may bring behind this one, where it may come.
+/// How many bytes records may bring after this one, where it may come.
 fn room_behind(room: usize, next: &Record) -> Option<usize>
     ensures some { IfSome result (λ behind. size_of next.now + 1 + behind ≡ room) }
     ensures none { IfNone result (room ≤ size_of next.now) }
@@ -79,7 +81,7 @@ impl Progress {
         ensures next { (version : AVersion) (text : Option (List ℕ)) (start : ℕ) (records : List ARecord)
             → Fits version text start records self.old input.old.0
             → GaveKind version text start records result self.new input.new.0 }
-        // Where a read failed, no whole record behind these had been taken.
+        // Where a read failed, no whole record after these had been taken.
         ensures failed { (version : AVersion) (text : Option (List ℕ)) (start : ℕ) (records : List ARecord)
             → Fits version text start records self.old input.old.0
             → FailsNextKind version text start records result input.new.0 }
@@ -115,7 +117,7 @@ impl Progress {
         ensures next { (version : AVersion) (text : Option (List ℕ)) (start : ℕ) (records : List ARecord)
             → Fits version text start records self.old input.old.0
             → Gave version text start records result self.new input.new.0 }
-        // Where a read failed, no whole record behind these had been taken.
+        // Where a read failed, no whole record after these had been taken.
         ensures failed { (version : AVersion) (text : Option (List ℕ)) (start : ℕ) (records : List ARecord)
             → Fits version text start records self.old input.old.0
             → FailsNext version text start records result input.new.0 }

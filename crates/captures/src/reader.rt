@@ -24,14 +24,17 @@ impl<'a, R: Read> CaptureReader<'a, R> {
     /// Reads the first line.
     pub fn open(input: &'a mut Input<R>) -> Result<CaptureReader<'a, R>, CaptureFault>
         requires { input.old.1 < 2 ^ 64 - 1 }
-        ensures ok { IfOk result (λ reader. Fits reader.progress.version input.old.0 reader.progress.start [] reader.progress reader.input.now.0) }
+        ensures ok { IfOk result (λ reader.
+            Fits reader.progress.version input.old.0 reader.progress.start [] reader.progress reader.input.now.0) }
         ensures at { IfErr result (λ f. f.at ≡ 0) }
         // It takes no memory.
         ensures memory { IfErr result (λ f. f.kind ≢ CaptureFaultKind.Memory) }
         ensures fault { IfErr result (IsForeseen IsHeaderFault input.old.0) }
         ensures count { IfOk result (λ reader. reader.input.now.1 ≡ input.old.1) }
         ensures same { IfOk result (λ reader. reader.input.ghost_name ≡ input.entry.ghost_name) }
-        ensures* refused { sem 𝓛 (RestsIfErr (the_row R.row R.Read) input.entry (λ reader. reader.input.ghost_name) result (λ last. CountsFault input.old.1 last.1 result)) }
+        ensures* refused { sem 𝓛
+            (RestsIfErr (the_row R.row R.Read) input.entry (λ reader. reader.input.ghost_name) result
+            (λ last. CountsFault input.old.1 last.1 result)) }
     {
         let progress = Progress::open(input)?;
         Ok(CaptureReader { input, progress })
@@ -58,17 +61,19 @@ impl<'a, R: Read> CaptureReader<'a, R> {
         ensures next { (version : AVersion) (text : Option (List ℕ)) (start : ℕ) (records : List ARecord)
             → Fits version text start records self.old.progress self.old.input.now.0
             → Gave version text start records result self.new.progress self.new.input.now.0 }
-        // Where a read failed, no whole record behind these had been taken.
+        // Where a read failed, no whole record after these had been taken.
         ensures failed { (version : AVersion) (text : Option (List ℕ)) (start : ℕ) (records : List ARecord)
             → Fits version text start records self.old.progress self.old.input.now.0
             → FailsNext version text start records result self.new.input.now.0 }
-        ensures room { IfOk result (λ next. IfSome next (λ r. size_of r + 1 + self.new.progress.room ≡ self.old.progress.room)) }
+        ensures room { IfOk result
+            (λ next. IfSome next (λ r. size_of r + 1 + self.new.progress.room ≡ self.old.progress.room)) }
         // Whatever the bytes of the device are.
         ensures limits { IfOk result (λ next. IfSome next (IsRecord self.old.progress.version)) }
         ensures version { self.new.progress.version ≡ self.old.progress.version }
         ensures start { self.new.progress.start ≡ self.old.progress.start }
         ensures stage { self.new.progress.stage ≡ stage_after result }
-        ensures again { Repeats self.old.progress.stage result ((self.new.progress ≡ self.old.progress) × (self.new.input.now ≡ self.old.input.now)) }
+        ensures again { Repeats self.old.progress.stage result
+            ((self.new.progress ≡ self.old.progress) × (self.new.input.now ≡ self.old.input.now)) }
         ensures count { CountsNext self.old.progress.stage self.old.input.now.1 self.new.input.now.1 result }
         ensures same { self.new.input.ghost_name ≡ self.old.input.ghost_name }
     {

@@ -2,7 +2,8 @@ ghost use Rattle.std.specs.Prelude.{◌≡◌, ◌<◌, ◌≤◌, ◌-◌, ◌^
 ghost use Rattle.paths.specs.Texts.{Gives};
 ghost use Rattle.paths.specs.Parts.{FailsAtOnce, FailsBehind, FailsWithin};
 ghost use Rattle.captures.specs.Captures.{Follows};
-ghost use Rattle.captures.specs.CaptureFaults.{CountsKind, IsUnfinished, IsHeadingOf, is_unforeseen_kind, header_at, body_at, piece_at, close_at, announced, record_at};
+ghost use Rattle.captures.specs.CaptureFaults.{CountsKind, IsUnfinished, IsHeadingOf, is_unforeseen_kind, header_at};
+ghost use Rattle.captures.specs.CaptureFaults.{body_at, piece_at, close_at, announced, record_at};
 ghost use Rattle.captures.specs.Readers.{seen};
 
 use crate::heading::{Heading, PieceLine};
@@ -68,7 +69,8 @@ fn read_piece<R: Read>(
     line: PieceLine,
 ) -> Result<Record, CaptureFaultKind>
     requires { input.old.1 < 2 ^ 64 - 1 }
-    ensures piece { Gives is_unforeseen_kind (piece_at version (seen so_far.now) line) input.old.0 left.old input.new.0 left.new result }
+    ensures piece { Gives is_unforeseen_kind
+        (piece_at version (seen so_far.now) line) input.old.0 left.old input.new.0 left.new result }
     // Where a read failed, no whole piece had been taken.
     ensures part { FailsWithin CaptureFaultKind.Read CaptureFaultKind.Cut (piece_at version (seen so_far.now) line)
         input.old.0 left.old input.new.0 left.new result }
@@ -115,7 +117,8 @@ fn read_announced<R: Read>(
 ) -> Result<Option<Record>, CaptureFaultKind>
     requires failures { input.old.1 < 2 ^ 64 - 1 }
     requires version { IsHeadingOf version heading }
-    ensures record { Gives is_unforeseen_kind (announced version (seen so_far.now) heading) input.old.0 left.old input.new.0 left.new result }
+    ensures record { Gives is_unforeseen_kind
+        (announced version (seen so_far.now) heading) input.old.0 left.old input.new.0 left.new result }
     // Where a read failed, no whole record had been taken.
     ensures part { FailsBehind CaptureFaultKind.Read
         (λ part. IsUnfinished (announced version (seen so_far.now) heading (record { bytes = part; left = left.old })))
@@ -151,7 +154,7 @@ fn read_announced<R: Read>(
     }
 }
 
-/// Reads the record behind those so far, or `None` where the capture ends.
+/// Reads the record after those so far, or `None` where the capture ends.
 pub(crate) fn read_record<R: Read>(
     alloc: Global,
     input: &mut Input<R>,
@@ -160,7 +163,8 @@ pub(crate) fn read_record<R: Read>(
     so_far: &SoFar,
 ) -> Result<Option<Record>, CaptureFaultKind>
     requires { input.old.1 < 2 ^ 64 - 1 }
-    ensures record { Gives is_unforeseen_kind (record_at version (seen so_far.now)) input.old.0 left.old input.new.0 left.new result }
+    ensures record { Gives is_unforeseen_kind
+        (record_at version (seen so_far.now)) input.old.0 left.old input.new.0 left.new result }
     // Where a read failed, no whole record had been taken.
     ensures part { FailsBehind CaptureFaultKind.Read
         (λ part. IsUnfinished (record_at version (seen so_far.now) (record { bytes = part; left = left.old })))

@@ -5,7 +5,7 @@ use crate::CaptureFault;
 pub enum Stage {
     /// A record or the last line is next.
     Reading,
-    /// The last line was read, and the input ended behind it.
+    /// The last line was read, and the input ended after it.
     Ended,
     /// A fault was met: it stays.
     Failed(CaptureFault),

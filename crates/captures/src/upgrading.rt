@@ -13,9 +13,9 @@ use std::io::{Read, Write};
 ///
 /// # Errors
 ///
-/// `Capture` with the capture's first fault, or where its reader failed: the first line and the whole records before the
-/// fault stand then, or nothing where the fault is in the first line. `Write` where the writer failed, and `Memory`: a
-/// prefix stands.
+/// `Capture` with the capture's first fault, or where its reader failed: the first line and the whole records before
+/// the fault stand then, or nothing where the fault is in the first line. `Write` where the writer failed, and
+/// `Memory`: a prefix stands.
 pub fn upgrade<R: Read, W: Write>(
     alloc: Global,
     reader: &mut Input<R>,

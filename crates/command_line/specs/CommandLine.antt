@@ -1,7 +1,9 @@
 -- What the words of the command line ask for.
 use Rattle.std.specs.Option.{option_map_or}
-use Rattle.std.specs.Prelude.{◌≡◌, ◌≢◌, Bool, true, false, List, [], ◌∷◌, Option, Some, None, option_map, option_and_then, unwrap_or, codes, bytes_eq, if◌then◌else◌}
-use Rattle.clap.specs.Words.{App, Row, Rule, Text, fault_of, first_of, new_app, new_rule, subcommand_of, takes, with_rule, with_subcommand}
+use Rattle.std.specs.Prelude.{◌≡◌, ◌≢◌, Bool, true, false, List, [], ◌∷◌, Option, Some, None, option_map}
+use Rattle.std.specs.Prelude.{option_and_then, unwrap_or, codes, bytes_eq, if◌then◌else◌}
+use Rattle.clap.specs.Words.{App, Row, Rule, Text, fault_of, first_of, new_app, new_rule, subcommand_of, takes}
+use Rattle.clap.specs.Words.{with_rule, with_subcommand}
 use Rattle.clap.specs.declared.error.ErrorKind.{ErrorKind}
 use Rattle.clap.specs.declared.error.ErrorKind.TheVariants.{OutOfMemory}
 use Rattle.command_line.specs.declared.words.Engine.{Engine}
@@ -35,7 +37,7 @@ upgrade_command =
     (required_of (codes "capture")))
     (required_of (codes "output"))
 
--- the program, which wants a subcommand, `replay` or `upgrade`; the words are those behind its name
+-- the program, which wants a subcommand, `replay` or `upgrade`; the words are those after its name
 abbrev pub program_of : App → App
 program_of a = record a { top = record a.top { no_binary_name = true; subcommand_required = true } }
 

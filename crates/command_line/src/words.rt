@@ -9,7 +9,7 @@ use clap::{Arg, ArgMatches, Command, Error};
 use std::alloc::{AllocError, Global};
 use std::convert::AsStr;
 
-/// What help says behind the commands.
+/// What help says after the commands.
 const PROGRAM_NOTES: &str =
     "Without a command, a snapshot directly followed by a capture is read from standard
 input, and the replies are written to standard output, with default settings.
@@ -18,12 +18,12 @@ Examples:
   haboob replay --snapshot site.snapshot --capture day.capture --replies day.replies
   haboob upgrade --capture old.capture --output new.capture";
 
-/// What help says behind the options of `replay`.
+/// What help says after the options of `replay`.
 const REPLAY_NOTES: &str = "Example:
   haboob replay --snapshot site.snapshot --capture day.capture --replies day.replies \\
     --settings tight.toml";
 
-/// What help says behind the options of `upgrade`.
+/// What help says after the options of `upgrade`.
 const UPGRADE_NOTES: &str =
     "A capture of version 1 is written as one of version 2, with the same start and the same
 records. A capture of version 2 is written as it is.
@@ -85,8 +85,8 @@ impl From<AllocError> for WordFault {
     }
 }
 
-/// What the words behind the program's name ask for: without words `Bundle`, else a replay or an upgrade of the files that
-/// they name. The file names are taken as they are.
+/// What the words after the program's name ask for: without words `Bundle`, else a replay or an upgrade of the files
+/// that they name. The file names are taken as they are.
 ///
 /// # Errors
 ///
@@ -143,7 +143,8 @@ fn is_upgrade(matches: &ArgMatches) -> bool
 
 /// The value of an option of the subcommand.
 fn value<'a>(matches: &ArgMatches<'a>, option: &str) -> Option<&'a str>
-    ensures { option_map (λ s. s.now) result ≡ option_and_then (λ p. first_of option.now p.1) (subcommand_rows_of matches.now) }
+    ensures { option_map (λ s. s.now) result
+        ≡ option_and_then (λ p. first_of option.now p.1) (subcommand_rows_of matches.now) }
 {
     match matches.subcommand() {
         Some((_, of_subcommand)) => of_subcommand.get_str(option),
@@ -176,7 +177,7 @@ fn refusal(alloc: Global, error: &Error) -> WordFault
     }
 }
 
-/// The command `haboob`, whose words are those behind its name.
+/// The command `haboob`, whose words are those after its name.
 fn command_line<'a>(alloc: Global) -> Result<Command<'a>, AllocError>
     ensures { IfOk result (λ command. app_of command ≡ command_line) }
 {

@@ -1,8 +1,11 @@
 -- How long the virtual server works on a request, in ticks of one microsecond.
 use Rattle.std.specs.Prelude.{ℕ, ◌+◌, ◌*◌, ◌/◌, ◌||◌, ◌&&◌, Bool, nat_le, if◌then◌else◌}
-use Rattle.cost_model.specs.declared.TheConstants.{MAX_COST}
 use Rattle.paths.specs.declared.outcome.Outcome.{Outcome}
 use Rattle.paths.specs.declared.outcome.Outcome.TheVariants.{File}
+
+-- the greatest of the three costs; the code has a constant of this name
+abbrev pub MAX_COST : ℕ
+MAX_COST = 1000000
 
 -- what a file costs, what each 1,024 bytes of it that are given cost besides, and what every other answer costs
 pub record CostTable : Type 0 where
@@ -20,7 +23,8 @@ is_in_range costs =
 abbrev pub bytes_cost : CostTable → ℕ → ℕ
 bytes_cost costs len = (len * costs.kib + 1023) / 1024
 
--- A file whose bytes are given costs its length besides; the answer to a HEAD of it, and that it was not modified, do not.
+-- A file whose bytes are given costs its length besides; the answer to a HEAD of it, and that it was not modified, do
+-- not.
 abbrev pub service : CostTable → Outcome → Bool → Bool → ℕ → ℕ
 service costs (File file) head unmodified len =
     if head || unmodified then costs.file

@@ -35,14 +35,16 @@ impl Model for Costs {
 }
 
 impl Costs {
-    /// The costs of a file (1 to 1,000,000 ticks), of each 1,024 bytes of it that are given (0 to 1,000,000), and of every
-    /// other answer (1 to 1,000,000).
+    /// The costs of a file (1 to 1,000,000 ticks), of each 1,024 bytes of it that are given (0 to 1,000,000), and of
+    /// every other answer (1 to 1,000,000).
     ///
     /// # Errors
     ///
     /// `Range` where a cost is outside its range.
     pub fn new(file: u64, kib: u64, error: u64) -> Result<Costs, CostFault>
-        ensures ok { IfOk result (λ costs. (is_in_range (record { file = file; kib = kib; error = error }) ≡ true) × (costs ≡ record { file = file; kib = kib; error = error })) }
+        ensures ok { IfOk result
+            (λ costs. (is_in_range (record { file = file; kib = kib; error = error }) ≡ true)
+            × (costs ≡ record { file = file; kib = kib; error = error })) }
         ensures fault { IfErr result (λ _. is_in_range (record { file = file; kib = kib; error = error }) ≡ false) }
     {
         if (1..=MAX_COST).contains(&file) && kib <= MAX_COST && (1..=MAX_COST).contains(&error) {

@@ -1,5 +1,5 @@
-//! How long the virtual server works on a request. Nothing is measured: a service time is a function of what the request
-//! is answered with, so that response times and rejections are functions of the capture.
+//! How long the virtual server works on a request. Nothing is measured: a service time is a function of what the
+//! request is answered with, so that response times and rejections are functions of the capture.
 #![tactic(auto)]
 
 mod costs;

@@ -7,7 +7,7 @@ use Rattle.http_requests.specs.Framing.{ends_at, EndsAt, NoBlock, IsBlock}
 use Rattle.http_requests.specs.Scanning.{NoEndIn}
 use Rattle.http_requests.proofs.FrontLemmas.{ends_within}
 
--- an end stands behind a line feed
+-- an end stands after a line feed
 end_lf : (s : List ℕ) (e : ℕ) → EndsAt s e → (slice_index s (e - 1) == 10) ≡ true
 unfolding ends_at
 end_lf s e h = grind arith
@@ -15,7 +15,7 @@ end_lf s e h = grind arith
 slice_read : (s : List ℕ) (from to k : ℕ) → from + k < to → to ≤ length s → slice_index (take (to - from) (drop from s)) k ≡ slice_index s (from + k)
 slice_read s from to k h w = grind (arith, common_steps)
 
--- no end stands behind bytes among which no line feed is
+-- no end stands after bytes among which no line feed is
 pub no_lf_more : (s : List ℕ) (from to n : ℕ) → from + n ≤ to → to ≤ length s → NoEndIn from s → Nowhere (Passes (is_byte 10) (take (to - from) (drop from s))) 0 n → NoEndIn (from + n) s
 no_lf_more s from to n a b before nowhere e le ends =
     elim (cases_lt from e) [

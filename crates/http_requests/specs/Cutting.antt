@@ -53,7 +53,7 @@ pub record IsSound (c : Progress) : Type 0 where
 abbrev pub HasFailed : Progress → Type 0
 HasFailed c = c.stage ≡ Failed
 
--- the messages end one after another, behind the place `from` and by the place `to`
+-- the messages end one after another, after the place `from` and by the place `to`
 abbrev pub EndBetween : ℕ → ℕ → List Message → Type 0
 EndBetween from to [] = Unit {0}
 EndBetween from to (m ∷ ms) = (from < m.end) × (m.end ≤ to) × EndBetween m.end to ms

@@ -1,7 +1,8 @@
 -- Where a block ends, told by the bytes before that place.
 use Rattle.std.specs.Prelude.{◌≡◌, ℕ, ◌+◌, ◌≤◌, ◌⊎◌, List, ◌++◌, length, codes}
 
--- the line feed of a block's last line, and the empty line behind it, which ends with LF or CR LF (RFC 9112, 2.1 and 2.2)
+-- the line feed of a block's last line, and the empty line behind it, which ends with LF or CR LF (RFC 9112, 2.1 and
+-- 2.2)
 abbrev pub IsBlockEnd : List ℕ → Type 0
 IsBlockEnd end = (end ≡ codes "\n\n") ⊎ (end ≡ codes "\n\r\n")
 

@@ -1,5 +1,6 @@
 -- The messages of a whole text (RFC 9112, sections 2 and 6).
-use Rattle.std.specs.Prelude.{◌≡◌, ℕ, suc, ◌+◌, ◌-◌, ◌<◌, ◌≤◌, ◌⊎◌, Bool, true, ◌&&◌, ◌||◌, if◌then◌else◌, ◌==◌, IsTrue, nat_le, false, List, [], ◌∷◌, length, take, drop, slice_index, MatchBool}
+use Rattle.std.specs.Prelude.{◌≡◌, ℕ, suc, ◌+◌, ◌-◌, ◌<◌, ◌≤◌, ◌⊎◌, Bool, true, ◌&&◌, ◌||◌, if◌then◌else◌, ◌==◌, IsTrue}
+use Rattle.std.specs.Prelude.{nat_le, false, List, [], ◌∷◌, length, take, drop, slice_index, MatchBool}
 use Rattle.http_requests.specs.declared.messages.Fault.TheVariants.{TooLong}
 use Rattle.http_requests.specs.declared.messages.What.{What}
 use Rattle.http_requests.specs.declared.messages.What.TheVariants.{Request, Bad}
@@ -12,7 +13,7 @@ abbrev pub begins_lf : List ℕ → Bool
 begins_lf [] = false
 begins_lf (b ∷ bytes) = b == 10
 
--- the byte belongs to an empty line: it is LF, or CR with LF behind it
+-- the byte belongs to an empty line: it is LF, or CR with LF after it
 abbrev pub is_blank : ℕ → List ℕ → Bool
 is_blank b bytes = b == 10 || (b == 13 && begins_lf bytes)
 

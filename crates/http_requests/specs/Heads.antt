@@ -1,6 +1,7 @@
 -- What the head of a request says (RFC 9110 and RFC 9112): its first fault, or the request that it
 -- is. A head is a value of the grammar of `httparse`, with the fields' names and values.
-use Rattle.std.specs.Prelude.{◌≡◌, ℕ, ◌≤◌, ◌⊎◌, Bool, true, false, not, ◌&&◌, ◌||◌, ◌==◌, nat_lt, if◌then◌else◌, List, [], ◌∷◌, map, length, Option, Some, None, MatchOption, MatchBool, codes, bytes_eq}
+use Rattle.std.specs.Prelude.{◌≡◌, ℕ, ◌≤◌, ◌⊎◌, Bool, true, false, not, ◌&&◌, ◌||◌, ◌==◌, nat_lt, if◌then◌else◌, List}
+use Rattle.std.specs.Prelude.{[], ◌∷◌, map, length, Option, Some, None, MatchOption, MatchBool, codes, bytes_eq}
 use Rattle.std.specs.List.{flat_map, list_all, list_any, slice_split}
 use Rattle.std.specs.Char.{is_ascii_alphanumeric, is_ascii_digit, to_ascii_lowercase}
 use Rattle.std.specs.Str.Parse.{digits_value}

@@ -6,7 +6,8 @@ use Rattle.http_requests.specs.declared.messages.Fault.TheVariants.{TooLong}
 use Rattle.http_requests.specs.declared.messages.What.{What}
 use Rattle.http_requests.specs.declared.messages.What.TheVariants.{Request, Bad}
 use Rattle.http_requests.specs.declared.messages.Message.{Message}
-use Rattle.http_requests.specs.Heads.{values_of, body_length, head_fault, is_closing, IsModifiedSince, version_of, lines_of, IsVerdict, bad}
+use Rattle.http_requests.specs.Heads.{values_of, body_length, head_fault, is_closing, IsModifiedSince, version_of}
+use Rattle.http_requests.specs.Heads.{lines_of, IsVerdict, bad}
 use Rattle.http_requests.specs.Framing.{NoBlock, blank_len}
 
 -- the request is what a head says, the head is the whole block, and the body is as long as it says

@@ -1,10 +1,13 @@
 //! What a block says: the verdict of its head (RFC 9110 and RFC 9112).
-ghost use Rattle.std.specs.Prelude.{◌≡◌, ◌≤◌, ◌==◌, false, true, codes, length, min, All, IfOk, MatchOption, MatchResult, Some, None};
+ghost use Rattle.std.specs.Prelude.{◌≡◌, ◌≤◌, ◌==◌, false, true, codes, length, min, All, IfOk, MatchOption};
+ghost use Rattle.std.specs.Prelude.{MatchResult, Some, None};
 ghost use Rattle.httparse.specs.Grammar.{is_ows, trim_ows};
 ghost use Rattle.httparse.specs.Spans.{IsHeaderWithin, IsWithin, span_bytes};
 ghost use Rattle.std.specs.Str.Parse.{digits_value};
 ghost use Rattle.std.specs.List.{list_all, list_any, slice_split};
-ghost use Rattle.http_requests.specs.Heads.{IsVerdict, same_text, values_of, is_host_byte, is_host_fault, is_given, is_numeral, body_length, head_fault, has_option, is_closing, is_get_or_head, IsModifiedSince, PartsSay, bad};
+ghost use Rattle.http_requests.specs.Heads.{IsVerdict, same_text, values_of, is_host_byte, is_host_fault, is_given};
+ghost use Rattle.http_requests.specs.Heads.{is_numeral, body_length, head_fault, has_option, is_closing};
+ghost use Rattle.http_requests.specs.Heads.{is_get_or_head, IsModifiedSince, PartsSay, bad};
 ghost use Rattle.http_requests.specs.Lines.{lines_at, AreLines};
 ghost use Rattle.http_requests.specs.Counting.{IsExtent};
 ghost use Rattle.http_requests.specs.declared.heads.Verdict.{Verdict as AVerdict};
@@ -243,7 +246,8 @@ fn read_head(
     requires headers { All (IsHeaderWithin (length block.now)) headers.now }
     requires method { IsWithin (length block.now) head.method }
     requires target { IsWithin (length block.now) head.path }
-    ensures says { IfOk result (PartsSay (span_bytes block.now head.method) (span_bytes block.now head.path) head.version
+    ensures says { IfOk result
+        (PartsSay (span_bytes block.now head.method) (span_bytes block.now head.path) head.version
         (lines_at block.now headers.now)) }
     ensures small { IfOk result (λ verdict. verdict.length ≤ 65_536) }
 {
@@ -283,7 +287,8 @@ fn measure_head(block: &[u8], head: RequestSpans, headers: &[HeaderSpan]) -> Ext
     requires method { IsWithin (length block.now) head.method }
     requires target { IsWithin (length block.now) head.path }
     ensures says { (verdict : AVerdict) × PartsSay (span_bytes block.now head.method)
-        (span_bytes block.now head.path) head.version (lines_at block.now headers.now) verdict × IsExtent verdict result }
+        (span_bytes block.now head.path) head.version (lines_at block.now headers.now) verdict
+        × IsExtent verdict result }
     ensures small { result.length ≤ 65_536 }
 {
     match body_length(head.version, block, headers) {

@@ -1,5 +1,6 @@
 -- The faults of a settings document.
-use Rattle.std.specs.Prelude.{◌≡◌, ℕ, ◌++◌, List, [], codes, ◌&&◌, not, Bool, true, false, Option, Some, None, Result, Ok, Err, MatchResult, is_some}
+use Rattle.std.specs.Prelude.{◌≡◌, ℕ, ◌++◌, List, [], codes, ◌&&◌, not, Bool, true, false, Option, Some, None, Result}
+use Rattle.std.specs.Prelude.{Ok, Err, MatchResult, is_some}
 use Rattle.options.specs.Keys.{path_of}
 use Rattle.options.specs.declared.config_fault.Key.{Key}
 use Rattle.options.specs.declared.config_fault.ConfigFault.{ConfigFault}

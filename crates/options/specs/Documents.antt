@@ -1,7 +1,9 @@
 -- What a settings document has at a key.
-use Rattle.std.specs.Prelude.{ℕ, ◌&&◌, Bool, true, false, List, [], ◌∷◌, Option, Some, None, Result, Ok, Err, ℤ, pos, negsuc, nat_le, if◌then◌else◌}
+use Rattle.std.specs.Prelude.{ℕ, ◌&&◌, Bool, true, false, List, [], ◌∷◌, Option, Some, None, Result, Ok, Err, ℤ, pos}
+use Rattle.std.specs.Prelude.{negsuc, nat_le, if◌then◌else◌}
 use Rattle.std.specs.Option.{option_map_or}
-use Rattle.toml.specs.Data.{Data, integer, array, table, Items, no_items, item, Members, no_members, member, get_member, as_table}
+use Rattle.toml.specs.Data.{Data, integer, array, table, Items, no_items, item, Members, no_members, member, get_member}
+use Rattle.toml.specs.Data.{as_table}
 use Rattle.options.specs.declared.config_fault.Key.{Key}
 use Rattle.options.specs.declared.config_fault.ConfigFault.{ConfigFault}
 use Rattle.options.specs.Keys.{name_of, table_of, key_at}
@@ -46,7 +48,8 @@ value_at document key = value_in (table_of key) (get_member (name_of (table_of k
 -- an integer within its range, or the default
 abbrev pub number_or : Key → ℕ → ℕ → ℕ → Option Data → Result ℕ ConfigFault
 number_or key default least most None = Ok default
-number_or key default least most (Some (integer (pos n))) = if nat_le least n && nat_le n most then Ok n else Err (range key)
+number_or key default least most (Some (integer (pos n))) = if nat_le least n && nat_le n most then Ok n else Err
+  (range key)
 number_or key default least most (Some (integer (negsuc n))) = Err (range key)
 number_or key default least most (Some _) = Err (shape key)
 

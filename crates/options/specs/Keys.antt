@@ -1,5 +1,6 @@
 -- The keys of a settings document, their names and their tables.
-use Rattle.std.specs.Prelude.{ℕ, Bool, true, false, ◌++◌, if◌then◌else◌, List, [], ◌∷◌, Option, Some, None, codes, bytes_eq, find, option_map}
+use Rattle.std.specs.Prelude.{ℕ, Bool, true, false, ◌++◌, if◌then◌else◌, List, [], ◌∷◌, Option, Some, None, codes}
+use Rattle.std.specs.Prelude.{bytes_eq, find, option_map}
 use Rattle.options.specs.declared.config_fault.Key.{Key}
 use Rattle.options.specs.declared.config_fault.Key.TheVariants as keys
 use Rattle.options.specs.declared.policy_key.PolicyTable.{PolicyTable}
@@ -104,5 +105,6 @@ keys_in (Some _) = []
 
 -- the key of this name there, if it may stand there; each table of a policy may have the keys of one
 abbrev pub key_at : Option Key → List ℕ → Option Key
-key_at (Some (keys.Policy table)) name = option_map (keys.InPolicy table) (find (λ key. bytes_eq (policy_key_name key) name) policy_keys)
+key_at (Some (keys.Policy table)) name = option_map (keys.InPolicy table)
+  (find (λ key. bytes_eq (policy_key_name key) name) policy_keys)
 key_at table name = find (λ key. bytes_eq (name_of key) name) (keys_in table)

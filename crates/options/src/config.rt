@@ -2,7 +2,8 @@ ghost use Rattle.std.specs.Prelude.{◌≡◌, IfOk, None};
 ghost use Rattle.toml.specs.View.{table_view};
 ghost use Rattle.stage_graph.specs.Stands.{last_cut};
 ghost use Rattle.options.specs.ConfigFaults.{Answers};
-ghost use Rattle.options.specs.SettingsTable.{front_of, back_of, costs_of, policy_in, default_policy, written_in, plan_of, in_order, chosen, settings_of, settings_read};
+ghost use Rattle.options.specs.SettingsTable.{front_of, back_of, costs_of, policy_in, default_policy, written_in};
+ghost use Rattle.options.specs.SettingsTable.{plan_of, in_order, chosen, settings_of, settings_read};
 
 use crate::document::{members_known, number, numbers};
 use crate::numbers::{Choices, FloorLists, PolicyNumbers};

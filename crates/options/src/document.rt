@@ -82,7 +82,9 @@ pub(crate) fn members_known(members: &Table, within: Option<Key>) -> bool
 ///
 /// `Shape` of the key's table, where something else stands in its place.
 fn value_at<'a>(document: &'a Table, key: Key) -> Result<Option<&'a Value>, ConfigFault>
-    ensures { MatchResult result (λ found. value_at (table_view document.now) key ≡ Ok (option_map (λ v. view v.now) found)) (λ fault. value_at (table_view document.now) key ≡ Err fault) }
+    ensures { MatchResult result
+        (λ found. value_at (table_view document.now) key ≡ Ok (option_map (λ v. view v.now) found))
+        (λ fault. value_at (table_view document.now) key ≡ Err fault) }
 {
     let holder = key.table();
     let Some(value) = document.get(holder.name()) else {
@@ -122,8 +124,8 @@ pub(crate) fn number(
     }
 }
 
-/// The integers at a key, or what they are where the document doesn't have the key. One below 0 becomes 0, which no list
-/// of a floor may have either.
+/// The integers at a key, or what they are where the document doesn't have the key. One below 0 becomes 0, which no
+/// list of a floor may have either.
 ///
 /// # Errors
 ///
@@ -134,7 +136,8 @@ pub(crate) fn numbers(
     key: Key,
     default: &[usize],
 ) -> Result<Vec<usize>, ConfigFault>
-    ensures { MatchResult result (λ ns. numbers (table_view document.now) key default.now ≡ Ok ns.items) (λ fault. is_memory fault ≡ false → numbers (table_view document.now) key default.now ≡ Err fault) }
+    ensures { MatchResult result (λ ns. numbers (table_view document.now) key default.now ≡ Ok ns.items)
+        (λ fault. is_memory fault ≡ false → numbers (table_view document.now) key default.now ≡ Err fault) }
 {
     let Some(value) = value_at(document, key)? else {
         return Ok(Vec::from_slice(alloc, default)?);
@@ -146,7 +149,8 @@ pub(crate) fn numbers(
 }
 
 fn naturals(alloc: Global, key: Key, items: &Array) -> Result<Vec<usize>, ConfigFault>
-    ensures { MatchResult result (λ ns. naturals key (array_view items.now) ≡ Ok ns.items) (λ fault. is_memory fault ≡ false → naturals key (array_view items.now) ≡ Err fault) }
+    ensures { MatchResult result (λ ns. naturals key (array_view items.now) ≡ Ok ns.items)
+        (λ fault. is_memory fault ≡ false → naturals key (array_view items.now) ≡ Err fault) }
 {
     let mut numbers = Vec::new(alloc);
     'items: for item in items {

@@ -40,15 +40,51 @@ impl Model for PolicyNumbers {
 
     ghost Value = { Rules };
 
-    ghost view = { λ p. record { window = p.window; every = p.every; smoothing = p.smoothing; rate = p.rate; rate_min = p.rate_min; rate_max = p.rate_max; up = p.up; down = p.down; target = p.target; low = p.low; depth = p.depth } };
+    ghost view = { λ p. record {
+      window = p.window;
+      every = p.every;
+      smoothing = p.smoothing;
+      rate = p.rate;
+      rate_min = p.rate_min;
+      rate_max = p.rate_max;
+      up = p.up;
+      down = p.down;
+      target = p.target;
+      low = p.low;
+      depth = p.depth;
+    } };
 
-    ghost invariant = { λ p. AreWithin (record { window = p.window; every = p.every; smoothing = p.smoothing; rate = p.rate; rate_min = p.rate_min; rate_max = p.rate_max; up = p.up; down = p.down; target = p.target; low = p.low; depth = p.depth }) };
+    ghost invariant = { λ p. AreWithin (record {
+      window = p.window;
+      every = p.every;
+      smoothing = p.smoothing;
+      rate = p.rate;
+      rate_min = p.rate_min;
+      rate_max = p.rate_max;
+      up = p.up;
+      down = p.down;
+      target = p.target;
+      low = p.low;
+      depth = p.depth;
+    }) };
 
-    ghost inverse = { λ p. record { window = p.window; every = p.every; smoothing = p.smoothing; rate = p.rate; rate_min = p.rate_min; rate_max = p.rate_max; up = p.up; down = p.down; target = p.target; low = p.low; depth = p.depth } };
+    ghost inverse = { λ p. record {
+      window = p.window;
+      every = p.every;
+      smoothing = p.smoothing;
+      rate = p.rate;
+      rate_min = p.rate_min;
+      rate_max = p.rate_max;
+      up = p.up;
+      down = p.down;
+      target = p.target;
+      low = p.low;
+      depth = p.depth;
+    } };
 }
 
-/// What a document says, or leaves to the defaults: each number is within its range, and nothing is known yet of how the
-/// numbers and lists fit together.
+/// What a document says, or leaves to the defaults: each number is within its range, and nothing is known yet of how
+/// the numbers and lists fit together.
 #[derive(Drop)]
 pub(crate) struct Choices {
     pub(crate) front: FloorLists,
@@ -69,7 +105,29 @@ impl Model for Choices {
 
     ghost Value = { Choices };
 
-    ghost view = { λ c. record { front = c.front; back = c.back; batch = c.batch; cache = c.cache; costs = c.costs; retry_after = c.retry_after; policy = c.policy; tier1 = c.tier1; tier2 = c.tier2; tier3 = c.tier3 } };
+    ghost view = { λ c. record {
+      front = c.front;
+      back = c.back;
+      batch = c.batch;
+      cache = c.cache;
+      costs = c.costs;
+      retry_after = c.retry_after;
+      policy = c.policy;
+      tier1 = c.tier1;
+      tier2 = c.tier2;
+      tier3 = c.tier3;
+    } };
 
-    ghost invariant = { λ c. AreChoices (record { front = c.front; back = c.back; batch = c.batch; cache = c.cache; costs = c.costs; retry_after = c.retry_after; policy = c.policy; tier1 = c.tier1; tier2 = c.tier2; tier3 = c.tier3 }) };
+    ghost invariant = { λ c. AreChoices (record {
+      front = c.front;
+      back = c.back;
+      batch = c.batch;
+      cache = c.cache;
+      costs = c.costs;
+      retry_after = c.retry_after;
+      policy = c.policy;
+      tier1 = c.tier1;
+      tier2 = c.tier2;
+      tier3 = c.tier3;
+    }) };
 }

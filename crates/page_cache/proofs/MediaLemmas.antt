@@ -1,4 +1,4 @@
--- What stands behind the last byte of a value, by the place of that byte.
+-- What stands after the last byte of a value, by the place of that byte.
 use Rattle.std.proofs.Common.{◌≡◌, ◌≢◌, ℕ, ◌+◌, ◌<◌, ◌≤◌, true, false, zero, suc, List, [], ◌∷◌, length, drop, get_or, Some, None, refl, arith, rules, ◌==◌}
 use Rattle.page_cache.specs.Media.{behind_last}
 

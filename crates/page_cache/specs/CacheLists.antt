@@ -1,13 +1,14 @@
 -- The pages of a cache as a list, and what each call does to it.
-use Rattle.std.specs.Prelude.{◌≡◌, ℕ, ◌-◌, ◌<◌, ◌≤◌, Bool, List, [], ◌∷◌, Option, Some, None, nat_eq, nat_le, if◌then◌else◌, false}
+use Rattle.std.specs.Prelude.{◌≡◌, ℕ, ◌-◌, ◌<◌, ◌≤◌, Bool, List, [], ◌∷◌, Option, Some, None, nat_eq, nat_le}
+use Rattle.std.specs.Prelude.{if◌then◌else◌, false}
 use Rattle.std.specs.List.{list_any, sum_by}
 use Rattle.paths.specs.declared.file.File.{File}
 use Rattle.page_cache.specs.Pages.{page_size}
 use Rattle.page_cache.specs.declared.keeping.Keeping.{Keeping}
 use Rattle.page_cache.specs.declared.keeping.Keeping.TheVariants.{TooBig, Kept, NoMemory}
 
--- the pages that are there, by the numbers of their files and the most recently used first, and how many bytes they may have
--- together
+-- the pages that are there, by the numbers of their files and the most recently used first, and how many bytes they may
+-- have together
 pub record CacheList : Type 0 where
   pub pages : List ℕ
   pub limit : ℕ
@@ -32,7 +33,8 @@ sizes files list = sum_by (page_size files) list
 -- the longest front of a list whose pages fit into the room
 unfoldable pub fitting : List File → ℕ → List ℕ → List ℕ
 fitting files room [] = []
-fitting files room (x ∷ list) = if nat_le (page_size files x) room then x ∷ fitting files (room - page_size files x) list else []
+fitting files room (x ∷ list) = if nat_le (page_size files x) room then x
+  ∷ fitting files (room - page_size files x) list else []
 
 -- what a look finds, and what it leaves
 abbrev pub found : ℕ → List ℕ → Option ℕ
@@ -45,7 +47,8 @@ looked file old = record { pages = to_front file old.pages; limit = old.limit }
 -- beside it: the least recently used go.
 abbrev pub kept : List File → ℕ → CacheList → CacheList
 kept files file old = record {
-  pages = if has file old.pages then to_front file old.pages else file ∷ fitting files (old.limit - page_size files file) old.pages;
+  pages = if has file old.pages then to_front file old.pages else file
+    ∷ fitting files (old.limit - page_size files file) old.pages;
   limit = old.limit;
 }
 

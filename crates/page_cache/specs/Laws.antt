@@ -3,7 +3,7 @@ use Rattle.std.specs.Prelude.{◌≡◌, ℕ, ◌≤◌, List, length, take}
 use Rattle.paths.specs.declared.file.File.{File}
 use Rattle.page_cache.specs.CacheLists.{sizes, fitting}
 
--- it is a front of the list, its pages fit, and those of no longer front do
+-- it is a prefix of the list, its pages fit, and those of no longer prefix do
 pub record IsLongest (files : List File) (room : ℕ) (list front : List ℕ) : Type 0 where
   pub begins : front ≡ take (length front) list
   pub fits : sizes files front ≤ room

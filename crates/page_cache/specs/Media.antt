@@ -1,20 +1,22 @@
 -- The media type of a file, by its name.
-use Rattle.std.specs.Prelude.{ℕ, ◌==◌, ◌||◌, List, [], ◌∷◌, ◌++◌, Option, Some, None, codes, decimal, map, unwrap_or, bytes_eq, if◌then◌else◌}
+use Rattle.std.specs.Prelude.{ℕ, ◌==◌, ◌||◌, List, [], ◌∷◌, ◌++◌, Option, Some, None, codes, decimal, map, unwrap_or}
+use Rattle.std.specs.Prelude.{bytes_eq, if◌then◌else◌}
 use Rattle.std.specs.Option.{option_or, option_map_or}
 use Rattle.std.specs.Char.{to_ascii_lowercase}
 use Rattle.paths.specs.Snapshots.{slash}
 use Rattle.page_cache.specs.declared.media.MediaType.{MediaType}
-use Rattle.page_cache.specs.declared.media.MediaType.TheVariants.{Html, Css, JavaScript, Json, Plain, Svg, Png, Jpeg, Gif, OctetStream}
+use Rattle.page_cache.specs.declared.media.MediaType.TheVariants.{Html, Css, JavaScript, Json, Plain, Svg, Png, Jpeg}
+use Rattle.page_cache.specs.declared.media.MediaType.TheVariants.{Gif, OctetStream}
 
 abbrev pub dot : ℕ
 dot = 46
 
--- what stands behind the last such byte of a text, where it has one
+-- what stands after the last such byte of a text, where it has one
 unfoldable pub behind_last : ℕ → List ℕ → Option (List ℕ)
 behind_last mark [] = None
 behind_last mark (b ∷ text) = option_or (behind_last mark text) (if b == mark then Some text else None)
 
--- the last part of a name, and what stands behind its last dot, where it has one
+-- the last part of a name, and what stands after its last dot, where it has one
 abbrev pub last_part : List ℕ → List ℕ
 last_part name = unwrap_or (behind_last slash name) name
 
@@ -57,4 +59,5 @@ media_type name = media_text (media_of name)
 
 -- the two fields of a content of this type and length (RFC 9110, 8.3 and 8.6)
 unfoldable pub entity_fields : MediaType → ℕ → List ℕ
-entity_fields media len = codes "Content-Type: " ++ media_text media ++ codes "\r\nContent-Length: " ++ decimal len ++ codes "\r\n"
+entity_fields media len = codes "Content-Type: " ++ media_text media ++ codes "\r\nContent-Length: " ++ decimal len
+  ++ codes "\r\n"

@@ -1,7 +1,8 @@
 ghost use Rattle.std.specs.Prelude.{◌≡◌, IfOk, string_bytes, map, unwrap_or};
 ghost use Rattle.std.specs.Option.{option_map};
 ghost use Rattle.std.specs.Char.{to_ascii_lowercase};
-ghost use Rattle.page_cache.specs.Media.{behind_last, last_part, media_by_extension, media_of, media_text, entity_fields};
+ghost use Rattle.page_cache.specs.Media.{behind_last, last_part, media_by_extension, media_of, media_text};
+ghost use Rattle.page_cache.specs.Media.{entity_fields};
 
 use itoa::Buffer;
 use std::alloc::{AllocError, Global};
@@ -22,8 +23,8 @@ pub enum MediaType {
 }
 
 impl MediaType {
-    /// The media type of a file of this name, by its extension: what stands behind the last dot of the last part, without
-    /// regard to case.
+    /// The media type of a file of this name, by its extension: what stands after the last dot of the last part,
+    /// without regard to case.
     #[tactic(auto, unfolding(crate::specs::Media::media_of))]
     pub fn of(name: &[u8]) -> MediaType
         ensures { result ≡ media_of name.now }
@@ -81,7 +82,7 @@ impl MediaType {
     }
 }
 
-/// What stands behind the last such byte of a text, where it has one.
+/// What stands after the last such byte of a text, where it has one.
 fn behind_last(text: &[u8], mark: u8) -> Option<&[u8]>
     ensures { option_map (λ rest. rest.now) result ≡ behind_last mark text.now }
 {
@@ -104,7 +105,7 @@ fn last_part(name: &[u8]) -> &[u8]
 /// Room for the fields of any content, in bytes.
 const FIELDS_ROOM: usize = 96;
 
-/// The fields `Content-Type` and `Content-Length` of a content of this type and length, each with CR LF behind it
+/// The fields `Content-Type` and `Content-Length` of a content of this type and length, each with CR LF after it
 /// (RFC 9110, 8.3 and 8.6).
 #[tactic(auto, unfolding(crate::specs::Media::entity_fields))]
 pub fn entity_fields(alloc: Global, media: MediaType, len: usize) -> Result<String, AllocError>

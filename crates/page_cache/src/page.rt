@@ -9,8 +9,8 @@ use std::alloc::{AllocError, Global};
 use std::marker::{Model, PhantomData};
 use std::sync::Arc;
 
-/// The page of a file of the snapshot that the type names: the fields that tell its content, and its bytes. Contracts see
-/// the number of the file, since the text follows from it.
+/// The page of a file of the snapshot that the type names: the fields that tell its content, and its bytes. Contracts
+/// see the number of the file, since the text follows from it.
 #[derive(Drop)]
 pub struct Page<F: Tree> {
     file: usize,
@@ -64,7 +64,7 @@ impl<F: Tree> Page<F> {
         self.file
     }
 
-    /// The fields `Content-Type` and `Content-Length` of the file, each with CR LF behind it.
+    /// The fields `Content-Type` and `Content-Length` of the file, each with CR LF after it.
     pub fn fields(&self) -> &[u8]
         ensures { result.now ≡ page_fields (file_of F.files self.now) }
     {

@@ -112,7 +112,7 @@ consumed None m b p k = absurd cc
 consumed (Some xs) None b p k = absurd p
 consumed (Some xs) (Some ys) b p k = p
 
--- a byte behind the last line
+-- a byte after the last line
 pub trailing_faults : (o n m : Option (List ℕ)) (entry b : ℕ) (x : Option ℕ) (files : List File) → x ≡ Some b → ReadsFront o n files → TakesByte n m x
     → IsSnapshot files → entry ≡ length files + 1 → is_some o ≡ true → false ≡ false → IsFirstFault (unwrap_or o []) (record { entry = entry; kind = Trailing })
 trailing_faults o n m entry b x files some front byte rules is k foreseen =

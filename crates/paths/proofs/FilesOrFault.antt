@@ -20,7 +20,7 @@ use Rattle.paths.specs.SnapshotFaults.{kind_of, named, header_at, heading_of, na
 use Rattle.paths.proofs.Inverse.{bind_ok, unless_ok, when_ok, ok_is, name_inverse, body_inverse, header_inverse}
 use Rattle.paths.proofs.Entries.{entry_takes}
 
--- ---- a file that was read may stand behind those before it
+-- ---- a file that was read may stand after those before it
 
 un_not : (b : Bool) → not b ≡ false → b ≡ true
 un_not true h = refl

@@ -12,7 +12,7 @@ use Rattle.paths.specs.declared.resolution.TheConstants.{RESERVED}
 use Rattle.paths.specs.Snapshots.{slash}
 use Rattle.paths.specs.Resolution.{is_unreserved, location_byte, joined, slash_before}
 
--- one more segment behind others
+-- one more segment after others
 joined_behind : (x : List ℕ) (xs : List (List ℕ)) (y : List ℕ) → joined ((x ∷ xs) ++ y ∷ []) ≡ joined (x ∷ xs) ++ (slash ∷ y)
 joined_behind x [] y = refl
 joined_behind x (z ∷ xs) y = ap (λ v. x ++ (slash ∷ v)) (joined_behind z xs y) ∙ sym (append_assoc x (slash ∷ joined (z ∷ xs)) (slash ∷ y))

@@ -239,7 +239,7 @@ header_good bytes gs rest k is fault =
     not_both _ k (header_at (record { bytes = header ++ t; left = longest_text })) (header_again t longest_text (longest_text - length header) (omega arith))
     (sym (ap (λ w. header_at (record { bytes = w; left = longest_text })) here) ∙ fault)
 
--- of two faults one stands behind fewer files: then another file stands there
+-- of two faults one stands after fewer files: then another file stands there
 fewer : (bytes : List ℕ) (gs hs : List File) (f g : SnapshotFault) (x y : List ℕ) (more : List File) → FaultsBehind bytes f gs x → FaultsBehind bytes g hs y
     → hs ≡ gs ++ more → x ≡ flat_map file_text more ++ y → f ≡ g
 fewer bytes gs hs f g x y [] a b e h =

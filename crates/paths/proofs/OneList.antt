@@ -123,7 +123,7 @@ heading_again f h =
 
 -- ---- a file
 
--- what stands behind a file's line
+-- what stands after a file's line
 abbrev pub behind : File → List ℕ → List ℕ
 behind f x = f.name ++ feed ∷ (f.bytes ++ feed ∷ x)
 

@@ -22,9 +22,9 @@ use Rattle.paths.proofs.Inverse.{unless_ok, ok_is, line_inverse, run_inverse, na
 use Rattle.paths.proofs.NoFault.{bind_is, named_is, pass, neither, byte_again, run_again}
 use Rattle.paths.proofs.FilesOrFault.{name_fits}
 
--- ---- a part behind what was taken
+-- ---- a part after what was taken
 
--- a read failed behind what was taken, and took nothing
+-- a read failed after what was taken, and took nothing
 pub none_behind : (Q : List ℕ → Type 0) (o n m : Option (List ℕ)) (l nl ml : ℕ) (taken : List ℕ) → Takes o l n nl taken → (is_some o ≡ true → Q taken)
     → (is_some n ≡ true → TookPart (λ part. part ≡ []) n nl m ml) → is_some o ≡ true → TookPart Q o l m ml
 none_behind Q o n m l nl ml taken t q h k =
@@ -165,7 +165,7 @@ run_takes n o m l ml run h = record {
   known = λ k. (h k).1;
 }
 
--- a read failed behind the bytes of a file
+-- a read failed after the bytes of a file
 pub body_fails : (n : ℕ) (o m p : Option (List ℕ)) (l ml pl : ℕ) (bytes : List ℕ) → length bytes ≡ n
     → (is_some o ≡ true → (run_at n (ahead_of o l) ≡ Ok (bytes, ahead_of m ml)) × (is_some m ≡ true))
     → (is_some m ≡ true → TookPart (λ part. part ≡ []) m ml p pl) → is_some o ≡ true
@@ -175,7 +175,7 @@ body_fails n o m p l ml pl bytes is run h k =
     none_behind (λ part. body_at n (record { bytes = part; left = l }) ≡ Err Cut) o m p l ml pl bytes t
     (λ known. body_cut n l ml bytes is (let e = t.count known in omega (arith, e, is))) h k
 
--- behind those of a name
+-- after those of a name
 pub name_fails : (files : List File) (n : ℕ) (o m p : Option (List ℕ)) (l ml pl : ℕ) (name : List ℕ) → length name ≡ n
     → (is_some o ≡ true → (run_at n (ahead_of o l) ≡ Ok (name, ahead_of m ml)) × (is_some m ≡ true))
     → (is_some m ≡ true → TookPart (λ part. part ≡ []) m ml p pl) → is_some o ≡ true
@@ -247,7 +247,7 @@ entry_fails files o m p l ml pl line heading is read h k =
     bind_is (named kind_of (line_at all)) _ (line, mid) (named_is kind_of _ (line, mid) (line_alone (ahead_of o l) (ahead_of m ml) line (got k) part))
     ∙ (bind_is (heading_of line) _ heading is ∙ cut)) h k
 
--- the entry behind files that were taken whole
+-- the entry after files that were taken whole
 pub front_fails : (o n m : Option (List ℕ)) (nl ml entry : ℕ) (files : List File) (kind : SnapshotFaultKind) → IsSnapshot files → entry ≡ length files + 1
     → Takes o longest_text n nl (text_before_end files) → (is_some n ≡ true → TookPart (λ part. entry_at files (record { bytes = part; left = nl }) ≡ Err Cut) n nl m ml)
     → is_some o ≡ true → FailsInSnapshot (unwrap_or o []) (unwrap_or m []) (record { entry = entry; kind = kind })

@@ -97,7 +97,7 @@ piece_more o n m l nl ml count line came after room r t came_is within left byte
     } in
     rw whole (record { takes = takes_more o n m l nl ml line came t.takes step; feeds = feeds_on line came t.feeds all }, omega (arith, length-append line came))
 
--- a line feed came, and behind it nothing more where the line announces something
+-- a line feed came, and after it nothing more where the line announces something
 pub piece_ends : (o n m : Option (List ℕ)) (l nl ml count owed : ℕ) (line came after room : List ℕ) (r : Bool) → TakesLine o l n nl line → came ≡ take count room
     → count ≤ length room → nl ≡ count + ml → Came n nl m ml count room → after ≡ line ++ before_first (λ b. b == 10) came
     → r ≡ nat_lt (length (before_first (λ b. b == 10) came)) (length came) → r ≡ true → length line + count ≤ 65 → count ≤ owed → IsOwed line owed

@@ -1,5 +1,6 @@
 -- What the line of an entry owes, and how it is read in pieces.
-use Rattle.std.specs.Prelude.{◌≡◌, ℕ, ◌+◌, ◌≤◌, ◌++◌, true, false, List, length, Option, Result, Ok, Err, MatchResult, is_some}
+use Rattle.std.specs.Prelude.{◌≡◌, ℕ, ◌+◌, ◌≤◌, ◌++◌, true, false, List, length, Option, Result, Ok, Err, MatchResult}
+use Rattle.std.specs.Prelude.{is_some}
 use Rattle.paths.specs.Texts.{Ahead, ahead_of, line_at, is_unforeseen}
 use Rattle.paths.specs.SnapshotFaults.{heading_of}
 use Rattle.paths.specs.declared.stop.Stop.{Stop}

@@ -1,5 +1,6 @@
 -- What was taken of a text when a read failed.
-use Rattle.std.specs.Prelude.{◌≡◌, ℕ, ◌+◌, ◌-◌, ◌≤◌, ◌⊎◌, true, List, [], ◌++◌, length, Option, Result, Err, IfErr, is_some, unwrap_or}
+use Rattle.std.specs.Prelude.{◌≡◌, ℕ, ◌+◌, ◌-◌, ◌≤◌, ◌⊎◌, true, List, [], ◌++◌, length, Option, Result, Err, IfErr}
+use Rattle.std.specs.Prelude.{is_some, unwrap_or}
 use Rattle.paths.specs.Texts.{Ahead}
 use Rattle.paths.specs.Snapshots.{longest_text, text_before_end, snapshot_text, IsSnapshot}
 use Rattle.paths.specs.SnapshotFaults.{header_at, entry_at}
@@ -8,7 +9,8 @@ use Rattle.paths.specs.declared.snapshot_fault.SnapshotFault.{SnapshotFault}
 use Rattle.paths.specs.declared.snapshot_fault.SnapshotFaultKind.TheVariants.{Cut, Read, Memory}
 
 -- a part was taken of which this holds, and the rest is ahead
-pub record TookPart (Holds : List ℕ → Type 0) (old : Option (List ℕ)) (left : ℕ) (new : Option (List ℕ)) (left_new : ℕ) : Type 0 where
+pub record TookPart (Holds : List ℕ → Type 0) (old : Option (List ℕ)) (left : ℕ) (new : Option (List ℕ))
+  (left_new : ℕ) : Type 0 where
   pub part : List ℕ
   pub bytes : unwrap_or old [] ≡ part ++ unwrap_or new []
   pub count : left ≡ length part + left_new
@@ -16,19 +18,23 @@ pub record TookPart (Holds : List ℕ → Type 0) (old : Option (List ℕ)) (lef
   pub holds : Holds part
 
 -- where the bytes of the input are known and the fault is a failed read, this holds of what the call had taken
-abbrev pub FailsBehind : {Y E : Type 0} → E → (List ℕ → Type 0) → Option (List ℕ) → ℕ → Option (List ℕ) → ℕ → Result Y E → Type 0
-FailsBehind failed Holds old left new left_new r = IfErr r (λ e. e ≡ failed → is_some old ≡ true → TookPart Holds old left new left_new)
+abbrev pub FailsBehind : {Y E : Type 0} → E → (List ℕ → Type 0) → Option (List ℕ) → ℕ → Option (List ℕ) → ℕ → Result Y E
+  → Type 0
+FailsBehind failed Holds old left new left_new r = IfErr r
+  (λ e. e ≡ failed → is_some old ≡ true → TookPart Holds old left new left_new)
 
 -- it is nothing
 abbrev pub FailsAtOnce : {Y E : Type 0} → E → Option (List ℕ) → ℕ → Option (List ℕ) → ℕ → Result Y E → Type 0
 FailsAtOnce failed old left new left_new r = FailsBehind failed (λ part. part ≡ []) old left new left_new r
 
 -- f finds it cut: nothing whole of what f reads had been taken
-abbrev pub FailsWithin : {X Y E : Type 0} → E → E → (Ahead → Result (X × Ahead) E) → Option (List ℕ) → ℕ → Option (List ℕ) → ℕ → Result Y E → Type 0
-FailsWithin failed cut f old left new left_new r = FailsBehind failed (λ part. f (record { bytes = part; left = left }) ≡ Err cut) old left new left_new r
+abbrev pub FailsWithin : {X Y E : Type 0} → E → E → (Ahead → Result (X × Ahead) E) → Option (List ℕ) → ℕ
+  → Option (List ℕ) → ℕ → Result Y E → Type 0
+FailsWithin failed cut f old left new left_new r = FailsBehind failed
+  (λ part. f (record { bytes = part; left = left }) ≡ Err cut) old left new left_new r
 
--- A read failed in the entry behind these files: their texts were taken whole, and of the entry itself only a part, which is
--- cut. The fault names that entry.
+-- A read failed in the entry after these files: their texts were taken whole, and of the entry itself only a part,
+-- which is cut. The fault names that entry.
 pub record FailsInEntry (text : List ℕ) (f : SnapshotFault) (files : List File) (part rest : List ℕ) : Type 0 where
   pub taken : text ≡ (text_before_end files ++ part) ++ rest
   pub rules : IsSnapshot files
@@ -48,14 +54,14 @@ abbrev pub FailsInSnapshot : List ℕ → List ℕ → SnapshotFault → Type 0
 FailsInSnapshot text rest f = ((part : List ℕ) × FailsInHeader text f part rest)
     ⊎ ((files : List File) × (part : List ℕ) × FailsInEntry text f files part rest)
 
--- it failed behind the last line, where the end of the input was looked for
+-- it failed after the last line, where the end of the input was looked for
 pub record FailsAtEnd (text : List ℕ) (f : SnapshotFault) (files : List File) (rest : List ℕ) : Type 0 where
   pub taken : text ≡ snapshot_text files ++ rest
   pub rules : IsSnapshot files
   pub size : length (snapshot_text files) ≤ longest_text
   pub entry : f.entry ≡ length files + 1
 
--- The fault names the entry behind these files, whose texts stand whole before it.
+-- The fault names the entry after these files, whose texts stand whole before it.
 pub record NamesBehind (text : List ℕ) (f : SnapshotFault) (files : List File) (rest : List ℕ) : Type 0 where
   pub whole : text ≡ text_before_end files ++ rest
   pub rules : IsSnapshot files
@@ -63,10 +69,12 @@ pub record NamesBehind (text : List ℕ) (f : SnapshotFault) (files : List File)
 
 -- where the bytes of the input are known, it does so where memory ran out
 abbrev pub NamesLacking : Option (List ℕ) → SnapshotFault → Type 0
-NamesLacking old f = f.kind ≡ Memory → is_some old ≡ true → (files : List File) × (rest : List ℕ) × NamesBehind (unwrap_or old []) f files rest
+NamesLacking old f = f.kind ≡ Memory → is_some old ≡ true → (files : List File) × (rest : List ℕ)
+  × NamesBehind (unwrap_or old []) f files rest
 
 -- where the bytes of the input are known and the fault is a failed read
-abbrev pub NamesFailed : (List ℕ → List ℕ → SnapshotFault → Type 0) → Option (List ℕ) → Option (List ℕ) → SnapshotFault → Type 0
+abbrev pub NamesFailed : (List ℕ → List ℕ → SnapshotFault → Type 0) → Option (List ℕ) → Option (List ℕ) → SnapshotFault
+  → Type 0
 NamesFailed Fails old new f = f.kind ≡ Read → is_some old ≡ true → Fails (unwrap_or old []) (unwrap_or new []) f
 
 abbrev pub FailsInText : List ℕ → List ℕ → SnapshotFault → Type 0

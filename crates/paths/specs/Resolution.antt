@@ -1,5 +1,6 @@
 -- What a request is answered with, by what it asks for and the names of the files.
-use Rattle.std.specs.Prelude.{◌≡◌, ℕ, ◌<◌, ◌==◌, ◌&&◌, ◌||◌, nat_lt, length, Bool, true, false, List, [], ◌∷◌, ◌++◌, Option, Some, None, codes, flat_map, if◌then◌else◌}
+use Rattle.std.specs.Prelude.{◌≡◌, ℕ, ◌<◌, ◌==◌, ◌&&◌, ◌||◌, nat_lt, length, Bool, true, false, List, [], ◌∷◌, ◌++◌}
+use Rattle.std.specs.Prelude.{Option, Some, None, codes, flat_map, if◌then◌else◌}
 use Rattle.std.specs.List.{join_with_byte, list_all}
 use Rattle.std.specs.Char.{is_ascii_alphanumeric}
 use Rattle.percent_encoding.specs.Percent.{percent_encode_byte}
@@ -18,7 +19,7 @@ is_unreserved b = is_ascii_alphanumeric b || b == 45 || b == 46 || b == 95 || b 
 abbrev pub location_byte : ℕ → List ℕ
 location_byte b = if is_unreserved b then b ∷ [] else percent_encode_byte b
 
--- the location of a folder: its segments, each encoded behind a slash, and a last slash
+-- the location of a folder: its segments, each encoded after a slash, and a last slash
 abbrev pub location : List (List ℕ) → List ℕ
 location segments = flat_map (λ s. slash ∷ flat_map location_byte s) segments ++ slash ∷ []
 
@@ -44,8 +45,10 @@ file_or_folder None false to = outcomes.Missing
 
 -- In folder form the folder's `index.html` is asked for; else a file, and a folder of that name is redirected to.
 abbrev pub outcome : List File → Asked → Outcome
-outcome files (askeds.Path segments true) = file_or_missing (position_of files (joined (segments ++ codes "index.html" ∷ [])))
-outcome files (askeds.Path segments false) = file_or_folder (position_of files (joined segments)) (has_folder files (joined segments)) (location segments)
+outcome files (askeds.Path segments true) = file_or_missing
+  (position_of files (joined (segments ++ codes "index.html" ∷ [])))
+outcome files (askeds.Path segments false) = file_or_folder (position_of files (joined segments))
+  (has_folder files (joined segments)) (location segments)
 outcome files askeds.Missing = outcomes.Missing
 outcome files askeds.BadTarget = outcomes.BadTarget
 outcome files askeds.NotAllowed = outcomes.NotAllowed

@@ -1,9 +1,13 @@
 -- How a snapshot text is read, entry by entry, and its first fault.
-use Rattle.std.specs.Prelude.{◌≡◌, ℕ, ◌+◌, ◌-◌, ◌≤◌, ◌==◌, ◌||◌, ◌⊎◌, not, Bool, true, false, List, [], ◌∷◌, ◌++◌, drop, length, Option, Some, None, Result, Ok, Err, MatchResult, codes, nat_eq, nat_lt, nat_le, bytes_eq, if◌then◌else◌, is_some, unwrap_or}
+use Rattle.std.specs.Prelude.{◌≡◌, ℕ, ◌+◌, ◌-◌, ◌≤◌, ◌==◌, ◌||◌, ◌⊎◌, not, Bool, true, false, List, [], ◌∷◌, ◌++◌, drop}
+use Rattle.std.specs.Prelude.{length, Option, Some, None, Result, Ok, Err, MatchResult, codes, nat_eq, nat_lt, nat_le}
+use Rattle.std.specs.Prelude.{bytes_eq, if◌then◌else◌, is_some, unwrap_or}
 use Rattle.std.specs.List.{list_all, list_any, starts_with}
 use Rattle.paths.specs.Numbers.{number_of, three_numbers}
 use Rattle.paths.specs.Texts.{Ahead, line_at, run_at, byte_at}
-use Rattle.paths.specs.Snapshots.{feed, most_files, most_bytes, longest_name, latest_time, longest_text, first_line, text_before_end, snapshot_text, is_name, comes_before, lies_in, IsSnapshot, IsSnapshotText}
+use Rattle.paths.specs.Snapshots.{feed, most_files, most_bytes, longest_name, latest_time, longest_text, first_line}
+use Rattle.paths.specs.Snapshots.{text_before_end, snapshot_text, is_name, comes_before, lies_in, IsSnapshot}
+use Rattle.paths.specs.Snapshots.{IsSnapshotText}
 use Rattle.paths.specs.declared.stop.Stop.{Stop}
 use Rattle.paths.specs.declared.stop.Stop.TheVariants as stops
 use Rattle.paths.specs.declared.file.File.{File}
@@ -12,7 +16,9 @@ use Rattle.paths.specs.declared.file.Heading.{Heading}
 use Rattle.paths.specs.declared.file.Heading.TheVariants as headings
 use Rattle.paths.specs.declared.snapshot_fault.SnapshotFault.{SnapshotFault}
 use Rattle.paths.specs.declared.snapshot_fault.SnapshotFaultKind.{SnapshotFaultKind}
-use Rattle.paths.specs.declared.snapshot_fault.SnapshotFaultKind.TheVariants.{Cut, Header, Kind, Number, TooLarge, Name, Order, Conflict, Length, Count, Trailing, Read, Memory}
+use Rattle.paths.specs.declared.snapshot_fault.SnapshotFaultKind.TheVariants.{Cut, Header, Kind, Number, TooLarge, Name}
+use Rattle.paths.specs.declared.snapshot_fault.SnapshotFaultKind.TheVariants.{Order, Conflict, Length, Count, Trailing}
+use Rattle.paths.specs.declared.snapshot_fault.SnapshotFaultKind.TheVariants.{Read, Memory}
 
 -- the fault of an entry, a part of which could not be read
 abbrev pub kind_of : Stop → SnapshotFaultKind
@@ -35,11 +41,12 @@ named name (Ok x) = Ok x
 named name (Err e) = Err (name e)
 
 infixl 10 ◌>>=◌
-abbrev pub ◌>>=◌ : {A B : Type 0} → Result A SnapshotFaultKind → (A → Result B SnapshotFaultKind) → Result B SnapshotFaultKind
+abbrev pub ◌>>=◌ : {A B : Type 0} → Result A SnapshotFaultKind → (A → Result B SnapshotFaultKind)
+  → Result B SnapshotFaultKind
 (Ok x) >>= f = f x
 (Err e) >>= f = Err e
 
--- the first line, behind it the entries
+-- the first line, after it the entries
 abbrev pub header_at : Ahead → Result (Unit {0} × Ahead) SnapshotFaultKind
 header_at a = do
   line ← named header_kind_of (line_at a)
@@ -60,7 +67,7 @@ heading_of line =
     else if starts_with nat_eq line (codes "end ") then end_heading (number_of (drop 4 line))
     else Err Kind
 
--- the name of so many bytes of a file behind these files
+-- the name of so many bytes of a file after these files
 abbrev pub name_at : List File → ℕ → Ahead → Result (List ℕ × Ahead) SnapshotFaultKind
 name_at files n a = do
   name ← named kind_of (run_at n a)
@@ -95,7 +102,7 @@ announced files (headings.File line) a = do
   Ok (Some file.0, file.1)
 announced files (headings.End count) a = if count == length files then Ok (None, a) else Err Count
 
--- the entry behind these files
+-- the entry after these files
 abbrev pub entry_at : List File → Ahead → Result (Option File × Ahead) SnapshotFaultKind
 entry_at files a = do
   line ← named kind_of (line_at a)
@@ -117,7 +124,7 @@ failures_of _ = 0
 abbrev pub CountsKind : {X : Type 0} → ℕ → ℕ → Result X SnapshotFaultKind → Type 0
 CountsKind old new r = MatchResult r (λ _. new ≡ old) (λ k. new ≡ old + failures_of k)
 
--- The first fault of bytes of which no front is a snapshot text: the first line's, or that of the entry behind the files
+-- The first fault of bytes of which no front is a snapshot text: the first line's, or that of the entry after the files
 -- whose texts stand whole before it. Entry 0 is the first line.
 pub record FaultsBehind (text : List ℕ) (f : SnapshotFault) (files : List File) (rest : List ℕ) : Type 0 where
   pub whole : text ≡ text_before_end files ++ rest
@@ -130,7 +137,7 @@ abbrev pub IsFrontFault : List ℕ → SnapshotFault → Type 0
 IsFrontFault text f = ((f.entry ≡ 0) × (header_at (record { bytes = text; left = longest_text }) ≡ Err f.kind))
     ⊎ ((files : List File) × (rest : List ℕ) × FaultsBehind text f files rest)
 
--- the same of bytes that are no snapshot text: a text with a byte behind it has one more fault
+-- the same of bytes that are no snapshot text: a text with a byte after it has one more fault
 pub record HasTrailing (text : List ℕ) (f : SnapshotFault) (files : List File) (b : ℕ) (rest : List ℕ) : Type 0 where
   pub whole : text ≡ snapshot_text files ++ b ∷ rest
   pub rules : IsSnapshot files

@@ -1,5 +1,6 @@
 -- The text of a snapshot of a file tree.
-use Rattle.std.specs.Prelude.{◌≡◌, ℕ, ◌<◌, ◌≤◌, ◌==◌, ◌&&◌, not, Bool, true, false, List, [], ◌∷◌, ◌++◌, length, All, codes, decimal, bytes_eq, nat_eq, slice_index_or, flat_map, Option, Result, MatchResult}
+use Rattle.std.specs.Prelude.{◌≡◌, ℕ, ◌<◌, ◌≤◌, ◌==◌, ◌&&◌, not, Bool, true, false, List, [], ◌∷◌, ◌++◌, length, All}
+use Rattle.std.specs.Prelude.{codes, decimal, bytes_eq, nat_eq, slice_index_or, flat_map, Option, Result, MatchResult}
 use Rattle.std.specs.List.{list_all, list_any, starts_with, slice_split, AllPairs, position}
 use Rattle.std.specs.Str.{is_utf8}
 use Rattle.std.specs.Ordering.{is_lt, nat_cmp}
@@ -31,7 +32,8 @@ longest_text = 1073741824
 
 -- the line in front of a file
 abbrev pub file_line : File → List ℕ
-file_line f = codes "file " ++ decimal f.mtime ++ codes " " ++ decimal (length f.name) ++ codes " " ++ decimal (length f.bytes)
+file_line f = codes "file " ++ decimal f.mtime ++ codes " " ++ decimal (length f.name) ++ codes " "
+  ++ decimal (length f.bytes)
 
 -- a file: its line, its name and its bytes, each with a line feed
 abbrev pub file_text : File → List ℕ
@@ -58,7 +60,8 @@ is_part part = not (bytes_eq part []) && not (bytes_eq part (codes ".")) && not 
 
 -- a name: UTF-8 without byte 0, of such parts
 abbrev pub is_name : List ℕ → Bool
-is_name name = is_utf8 name && list_all (λ b. not (b == 0)) name && list_all is_part (slice_split (λ b. b == slash) name)
+is_name name = is_utf8 name && list_all (λ b. not (b == 0)) name && list_all is_part
+  (slice_split (λ b. b == slash) name)
 
 -- the first name comes before the second, by their bytes
 abbrev pub comes_before : List ℕ → List ℕ → Bool
@@ -90,7 +93,7 @@ pub record IsSnapshotText (bytes : List ℕ) (files : List File) : Type 0 where
   pub rules : IsSnapshot files
   pub size : length bytes ≤ longest_text
 
--- a prefix of the bytes is the text of a snapshot of these files, and this rest is behind it
+-- a prefix of the bytes is the text of a snapshot of these files, and this rest is after it
 pub record BeginsWithSnapshot (bytes : List ℕ) (files : List File) (rest : List ℕ) : Type 0 where
   pub text : bytes ≡ snapshot_text files ++ rest
   pub rules : IsSnapshot files
@@ -103,14 +106,14 @@ no_file = record { name = []; mtime = 0; bytes = [] }
 abbrev pub file_of : List File → ℕ → File
 file_of files n = slice_index_or files n no_file
 
--- the name, of so many bytes, may stand behind those of these files
+-- the name, of so many bytes, may stand after those of these files
 pub record FitsName (files : List File) (len : ℕ) (name : List ℕ) : Type 0 where
   pub length_is : length name ≡ len
   pub is : is_name name ≡ true
   pub order : list_all (λ f. comes_before f.name name) files ≡ true
   pub apart : list_any (λ f. lies_in f.name name) files ≡ false
 
--- the file may stand behind these files
+-- the file may stand after these files
 pub record Follows (files : List File) (f : File) : Type 0 where
   pub room : length files < most_files
   pub file : IsFile f
@@ -124,10 +127,11 @@ position_of files name = position (λ f. bytes_eq f.name name) files
 abbrev pub has_folder : List File → List ℕ → Bool
 has_folder files folder = list_any (λ f. lies_in folder f.name) files
 
--- The file of this name stands there, behind those that come before it; or none has it, those before the place come before
--- it and the others after it.
+-- The file of this name stands there, after those that come before it; or none has it, those before the place come
+-- before it and the others after it.
 abbrev pub IsPlace : List File → List ℕ → Result ℕ ℕ → Type 0
 IsPlace files name r = MatchResult r
-    (λ i. (i < length files) × ((file_of files i).name ≡ name) × ((k : ℕ) → k < i → comes_before (file_of files k).name name ≡ true))
+    (λ i. (i < length files) × ((file_of files i).name ≡ name)
+    × ((k : ℕ) → k < i → comes_before (file_of files k).name name ≡ true))
     (λ i. (i ≤ length files) × ((k : ℕ) → k < i → comes_before (file_of files k).name name ≡ true)
     × ((k : ℕ) → i ≤ k → k < length files → comes_before name (file_of files k).name ≡ true))

@@ -1,5 +1,6 @@
 -- What a request asks for, by its method and its target alone.
-use Rattle.std.specs.Prelude.{ℕ, ◌-◌, ◌==◌, ◌&&◌, ◌||◌, not, Bool, true, false, List, [], ◌∷◌, ◌++◌, take, drop, length, map, Option, Some, None, codes, nat_eq, bytes_eq, if◌then◌else◌}
+use Rattle.std.specs.Prelude.{ℕ, ◌-◌, ◌==◌, ◌&&◌, ◌||◌, not, Bool, true, false, List, [], ◌∷◌, ◌++◌, take, drop, length}
+use Rattle.std.specs.Prelude.{map, Option, Some, None, codes, nat_eq, bytes_eq, if◌then◌else◌}
 use Rattle.std.specs.List.{list_any, starts_with, slice_split, before_first, position_or_len}
 use Rattle.std.specs.Option.{option_map}
 use Rattle.std.specs.Char.{is_digit, to_ascii_lowercase}
@@ -17,7 +18,7 @@ abbrev pub is_known : List ℕ → Bool
 is_known method = list_any (bytes_eq method)
     (codes "POST" ∷ codes "PUT" ∷ codes "DELETE" ∷ codes "CONNECT" ∷ codes "OPTIONS" ∷ codes "TRACE" ∷ [])
 
--- what stands behind the authority of a target in absolute form; an authority has at least one byte
+-- what stands after the authority of a target in absolute form; an authority has at least one byte
 abbrev pub is_authority_end : ℕ → Bool
 is_authority_end b = b == slash || b == 63
 
@@ -26,8 +27,8 @@ behind_authority rest =
     if position_or_len is_authority_end rest == 0 then None
     else Some (drop (position_or_len is_authority_end rest) rest)
 
--- The path of a target (RFC 9112, 3.2.1 and 3.2.2; RFC 3986, 3.3 to 3.5). It begins with a slash or is empty, which means
--- the same as a slash. A target with a `#`, or of another form, has none.
+-- The path of a target (RFC 9112, 3.2.1 and 3.2.2; RFC 3986, 3.3 to 3.5). It begins with a slash or is empty, which
+-- means the same as a slash. A target with a `#`, or of another form, has none.
 abbrev pub path_of : List ℕ → Option (List ℕ)
 path_of target =
     if list_any (λ b. b == 35) target then None
@@ -42,12 +43,12 @@ begins_hexadecimal [] = false
 begins_hexadecimal (h ∷ []) = false
 begins_hexadecimal (h ∷ l ∷ bytes) = is_digit h 16 && is_digit l 16
 
--- behind each `%` two hexadecimal digits stand (RFC 3986, 2.1)
+-- after each `%` two hexadecimal digits stand (RFC 3986, 2.1)
 abbrev pub has_good_escapes : List ℕ → Bool
 has_good_escapes [] = true
 has_good_escapes (b ∷ bytes) = (not (b == 37) || begins_hexadecimal bytes) && has_good_escapes bytes
 
--- the segments of a path: what stands between the slashes behind its first byte, each decoded by itself
+-- the segments of a path: what stands between the slashes after its first byte, each decoded by itself
 abbrev pub segments_of : List ℕ → List (List ℕ)
 segments_of path = map percent_decode (slice_split (λ b. b == slash) (drop 1 path))
 
@@ -63,8 +64,8 @@ is_here segment = bytes_eq segment [] || bytes_eq segment (codes ".")
 abbrev pub is_up : List ℕ → Bool
 is_up segment = bytes_eq segment (codes "..")
 
--- The segments from left to right (RFC 3986, 5.2.4, but that nothing is above the root): those kept so far, and whether the
--- last one read stood for a folder. The first fault decides.
+-- The segments from left to right (RFC 3986, 5.2.4, but that nothing is above the root): those kept so far, and whether
+-- the last one read stood for a folder. The first fault decides.
 abbrev pub walked : List (List ℕ) → Bool → List (List ℕ) → Asked
 walked kept folder [] = Path kept folder
 walked kept folder (segment ∷ more) =

@@ -1,5 +1,7 @@
 -- Texts of limited size, read part by part: a byte, a line, a run of bytes whose number is known.
-use Rattle.std.specs.Prelude.{◌≡◌, ℕ, ◌+◌, ◌-◌, ◌==◌, ◌<◌, ◌≤◌, ◌++◌, Bool, true, false, List, [], take, drop, length, Option, Result, Ok, Err, MatchResult, nat_lt, nat_le, if◌then◌else◌, unwrap_or, is_some, slice_index}
+use Rattle.std.specs.Prelude.{◌≡◌, ℕ, ◌+◌, ◌-◌, ◌==◌, ◌<◌, ◌≤◌, ◌++◌, Bool, true, false, List, [], take, drop, length}
+use Rattle.std.specs.Prelude.{Option, Result, Ok, Err, MatchResult, nat_lt, nat_le, if◌then◌else◌, unwrap_or, is_some}
+use Rattle.std.specs.Prelude.{slice_index}
 use Rattle.std.specs.List.{before_first}
 use Rattle.paths.specs.declared.stop.Stop.{Stop}
 use Rattle.paths.specs.declared.stop.Stop.TheVariants.{TooLong, Cut, TooLarge, Read, Memory}
@@ -13,7 +15,7 @@ pub record Ahead : Type 0 where
 abbrev pub front : Ahead → List ℕ
 front a = take a.left a.bytes
 
--- behind the next n bytes
+-- after the next n bytes
 abbrev pub past : ℕ → Ahead → Ahead
 past n a = record { bytes = drop n a.bytes; left = a.left - n }
 
@@ -52,7 +54,8 @@ is_unforeseen _ = false
 
 -- Where the bytes of the input are known, the call gave what f says of what was ahead, and what f leaves is ahead now.
 -- An unforeseen fault is excused.
-abbrev pub Gives : {X E : Type 0} → (E → Bool) → (Ahead → Result (X × Ahead) E) → Option (List ℕ) → ℕ → Option (List ℕ) → ℕ → Result X E → Type 0
+abbrev pub Gives : {X E : Type 0} → (E → Bool) → (Ahead → Result (X × Ahead) E) → Option (List ℕ) → ℕ → Option (List ℕ)
+  → ℕ → Result X E → Type 0
 Gives excused f old left new left_new r = is_some old ≡ true → MatchResult r
     (λ x. (f (ahead_of old left) ≡ Ok (x, ahead_of new left_new)) × (is_some new ≡ true))
     (λ e. excused e ≡ false → f (ahead_of old left) ≡ Err e)
@@ -62,7 +65,8 @@ abbrev pub TakesSome : Option (List ℕ) → ℕ → Option (List ℕ) → ℕ �
 TakesSome old left new left_new room r = MatchResult r
     (λ n. (0 < n) × (n ≤ length room) × (left ≡ n + left_new)
     × (is_some old ≡ true → (unwrap_or old [] ≡ take n room ++ unwrap_or new []) × (is_some new ≡ true)))
-    (λ e. is_some old ≡ true → is_unforeseen e ≡ false → (length (front (ahead_of old left)) ≡ 0) × (e ≡ ended (ahead_of old left)))
+    (λ e. is_some old ≡ true → is_unforeseen e ≡ false → (length (front (ahead_of old left)) ≡ 0)
+    × (e ≡ ended (ahead_of old left)))
 
 -- a room was filled with the next bytes
 abbrev pub Fills : Option (List ℕ) → ℕ → Option (List ℕ) → ℕ → List ℕ → Result Unit Stop → Type 0

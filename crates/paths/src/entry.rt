@@ -3,7 +3,8 @@ ghost use Rattle.std.specs.List.{list_all, list_any, slice_split};
 ghost use Rattle.paths.specs.Texts.{Gives};
 ghost use Rattle.paths.specs.Parts.{FailsWithin};
 ghost use Rattle.paths.specs.Snapshots.{slash, is_name, is_part, FitsName, Follows};
-ghost use Rattle.paths.specs.SnapshotFaults.{CountsKind, is_unforeseen_kind, header_at, name_at, body_at, file_at, announced, entry_at};
+ghost use Rattle.paths.specs.SnapshotFaults.{CountsKind, is_unforeseen_kind, header_at, name_at, body_at, file_at};
+ghost use Rattle.paths.specs.SnapshotFaults.{announced, entry_at};
 
 use crate::bytes::is_text;
 use crate::file::{FileLine, Heading};
@@ -78,7 +79,7 @@ pub(crate) fn read_header<R: Read>(
     }
 }
 
-/// Reads a name of so many bytes that may stand behind those of the snapshot.
+/// Reads a name of so many bytes that may stand after those of the snapshot.
 fn read_name<R: Read>(
     alloc: Global,
     input: &mut Input<R>,
@@ -131,7 +132,7 @@ fn read_body<R: Read>(
     Ok(bytes)
 }
 
-/// Reads the file that a line announced, behind those of the snapshot.
+/// Reads the file that a line announced, after those of the snapshot.
 fn read_file<R: Read>(
     alloc: Global,
     input: &mut Input<R>,
@@ -174,7 +175,8 @@ fn read_announced<R: Read>(
     heading: Heading,
 ) -> Result<Option<File>, SnapshotFaultKind>
     requires { input.old.1 < 2 ^ 64 - 1 }
-    ensures entry { Gives is_unforeseen_kind (announced files.now heading) input.old.0 left.old input.new.0 left.new result }
+    ensures entry { Gives is_unforeseen_kind
+        (announced files.now heading) input.old.0 left.old input.new.0 left.new result }
     // Where a read failed, no whole file had been taken.
     ensures part { FailsWithin SnapshotFaultKind.Read SnapshotFaultKind.Cut (announced files.now heading)
         input.old.0 left.old input.new.0 left.new result }
@@ -196,7 +198,7 @@ fn read_announced<R: Read>(
     }
 }
 
-/// Reads the entry behind the files of the snapshot: a file, or `None` for the last line.
+/// Reads the entry after the files of the snapshot: a file, or `None` for the last line.
 pub(crate) fn read_entry<R: Read>(
     alloc: Global,
     input: &mut Input<R>,

@@ -19,7 +19,7 @@ pub struct FileLine {
     pub len: u64,
 }
 
-/// What a line of a snapshot announces: a file, or the end behind so many files.
+/// What a line of a snapshot announces: a file, or the end after so many files.
 #[derive(Clone, Copy, Debug, PartialEq, Eq)]
 pub enum Heading {
     File(FileLine),

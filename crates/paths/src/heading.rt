@@ -31,8 +31,8 @@ fn owed(front: &[u8]) -> usize
     }
 }
 
-/// Reads the line of an entry of a text that may take `left` more bytes. What the line owes is read at once: bytes behind
-/// a line that announces nothing may have been read too.
+/// Reads the line of an entry of a text that may take `left` more bytes. What the line owes is read at once: bytes
+/// after a line that announces nothing may have been read too.
 pub(crate) fn read_entry_line<R: Read>(input: &mut Input<R>, left: &mut usize) -> Result<Line, Stop>
     requires { input.old.1 < 2 ^ 64 - 1 }
     ensures line { GivesLine input.old.0 left.old input.new.0 left.new result }

@@ -11,7 +11,7 @@ pub fn one_snapshot()
         → IsSnapshotText bytes others → files ≡ others }
 {}
 
-/// Where a prefix of a text is that of a snapshot, it is that of one list of files, and one rest is behind it.
+/// Where a prefix of a text is that of a snapshot, it is that of one list of files, and one rest is after it.
 pub fn one_prefix()
     ensures { (bytes : List ℕ) (files others : List AFile) (rest other : List ℕ) → BeginsWithSnapshot bytes files rest
         → BeginsWithSnapshot bytes others other → (files ≡ others) × (rest ≡ other) }

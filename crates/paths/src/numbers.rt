@@ -2,7 +2,8 @@ ghost use Rattle.std.specs.Prelude.{◌≡◌, ◌==◌, ◌<◌, length, positi
 ghost use Rattle.std.specs.Option.{option_map};
 ghost use Rattle.paths.specs.Numbers.{number_of, number_and_rest, three_numbers};
 
-/// The number of a decimal: `0`, or digits of which the first isn't `0`. One past 64 bits stands as the greatest of 64 bits.
+/// The number of a decimal: `0`, or digits of which the first isn't `0`. One past 64 bits stands as the greatest of 64
+/// bits.
 pub fn number(field: &[u8]) -> Option<u64>
     ensures { result ≡ number_of field.now }
 {

@@ -1,7 +1,8 @@
 ghost use Rattle.std.specs.Prelude.{◌≡◌, ◌<◌, ◌-◌, ◌^◌, ◌++◌, IfOk, IfErr, false, true, Option, ℕ, List, ◌≢◌};
 ghost use Rattle.std.specs.Option.{unwrap_or};
 ghost use Rattle.paths.specs.Parts.{NamesFailed, NamesLacking, FailsInSnapshot, FailsInText};
-ghost use Rattle.paths.specs.SnapshotFaults.{ReadsFront, IsFrontFault, IsFirstFault, ReadsWhole, IsForeseen, CountsFault};
+ghost use Rattle.paths.specs.SnapshotFaults.{ReadsFront, IsFrontFault, IsFirstFault, ReadsWhole, IsForeseen};
+ghost use Rattle.paths.specs.SnapshotFaults.{CountsFault};
 
 use crate::entry::{read_entry, read_header};
 use crate::{Input, Snapshot, SnapshotFault, SnapshotFaultKind};
@@ -14,7 +15,7 @@ const LONGEST_TEXT: usize = 1_073_741_824;
 impl Snapshot {
     /// Reads a snapshot text, to its last line. What follows is left unread, byte for byte.
     ///
-    /// An `Err` names the first fault of the text; the input is left somewhere behind what was read.
+    /// An `Err` names the first fault of the text; the input is left somewhere after what was read.
     pub fn read_front<R: Read>(
         alloc: Global,
         input: &mut Input<R>,
@@ -25,7 +26,7 @@ impl Snapshot {
         // Where a read failed, the fault names the entry of which a part had been taken.
         ensures failed { IfErr result (NamesFailed FailsInSnapshot input.old.0 input.new.0) }
         ensures count { CountsFault input.old.1 input.new.1 result }
-        // Where memory ran out, the fault names an entry behind files that stand whole.
+        // Where memory ran out, the fault names an entry after files that stand whole.
         ensures lacking { IfErr result (NamesLacking input.old.0) }
         // The first line takes no memory.
         ensures memory { IfErr result (λ f. f.entry ≡ 0 → f.kind ≢ SnapshotFaultKind.Memory) }
@@ -52,18 +53,18 @@ impl Snapshot {
         }
     }
 
-    /// Reads a whole snapshot text: the input ends behind its last line.
+    /// Reads a whole snapshot text: the input ends after its last line.
     ///
-    /// An `Err` names the first fault of the text; the input is left somewhere behind what was read.
+    /// An `Err` names the first fault of the text; the input is left somewhere after what was read.
     pub fn read<R: Read>(alloc: Global, input: &mut Input<R>) -> Result<Snapshot, SnapshotFault>
         requires { input.old.1 < 2 ^ 64 - 1 }
         ensures ok { IfOk result (ReadsWhole input.old.0 input.new.0) }
         ensures fault { IfErr result (IsForeseen IsFirstFault input.old.0) }
-        // Where a read failed, the fault names the entry of which a part had been taken, or the one behind the last
+        // Where a read failed, the fault names the entry of which a part had been taken, or the one after the last
         // line.
         ensures failed { IfErr result (NamesFailed FailsInText input.old.0 input.new.0) }
         ensures count { CountsFault input.old.1 input.new.1 result }
-        // Where memory ran out, the fault names an entry behind files that stand whole.
+        // Where memory ran out, the fault names an entry after files that stand whole.
         ensures lacking { IfErr result (NamesLacking input.old.0) }
         // The first line takes no memory.
         ensures memory { IfErr result (λ f. f.entry ≡ 0 → f.kind ≢ SnapshotFaultKind.Memory) }

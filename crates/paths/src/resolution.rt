@@ -1,4 +1,5 @@
-ghost use Rattle.std.specs.Prelude.{◌≡◌, ◌++◌, [], ◌∷◌, true, false, IfOk, OnOk, string_bytes, codes, flat_map, List, ℕ};
+ghost use Rattle.std.specs.Prelude.{◌≡◌, ◌++◌, [], ◌∷◌, true, false, IfOk, OnOk, string_bytes, codes, flat_map, List};
+ghost use Rattle.std.specs.Prelude.{ℕ};
 ghost use Rattle.paths.specs.Snapshots.{slash};
 ghost use Rattle.paths.specs.Targets.{asked};
 ghost use Rattle.paths.specs.Resolution.{IsOutcome, outcome, joined, location, location_byte, slash_before};
@@ -102,7 +103,7 @@ fn join(alloc: Global, segments: &[Bytes]) -> Result<Vec<u8>, AllocError>
     Ok(name)
 }
 
-/// Adds a segment behind a name, and a slash between them where it isn't the first.
+/// Adds a segment after a name, and a slash between them where it isn't the first.
 fn append_segment(name: &mut Vec<u8>, first: bool, segment: &[u8]) -> Result<(), AllocError>
     ensures { OnOk result (name.new.items ≡ name.old.items ++ (slash_before first ++ segment.now)) }
 {
@@ -125,7 +126,7 @@ fn location_of(alloc: Global, segments: &[Bytes]) -> Result<Bytes, AllocError>
     Ok(Bytes::from_vec(to.into_bytes()))
 }
 
-/// Adds a slash and an encoded segment behind a location.
+/// Adds a slash and an encoded segment after a location.
 fn append_encoded(to: &mut String, segment: &[u8]) -> Result<(), AllocError>
     ensures { OnOk result (string_bytes to.new ≡ string_bytes to.old ++ (slash ∷ flat_map location_byte segment.now)) }
 {

@@ -39,7 +39,7 @@ impl Segments {
         self.segments.is_empty()
     }
 
-    /// Adds a segment behind the others.
+    /// Adds a segment after the others.
     pub(crate) fn push(&mut self, segment: Bytes) -> Result<(), AllocError>
         ensures ok { OnOk result (self.new ≡ self.old ++ segment ∷ []) }
         ensures err { OnErr result (self.new ≡ self.old) }

@@ -1,6 +1,7 @@
 ghost use Rattle.std.specs.Prelude.{◌≡◌, ◌<◌, ◌≤◌, ◌++◌, [], ◌∷◌, length, OnOk, OnErr, Option, List, ℕ};
 ghost use Rattle.std.specs.List.{list_all, list_any};
-ghost use Rattle.paths.specs.Snapshots.{file_of, Follows, position_of, has_folder, comes_before, lies_in, slash, IsPlace, IsSnapshot};
+ghost use Rattle.paths.specs.Snapshots.{file_of, Follows, position_of, has_folder, comes_before, lies_in, slash};
+ghost use Rattle.paths.specs.Snapshots.{IsPlace, IsSnapshot};
 ghost use Rattle.paths.specs.Above.{HasNoFileAbove};
 
 use crate::File;
@@ -8,8 +9,8 @@ use crate::bytes::shared_front;
 use std::alloc::{AllocError, Global};
 use std::marker::{Brand, Model};
 
-/// Names a snapshot in types, by the list of its files: what speaks of one snapshot, as a page of one of its files, takes
-/// a type that names it.
+/// Names a snapshot in types, by the list of its files: what speaks of one snapshot, as a page of one of its files,
+/// takes a type that names it.
 pub trait Tree {
     ghost use Rattle.std.specs.Prelude.{List};
     ghost use Rattle.paths.specs.declared.file.File.{File};
@@ -49,7 +50,7 @@ impl Snapshot {
         }
     }
 
-    /// Adds a file behind the others.
+    /// Adds a file after the others.
     pub(crate) fn push(&mut self, file: File) -> Result<(), AllocError>
         requires { Follows self.old file }
         ensures ok { OnOk result (self.new ≡ self.old ++ file ∷ []) }
@@ -142,8 +143,8 @@ impl Snapshot {
         }
     }
 
-    /// Whether a file has the name of a folder in which this name lies. The folders that the last file lies in too aren't
-    /// looked up.
+    /// Whether a file has the name of a folder in which this name lies. The folders that the last file lies in too
+    /// aren't looked up.
     pub(crate) fn has_file_above(&self, name: &[u8]) -> bool
         ensures { result ≡ list_any (λ f. lies_in f.name name.now) self.now }
     {

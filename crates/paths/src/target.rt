@@ -1,18 +1,21 @@
-ghost use Rattle.std.specs.Prelude.{◌≡◌, ◌==◌, ◌||◌, ◌<◌, ◌≤◌, length, position, IfOk, IfSome, OnOk, OnErr, Option, map, List, ℕ, true, [], ◌∷◌};
+ghost use Rattle.std.specs.Prelude.{◌≡◌, ◌==◌, ◌||◌, ◌<◌, ◌≤◌, length, position, IfOk, IfSome, OnOk, OnErr, Option};
+ghost use Rattle.std.specs.Prelude.{map, List, ℕ, true, [], ◌∷◌};
 ghost use Rattle.std.specs.Option.{option_map};
 ghost use Rattle.std.specs.List.{list_any, before_first, slice_split};
 ghost use Rattle.percent_encoding.specs.Percent.{percent_decode};
 ghost use Rattle.paths.specs.Snapshots.{slash};
 ghost use Rattle.paths.specs.Steps.{after_step};
-ghost use Rattle.paths.specs.Targets.{is_served, is_known, path_of, begins_hexadecimal, has_good_escapes, is_nameless, is_here, is_up, walked, asked_by, asked, segments_of, is_authority_end, behind_authority, parts_of};
+ghost use Rattle.paths.specs.Targets.{is_served, is_known, path_of, begins_hexadecimal, has_good_escapes, is_nameless};
+ghost use Rattle.paths.specs.Targets.{is_here, is_up, walked, asked_by, asked, segments_of, is_authority_end};
+ghost use Rattle.paths.specs.Targets.{behind_authority, parts_of};
 
 use crate::bytes::is_text;
 use crate::step::Step;
 use crate::{Asked, Bytes, Segments};
 use std::alloc::{AllocError, Global};
 
-/// What a request asks for, by its method (RFC 9110, 9.1) and its target (RFC 9112, 3.2): first the method is looked at,
-/// then the target, then its segments from left to right.
+/// What a request asks for, by its method (RFC 9110, 9.1) and its target (RFC 9112, 3.2): first the method is looked
+/// at, then the target, then its segments from left to right.
 pub fn inspect(alloc: Global, method: &[u8], target: &[u8]) -> Result<Asked, AllocError>
     ensures { IfOk result (λ a. a ≡ asked method.now target.now) }
 {
@@ -77,7 +80,7 @@ fn authority_end(text: &[u8]) -> Option<usize>
     text.iter().position(|byte| *byte == b'/' || *byte == b'?')
 }
 
-/// What stands behind the authority, where this is not empty.
+/// What stands after the authority, where this is not empty.
 fn behind_authority(text: &[u8]) -> Option<&[u8]>
     ensures { option_map (λ p. p.now) result ≡ behind_authority text.now }
 {
@@ -115,7 +118,7 @@ fn path_of(target: &[u8]) -> Option<&[u8]>
     None
 }
 
-/// Whether two hexadecimal digits stand behind each `%`.
+/// Whether two hexadecimal digits stand after each `%`.
 fn has_good_escapes(path: &[u8]) -> bool
     ensures { result ≡ has_good_escapes path.now }
 {
@@ -160,7 +163,7 @@ fn walk(alloc: Global, path: &[u8]) -> Result<Asked, AllocError>
     })
 }
 
-/// What stands before the first slash, and what stands behind it where there is one.
+/// What stands before the first slash, and what stands after it where there is one.
 fn split_segment(text: &[u8]) -> (&[u8], Option<&[u8]>)
     ensures { slice_split (λ b. b == slash) text.now ≡ result.0.now ∷ parts_of (option_map (λ t. t.now) result.1) }
 {

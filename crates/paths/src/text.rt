@@ -1,4 +1,5 @@
-ghost use Rattle.std.specs.Prelude.{◌≡◌, ℕ, ◌+◌, ◌-◌, ◌<◌, ◌≤◌, ◌==◌, ◌^◌, ◌++◌, [], ◌∷◌, length, nat_lt, IfOk, IfErr, ◌≢◌};
+ghost use Rattle.std.specs.Prelude.{◌≡◌, ℕ, ◌+◌, ◌-◌, ◌<◌, ◌≤◌, ◌==◌, ◌^◌, ◌++◌, [], ◌∷◌, length, nat_lt, IfOk, IfErr};
+ghost use Rattle.std.specs.Prelude.{◌≢◌};
 ghost use Rattle.std.specs.List.{before_first};
 ghost use Rattle.paths.specs.Parts.{FailsAtOnce, FailsWithin};
 ghost use Rattle.paths.specs.Texts.{Gives, Counts, TakesSome, Fills, is_unforeseen, byte_at, line_at, run_at};
@@ -65,8 +66,8 @@ impl Line {
     }
 }
 
-/// Makes one read of a text that may take `left` more bytes, and answers how many came, at least one. Where the text may
-/// take none, one byte further is looked for: the text is too large if it is there, and cut if it is not.
+/// Makes one read of a text that may take `left` more bytes, and answers how many came, at least one. Where the text
+/// may take none, one byte further is looked for: the text is too large if it is there, and cut if it is not.
 pub(crate) fn read_some_of<R: Read>(
     input: &mut Input<R>,
     left: &mut usize,

@@ -66,7 +66,7 @@ answered_not_full terms others input old new before after outcome number known a
       | inr shorter ↦ no_last_line (length a.records) shorter.0 _ shorter.3
     ]
 
--- records that go on behind a fault
+-- records that go on after a fault
 go_on : (v w : Version) (bytes : List ℕ) (s t : ℕ) (rs ss : List Record) (f : CaptureFault) (x y : List ℕ) (xs ys : List Arrival) (more : List Record) → FaultsBehind v bytes s rs f x
     → AreArrivals rs xs → length xs ≤ most_messages → AreArrivals ss ys → most_messages < length ys → IsCapture w t ss → length (records_text w t ss) ≤ longest_text
     → v ≡ w → s ≡ t → ss ≡ rs ++ more → x ≡ flat_map record_text more ++ y → ⊥
@@ -105,7 +105,7 @@ faulty_not_full terms others input ahead old new before after f number known for
 
 -- ---- what is written
 
--- records behind which the same number stands are the same
+-- records after which the same number stands are the same
 same_records : (rs ss : List Record) (x y : List ℕ) → length rs ≡ length ss → Agrees rs x ss y → rs ≡ ss
 same_records rs ss x y e (inl a) =
     let n = ap (λ (l : List Record). length l) a.1 in

@@ -126,7 +126,7 @@ by_last records arrivals last rising arrived = λ k d lt.
     let with = arrived.with k d lt in
     last_latest (ticks_of records) last (ticks_before records a.place) a.origin.tick rising (tick_at records a.place a.origin.tick a.origin.conn with.bytes with.piece)
 
--- a record that comes behind others is no earlier than all that arrived with them
+-- a record that comes after others is no earlier than all that arrived with them
 pub is_later : (v : Version) (start : ℕ) (records : List Record) (arrivals : List Arrival) (r : Record) → IsCapture v start (records ++ r ∷ []) → AreArrivals records arrivals → IsLater r arrivals
 is_later v start records arrivals (Piece tick conn bytes) rules arrived =
     by_last records arrivals tick (subst (λ (ts : List ℕ). AllPairs (λ s t. s ≤ t) ts) (flat_map-append tick_of records (Piece tick conn bytes ∷ [])) rules.rising) arrived

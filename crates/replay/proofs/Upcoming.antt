@@ -268,7 +268,7 @@ answered_now terms messages part old now before after rest behind arrivals more 
     let short : length (take s.count more) ≡ s.count = length-take-le s.count more (omega (arith, below, counted)) in
     (omega (arith, first, later, len, short), part_fits messages part rest behind s.count s.below s.rest_is steps)
 
--- a prefix of what comes next, behind what was served
+-- a prefix of what comes next, after what was served
 pub taken_behind : (k n m : ℕ) (more : List Arrival) → m ≤ n → take (k + m) more ≡ take k more ++ take m (take n (drop k more))
 taken_behind k n m more le = take_add k m more ∙ ap (λ xs. take k more ++ xs) (sym (take_take m n (drop k more) le))
   where

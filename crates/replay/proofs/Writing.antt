@@ -28,7 +28,7 @@ appends_then (Some x) None new a b first second = absurd first
 appends_then (Some x) (Some y) None a b first second = absurd second
 appends_then (Some x) (Some y) (Some z) a b first second = second ∙ ap (λ v. v ++ b) first ∙ append_assoc x a b
 
--- nothing of a text was written, all of its front, and a part of what comes behind
+-- nothing of a text was written, all of its front, and a part of what comes after
 pub part_none : (old : Option (List ℕ)) (text : List ℕ) → AppendsInPart old old text
 part_none old text = (0, appends_none old)
 

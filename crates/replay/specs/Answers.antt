@@ -1,6 +1,7 @@
--- What each message is answered with: by the reference server, which has one thread, no stages and no cache, and takes the
--- messages one after another in the order of their arrival.
-use Rattle.std.specs.Prelude.{ℕ, Bool, true, false, List, length, codes, bytes_eq, nat_le, Option, Some, None, if◌then◌else◌}
+-- What each message is answered with: by the reference server, which has one thread, no stages and no cache, and takes
+-- the messages one after another in the order of their arrival.
+use Rattle.std.specs.Prelude.{ℕ, Bool, true, false, List, length, codes, bytes_eq, nat_le, Option, Some, None}
+use Rattle.std.specs.Prelude.{if◌then◌else◌}
 use Rattle.paths.specs.Snapshots.{file_of}
 use Rattle.paths.specs.Targets.{asked}
 use Rattle.paths.specs.Resolution.{outcome}
@@ -17,7 +18,8 @@ use Rattle.page_cache.specs.Media.{media_of}
 use Rattle.responses.specs.declared.link.Link.{Link}
 use Rattle.responses.specs.declared.link.Link.TheVariants.{Close, KeepAlive, Silent}
 use Rattle.responses.specs.declared.status.Status.{Status}
-use Rattle.responses.specs.declared.status.Status.TheVariants.{BadRequest, NotFound, MethodNotAllowed, ContentTooLarge, NotImplemented, ServiceUnavailable}
+use Rattle.responses.specs.declared.status.Status.TheVariants.{BadRequest, NotFound, MethodNotAllowed, ContentTooLarge}
+use Rattle.responses.specs.declared.status.Status.TheVariants.{NotImplemented, ServiceUnavailable}
 use Rattle.responses.specs.declared.what.What.{What as Given}
 use Rattle.responses.specs.declared.what.What.TheVariants.{Page, Known, Unmodified, Moved, Plain}
 use Rattle.replay.specs.Choices.{Terms}
@@ -37,7 +39,8 @@ is_unmodified None mtime = false
 abbrev pub file_answer : {X : Type 0} → List File → Bool → Option ℕ → ℕ → Given X
 file_answer files head since file =
     if is_unmodified since (file_of files file).mtime then (Unmodified (file_of files file).mtime)
-    else if head then (Known (media_of (file_of files file).name) (length (file_of files file).bytes) (file_of files file).mtime)
+    else if head then (Known (media_of (file_of files file).name) (length (file_of files file).bytes)
+    (file_of files file).mtime)
     else (Page file (file_of files file).mtime)
 
 abbrev pub outcome_answer : {X : Type 0} → List File → Bool → Option ℕ → Outcome → Given X
@@ -58,7 +61,8 @@ answers_head (Bad fault) = false
 
 -- what a message is answered with
 abbrev pub answer : {X : Type 0} → List File → Meaning → Given X
-answer files (Request method target version closing since) = outcome_answer files (is_head method) since (outcome files (asked method target))
+answer files (Request method target version closing since) = outcome_answer files (is_head method) since
+  (outcome files (asked method target))
 answer files (Bad fault) = Plain (fault_status fault)
 
 -- what the reply tells of its connection (RFC 9112, 9.3)
@@ -71,7 +75,8 @@ abbrev pub link_of : Meaning → Link
 link_of (Request method target version closing since) = request_link version closing
 link_of (Bad fault) = Close
 
--- what a message is told: a request that is turned away may come again in so many seconds; each other message is answered
+-- what a message is told: a request that is turned away may come again in so many seconds; each other message is
+-- answered
 abbrev pub given : {X : Type 0} → Terms → Bool → Meaning → Given X
 given terms true what = Plain (ServiceUnavailable terms.retry_after)
 given terms false what = answer terms.files what

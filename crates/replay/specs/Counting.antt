@@ -1,5 +1,6 @@
 -- How many messages there were of each kind, and how long the admitted requests took.
-use Rattle.std.specs.Prelude.{ℕ, ◌+◌, ◌<◌, ◌==◌, Bool, true, false, List, [], ◌∷◌, map, filter, length, count_by, if◌then◌else◌}
+use Rattle.std.specs.Prelude.{ℕ, ◌+◌, ◌<◌, ◌==◌, Bool, true, false, List, [], ◌∷◌, map, filter, length, count_by}
+use Rattle.std.specs.Prelude.{if◌then◌else◌}
 use Rattle.http_requests.specs.declared.messages.What.{What as Meaning}
 use Rattle.http_requests.specs.declared.messages.What.TheVariants.{Request, Bad}
 use Rattle.responses.specs.Replies.{status_of}
@@ -57,8 +58,8 @@ samples_of policies offers = samples (served (decided policies offers))
 abbrev pub decided_in : List Rules → List Offer → ℕ → List Decided
 decided_in policies offers tier = of_tier tier (decided policies offers)
 
--- what became of the requests of one tier: how many were admitted and how many rejected, and the changes of its rate, up to
--- the tick of the last offer of any tier
+-- what became of the requests of one tier: how many were admitted and how many rejected, and the changes of its rate,
+-- up to the tick of the last offer of any tier
 unfoldable pub tally_of : List Rules → List Offer → ℕ → Tally
 tally_of policies offers tier = record {
   admitted = length (served (decided_in policies offers tier));

@@ -19,7 +19,7 @@ decided_totals t samples away = record {
   samples = samples;
 }
 
--- behind these offers the next (one, or none) was decided on: whether it was turned away
+-- after these offers the next (one, or none) was decided on: whether it was turned away
 pub record Decides (offers next : List Offer) (old new : Desk) (away : Bool) : Type 0 where
   pub policies : policies_of new.controller ≡ policies_of old.controller
   pub fits : Fits (offers ++ next) new.controller

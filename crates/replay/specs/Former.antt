@@ -1,6 +1,7 @@
 -- What the reference server did when there was one class of requests and one policy, in the words of that time. It
 -- looks at no tier.
-use Rattle.std.specs.Prelude.{◌≡◌, ℕ, ◌+◌, ◌/◌, ◌<◌, ◌≤◌, ◌==◌, Bool, true, false, List, [], ◌∷◌, ◌++◌, length, take, map, count_by, flat_map, All, Some, slice_get, Option}
+use Rattle.std.specs.Prelude.{◌≡◌, ℕ, ◌+◌, ◌/◌, ◌<◌, ◌≤◌, ◌==◌, Bool, true, false, List, [], ◌∷◌, ◌++◌, length, take}
+use Rattle.std.specs.Prelude.{map, count_by, flat_map, All, Some, slice_get, Option}
 use Rattle.std.specs.List.{list_any, AllPairs}
 use Rattle.std.specs.Io.KnownBytes.{Appends}
 use Rattle.captures.specs.declared.record.Record.{Record}

@@ -20,7 +20,8 @@ abbrev pub sight_after : List File → CostTable → Meaning → Sight → Sight
 sight_after files costs (Bad fault) sight = sight
 sight_after files costs (Request method target version closing since) Unseen = Asked (asked method target)
 sight_after files costs (Request method target version closing since) (Asked a) = Found (outcome files a)
-sight_after files costs (Request method target version closing since) (Found o) = Priced o (service costs o (is_head method) (is_unmodified_file files since o) (length_given files o))
+sight_after files costs (Request method target version closing since) (Found o) = Priced o
+  (service costs o (is_head method) (is_unmodified_file files since o) (length_given files o))
 sight_after files costs (Request method target version closing since) (Priced o cost) = Priced o cost
 
 abbrev pub front_step : List File → CostTable → ℕ → Sighted → Sighted
@@ -30,7 +31,7 @@ front_step files costs k v = record { message = v.message; sight = sight_after f
 abbrev pub unseen : Incoming → Sighted
 unseen message = record { message = message; sight = Unseen }
 
--- what stands for a message behind the last
+-- what stands for a message after the last
 abbrev pub no_message : Incoming
 no_message = record { origin = record { conn = 0; tick = 0; tier = 0 }; what = Bad Block }
 
@@ -49,4 +50,5 @@ front_value files costs message = value_of (front_step files costs) 3 (unseen me
 
 -- the same of the message alone, wherever it came from
 abbrev pub sight_of : List File → CostTable → Meaning → Sight
-sight_of files costs what = sight_after files costs what (sight_after files costs what (sight_after files costs what Unseen))
+sight_of files costs what = sight_after files costs what
+  (sight_after files costs what (sight_after files costs what Unseen))

@@ -58,7 +58,8 @@ OneLimit = (terms : Terms) (input old new other : Option (List ℕ)) (number ano
 
 -- more arrivals change nothing of the numbers and the rejections of those before
 abbrev pub HandledBegin : Type 0
-HandledBegin = (terms : Terms) (arrivals more : List Arrival) → (rest : List Handled) × (handled terms (arrivals ++ more) ≡ handled terms arrivals ++ rest)
+HandledBegin = (terms : Terms) (arrivals more : List Arrival) → (rest : List Handled)
+  × (handled terms (arrivals ++ more) ≡ handled terms arrivals ++ rest)
 
 -- ---- one policy and four
 

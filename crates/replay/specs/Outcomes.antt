@@ -1,5 +1,6 @@
 -- What a replay comes to: its outcome, or a fault, and what it has written.
-use Rattle.std.specs.Prelude.{◌≡◌, ℕ, ◌+◌, ◌<◌, ◌≤◌, ◌⊎◌, Bool, true, false, List, [], ◌++◌, length, take, Option, Result, Err, MatchResult, is_some, unwrap_or}
+use Rattle.std.specs.Prelude.{◌≡◌, ℕ, ◌+◌, ◌<◌, ◌≤◌, ◌⊎◌, Bool, true, false, List, [], ◌++◌, length, take, Option}
+use Rattle.std.specs.Prelude.{Result, Err, MatchResult, is_some, unwrap_or}
 use Rattle.std.specs.Io.KnownBytes.{Appends}
 use Rattle.captures.specs.declared.record.Record.{Record}
 use Rattle.captures.specs.declared.capture_fault.CaptureFault.{CaptureFault}
@@ -33,8 +34,8 @@ capture_fault f = told_as f.kind f
 abbrev pub WhereKnown : Option (List ℕ) → (List ℕ → Type 0) → Type 0
 WhereKnown input P = is_some input ≡ true → P (unwrap_or input [])
 
--- The answer of the reference server to a capture, and that it was written: the input is the text of a capture with this
--- start and these records, of which these are the arrivals; and each was answered, in their order.
+-- The answer of the reference server to a capture, and that it was written: the input is the text of a capture with
+-- this start and these records, of which these are the arrivals; and each was answered, in their order.
 pub record Answers (terms : Terms) (input old new : Option (List ℕ)) (outcome : Outcome) : Type 0 where
   pub version : Version
   pub start : ℕ
@@ -52,7 +53,8 @@ abbrev pub is_memory : CaptureFaultKind → Bool
 is_memory kinds.Memory = true
 is_memory other = false
 
--- what a capture's fault has to say; it is never that of a reader which is out of memory, and the other faults say it of none
+-- what a capture's fault has to say; it is never that of a reader which is out of memory, and the other faults say it
+-- of none
 abbrev pub IfCapture : ReplayFault → (CaptureFault → Type 0) → Type 0
 IfCapture (Capture f) P = (is_memory f.kind ≡ false) × P f
 IfCapture other P = Unit {0}
@@ -98,8 +100,8 @@ pub record Taken (input : Option (List ℕ)) : Type 0 where
   pub size : WhereKnown input (λ bytes. length (records_text version start records) ≤ longest_text)
   pub arrived : AreArrivals records arrivals
 
--- The replay stopped at the record after these: it has written the replies to the messages that arrived with them, and no
--- last line. Where it was a read that failed, nothing that was read after them is a whole record.
+-- The replay stopped at the record after these: it has written the replies to the messages that arrived with them, and
+-- no last line. Where it was a read that failed, nothing that was read after them is a whole record.
 pub record StopsAfter (terms : Terms) (input ahead old new : Option (List ℕ)) (f : CaptureFault) : Type 0 where
   pub taken : Taken input
   pub at : f.at ≡ length taken.records + 1
@@ -113,8 +115,8 @@ pub record StopsAfter (terms : Terms) (input ahead old new : Option (List ℕ)) 
 abbrev pub Stops : Terms → Option (List ℕ) → Option (List ℕ) → Option (List ℕ) → Option (List ℕ) → CaptureFault → Type 0
 Stops terms input ahead old new f = StopsFirst input old new f ⊎ StopsAfter terms input ahead old new f
 
--- The messages that arrived with these records are more than the limit: the replies to those within it were written, and no
--- last line. The number is that of the first beyond it.
+-- The messages that arrived with these records are more than the limit: the replies to those within it were written,
+-- and no last line. The number is that of the first beyond it.
 pub record StopsFull (terms : Terms) (input old new : Option (List ℕ)) (number : ℕ) : Type 0 where
   pub taken : Taken input
   pub beyond : most_messages < length taken.arrivals
@@ -126,7 +128,8 @@ pub record StopsFull (terms : Terms) (input old new : Option (List ℕ)) (number
 abbrev pub AppendsInPart : Option (List ℕ) → Option (List ℕ) → List ℕ → Type 0
 AppendsInPart old new text = (n : ℕ) × Appends old new (take n text)
 
--- A prefix was written of the first line and the replies to the messages, within the limit, that arrived with these records.
+-- A prefix was written of the first line and the replies to the messages, within the limit, that arrived with these
+-- records.
 pub record StopsAmong (terms : Terms) (input old new : Option (List ℕ)) : Type 0 where
   pub taken : Taken input
   pub within : ℕ
@@ -148,7 +151,8 @@ pub record StopsAtEnd (terms : Terms) (input old new : Option (List ℕ)) : Type
 
 -- a replay that was cut short has written a prefix of what was due
 abbrev pub IsCutShort : Terms → Option (List ℕ) → Option (List ℕ) → Option (List ℕ) → Type 0
-IsCutShort terms input old new = AppendsInPart old new first_line ⊎ (StopsAmong terms input old new ⊎ StopsAtEnd terms input old new)
+IsCutShort terms input old new = AppendsInPart old new first_line
+  ⊎ (StopsAmong terms input old new ⊎ StopsAtEnd terms input old new)
 
 -- how often the reader and the writer failed in a call that answered this fault
 abbrev pub reader_failures : ReplayFault → ℕ

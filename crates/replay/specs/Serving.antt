@@ -33,19 +33,22 @@ IsLater (Piece tick conn bytes) arrivals = AreBy tick arrivals
 IsLater (End tick conn) arrivals = Unit {0}
 IsLater (Tier conn tier) arrivals = Unit {0}
 
--- the records of the replies to these messages, which come behind the earlier ones
+-- the records of the replies to these messages, which come after the earlier ones
 abbrev pub records_behind : Terms → ℕ → List Arrival → List Arrival → List ℕ
-records_behind terms start earlier arrivals = flat_map record_text (replies_of terms start (handled_behind terms earlier arrivals))
+records_behind terms start earlier arrivals = flat_map record_text
+  (replies_of terms start (handled_behind terms earlier arrivals))
 
--- they were written, and a front of them was
+-- they were written, and a prefix of them was
 abbrev pub Written : Terms → ℕ → List Arrival → List Arrival → Option (List ℕ) → Option (List ℕ) → Type 0
 Written terms start earlier arrivals old new = Appends old new (records_behind terms start earlier arrivals)
 
 abbrev pub WrittenInPart : Terms → ℕ → List Arrival → List Arrival → Option (List ℕ) → Option (List ℕ) → Type 0
-WrittenInPart terms start earlier arrivals old new = (n : ℕ) × Appends old new (take n (records_behind terms start earlier arrivals))
+WrittenInPart terms start earlier arrivals old new = (n : ℕ)
+  × Appends old new (take n (records_behind terms start earlier arrivals))
 
 -- these records were read, and the messages that arrived with them were answered
-pub record Serves (terms : Terms) (records : List Record) (arrivals : List Arrival) (connections : List Connection) (desk : Desk) : Type 0 where
+pub record Serves (terms : Terms) (records : List Record) (arrivals : List Arrival) (connections : List Connection)
+  (desk : Desk) : Type 0 where
   pub reads : HaveRead records arrivals connections
   pub arrived : AreArrivals records arrivals
   pub stands : Stands terms arrivals desk
@@ -55,14 +58,16 @@ abbrev pub ArriveNext : List Record → List Arrival → List Record → List Ar
 ArriveNext records arrivals rs more = AreArrivals (records ++ rs) (arrivals ++ more)
 
 -- more records were read, and the messages that arrived with them were answered
-pub record ServesMore (terms : Terms) (records : List Record) (arrivals : List Arrival) (rs : List Record) (connections : List Connection) (desk : Desk)
+pub record ServesMore (terms : Terms) (records : List Record) (arrivals : List Arrival) (rs : List Record)
+  (connections : List Connection) (desk : Desk)
     (old new : Option (List ℕ)) : Type 0 where
   pub more : List Arrival
   pub serves : Serves terms (records ++ rs) (arrivals ++ more) connections desk
   pub written : Written terms desk.start arrivals more old new
 
 -- the messages of the next records reach beyond the limit: those within it were answered
-pub record ServesFull (terms : Terms) (start : ℕ) (records : List Record) (arrivals : List Arrival) (rs : List Record) (old new : Option (List ℕ)) : Type 0 where
+pub record ServesFull (terms : Terms) (start : ℕ) (records : List Record) (arrivals : List Arrival) (rs : List Record)
+  (old new : Option (List ℕ)) : Type 0 where
   pub more : List Arrival
   pub arrived : ArriveNext records arrivals rs more
   pub within : ℕ
@@ -71,7 +76,8 @@ pub record ServesFull (terms : Terms) (start : ℕ) (records : List Record) (arr
   pub written : Written terms start arrivals (take within more) old new
 
 -- a prefix was written of the replies to the messages of the next records within the limit
-pub record ServesInPart (terms : Terms) (start : ℕ) (records : List Record) (arrivals : List Arrival) (rs : List Record) (old new : Option (List ℕ)) : Type 0 where
+pub record ServesInPart (terms : Terms) (start : ℕ) (records : List Record) (arrivals : List Arrival) (rs : List Record)
+  (old new : Option (List ℕ)) : Type 0 where
   pub more : List Arrival
   pub arrived : ArriveNext records arrivals rs more
   pub within : ℕ

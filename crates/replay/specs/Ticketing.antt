@@ -23,4 +23,5 @@ AreSighted files costs arrivals sights = sights ≡ map (λ a. front_value files
 -- none of them comes before an earlier one, and each is of some tier
 abbrev pub InTime : List Arrival → List Arrival → Type 0
 InTime earlier [] = Unit {0}
-InTime earlier (a ∷ more) = AreBy a.origin.tick earlier × (a.origin.tick ≤ 1000000000000000) × (a.origin.tier < 4) × InTime (earlier ++ a ∷ []) more
+InTime earlier (a ∷ more) = AreBy a.origin.tick earlier × (a.origin.tick ≤ 1000000000000000) × (a.origin.tier < 4)
+  × InTime (earlier ++ a ∷ []) more

@@ -23,7 +23,8 @@ abbrev pub Waiting : List Record → List Place → Type 0
 Waiting rs places = (c : ℕ) → ((place_at places c).pieces ≡ pieces_to c rs) × ((place_at places c).lists ≡ [])
 
 -- These records come next, after others that were served: their pieces wait at the seats, and came from these origins.
-pub record ComeNext (terms : Terms) (records rs : List Record) (arrivals : List Arrival) (places : List Place) (origins : List Origin) (desk : Desk) : Type 0 where
+pub record ComeNext (terms : Terms) (records rs : List Record) (arrivals : List Arrival) (places : List Place)
+  (origins : List Origin) (desk : Desk) : Type 0 where
   pub serves : Serves terms records arrivals (connections_of places) desk
   pub waiting : Waiting rs places
   pub origins_are : origins ≡ origins_of (tiers_of records) rs
@@ -31,8 +32,9 @@ pub record ComeNext (terms : Terms) (records rs : List Record) (arrivals : List 
   pub rules : IsCapture version desk.start (records ++ rs)
   pub small : sizes_of (records ++ rs) ≤ longest_text
 
--- these messages come next, behind those that were served: they are those of the arrivals, in time
-pub record Upcoming (terms : Terms) (arrivals more : List Arrival) (messages : List Incoming) (desk : Desk) : Type 0 where
+-- these messages come next, after those that were served: they are those of the arrivals, in time
+pub record Upcoming (terms : Terms) (arrivals more : List Arrival) (messages : List Incoming)
+  (desk : Desk) : Type 0 where
   pub stands : Stands terms arrivals desk
   pub are : AreOf more messages
   pub timely : InTime arrivals more

@@ -166,16 +166,19 @@ pub(crate) fn answer_all<F: Tree, W: Write>(
         → Stands (terms_of F.files settings.now) (arrivals ++ arrivals_with place origin messages.now) desk.new) }
     ensures written { OnOk result ((arrivals : List Arrival) (place : ℕ)
         → Stands (terms_of F.files settings.now) arrivals desk.old
-        → Written (terms_of F.files settings.now) desk.old.start arrivals (arrivals_with place origin messages.now) writer.old.0 writer.new.0) }
+        → Written (terms_of F.files settings.now) desk.old.start arrivals
+        (arrivals_with place origin messages.now) writer.old.0 writer.new.0) }
     ensures start { OnOk result (desk.new.start ≡ desk.old.start) }
     ensures many { IfErr result (λ f. IfTooMany f (λ n. (n ≡ MOST_MESSAGES) × (i : ℕ) × (i < length messages.now)
         × (desk.old.totals.answered + i ≡ MOST_MESSAGES)
         × ((arrivals : List Arrival) (place : ℕ) → Stands (terms_of F.files settings.now) arrivals desk.old
-        → Written (terms_of F.files settings.now) desk.old.start arrivals (arrivals_with place origin (take i messages.now)) writer.old.0 writer.new.0))) }
+        → Written (terms_of F.files settings.now) desk.old.start arrivals
+        (arrivals_with place origin (take i messages.now)) writer.old.0 writer.new.0))) }
     ensures part { IfErr result (λ f. IfCutShort f ((i : ℕ) × (i ≤ length messages.now)
         × (desk.old.totals.answered + i ≤ MOST_MESSAGES) × ((arrivals : List Arrival) (place : ℕ)
         → Stands (terms_of F.files settings.now) arrivals desk.old
-        → WrittenInPart (terms_of F.files settings.now) desk.old.start arrivals (arrivals_with place origin (take i messages.now)) writer.old.0 writer.new.0))) }
+        → WrittenInPart (terms_of F.files settings.now) desk.old.start arrivals
+        (arrivals_with place origin (take i messages.now)) writer.old.0 writer.new.0))) }
     ensures failures { CountsBy writer_failures writer.old.1 writer.new.1 result }
     ensures own { IfErr result IsOwn }
 {

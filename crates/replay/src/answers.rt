@@ -112,7 +112,9 @@ pub(crate) fn service_of(
     outcome: &Outcome,
 ) -> u64
     requires { IsOutcome snapshot.now outcome.now }
-    ensures ticks { result ≡ service costs outcome.now head (is_unmodified_file snapshot.now since outcome.now) (length_given snapshot.now outcome.now) }
+    ensures ticks { result
+        ≡ service costs outcome.now head (is_unmodified_file snapshot.now since outcome.now)
+        (length_given snapshot.now outcome.now) }
     ensures range { (1 ≤ result) × (result ≤ 20000000000) }
 {
     match outcome {

@@ -59,7 +59,8 @@ impl<F: Tree, K: Backs> Named for BackItem<F, K> {
     }
 }
 
-/// The steps behind the decision: the page is fetched through a cache that all workers share, and the reply is rendered.
+/// The steps after the decision: the page is fetched through a cache that all workers share, and the reply is
+/// rendered.
 #[derive(Drop)]
 pub struct Back<'a, F: Tree, K: Backs, R: Wait> {
     rt: &'a R,

@@ -44,7 +44,8 @@ pub(crate) fn settle<F: Tree>(
         → Stands (terms_of F.files settings.now) (arrivals ++ a ∷ []) desk.new) }
     ensures slip { IfOk result (λ t. (arrivals : List Arrival) (a : Arrival)
         → Stands (terms_of F.files settings.now) arrivals desk.old → a.origin ≡ origin → a.message.what ≡ what.now
-        → slip_of_ticket t ≡ slip_of (terms_of F.files settings.now) desk.old.start (handled_next (terms_of F.files settings.now) arrivals a)) }
+        → slip_of_ticket t ≡ slip_of (terms_of F.files settings.now) desk.old.start
+        (handled_next (terms_of F.files settings.now) arrivals a)) }
     ensures ready { IfOk result (λ t. is_back F.files (Waits t) ≡ true) }
     ensures start { OnOk result (desk.new.start ≡ desk.old.start) }
     ensures number { OnOk result (desk.new.totals.answered ≡ desk.old.totals.answered + 1) }
@@ -87,7 +88,8 @@ pub(crate) fn decide_all<F: Tree>(
         → Stands (terms_of F.files settings.now) arrivals desk.old
         → AreSighted F.files settings.now.costs more sights.items
         → map slip_of_ticket v.items
-        ≡ map (slip_of (terms_of F.files settings.now) desk.old.start) (handled_behind (terms_of F.files settings.now) arrivals more)) }
+        ≡ map (slip_of (terms_of F.files settings.now) desk.old.start)
+        (handled_behind (terms_of F.files settings.now) arrivals more)) }
     ensures ready { IfOk result (λ v. list_all (λ t. is_back F.files (Waits t)) v.items ≡ true) }
     ensures start { OnOk result (desk.new.start ≡ desk.old.start) }
 {

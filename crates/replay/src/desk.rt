@@ -72,7 +72,8 @@ impl Desk {
         requires sight { sight ≡ sight_of F.files settings.now.costs what.now }
         ensures told { IfOk result (λ due. (offers : List Offer) → Fits offers self.old.controller
             → self.old.totals.samples ≡ samples_of (policies_of self.old.controller) offers
-            → (away : Bool) × Decides offers (offer_at (terms_of F.files settings.now) origin what.now) self.old self.new away
+            → (away : Bool) × Decides offers
+            (offer_at (terms_of F.files settings.now) origin what.now) self.old self.new away
             × (told due ≡ given (terms_of F.files settings.now) away what.now)) }
         ensures due { IfOk result (λ due. is_due F.files due ≡ true) }
         ensures can { IfOk result (λ due. (only_head (answers_head what.now) (told due) && has_location (told due))

@@ -43,7 +43,7 @@ pub(crate) fn write_first_line<W: Write>(writer: &mut Output<W>) -> Result<(), R
     Ok(())
 }
 
-/// Writes the line behind so many replies.
+/// Writes the line after so many replies.
 pub(crate) fn write_last_line<W: Write>(
     alloc: Global,
     writer: &mut Output<W>,
@@ -120,16 +120,19 @@ fn answer_record<F: Tree, W: Write>(
         → AreTiers (records ++ next.now ∷ []) tiers.new) }
     ensures serves { OnOk result ((records : List ARecord) (arrivals : List Arrival) → AreTiers records tiers.old
         → Serves (terms_of F.files settings.now) records arrivals connections.old desk.old
-        → ServesMore (terms_of F.files settings.now) records arrivals (next.now ∷ []) connections.new desk.new writer.old.0 writer.new.0) }
+        → ServesMore (terms_of F.files settings.now) records arrivals
+        (next.now ∷ []) connections.new desk.new writer.old.0 writer.new.0) }
     ensures start { OnOk result (desk.new.start ≡ desk.old.start) }
     ensures many { IfErr result (λ f. IfTooMany f (λ n. (n ≡ MOST_MESSAGES)
         × ((records : List ARecord) (arrivals : List Arrival) → AreTiers records tiers.old
         → Serves (terms_of F.files settings.now) records arrivals connections.old desk.old
-        → ServesFull (terms_of F.files settings.now) desk.old.start records arrivals (next.now ∷ []) writer.old.0 writer.new.0))) }
+        → ServesFull (terms_of F.files settings.now) desk.old.start records arrivals
+        (next.now ∷ []) writer.old.0 writer.new.0))) }
     ensures part { IfErr result (λ f. IfCutShort f ((writer.new.0
         ≡ writer.old.0) ⊎ ((records : List ARecord) (arrivals : List Arrival) → AreTiers records tiers.old
         → Serves (terms_of F.files settings.now) records arrivals connections.old desk.old
-        → ServesInPart (terms_of F.files settings.now) desk.old.start records arrivals (next.now ∷ []) writer.old.0 writer.new.0))) }
+        → ServesInPart (terms_of F.files settings.now) desk.old.start records arrivals
+        (next.now ∷ []) writer.old.0 writer.new.0))) }
     ensures failures { CountsBy writer_failures writer.old.1 writer.new.1 result }
     ensures own { IfErr result IsOwn }
 {
@@ -153,12 +156,12 @@ fn answer_record<F: Tree, W: Write>(
 }
 
 /// Replays a capture on one thread: each message is answered, in the order of their arrival, before the next record is
-/// read. The first line of the replies is written before anything is read, the last one behind the end of the input.
+/// read. The first line of the replies is written before anything is read, the last one after the end of the input.
 ///
 /// # Errors
 ///
-/// `Capture` with the capture's first fault, or where its reader failed; `TooMany` at message 1,048,576, counted from 0;
-/// `Write` where the writer failed; `Memory`. The replies to the messages of earlier records stand.
+/// `Capture` with the capture's first fault, or where its reader failed; `TooMany` at message 1,048,576, counted from
+/// 0; `Write` where the writer failed; `Memory`. The replies to the messages of earlier records stand.
 pub fn plain_replay<F: Tree, R: Read, W: Write>(
     alloc: Global,
     snapshot: &Snapshot,

@@ -143,7 +143,8 @@ fn serve_part<F: Tree + Send + Sync, G: Gate + Sync, T: Threads + Wait + Sync, W
         × (desk.old.totals.answered + i ≤ MOST_MESSAGES)
         × ((arrivals more : List Arrival)
         → Upcoming (terms_of F.files settings.now) arrivals more messages.items desk.old
-        → WrittenInPart (terms_of F.files settings.now) desk.old.start arrivals (take i more) writer.old.0 writer.new.0))) }
+        → WrittenInPart (terms_of F.files settings.now) desk.old.start arrivals
+        (take i more) writer.old.0 writer.new.0))) }
     ensures start { OnOk result (desk.new.start ≡ desk.old.start) }
     ensures failures { CountsBy writer_failures writer.old.1 writer.new.1 result }
     ensures own { IfErr result IsOwn }
@@ -199,7 +200,8 @@ pub(crate) fn serve_parts<
         × (desk.old.totals.answered + i ≤ MOST_MESSAGES)
         × ((arrivals more : List Arrival)
         → Upcoming (terms_of F.files settings.now) arrivals more (joined parts.items) desk.old
-        → WrittenInPart (terms_of F.files settings.now) desk.old.start arrivals (take i more) writer.old.0 writer.new.0))) }
+        → WrittenInPart (terms_of F.files settings.now) desk.old.start arrivals
+        (take i more) writer.old.0 writer.new.0))) }
     ensures start { OnOk result (desk.new.start ≡ desk.old.start) }
     ensures failures { CountsBy writer_failures writer.old.1 writer.new.1 result }
     ensures own { IfErr result IsOwn }

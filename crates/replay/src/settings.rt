@@ -7,7 +7,8 @@ use stage_graph::Plan;
 use std::marker::Model;
 use thiserror::Error;
 
-/// How many steps a request takes before it is decided on: its target is read, looked up, and its service time computed.
+/// How many steps a request takes before it is decided on: its target is read, looked up, and its service time
+/// computed.
 pub const FRONT_STEPS: usize = 3;
 
 /// How many it takes then: its page is fetched, and its reply rendered.
@@ -54,17 +55,33 @@ impl Model for Settings {
 
     ghost Value = { Choice };
 
-    ghost view = { λ s. record { front = s.front; back = s.back; batch = s.batch; cache = s.cache; costs = s.costs; policies = s.policies; retry_after = s.retry_after } };
+    ghost view = { λ s. record {
+      front = s.front;
+      back = s.back;
+      batch = s.batch;
+      cache = s.cache;
+      costs = s.costs;
+      policies = s.policies;
+      retry_after = s.retry_after;
+    } };
 
-    ghost invariant = { λ s. IsChoice (record { front = s.front; back = s.back; batch = s.batch; cache = s.cache; costs = s.costs; policies = s.policies; retry_after = s.retry_after }) };
+    ghost invariant = { λ s. IsChoice (record {
+      front = s.front;
+      back = s.back;
+      batch = s.batch;
+      cache = s.cache;
+      costs = s.costs;
+      policies = s.policies;
+      retry_after = s.retry_after;
+    }) };
 }
 
 impl Settings {
-    /// Settings of these values, or the first that is outside its range. `front` and `back` are the floors of the staged
-    /// engine: how a request's steps are cut into stages, with their workers and queues; `batch` is how many pieces it
-    /// reads at a time (1 to 65,536), `cache` the most bytes of pages that it keeps (up to 1,073,741,824). None of these
-    /// changes an answer. `costs` are the service times, `policies` are those of the tiers 0 to 3, and `retry_after` the
-    /// seconds that a rejected request is told to wait (0 to 86,400).
+    /// Settings of these values, or the first that is outside its range. `front` and `back` are the floors of the
+    /// staged engine: how a request's steps are cut into stages, with their workers and queues; `batch` is how many
+    /// pieces it reads at a time (1 to 65,536), `cache` the most bytes of pages that it keeps (up to 1,073,741,824).
+    /// None of these changes an answer. `costs` are the service times, `policies` are those of the tiers 0 to 3, and
+    /// `retry_after` the seconds that a rejected request is told to wait (0 to 86,400).
     ///
     /// # Errors
     ///
@@ -80,9 +97,25 @@ impl Settings {
         retry_after: u64,
     ) -> Result<Settings, SettingsFault>
         ensures ok { IfOk result (λ s. (s
-            ≡ record { front = front; back = back; batch = batch; cache = cache; costs = costs; policies = policies; retry_after = retry_after }) × (settings_fault s ≡ None)) }
+            ≡ record {
+              front = front;
+              back = back;
+              batch = batch;
+              cache = cache;
+              costs = costs;
+              policies = policies;
+              retry_after = retry_after;
+            }) × (settings_fault s ≡ None)) }
         ensures fault { IfErr result
-            (λ f. settings_fault (record { front = front; back = back; batch = batch; cache = cache; costs = costs; policies = policies; retry_after = retry_after }) ≡ Some f) }
+            (λ f. settings_fault (record {
+              front = front;
+              back = back;
+              batch = batch;
+              cache = cache;
+              costs = costs;
+              policies = policies;
+              retry_after = retry_after;
+            }) ≡ Some f) }
     {
         if front.steps() != FRONT_STEPS {
             return Err(SettingsFault::Front);

@@ -1,7 +1,7 @@
 use stage_graph::Gate;
 
-/// A gate at a floor whose stages come behind other stages, and whose items behind other messages: the gate that it stands
-/// for sees the stages of a request from 0 on, and the messages by their numbers.
+/// A gate at a floor whose stages come after other stages, and whose items after other messages: the gate that it
+/// stands for sees the stages of a request from 0 on, and the messages by their numbers.
 #[derive(Drop)]
 pub(crate) struct Shifted<'a, G> {
     pub gate: &'a G,

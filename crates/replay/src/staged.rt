@@ -26,8 +26,8 @@ use std::io::{Read, Write};
 use std::sync::{Mutex, Wait};
 use std::thread::Threads;
 
-/// Serves a batch whose pieces wait at the seats: the connections are cut in parallel, and their messages answered in the
-/// order of their arrival.
+/// Serves a batch whose pieces wait at the seats: the connections are cut in parallel, and their messages answered in
+/// the order of their arrival.
 fn serve_batch<F: Tree + Send + Sync, G: Gate + Sync, T: Threads + Wait + Sync, W: Write>(
     rt: &T,
     alloc: Global,
@@ -47,7 +47,8 @@ fn serve_batch<F: Tree + Send + Sync, G: Gate + Sync, T: Threads + Wait + Sync, 
     requires failures { writer.old.1 < 2 ^ 64 - 1 }
     ensures serves { IfOk result (λ after. (records rs : List ARecord) (arrivals : List Arrival)
         → ComeNext (terms_of F.files settings.now) records rs arrivals seats origins.now desk.old
-        → ServesMore (terms_of F.files settings.now) records arrivals rs (connections_of after) desk.new writer.old.0 writer.new.0) }
+        → ServesMore (terms_of F.files settings.now) records arrivals rs
+        (connections_of after) desk.new writer.old.0 writer.new.0) }
     ensures idle { IfOk result (Waiting []) }
     ensures start { OnOk result (desk.new.start ≡ desk.old.start) }
     ensures many { IfErr result (λ f. IfTooMany f (λ n. (n ≡ MOST_MESSAGES)
@@ -70,10 +71,10 @@ fn serve_batch<F: Tree + Send + Sync, G: Gate + Sync, T: Threads + Wait + Sync, 
     Ok(seats)
 }
 
-/// Replays a capture through stages of threads: a batch of its pieces at a time is cut, its messages are looked up by the
-/// front floor, decided on in the order of their arrival, and answered by the back floor, with pages from a cache. The
-/// replies of a batch are written before the next batch is read. `gate` sees each message, by its number, enter and leave
-/// each stage, the stages of the back floor numbered behind those of the front floor.
+/// Replays a capture through stages of threads: a batch of its pieces at a time is cut, its messages are looked up by
+/// the front floor, decided on in the order of their arrival, and answered by the back floor, with pages from a cache.
+/// The replies of a batch are written before the next batch is read. `gate` sees each message, by its number, enter and
+/// leave each stage, the stages of the back floor numbered after those of the front floor.
 ///
 /// What is written and answered is what [`plain_replay`](crate::plain_replay) writes and answers.
 ///
@@ -107,8 +108,8 @@ pub fn staged_replay<
     // After a failed write and out of memory, a prefix of what was due stands.
     ensures part { IfErr result (λ f. IfCutShort f
         (IsCutShort (terms_of F.files settings.now) reader.old.0 writer.old.0 writer.new.0)) }
-    // A device is blamed only where it failed in this call. A read that failed may not be told: where the messages before it
-    // are too many, where they can't be written, and where memory runs out.
+    // A device is blamed only where it failed in this call. A read that failed may not be told: where the messages
+    // before it are too many, where they can't be written, and where memory runs out.
     ensures reads { BlamedOnce reader_failures reader.old.1 reader.new.1 result }
     ensures writes { CountsBy writer_failures writer.old.1 writer.new.1 result }
     ensures ok { IfOk result

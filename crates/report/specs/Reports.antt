@@ -1,5 +1,6 @@
 -- The text of a report (docs/FORMATS.md, "Report").
-use Rattle.std.specs.Prelude.{ℕ, ◌+◌, ◌-◌, ◌*◌, ◌/◌, List, [], ◌∷◌, ◌++◌, length, Option, Some, None, codes, decimal, flat_map, slice_get, Bool, nat_lt, if◌then◌else◌}
+use Rattle.std.specs.Prelude.{ℕ, ◌+◌, ◌-◌, ◌*◌, ◌/◌, List, [], ◌∷◌, ◌++◌, length, Option, Some, None, codes, decimal}
+use Rattle.std.specs.Prelude.{flat_map, slice_get, Bool, nat_lt, if◌then◌else◌}
 use Rattle.admission.specs.Percentile.{sorted}
 use Rattle.admission.specs.declared.control.Control.{Control}
 use Rattle.replay.specs.declared.outcome.Outcome.{Outcome}
@@ -55,11 +56,13 @@ shown None = codes "-"
 shown (Some number) = decimal number
 
 abbrev pub percentile_line : ℕ → List ℕ → List ℕ
-percentile_line percent ordered = codes "p" ++ decimal percent ++ codes " " ++ shown (percentile percent ordered) ++ codes "\n"
+percentile_line percent ordered = codes "p" ++ decimal percent ++ codes " " ++ shown (percentile percent ordered)
+  ++ codes "\n"
 
 -- the percentiles of the samples, which are sorted for it
 abbrev pub percentile_lines : List ℕ → List ℕ
-percentile_lines samples = percentile_line 50 (sorted samples) ++ percentile_line 90 (sorted samples) ++ percentile_line 99 (sorted samples)
+percentile_lines samples = percentile_line 50 (sorted samples) ++ percentile_line 90 (sorted samples)
+  ++ percentile_line 99 (sorted samples)
 
 -- the line of the control number k
 abbrev pub control_line : ℕ → Control → List ℕ

@@ -1,6 +1,8 @@
 ghost use Rattle.std.specs.Prelude.{◌≡◌, ◌++◌, ◌≤◌, ◌+◌, OnOk, IfOk};
 ghost use Rattle.std.specs.String.{string_bytes};
-ghost use Rattle.report.specs.Reports.{total_lines, status_line, status_lines, percentile_line, percentile_lines, control_line, control_lines, tier_line, tier_lines, numbered_from, all_tier_lines, reject_lines, report_text};
+ghost use Rattle.report.specs.Reports.{total_lines, status_line, status_lines, percentile_line, percentile_lines};
+ghost use Rattle.report.specs.Reports.{control_line, control_lines, tier_line, tier_lines, numbered_from};
+ghost use Rattle.report.specs.Reports.{all_tier_lines, reject_lines, report_text};
 
 use crate::percentiles::{percentile, sorted};
 use admission::Control;

@@ -1,4 +1,4 @@
--- What stands at a device after a write behind another.
+-- What stands at a device after a write after another.
 use Rattle.std.proofs.Common.{◌≡◌, ℕ, ◌+◌, ◌<◌, List, [], ◌∷◌, ◌++◌, length, take, drop, Option, Some, None, sym, ap, ◌∙◌, arith}
 use Rattle.std.proofs.lemmas.List.{append_assoc, length-append, take-append-le}
 use Rattle.std.proofs.Math.Seq.{take-add, take-append-add}
@@ -15,7 +15,7 @@ appends_then (Some x) (Some y) (Some z) a b first second = second ∙ ap (λ v. 
 pub appends_more : (old mid new : Option (List ℕ)) (bytes : List ℕ) (at n : ℕ) → Appends old mid (take at bytes) → Appends mid new (take n (drop at bytes)) → Appends old new (take (at + n) bytes)
 appends_more old mid new bytes at n first second = rw take-add (appends_then old mid new (take at bytes) (take n (drop at bytes)) first second)
 
--- a write of b behind a stopped: a front of the whole stands there
+-- a write of b after a stopped: a prefix of the whole stands there
 pub stopped_in : (old mid new : Option (List ℕ)) (a b rest whole : List ℕ) → whole ≡ a ++ (b ++ rest) → Appends old mid a → (n : ℕ) × (n < length b) × Appends mid new (take n b)
     → (n : ℕ) × (n < length whole) × Appends old new (take n whole)
 stopped_in old mid new a b rest whole is before stop =

@@ -1,6 +1,7 @@
--- A reply as a client reads it from a connection (RFC 9112): a head by the grammar of `httparse`, and then as many bytes
--- of body as the head tells.
-use Rattle.std.specs.Prelude.{◌≡◌, ℕ, ◌/◌, ◌==◌, ◌||◌, ◌&&◌, nat_lt, Bool, true, false, List, [], ◌∷◌, ◌++◌, length, Option, Some, None, codes, if◌then◌else◌}
+-- A reply as a client reads it from a connection (RFC 9112): a head by the grammar of `httparse`, and then as many
+-- bytes of body as the head tells.
+use Rattle.std.specs.Prelude.{◌≡◌, ℕ, ◌/◌, ◌==◌, ◌||◌, ◌&&◌, nat_lt, Bool, true, false, List, [], ◌∷◌, ◌++◌, length}
+use Rattle.std.specs.Prelude.{Option, Some, None, codes, if◌then◌else◌}
 use Rattle.std.specs.List.{list_all}
 use Rattle.std.specs.Char.{is_ascii_digit}
 use Rattle.std.specs.Str.{str_eq_ignore_ascii_case}
@@ -11,7 +12,8 @@ use Rattle.httparse.specs.Grammar.{Field, field_value, ResponseHead, ReadsRespon
 abbrev pub values_of : List ℕ → List Field → List (List ℕ)
 values_of name [] = []
 values_of name (field ∷ fields) =
-    if str_eq_ignore_ascii_case field.name name then field_value field ∷ values_of name fields else values_of name fields
+    if str_eq_ignore_ascii_case field.name name then field_value field
+    ∷ values_of name fields else values_of name fields
 
 abbrev pub is_given : List (List ℕ) → Bool
 is_given [] = false
@@ -28,8 +30,8 @@ told_length (value ∷ other ∷ values) = None
 abbrev pub is_bodyless : ℕ → Bool
 is_bodyless status = (status / 100 == 1) || (status == 204) || (status == 304)
 
--- How many bytes of body follow a head (RFC 9112, 6.3): none in the answer to HEAD and at a status without; else, with no
--- Transfer-Encoding, as many as Content-Length says. `None`: the head doesn't tell.
+-- How many bytes of body follow a head (RFC 9112, 6.3): none in the answer to HEAD and at a status without; else, with
+-- no Transfer-Encoding, as many as Content-Length says. `None`: the head doesn't tell.
 abbrev pub body_length : Bool → ResponseHead → Option ℕ
 body_length head h =
     if head || is_bodyless (status_code h) then Some 0
@@ -47,8 +49,9 @@ pub record IsHead (code : ℕ) (h : ResponseHead) : Type 0 where
   pub minor : h.minor ≡ 1
   pub status : status_code h ≡ code
 
--- The text is a reply with this status and this body. Whatever follows on the connection, a client reads this reply, and
--- in one way only, and what follows is left: no reply runs into the next.
+-- The text is a reply with this status and this body. Whatever follows on the connection, a client reads this reply,
+-- and in one way only, and what follows is left: no reply runs into the next.
 pub record IsReply (head : Bool) (code : ℕ) (body text : List ℕ) : Type 0 where
   pub read : (h : ResponseHead) × IsHead code h × ((more : List ℕ) → Reads head (text ++ more) h body more)
-  pub alone : (more : List ℕ) (h : ResponseHead) (part rest : List ℕ) → Reads head (text ++ more) h part rest → IsHead code h × (part ≡ body) × (rest ≡ more)
+  pub alone : (more : List ℕ) (h : ResponseHead) (part rest : List ℕ) → Reads head (text ++ more) h part rest
+    → IsHead code h × (part ≡ body) × (rest ≡ more)

@@ -4,13 +4,14 @@ use Rattle.std.specs.Io.KnownBytes.{Appends}
 
 -- the line in front of a reply of so many bytes
 abbrev pub record_line : ℕ → ℕ → ℕ → List ℕ
-record_line number conn len = codes "reply " ++ decimal number ++ codes " " ++ decimal conn ++ codes " " ++ decimal len ++ codes "\n"
+record_line number conn len = codes "reply " ++ decimal number ++ codes " " ++ decimal conn ++ codes " " ++ decimal len
+  ++ codes "\n"
 
--- a reply's record: that line, and the reply with a line feed behind it
+-- a reply's record: that line, and the reply with a line feed after it
 abbrev pub record_text : ℕ × ℕ × List ℕ → List ℕ
 record_text reply = record_line reply.0 reply.1 (length reply.2) ++ reply.2 ++ codes "\n"
 
--- at `Ok` all the bytes were written, at `Err` a front of them and not all
+-- at `Ok` all the bytes were written, at `Err` a prefix of them and not all
 abbrev pub WritesFront : {E : Type 0} → Option (List ℕ) → Option (List ℕ) → Result Unit E → List ℕ → Type 0
 WritesFront old new r bytes = MatchResult r
     (λ _. Appends old new bytes)

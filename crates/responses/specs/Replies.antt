@@ -1,5 +1,6 @@
 -- The text of a reply: a status line, fields in their order, an empty line, a body (RFC 9112, 2.1).
-use Rattle.std.specs.Prelude.{◌≡◌, ℕ, Bool, true, List, [], ◌∷◌, ◌++◌, length, min, Option, Some, None, codes, decimal, flat_map, ⊤, if◌then◌else◌}
+use Rattle.std.specs.Prelude.{◌≡◌, ℕ, Bool, true, List, [], ◌∷◌, ◌++◌, length, min, Option, Some, None, codes, decimal}
+use Rattle.std.specs.Prelude.{flat_map, ⊤, if◌then◌else◌}
 use Rattle.std.specs.Option.{option_map}
 use Rattle.std.specs.List.{list_all}
 use Rattle.paths.specs.Snapshots.{file_of}
@@ -10,7 +11,8 @@ use Rattle.responses.specs.Dates.{imf_date}
 use Rattle.responses.specs.declared.link.Link.{Link}
 use Rattle.responses.specs.declared.link.Link.TheVariants.{Close, KeepAlive, Silent}
 use Rattle.responses.specs.declared.status.Status.{Status}
-use Rattle.responses.specs.declared.status.Status.TheVariants.{BadRequest, NotFound, MethodNotAllowed, ContentTooLarge, NotImplemented, ServiceUnavailable}
+use Rattle.responses.specs.declared.status.Status.TheVariants.{BadRequest, NotFound, MethodNotAllowed, ContentTooLarge}
+use Rattle.responses.specs.declared.status.Status.TheVariants.{NotImplemented, ServiceUnavailable}
 use Rattle.responses.specs.declared.what.What.{What}
 use Rattle.responses.specs.declared.what.What.TheVariants.{Page, Known, Unmodified, Moved, Plain}
 use Rattle.responses.specs.declared.slip.Slip.{Slip}
@@ -97,7 +99,7 @@ connection_of Close = Some (codes "close")
 connection_of KeepAlive = Some (codes "keep-alive")
 connection_of Silent = None
 
--- a field, `Name: value` with CR LF behind it; nothing where it has no value
+-- a field, `Name: value` with CR LF after it; nothing where it has no value
 abbrev pub field_line : List ℕ → Option (List ℕ) → List ℕ
 field_line name None = []
 field_line name (Some value) = name ++ codes ": " ++ value ++ codes "\r\n"
@@ -118,7 +120,8 @@ fields_of files slip =
 -- the status line, the fields, and the empty line that ends them
 abbrev pub head_text : {X : Type 0} → List File → Slip X → List ℕ
 head_text files slip =
-    codes "HTTP/1.1 " ++ status_words slip.what ++ codes "\r\n" ++ flat_map (λ field. field_line field.0 field.1) (fields_of files slip) ++ codes "\r\n"
+    codes "HTTP/1.1 " ++ status_words slip.what ++ codes "\r\n"
+    ++ flat_map (λ field. field_line field.0 field.1) (fields_of files slip) ++ codes "\r\n"
 
 -- the body: none in the answer to HEAD
 abbrev pub body_text : {X : Type 0} → List File → Slip X → List ℕ

@@ -1,7 +1,8 @@
 ghost use Rattle.std.specs.Prelude.{◌≡◌, ◌≤◌, ◌++◌, OnOk, decimal, codes, min};
 ghost use Rattle.std.specs.Option.{option_map};
 ghost use Rattle.responses.specs.Dates.{imf_date};
-ghost use Rattle.responses.specs.Replies.{plain_words, status_words, content_type, content_length, last_modified, location_of, allow_of, retry_after_of, connection_of, field_line};
+ghost use Rattle.responses.specs.Replies.{plain_words, status_words, content_type, content_length, last_modified};
+ghost use Rattle.responses.specs.Replies.{location_of, allow_of, retry_after_of, connection_of, field_line};
 
 use crate::head::{push_date, push_field, push_number};
 use crate::{Link, Status, What};
@@ -55,7 +56,8 @@ pub(crate) fn push_content<F: Tree>(head: &mut Vec<u8>, what: &What<F>) -> Resul
 /// Adds Content-Type and Content-Length of these values.
 fn push_entity(head: &mut Vec<u8>, media: &[u8], len: u64) -> Result<(), AllocError>
     ensures { OnOk result (head.new.items ≡ head.old.items
-        ++ (field_line (codes "Content-Type") (Some media.now) ++ field_line (codes "Content-Length") (Some (decimal len)))) }
+        ++ (field_line (codes "Content-Type") (Some media.now)
+        ++ field_line (codes "Content-Length") (Some (decimal len)))) }
 {
     push_field(head, b"Content-Type", media)?;
     push_number(head, b"Content-Length", len)
@@ -69,7 +71,8 @@ pub(crate) fn push_last_modified<F: Tree>(
 ) -> Result<(), AllocError>
     requires { date ≤ 253402300799 }
     ensures { OnOk result (head.new.items ≡ head.old.items
-        ++ field_line (codes "Last-Modified") (option_map (λ mtime. imf_date (min mtime date)) (last_modified what.now))) }
+        ++ field_line (codes "Last-Modified")
+        (option_map (λ mtime. imf_date (min mtime date)) (last_modified what.now))) }
 {
     match what {
         What::Page { mtime, .. } | What::Known { mtime, .. } | What::Unmodified { mtime } => {

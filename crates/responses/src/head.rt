@@ -6,7 +6,7 @@ use httpdate::HttpDate;
 use itoa::Buffer;
 use std::alloc::AllocError;
 
-/// Adds a field behind a head.
+/// Adds a field after a head.
 pub(crate) fn push_field(head: &mut Vec<u8>, name: &[u8], value: &[u8]) -> Result<(), AllocError>
     ensures { OnOk result (head.new.items ≡ head.old.items ++ field_line name.now (Some value.now)) }
 {

@@ -1,7 +1,7 @@
 /// What a reply tells of its connection (RFC 9112, section 9.3).
 #[derive(Clone, Copy, Debug, PartialEq, Eq)]
 pub enum Link {
-    /// It ends behind this reply.
+    /// It ends after this reply.
     Close,
     /// It goes on, which a client of HTTP/1.0 has to be told.
     KeepAlive,

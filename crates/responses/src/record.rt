@@ -9,10 +9,10 @@ use itoa::Buffer;
 use paths::{Output, Tree};
 use std::io;
 
-/// Room for `reply ` and three numbers of 64 bits, each with a byte behind it.
+/// Room for `reply ` and three numbers of 64 bits, each with a byte after it.
 type Line = ArrayVec<u8, 69>;
 
-/// Adds a number and a byte behind it.
+/// Adds a number and a byte after it.
 fn push_number(line: &mut Line, number: usize, end: u8)
     requires { array_vec_len line.old ≤ 48 }
     ensures text { line.new.items ≡ line.old.items ++ (decimal number ++ end ∷ []) }
@@ -37,7 +37,7 @@ fn record_line(number: usize, conn: usize, len: usize) -> Line
 }
 
 /// Writes the record of a reply: a line with its number, its connection and its length, then the reply and a line feed.
-/// It takes no memory. At an `Err` the writer failed in this call, and a front of the record stands there.
+/// It takes no memory. At an `Err` the writer failed in this call, and a prefix of the record stands there.
 pub fn write_reply<F: Tree, W: io::Write>(
     output: &mut Output<W>,
     reply: &Reply<F>,

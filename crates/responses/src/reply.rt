@@ -1,5 +1,6 @@
 ghost use Rattle.std.specs.Prelude.{◌≡◌, ◌≤◌, ◌+◌, ◌<◌, ◌^◌, ◌++◌, length, IfOk, IfErr, OnOk};
-ghost use Rattle.responses.specs.Replies.{reply_text, head_text, body_text, status_of, OnlyHead, HasLocation, held_body, content_of, note_of, front_text};
+ghost use Rattle.responses.specs.Replies.{reply_text, head_text, body_text, status_of, OnlyHead, HasLocation};
+ghost use Rattle.responses.specs.Replies.{held_body, content_of, note_of, front_text};
 ghost use Rattle.responses.specs.Messages.{IsReply};
 
 use crate::fields::{push_connection, push_content, push_last_modified, push_own, status_words};
@@ -177,7 +178,8 @@ fn with_page<F: Tree>(slip: Slip<F>, front: Vec<u8>) -> Reply<F>
     }
 }
 
-/// The reply of a slip, or the slip again where memory ran out. It asks less than [`render`], and promises the text alone.
+/// The reply of a slip, or the slip again where memory ran out. It asks less than [`render`], and promises the text
+/// alone.
 pub fn try_render<F: Tree>(alloc: Global, slip: Slip<F>) -> Result<Reply<F>, Slip<F>>
     requires date { slip.date ≤ 253402300799 }
     ensures text { IfOk result (λ r. r ≡ (slip.number, slip.conn, reply_text F.files slip)) }

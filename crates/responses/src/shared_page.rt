@@ -31,7 +31,7 @@ impl<F: Tree> SharedPage<F> {
         SharedPage { page }
     }
 
-    /// The fields `Content-Type` and `Content-Length` of the file, each with CR LF behind it.
+    /// The fields `Content-Type` and `Content-Length` of the file, each with CR LF after it.
     pub(crate) fn fields(&self) -> &[u8]
         ensures { result.now ≡ page_fields (file_of F.files self.now) }
     {

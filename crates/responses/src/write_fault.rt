@@ -1,7 +1,7 @@
 use paths::Failed;
 use thiserror::Error;
 
-/// A writer failed. A front of what was to be written stands there.
+/// A writer failed. A prefix of what was to be written stands there.
 #[derive(Clone, Copy, Debug, PartialEq, Eq, Error)]
 #[error("a write failed")]
 pub struct Write;

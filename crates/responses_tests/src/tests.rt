@@ -18,8 +18,18 @@ mod writers;
 const NOW: u64 = 784_111_777;
 
 /// `a.txt`, with `hi` and a line feed, of the time of the replies; `docs/index.html`, a second later; and an empty `e`.
-static FILES: &str =
-    "haboob-snapshot 1\nfile 784111777 5 3\na.txt\nhi\n\nfile 784111778 15 1\ndocs/index.html\nb\nfile 784111777 1 0\ne\n\nend 3\n";
+static FILES: &str = "haboob-snapshot 1\n\
+     file 784111777 5 3\n\
+     a.txt\n\
+     hi\n\
+     \n\
+     file 784111778 15 1\n\
+     docs/index.html\n\
+     b\n\
+     file 784111777 1 0\n\
+     e\n\
+     \n\
+     end 3\n";
 
 /// The snapshot of these files.
 fn snapshot(alloc: Global) -> Result<Snapshot, Fail> {

@@ -49,7 +49,7 @@ give_allowed p n h w number steps known none =
     and_both _ _ (lt-ltb w (workers p) known) (ap is_none none')
 
 module _ {X : Type 0} (mark : X → ℕ × ℕ) (p : Layout) (n : ℕ) (h : List Event) where
-  -- a number is put behind the queue of a stage, as an item is
+  -- a number is put after the queue of a stage, as an item is
   joined_behind : (f : Parts X) (s : State) (k : ℕ) (x : X) (v : List X × ℕ) (number : ℕ)
       → k < length f.queues → k < length s.queues → v ≡ get_or f.queues k ([], 0) → mark x ≡ (number, cut_before p k)
       → ((j : ℕ) → j < stages p → map mark (items_at f j) ≡ map (with_steps (cut_before p j)) (queue_at s j)) → k < stages p

@@ -1,4 +1,6 @@
-use Rattle.std.specs.Prelude.{ℕ, ◌+◌, ◌*◌, Bool, true, false, ◌&&◌, ◌||◌, List, [], ◌∷◌, ◌++◌, length, take, drop, replicate, slice_index_or, slice_set, nat_eq, nat_lt, nat_le, if◌then◌else◌, Option, Some, None, is_some, is_none}
+use Rattle.std.specs.Prelude.{ℕ, ◌+◌, ◌*◌, Bool, true, false, ◌&&◌, ◌||◌, List, [], ◌∷◌, ◌++◌, length, take, drop}
+use Rattle.std.specs.Prelude.{replicate, slice_index_or, slice_set, nat_eq, nat_lt, nat_le, if◌then◌else◌, Option, Some}
+use Rattle.std.specs.Prelude.{None, is_some, is_none}
 use Rattle.std.specs.List.{list_all, range_with_len}
 use Rattle.stage_graph.specs.Layouts.{Layout, stages, workers, stage_at, cut_at, capacity_at, is_last}
 use Rattle.stage_graph.specs.declared.event.Event.{Event}
@@ -77,19 +79,22 @@ opening p n = record {
 abbrev pub feed_cause : Layout → State → Option Cause
 feed_cause p s =
     if s.stopped then Some Stopped
-    else (if is_nil s.backlog then Some Empty else (if nat_le (capacity_at p 0) (length (queue_at s 0)) then Some Full else None))
+    else (if is_nil s.backlog then Some Empty else
+    (if nat_le (capacity_at p 0) (length (queue_at s 0)) then Some Full else None))
 
 abbrev pub take_cause : Layout → State → ℕ → Option Cause
 take_cause p s w =
     if has_left s w then Some Gone
-    else (if is_some (hand_at s w) then Some Busy else (if s.stopped then Some Stopped else (if is_nil (queue_at s (stage_at p w)) then Some Empty else None)))
+    else (if is_some (hand_at s w) then Some Busy else
+    (if s.stopped then Some Stopped else (if is_nil (queue_at s (stage_at p w)) then Some Empty else None)))
 
 -- `steps` are those done to the item: exactly those up to the end of the worker's stage are asked for
 abbrev pub give_cause : Layout → State → ℕ → ℕ → ℕ → Option Cause
 give_cause p s w n steps =
     if is_at (hand_at s w) n && nat_eq steps (cut_at p (stage_at p w))
     then (if is_last p (stage_at p w) then None
-    else (if nat_le (capacity_at p (stage_at p w + 1)) (length (queue_at s (stage_at p w + 1))) then Some Full else None))
+    else (if nat_le (capacity_at p (stage_at p w + 1))
+    (length (queue_at s (stage_at p w + 1))) then Some Full else None))
     else Some NotHeld
 
 abbrev pub back_cause : State → ℕ → ℕ → Option Cause
@@ -98,7 +103,8 @@ back_cause s w n = if is_at (hand_at s w) n then None else Some NotHeld
 abbrev pub leave_cause : Layout → State → ℕ → Option Cause
 leave_cause p s w =
     if has_left s w then Some Gone
-    else (if is_some (hand_at s w) then Some Busy else (if s.stopped || is_drained p s (stage_at p w) then None else Some Early))
+    else (if is_some (hand_at s w) then Some Busy else
+    (if s.stopped || is_drained p s (stage_at p w) then None else Some Early))
 
 abbrev pub halt_cause : State → Option Cause
 halt_cause s = if s.stopped then Some Stopped else None
@@ -107,7 +113,8 @@ halt_cause s = if s.stopped then Some Stopped else None
 -- item that moves. Given by number alone, the item of a give counts as having its stage's steps done.
 abbrev pub is_allowed : Layout → State → Event → Bool
 is_allowed p s (Feed n) = is_none (feed_cause p s) && is_at (first s.backlog) n
-is_allowed p s (Take w n) = nat_lt w (workers p) && (is_none (take_cause p s w) && is_at (first (queue_at s (stage_at p w))) n)
+is_allowed p s (Take w n) = nat_lt w (workers p) &&
+  (is_none (take_cause p s w) && is_at (first (queue_at s (stage_at p w))) n)
 is_allowed p s (Give w n) = nat_lt w (workers p) && is_none (give_cause p s w n (cut_at p (stage_at p w)))
 is_allowed p s (Back w n) = nat_lt w (workers p) && is_none (back_cause s w n)
 is_allowed p s (Leave w) = nat_lt w (workers p) && is_none (leave_cause p s w)
@@ -116,10 +123,12 @@ is_allowed p s Halt = is_none (halt_cause s)
 -- the state after an event that is allowed
 abbrev pub after : Layout → State → Event → State
 after p s (Feed n) = record s { backlog = drop 1 s.backlog; queues = slice_set s.queues 0 (queue_at s 0 ++ n ∷ []) }
-after p s (Take w n) = record s { queues = slice_set s.queues (stage_at p w) (drop 1 (queue_at s (stage_at p w))); hands = slice_set s.hands w (Some n) }
+after p s (Take w n) = record s { queues = slice_set s.queues (stage_at p w)
+  (drop 1 (queue_at s (stage_at p w))); hands = slice_set s.hands w (Some n) }
 after p s (Give w n) =
     if is_last p (stage_at p w) then record s { hands = slice_set s.hands w None; done = slice_set s.done n true }
-    else record s { hands = slice_set s.hands w None; queues = slice_set s.queues (stage_at p w + 1) (queue_at s (stage_at p w + 1) ++ n ∷ []) }
+    else record s { hands = slice_set s.hands w None; queues = slice_set s.queues (stage_at p w + 1)
+      (queue_at s (stage_at p w + 1) ++ n ∷ []) }
 after p s (Back w n) = record s { hands = slice_set s.hands w None; returned = s.returned ++ n ∷ []; stopped = true }
 after p s (Leave w) = record s { left = slice_set s.left w true }
 after p s Halt = record s { stopped = true }

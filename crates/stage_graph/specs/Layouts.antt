@@ -1,4 +1,5 @@
-use Rattle.std.specs.Prelude.{◌≡◌, ℕ, ◌+◌, ◌-◌, ◌<◌, ◌≤◌, Bool, List, [], ◌∷◌, length, slice_index, nat_eq, nat_lt, if◌then◌else◌, true, ◌&&◌, ◌++◌, replicate, nat_le}
+use Rattle.std.specs.Prelude.{◌≡◌, ℕ, ◌+◌, ◌-◌, ◌<◌, ◌≤◌, Bool, List, [], ◌∷◌, length, slice_index, nat_eq, nat_lt}
+use Rattle.std.specs.Prelude.{if◌then◌else◌, true, ◌&&◌, ◌++◌, replicate, nat_le}
 use Rattle.std.specs.List.{list_all}
 use Rattle.std.proofs.Common.{suc}
 

@@ -9,4 +9,5 @@ use Rattle.stage_graph.specs.declared.unrun.Unrun.TheVariants.{Memory, Stopped}
 -- workers left, and that it has a back or the halt.
 abbrev pub IsStopped : Layout → ℕ → Unrun → Type 0
 IsStopped p n Memory = Unit {0}
-IsStopped p n (Stopped h) = (is_legal_from_opening p n h ≡ true) × (all_left (standing p n h) ≡ true) × (has_stop h ≡ true) × KeepsBounds p n h
+IsStopped p n (Stopped h) = (is_legal_from_opening p n h ≡ true) × (all_left (standing p n h) ≡ true)
+  × (has_stop h ≡ true) × KeepsBounds p n h

@@ -42,8 +42,13 @@ pub trait Chain {
     /// Does one more step. `Err` is out of memory, and gives the item back with its number and its steps.
     fn work(&self, item: Self::Item) -> Result<Self::Item, Self::Item>
         requires { Self.Item.done_of item < steps }
-        ensures ok { IfOk result (λ x. (Self.Item.number_of x ≡ Self.Item.number_of item) × (Self.Item.done_of x ≡ Self.Item.done_of item + 1)) }
-        ensures err { IfErr result (λ x. (Self.Item.number_of x ≡ Self.Item.number_of item) × (Self.Item.done_of x ≡ Self.Item.done_of item)) };
+        ensures ok { IfOk result
+            (λ x. (Self.Item.number_of x ≡ Self.Item.number_of item)
+            × (Self.Item.done_of x ≡ Self.Item.done_of item + 1)) }
+        ensures err { IfErr result
+            (λ x. (Self.Item.number_of x ≡ Self.Item.number_of item)
+            × (Self.Item.done_of x ≡ Self.Item.done_of item)) };
 
-    ghost holds: { (x : Self.Item) → content x ≡ value_of step (Self.Item.done_of x) (input_at (Self.Item.number_of x)) };
+    ghost holds: { (x : Self.Item)
+        → content x ≡ value_of step (Self.Item.done_of x) (input_at (Self.Item.number_of x)) };
 }

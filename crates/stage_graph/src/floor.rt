@@ -1,12 +1,17 @@
-ghost use Rattle.std.specs.Prelude.{◌≡◌, ℕ, ◌+◌, ◌<◌, ◌≤◌, List, [], ◌∷◌, ◌++◌, length, IfOk, OnOk, OnErr, IfErr, Some, None, is_some, nat_le, take, map, ◌*◌, ◌^◌, IfSome, true, false};
+ghost use Rattle.std.specs.Prelude.{◌≡◌, ℕ, ◌+◌, ◌<◌, ◌≤◌, List, [], ◌∷◌, ◌++◌, length, IfOk, OnOk, OnErr, IfErr, Some};
+ghost use Rattle.std.specs.Prelude.{None, is_some, nat_le, take, map, ◌*◌, ◌^◌, IfSome, true, false};
 ghost use Rattle.std.specs.Option.{is_none};
 ghost use Rattle.std.specs.List.{list_all, range_with_len};
 ghost use Rattle.stage_graph.specs.Stands.{with_steps, last_cut};
 ghost use Rattle.stage_graph.specs.Steps.{value_of};
 ghost use Rattle.stage_graph.specs.Places.{places_of};
 ghost use Rattle.stage_graph.specs.Counts.{KeepsBounds, takes_of, feeds_of, gives_of};
-ghost use Rattle.stage_graph.specs.Layouts.{Layout, IsPlan, stages, workers, stage_at, cut_at, cut_before, capacity_at, is_last};
-ghost use Rattle.stage_graph.specs.Floors.{standing, queue_at, hand_at, has_left, is_nil, idle_before, is_drained, is_at, first, is_allowed, feed_cause, take_cause, give_cause, back_cause, leave_cause, halt_cause, is_legal_from_opening, all_left, all_done, left_on, has_stop};
+ghost use Rattle.stage_graph.specs.Layouts.{Layout, IsPlan, stages, workers, stage_at, cut_at, cut_before, capacity_at};
+ghost use Rattle.stage_graph.specs.Layouts.{is_last};
+ghost use Rattle.stage_graph.specs.Floors.{standing, queue_at, hand_at, has_left, is_nil, idle_before, is_drained};
+ghost use Rattle.stage_graph.specs.Floors.{is_at, first, is_allowed, feed_cause, take_cause, give_cause, back_cause};
+ghost use Rattle.stage_graph.specs.Floors.{leave_cause, halt_cause, is_legal_from_opening, all_left, all_done, left_on};
+ghost use Rattle.stage_graph.specs.Floors.{has_stop};
 
 mod causes;
 mod events;
@@ -63,7 +68,16 @@ impl<C: Chain, N: RunName> Model for Floor<C, N> {
     ghost view = { λ f. f.history.items };
 
     ghost invariant = { λ f.
-        Stands (λ x. (C.Item.number_of x, C.Item.done_of x)) N.plan N.count f.history.items (record { backlog = f.backlog.items; queues = f.queues.items; hands = f.hands.items; slots = f.slots; returned = f.returned.items; stopped = f.stopped; left = f.left.items })
+        Stands (λ x. (C.Item.number_of x, C.Item.done_of x)) N.plan N.count f.history.items
+        (record {
+          backlog = f.backlog.items;
+          queues = f.queues.items;
+          hands = f.hands.items;
+          slots = f.slots;
+          returned = f.returned.items;
+          stopped = f.stopped;
+          left = f.left.items;
+        })
         × (f.plan ≡ N.plan)
         × (most_events N.plan N.count ≤ vec_capacity f.history)
         × (N.count ≤ vec_capacity f.returned) };
@@ -74,7 +88,8 @@ impl<C: Chain, N: RunName> Floor<C, N> {
     /// calls on it grow. A refusal drops the items.
     pub fn open(alloc: Global, plan: Plan, items: Vec<C::Item>) -> Result<Floor<C, N>, Memory>
         requires plan { plan ≡ N.plan }
-        requires fresh { map (λ x. (C.Item.number_of x, C.Item.done_of x)) items.items ≡ map (with_steps 0) (range_with_len 0 N.count) }
+        requires fresh { map (λ x. (C.Item.number_of x, C.Item.done_of x)) items.items
+            ≡ map (with_steps 0) (range_with_len 0 N.count) }
         ensures { IfOk result (λ f. f ≡ []) }
     {
         let count = items.len();
@@ -126,7 +141,9 @@ impl<C: Chain, N: RunName> Floor<C, N> {
     pub fn close(self) -> Result<Run<C, N>, Unrun>
         requires { all_left (standing N.plan N.count self) ≡ true }
         ensures run { IfOk result (λ r. (r ≡ self) × (all_done (standing N.plan N.count self) ≡ true)) }
-        ensures stopped { IfErr result (λ u. (u ≡ Unrun.Stopped self) × (all_done (standing N.plan N.count self) ≡ false) × (has_stop self ≡ true)) }
+        ensures stopped { IfErr result
+            (λ u. (u ≡ Unrun.Stopped self) × (all_done (standing N.plan N.count self) ≡ false)
+            × (has_stop self ≡ true)) }
         ensures legal { is_legal_from_opening N.plan N.count self ≡ true }
         ensures bounds { KeepsBounds N.plan N.count self }
     {
@@ -191,7 +208,8 @@ impl<C: Chain, N: RunName> Model for Run<C, N> {
 
     ghost invariant = { λ r.
         IsPlan N.plan
-        × (map (λ x. (C.Item.number_of x, C.Item.done_of x)) r.items.items ≡ map (with_steps (last_cut N.plan)) (range_with_len 0 N.count))
+        × (map (λ x. (C.Item.number_of x, C.Item.done_of x)) r.items.items
+        ≡ map (with_steps (last_cut N.plan)) (range_with_len 0 N.count))
         × (is_legal_from_opening N.plan N.count r.history.items ≡ true)
         × (all_left (standing N.plan N.count r.history.items) ≡ true)
         × (all_done (standing N.plan N.count r.history.items) ≡ true) };
@@ -215,8 +233,10 @@ impl<C: Chain, N: RunName> Run<C, N> {
 
     /// The items by number, each with the chain's value of its own input.
     pub fn into_items(self) -> Vec<C::Item>
-        ensures items { map (λ x. (C.Item.number_of x, C.Item.done_of x)) result.items ≡ map (with_steps (last_cut N.plan)) (range_with_len 0 N.count) }
-        ensures values { map C.content result.items ≡ map (λ k. value_of C.step (last_cut N.plan) (C.input_at k)) (range_with_len 0 N.count) }
+        ensures items { map (λ x. (C.Item.number_of x, C.Item.done_of x)) result.items
+            ≡ map (with_steps (last_cut N.plan)) (range_with_len 0 N.count) }
+        ensures values { map C.content result.items
+            ≡ map (λ k. value_of C.step (last_cut N.plan) (C.input_at k)) (range_with_len 0 N.count) }
     {
         let Run { items, .. } = self;
         items
@@ -231,7 +251,7 @@ fn most_events(count: usize, stages: usize, workers: usize) -> Option<usize>
     moves.checked_add(workers)?.checked_add(1)
 }
 
-// Puts a value behind a queue that has room.
+// Puts a value after a queue that has room.
 fn put<T: Drop>(queue: &mut Queue<T>, value: T)
     requires { nat_le queue.old.1 (length queue.old.0) ≡ false }
     ensures { queue.new ≡ (queue.old.0 ++ value ∷ [], queue.old.1) }

@@ -2,7 +2,8 @@ ghost use Rattle.std.specs.Prelude.{◌≡◌, ◌<◌, length, nat_le, nat_eq, 
 ghost use Rattle.stage_graph.specs.Floors.{idle_before};
 ghost use Rattle.stage_graph.specs.Stands.{last_cut};
 ghost use Rattle.stage_graph.specs.PlanFaults.{plan_fault, AnswersFault};
-ghost use Rattle.stage_graph.specs.Layouts.{layout_of, is_rising, are_within, posts_of, IsPlan, stages, workers, stage_at, cut_at, capacity_at};
+ghost use Rattle.stage_graph.specs.Layouts.{layout_of, is_rising, are_within, posts_of, IsPlan, stages, workers};
+ghost use Rattle.stage_graph.specs.Layouts.{stage_at, cut_at, capacity_at};
 
 use stage_queue::Memory;
 use std::alloc::{AllocError, Global};
@@ -25,7 +26,8 @@ impl Model for Plan {
 
     ghost view = { λ p. record { cuts = p.cuts.items; posts = p.posts.items; capacities = p.capacities.items } };
 
-    ghost invariant = { λ p. IsPlan (record { cuts = p.cuts.items; posts = p.posts.items; capacities = p.capacities.items }) };
+    ghost invariant = { λ p. IsPlan
+        (record { cuts = p.cuts.items; posts = p.posts.items; capacities = p.capacities.items }) };
 }
 
 /// Why there is no plan: the first of these, in this order.

@@ -1,4 +1,5 @@
-ghost use Rattle.std.specs.Prelude.{◌≡◌, ℕ, ◌+◌, ◌<◌, ◌≤◌, map, true, OnOk, OnErr, IfOk, IfErr, IfSome, OnSome, IfNone, vec_len, vec_capacity};
+ghost use Rattle.std.specs.Prelude.{◌≡◌, ℕ, ◌+◌, ◌<◌, ◌≤◌, map, true, OnOk, OnErr, IfOk, IfErr, IfSome, OnSome, IfNone};
+ghost use Rattle.std.specs.Prelude.{vec_len, vec_capacity};
 ghost use Rattle.std.specs.List.{range_with_len};
 ghost use Rattle.stage_graph.specs.Layouts.{stages, workers, stage_at, cut_before};
 ghost use Rattle.stage_graph.specs.Floors.{standing, is_legal_from_opening, all_left, all_done};
@@ -63,7 +64,8 @@ pub fn run_floor<
 where
     C::Item: Send,
     requires plan { plan ≡ N.plan }
-    requires fresh { map (λ x. (C.Item.number_of x, C.Item.done_of x)) items.items ≡ map (with_steps 0) (range_with_len 0 N.count) }
+    requires fresh { map (λ x. (C.Item.number_of x, C.Item.done_of x)) items.items
+        ≡ map (with_steps 0) (range_with_len 0 N.count) }
     requires cut { last_cut N.plan ≡ C.steps }
     ensures legal { IfOk result (λ r. is_legal_from_opening N.plan N.count r ≡ true) }
     ensures left { IfOk result (λ r. all_left (standing N.plan N.count r) ≡ true) }
@@ -96,7 +98,8 @@ where
     requires parts { seats.parts ≡ L.parts }
     requires one_each { seats.parts ≡ workers N.plan }
     requires plan { plan ≡ N.plan }
-    requires fresh { map (λ x. (C.Item.number_of x, C.Item.done_of x)) items.items ≡ map (with_steps 0) (range_with_len 0 N.count) }
+    requires fresh { map (λ x. (C.Item.number_of x, C.Item.done_of x)) items.items
+        ≡ map (with_steps 0) (range_with_len 0 N.count) }
     requires cut { last_cut N.plan ≡ C.steps }
     ensures legal { IfOk result (λ r. is_legal_from_opening N.plan N.count r ≡ true) }
     ensures left { IfOk result (λ r. all_left (standing N.plan N.count r) ≡ true) }
@@ -146,7 +149,8 @@ where
         thread::scope_env(),
         rt,
         move |scope| -> (bool, Share<L>)
-            requires { (vec_len seats ≡ workers N.plan) × (back.parts ≡ 0) × (back.amount ≡ 0) × (last_cut N.plan ≡ C.steps) × (vec_len handles ≡ 0) × (workers N.plan ≤ vec_capacity handles) }
+            requires { (vec_len seats ≡ workers N.plan) × (back.parts ≡ 0) × (back.amount ≡ 0)
+                × (last_cut N.plan ≡ C.steps) × (vec_len handles ≡ 0) × (workers N.plan ≤ vec_capacity handles) }
             ensures { (result.1.parts ≡ workers N.plan) × (result.1.amount ≡ workers N.plan) }
         {
             let mut seats = seats;
@@ -217,7 +221,9 @@ fn work_up<C: Chain>(chain: &C, item: C::Item, cut: usize) -> Result<C::Item, C:
     requires { cut ≤ C.steps }
     ensures ok { C.Item.done_of item ≤ cut → IfOk result (λ x. C.Item.done_of x ≡ cut) }
     ensures number { IfOk result (λ x. C.Item.number_of x ≡ C.Item.number_of item) }
-    ensures refused { IfErr result (λ x. (C.Item.number_of x ≡ C.Item.number_of item) × (C.Item.done_of item ≤ C.Item.done_of x) × (C.Item.done_of x < cut)) }
+    ensures refused { IfErr result
+        (λ x. (C.Item.number_of x ≡ C.Item.number_of item) × (C.Item.done_of item ≤ C.Item.done_of x)
+        × (C.Item.done_of x < cut)) }
 {
     let mut item = item;
     for _step in item.done()..cut {

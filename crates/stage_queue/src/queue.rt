@@ -1,4 +1,5 @@
-ghost use Rattle.std.specs.Prelude.{◌≡◌, ◌≤◌, ◌++◌, [], ◌∷◌, length, drop, IfOk, OnOk, IfErr, slice_get, nat_eq, nat_le, is_err};
+ghost use Rattle.std.specs.Prelude.{◌≡◌, ◌≤◌, ◌++◌, [], ◌∷◌, length, drop, IfOk, OnOk, IfErr, slice_get, nat_eq};
+ghost use Rattle.std.specs.Prelude.{nat_le, is_err};
 ghost use Rattle.std.specs.Option.{option_copied};
 
 use crate::Memory;

@@ -1,6 +1,7 @@
 -- The calls on a bucket, and the credit that they leave.
-use Rattle.std.specs.Prelude.{ℕ, ◌+◌, ◌-◌, ◌*◌, min, Bool, false, List, [], ◌∷◌, ◌++◌, nat_lt, if◌then◌else◌, count_by}
-use Rattle.token_bucket.specs.declared.TheConstants.{TOKEN}
+use Rattle.std.specs.Prelude.{ℕ, ◌+◌, ◌-◌, ◌*◌, ◌≤◌, min, Bool, false, List, [], ◌∷◌, ◌++◌, nat_lt, if◌then◌else◌}
+use Rattle.std.specs.Prelude.{count_by}
+use Rattle.token_bucket.specs.Limits.{TOKEN}
 use Rattle.token_bucket.specs.Accrual.{accrual}
 
 -- a call that may change a bucket, `try_take` with its answer: whether it took a token
@@ -67,3 +68,7 @@ least_balance full rate tick (call ∷ calls) =
 -- the credit in units: the least, over each call so far, of the balance of the calls since
 abbrev pub credit_of : Past → ℕ
 credit_of past = least_balance (past.depth * TOKEN) past.rate 0 past.calls
+
+-- a whole token is there
+abbrev pub HasToken : Past → Type 0
+HasToken past = TOKEN ≤ credit_of past

@@ -1,3 +1,4 @@
+pub mod Limits
 pub mod Accrual
 pub mod Calls
 pub mod Standing

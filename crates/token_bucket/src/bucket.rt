@@ -1,5 +1,5 @@
 ghost use Rattle.std.specs.Prelude.{◌≡◌, ◌+◌, ◌-◌, ◌*◌, ◌≤◌, ◌↔◌, min, IsTrue};
-ghost use Rattle.token_bucket.specs.Calls.{Past, Advance, SetRate, TryTake, made, and_then, credit_of};
+ghost use Rattle.token_bucket.specs.Calls.{Past, Advance, SetRate, TryTake, made, and_then, credit_of, HasToken};
 ghost use Rattle.token_bucket.specs.Fits.{Fits};
 
 use crate::{MAX_DEPTH, MAX_RATE, MAX_TICK, TOKEN};
@@ -76,7 +76,7 @@ impl Bucket {
 
     /// Takes a token where a whole one is there, and says whether it did.
     pub fn try_take(&mut self) -> bool
-        ensures taken { (past : Past) → Fits past self.old → (IsTrue result ↔ (TOKEN ≤ credit_of past)) }
+        ensures taken { (past : Past) → Fits past self.old → (IsTrue result ↔ HasToken past) }
         ensures fits { (past : Past) → Fits past self.old → Fits (and_then past (TryTake result)) self.new }
         ensures tick { self.new.tick ≡ self.old.tick }
     {

@@ -1,8 +1,8 @@
 //! Out of memory: `rt try --test --fail-alloc 1..` refuses each growth in turn.
 use crate::{Controller, Decision, Policy};
 
-/// An offer whose growth is refused leaves the controller as it was: offered again, the request has the answer that it would
-/// have had.
+/// An offer whose growth is refused leaves the controller as it was: offered again, the request has the answer that it
+/// would have had.
 #[test]
 fn each_growth_refused(rt: HostRuntime) {
     let policy = Policy::new(2, 1, 700, 1000, 500, 2000, 10, 120, 1000, 90, 10).expect(

@@ -110,8 +110,8 @@ fn accrued(policy: Policy, controls: &[Control], from: u64, to: u64) -> u64 {
     })
 }
 
-/// The credit of a request at this tick: the least over the requests of its tier so far of a full bucket at each, with what
-/// accrued from it on and without the tokens taken from it on.
+/// The credit of a request at this tick: the least over the requests of its tier so far of a full bucket at each, with
+/// what accrued from it on and without the tokens taken from it on.
 fn credit_of(policy: Policy, controls: &[Control], requests: &[Request], offer: (u8, u64)) -> u64 {
     let (tier, tick) = offer;
     let full = policy.depth.saturating_mul(TOKEN);
@@ -177,8 +177,8 @@ fn compare_controls(
     Ok(())
 }
 
-/// Offers 200 requests up to 15 ticks apart in the first `tiers` tiers, and compares each decision and the controls of all
-/// tiers with those of the plain program. Returns how many were turned away.
+/// Offers 200 requests up to 15 ticks apart in the first `tiers` tiers, and compares each decision and the controls of
+/// all tiers with those of the plain program. Returns how many were turned away.
 fn compare(
     rt: &(impl Abort + AllocGlobal),
     policies: [Policy; 4],
@@ -215,7 +215,8 @@ fn compare(
     )
 }
 
-/// A bucket that now and then is empty, and rates that rise and fall. (How many are turned away was worked out by a script.)
+/// A bucket that now and then is empty, and rates that rise and fall. (How many are turned away was worked out by a
+/// script.)
 #[test]
 fn a_window_longer_than_the_controls_are_apart(rt: HostRuntime) -> Result<(), Fail> {
     let policy = Policy::new(

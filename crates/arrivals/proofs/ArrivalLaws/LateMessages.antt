@@ -1,4 +1,4 @@
--- The first message that a text lacks of those of a longer one ends behind the text.
+-- The first message that a text lacks of those of a longer one ends after the text.
 use Rattle.std.proofs.Common.{◌≡◌, ℕ, suc, ◌+◌, ◌<◌, ◌≤◌, ◌⊎◌, inl, inr, Bool, true, false, List, [], ◌∷◌, ◌++◌, length, drop, refl, ap, ◌∙◌, arith, length-drop}
 use Rattle.std.specs.Prelude.{MatchBool}
 use Rattle.std.proofs.lemmas.Bool.{cases_lt}
@@ -13,7 +13,7 @@ front_two : (s : List ℕ) (w : What) (k : ℕ) → (IsWhole s w k ⊎ IsOver s 
 front_two s w k (inl h) = let e = ends_within s h.e h.block.ends in let a = h.k_is in omega (arith, e.0, a)
 front_two s w k (inr h) = let a = h.k_is in omega (arith, a)
 
--- the message at the front of a text stands there without the bytes behind it
+-- the message at the front of a text stands there without the bytes after it
 front_shorter : (s y : List ℕ) (w : What) (k : ℕ) → k ≤ length s → (IsWhole (s ++ y) w k ⊎ IsOver (s ++ y) w k) → (IsWhole s w k ⊎ IsOver s w k)
 front_shorter s y w k le (inl h) =
     let is = h.k_is in
@@ -40,7 +40,7 @@ front_shorter s y w k le (inr h) =
       within = omega (arith, is, le);
     })
 
--- nor does the message behind the empty lines need them
+-- nor does the message after the empty lines need them
 pub next_shorter : (r y : List ℕ) (w : What) (k : ℕ) → k ≤ length r → IsNext (r ++ y) w k → IsNext r w k
 next_shorter r y w k le h =
     let is = h.k_is in
@@ -54,12 +54,12 @@ next_shorter r y w k le h =
       front = front_shorter (drop (blank_len r) r) y w h.j rest (rw (← front_kept r y, ← same) h.front);
     }
 
--- the first of these messages ends behind the place n
+-- the first of these messages ends after the place n
 abbrev pub IsLate : ℕ → List Message → Type 0
 IsLate n [] = Unit {0}
 IsLate n (m ∷ ms) = n < m.end
 
--- the step behind a first message, which closes or doesn't
+-- the step after a first message, which closes or doesn't
 late_after : (b : Bool) (p k l : ℕ) (r s y : List ℕ) (ms more : List Message) → k ≡ l → k ≤ length r → s ≡ r ++ y
     → (Messages (p + k) (drop k r) ms → Messages (p + k) (drop k r ++ y) (ms ++ more) → IsLate (p + k + length (drop k r)) more)
     → MatchBool b (ms ≡ []) (Messages (p + k) (drop k r) ms) → MatchBool b (ms ++ more ≡ []) (Messages (p + l) (drop l s) (ms ++ more)) → IsLate (p + length r) more
@@ -72,7 +72,7 @@ late_after false p k l r s y ms (n ∷ more) kl le sy u g h =
     let d = length-drop k r in
     omega (arith, late, d, le)
 
--- the messages that a text lacks begin with one that ends behind it
+-- the messages that a text lacks begin with one that ends after it
 pub messages_late : (p : ℕ) (r y : List ℕ) (ms more : List Message) → Messages p r ms → Messages p (r ++ y) (ms ++ more) → IsLate (p + length r) more
 messages_late p r y [] [] g h = tt
 messages_late p r y [] (n ∷ more) g h = elim (cases_lt (length r) h.0) [

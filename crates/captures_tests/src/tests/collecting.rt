@@ -1,5 +1,5 @@
-//! A caller of the reader, who collects the records. What it promises follows from the reader's clauses alone: the bytes of
-//! the input were the text of just these records, or the fault is the first of the text.
+//! A caller of the reader, who collects the records. What it promises follows from the reader's clauses alone: the
+//! bytes of the input were the text of just these records, or the fault is the first of the text.
 ghost use Rattle.std.specs.Prelude.{◌≡◌, ◌<◌, ◌-◌, ◌^◌, [], true, IfOk, IfErr};
 ghost use Rattle.std.specs.Option.{is_some, unwrap_or};
 ghost use Rattle.captures.specs.Captures.{IsCaptureText};
@@ -16,7 +16,8 @@ pub fn collect<R: Read>(
     input: &mut Input<R>,
 ) -> Result<(Version, u64, Vec<Record>), CaptureFault>
     requires { input.old.1 < 2 ^ 64 - 1 }
-    ensures ok { IfOk result (λ all. is_some input.old.0 ≡ true → IsCaptureText all.0 (unwrap_or input.old.0 []) all.1 all.2.items) }
+    ensures ok { IfOk result
+        (λ all. is_some input.old.0 ≡ true → IsCaptureText all.0 (unwrap_or input.old.0 []) all.1 all.2.items) }
     ensures fault { IfErr result (IsForeseen IsFirstFault input.old.0) }
     ensures count { CountsFault input.old.1 input.new.1 result }
 {

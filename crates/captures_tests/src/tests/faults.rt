@@ -13,12 +13,35 @@ use std::io::Read;
 fn capture_faults(rt: HostRuntime) {
     let table: [(&[u8], usize, Kind); 6] = [
         (
-            b"haboob-capture 1 0\npiece 0 0 32\nGET /a.txt HTTP/1.1\r\nHost: a\r\n\r\n\npiece 0 1 32\nGET /a.txt HTTP/1.1\r\nHost: a\r\n\r\n\npiece 0 2 32\nGET /a.txt",
+            b"haboob-capture 1 0\n\
+              piece 0 0 32\n\
+              GET /a.txt HTTP/1.1\r\n\
+              Host: a\r\n\
+              \r\n\
+              \n\
+              piece 0 1 32\n\
+              GET /a.txt HTTP/1.1\r\n\
+              Host: a\r\n\
+              \r\n\
+              \n\
+              piece 0 2 32\n\
+              GET /a.txt",
             3,
             Kind::Cut,
         ),
         (
-            b"haboob-capture 1 0\npiece 7 0 32\nGET /a.txt HTTP/1.1\r\nHost: a\r\n\r\n\npiece 6 1 32\nGET /a.txt HTTP/1.1\r\nHost: a\r\n\r\n\nstop 2\n",
+            b"haboob-capture 1 0\n\
+              piece 7 0 32\n\
+              GET /a.txt HTTP/1.1\r\n\
+              Host: a\r\n\
+              \r\n\
+              \n\
+              piece 6 1 32\n\
+              GET /a.txt HTTP/1.1\r\n\
+              Host: a\r\n\
+              \r\n\
+              \n\
+              stop 2\n",
             2,
             Kind::Tick,
         ),
@@ -44,7 +67,7 @@ fn capture_faults(rt: HostRuntime) {
     }
 }
 
-/// First lines, each with what is behind it.
+/// First lines, each with what is after it.
 #[test]
 fn first_lines(rt: HostRuntime) {
     let table: [(&[u8], Kind); 14] = [
@@ -74,7 +97,7 @@ fn first_lines(rt: HostRuntime) {
     }
 }
 
-/// Lines behind `haboob-capture 1 0` and `piece 5 3 1`, and what they are at fault.
+/// Lines after `haboob-capture 1 0` and `piece 5 3 1`, and what they are at fault.
 #[test]
 fn malformed_lines(rt: HostRuntime) {
     let table: [(&[u8], Kind); 30] = [
@@ -120,7 +143,7 @@ fn malformed_lines(rt: HostRuntime) {
     }
 }
 
-/// What comes behind the end of a connection.
+/// What comes after the end of a connection.
 #[test]
 fn behind_an_end(rt: HostRuntime) {
     let table: [(&[u8], Option<CaptureFault>); 4] = [
@@ -143,11 +166,33 @@ fn behind_an_end(rt: HostRuntime) {
     }
 }
 
-static PIPELINED_CLOSE: &str =
-    "haboob-capture 1 784111777\npiece 0 0 115\nGET /a.txt HTTP/1.1\r\nHost: a\r\n\r\nGET /a.txt HTTP/1.1\r\nHost: a\r\nConnection: close\r\n\r\nGET /a.txt HTTP/1.1\r\nHost: a\r\n\r\n\nstop 1\n";
+static PIPELINED_CLOSE: &str = "haboob-capture 1 784111777\n\
+     piece 0 0 115\n\
+     GET /a.txt HTTP/1.1\r\n\
+     Host: a\r\n\
+     \r\n\
+     GET /a.txt HTTP/1.1\r\n\
+     Host: a\r\n\
+     Connection: close\r\n\
+     \r\n\
+     GET /a.txt HTTP/1.1\r\n\
+     Host: a\r\n\
+     \r\n\
+     \n\
+     stop 1\n";
 
-static TWO_CONNECTIONS: &str =
-    "haboob-capture 1 784111777\npiece 7 9 32\nGET /a.txt HTTP/1.1\r\nHost: a\r\n\r\n\npiece 7 2 32\nGET /a.txt HTTP/1.1\r\nHost: a\r\n\r\n\nstop 2\n";
+static TWO_CONNECTIONS: &str = "haboob-capture 1 784111777\n\
+     piece 7 9 32\n\
+     GET /a.txt HTTP/1.1\r\n\
+     Host: a\r\n\
+     \r\n\
+     \n\
+     piece 7 2 32\n\
+     GET /a.txt HTTP/1.1\r\n\
+     Host: a\r\n\
+     \r\n\
+     \n\
+     stop 2\n";
 
 /// The record of which a byte is the first that is missing, where records begin at these places.
 fn cut_record(end: usize, first: usize, second: usize, third: usize) -> usize {
@@ -216,7 +261,7 @@ fn fault_in(answer: Result<Option<Record>, CaptureFault>) -> Option<CaptureFault
     }
 }
 
-/// The first two answers behind the first line.
+/// The first two answers after the first line.
 fn two_answers<R: Read>(
     alloc: Global,
     input: &mut Input<R>,

@@ -3,8 +3,8 @@ use crate::tests::{is_end, is_piece};
 use captures::{CaptureFaultKind as Kind, CaptureReader};
 use paths::Input;
 
-/// Only a piece takes memory. A growth that is refused is answered so, with the record, and then again; else the answers
-/// are right.
+/// Only a piece takes memory. A growth that is refused is answered so, with the record, and then again; else the
+/// answers are right.
 #[test]
 fn each_growth_refused(rt: HostRuntime) {
     let text = b"haboob-capture 1 0\npiece 0 1 2\nhi\nend 0 1\nstop 2\n";

@@ -41,8 +41,16 @@ fn empty_capture(rt: HostRuntime) -> Result<(), Fail> {
 /// Each number at its limit, an end without pieces, and bytes that look like records.
 #[test]
 fn limits(rt: HostRuntime) -> Result<(), Fail> {
-    let text =
-        b"haboob-capture 1 4102444800\nend 0 7\npiece 0 4095 7\nstop 0\n\npiece 1000000000000000 0 1\n\n\nend 1000000000000000 4095\nstop 4\n";
+    let text = b"haboob-capture 1 4102444800\n\
+          end 0 7\n\
+          piece 0 4095 7\n\
+          stop 0\n\
+          \n\
+          piece 1000000000000000 0 1\n\
+          \n\
+          \n\
+          end 1000000000000000 4095\n\
+          stop 4\n";
     let mut input = Input::new(text.as_slice());
     let (version, start, records) = collect(rt.alloc(), &mut input)?;
     assert_eq!(rt; version, Version::One);

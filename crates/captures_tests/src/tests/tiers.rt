@@ -10,8 +10,19 @@ use std::test::Fail;
 /// A request of 32 bytes.
 static A: &str = "GET /a.txt HTTP/1.1\r\nHost: a\r\n\r\n";
 
-static TWO_TIERS: &str =
-    "haboob-capture 2 784111777\ntier 1 1\npiece 0 0 32\nGET /a.txt HTTP/1.1\r\nHost: a\r\n\r\n\npiece 0 1 32\nGET /a.txt HTTP/1.1\r\nHost: a\r\n\r\n\nstop 3\n";
+static TWO_TIERS: &str = "haboob-capture 2 784111777\n\
+     tier 1 1\n\
+     piece 0 0 32\n\
+     GET /a.txt HTTP/1.1\r\n\
+     Host: a\r\n\
+     \r\n\
+     \n\
+     piece 0 1 32\n\
+     GET /a.txt HTTP/1.1\r\n\
+     Host: a\r\n\
+     \r\n\
+     \n\
+     stop 3\n";
 
 #[test]
 fn two_tiers(rt: HostRuntime) -> Result<(), Fail> {

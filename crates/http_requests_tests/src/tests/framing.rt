@@ -38,7 +38,16 @@ static TEXTS: [(&str, &str); 16] = [
     ),
     // Nothing is read after a message that closes.
     (
-        "GET /a.txt HTTP/1.1\r\nHost: a\r\n\r\nGET /a.txt HTTP/1.1\r\nHost: a\r\nConnection: close\r\n\r\nGET /a.txt HTTP/1.1\r\nHost: a\r\n\r\n",
+        "GET /a.txt HTTP/1.1\r\n\
+         Host: a\r\n\
+         \r\n\
+         GET /a.txt HTTP/1.1\r\n\
+         Host: a\r\n\
+         Connection: close\r\n\
+         \r\n\
+         GET /a.txt HTTP/1.1\r\n\
+         Host: a\r\n\
+         \r\n",
         "32 GET /a.txt 1.1 open\n83 GET /a.txt 1.1 close\n",
     ),
     (
@@ -51,7 +60,17 @@ static TEXTS: [(&str, &str); 16] = [
         "55 POST /a.txt 1.1 open\n87 GET /a.txt 1.1 open\n",
     ),
     (
-        "POST /a.txt HTTP/1.1\r\nHost: a\r\nContent-Length: 31\r\n\r\nGET /no HTTP/1.1\r\nHost: a\r\n\r\n\r\nGET /a.txt HTTP/1.1\r\nHost: a\r\n\r\n",
+        "POST /a.txt HTTP/1.1\r\n\
+         Host: a\r\n\
+         Content-Length: 31\r\n\
+         \r\n\
+         GET /no HTTP/1.1\r\n\
+         Host: a\r\n\
+         \r\n\
+         \r\n\
+         GET /a.txt HTTP/1.1\r\n\
+         Host: a\r\n\
+         \r\n",
         "84 POST /a.txt 1.1 open\n116 GET /a.txt 1.1 open\n",
     ),
     (
@@ -59,11 +78,25 @@ static TEXTS: [(&str, &str); 16] = [
         "56 BodySize\n",
     ),
     (
-        "POST /a.txt HTTP/1.1\r\nHost: a\r\nContent-Length: 2\r\nConnection: close\r\n\r\nabGET /a.txt HTTP/1.1\r\nHost: a\r\n\r\n",
+        "POST /a.txt HTTP/1.1\r\n\
+         Host: a\r\n\
+         Content-Length: 2\r\n\
+         Connection: close\r\n\
+         \r\n\
+         abGET /a.txt HTTP/1.1\r\n\
+         Host: a\r\n\
+         \r\n",
         "73 POST /a.txt 1.1 close\n",
     ),
     (
-        "HEAD /a.txt HTTP/1.0\r\nConnection: Keep-Alive\r\n\r\nGET /a.txt HTTP/1.0\r\n\r\nGET /a.txt HTTP/1.1\r\nHost: a\r\n\r\n",
+        "HEAD /a.txt HTTP/1.0\r\n\
+         Connection: Keep-Alive\r\n\
+         \r\n\
+         GET /a.txt HTTP/1.0\r\n\
+         \r\n\
+         GET /a.txt HTTP/1.1\r\n\
+         Host: a\r\n\
+         \r\n",
         "48 HEAD /a.txt 1.0 open\n71 GET /a.txt 1.0 close\n",
     ),
 ];

@@ -2,8 +2,18 @@
 use http_requests::{Cutter, Message, Version, What};
 use std::test::Fail;
 
-static TEXT: &str =
-    "GET /a HTTP/1.1\r\nHost: a\r\n\r\nPOST /b HTTP/1.1\r\nHost: a\r\nContent-Length: 1\r\n\r\nxGET /c HTTP/1.1\r\nHost: a\r\nIf-Modified-Since: Sun, 06 Nov 1994 08:49:37 GMT\r\nConnection: close\r\n\r\n";
+static TEXT: &str = "GET /a HTTP/1.1\r\n\
+     Host: a\r\n\
+     \r\n\
+     POST /b HTTP/1.1\r\n\
+     Host: a\r\n\
+     Content-Length: 1\r\n\
+     \r\n\
+     xGET /c HTTP/1.1\r\n\
+     Host: a\r\n\
+     If-Modified-Since: Sun, 06 Nov 1994 08:49:37 GMT\r\n\
+     Connection: close\r\n\
+     \r\n";
 
 /// A message of the text, apart from its version, which is 1.1.
 struct Want {

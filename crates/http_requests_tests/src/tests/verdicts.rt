@@ -309,7 +309,11 @@ static DATES: [(&str, &str); 26] = [
         "GET / 1.1 open",
     ),
     (
-        "GET / HTTP/1.1\r\nHost: a\r\nIf-Modified-Since: Sun, 06 Nov 1994 08:49:37 GMT\r\nIf-Modified-Since: Sun, 06 Nov 1994 08:49:37 GMT\r\n\r\n",
+        "GET / HTTP/1.1\r\n\
+         Host: a\r\n\
+         If-Modified-Since: Sun, 06 Nov 1994 08:49:37 GMT\r\n\
+         If-Modified-Since: Sun, 06 Nov 1994 08:49:37 GMT\r\n\
+         \r\n",
         "GET / 1.1 open",
     ),
     (

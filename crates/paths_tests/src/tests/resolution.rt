@@ -97,7 +97,7 @@ fn resolution_table(rt: HostRuntime) -> Result<(), Fail> {
     check_all(&rt, &files, "HEAD", &TARGETS)
 }
 
-/// The target is looked at behind the method alone.
+/// The target is looked at after the method alone.
 static METHODS: [(&str, &str); 11] = [
     ("POST", "NotAllowed"),
     ("PUT", "NotAllowed"),
@@ -121,8 +121,20 @@ fn methods(rt: HostRuntime) -> Result<(), Fail> {
     Ok(())
 }
 
-static FOLDERS: &str =
-    "haboob-snapshot 1\nfile 0 15 0\ndocs/index.html\n\nfile 0 7 0\ndocs0/x\n\nfile 0 10 0\nindex.html\n\nfile 0 7 0\nv-\x20\u{e9}/y\n\nend 4\n";
+static FOLDERS: &str = "haboob-snapshot 1\n\
+     file 0 15 0\n\
+     docs/index.html\n\
+     \n\
+     file 0 7 0\n\
+     docs0/x\n\
+     \n\
+     file 0 10 0\n\
+     index.html\n\
+     \n\
+     file 0 7 0\n\
+     v-\x20\u{e9}/y\n\
+     \n\
+     end 4\n";
 
 static FOLDER_TARGETS: [(&str, &str); 11] = [
     ("/docs", "Move /docs/"),

@@ -14,7 +14,7 @@ use std::sync::Wait;
 use std::test::Fail;
 use std::thread::Threads;
 
-/// A reader over memory that gives at most 16 bytes a read, and fails behind so many reads.
+/// A reader over memory that gives at most 16 bytes a read, and fails after so many reads.
 #[derive(Drop)]
 struct Flaky<'a> {
     bytes: &'a [u8],
@@ -34,7 +34,7 @@ impl<'a> Read for Flaky<'a> {
     }
 }
 
-/// A writer over memory that takes at most 16 bytes a write, and fails behind so many writes.
+/// A writer over memory that takes at most 16 bytes a write, and fails after so many writes.
 #[derive(Drop)]
 struct Slow<'a> {
     taken: &'a mut Vec<u8>,
@@ -57,10 +57,19 @@ impl<'a> Write for Slow<'a> {
     }
 }
 
-static WANT: &str =
-    "haboob-replies 1\nreply 0 0 150\nHTTP/1.1 200 OK\r\nDate: Sun, 06 Nov 1994 08:49:37 GMT\r\nContent-Type: text/plain\r\nContent-Length: 3\r\nLast-Modified: Sun, 06 Nov 1994 08:49:37 GMT\r\n\r\nhi\n\nstop 1\n";
+static WANT: &str = "haboob-replies 1\n\
+     reply 0 0 150\n\
+     HTTP/1.1 200 OK\r\n\
+     Date: Sun, 06 Nov 1994 08:49:37 GMT\r\n\
+     Content-Type: text/plain\r\n\
+     Content-Length: 3\r\n\
+     Last-Modified: Sun, 06 Nov 1994 08:49:37 GMT\r\n\
+     \r\n\
+     hi\n\
+     \n\
+     stop 1\n";
 
-/// Replays with devices that fail behind so many calls; whether the replay came to its end.
+/// Replays with devices that fail after so many calls; whether the replay came to its end.
 fn ends(
     rt: &(impl Abort + AllocGlobal + Threads + Wait + Sync),
     engine: Engine,

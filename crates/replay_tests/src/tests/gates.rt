@@ -40,8 +40,8 @@ fn unit_of(stage: usize, number: usize) -> u64 {
 /// Each of the two messages once at each of the five stages.
 const EACH_ONCE: u64 = 0o01_01_01_01_01_01_01_01_01_01;
 
-/// Counts the messages that enter and leave each stage, and holds message 0 in the first until message 1 has left it, for
-/// at most 10,000 turns of a millisecond, where it holds.
+/// Counts the messages that enter and leave each stage, and holds message 0 in the first until message 1 has left it,
+/// for at most 10,000 turns of a millisecond, where it holds.
 #[derive(Drop)]
 struct Hold<R: Clock + Drop> {
     rt: R,
@@ -170,8 +170,23 @@ impl<'a> Write for Counted<'a> {
 }
 
 /// Three messages, whose replies are 150 bytes each: with its line and a line feed, 165.
-static CAPTURE: &str =
-    "haboob-capture 1 784111777\npiece 0 0 32\nGET /a.txt HTTP/1.1\r\nHost: a\r\n\r\n\npiece 0 0 32\nGET /a.txt HTTP/1.1\r\nHost: a\r\n\r\n\npiece 0 0 32\nGET /a.txt HTTP/1.1\r\nHost: a\r\n\r\n\nstop 3\n";
+static CAPTURE: &str = "haboob-capture 1 784111777\n\
+     piece 0 0 32\n\
+     GET /a.txt HTTP/1.1\r\n\
+     Host: a\r\n\
+     \r\n\
+     \n\
+     piece 0 0 32\n\
+     GET /a.txt HTTP/1.1\r\n\
+     Host: a\r\n\
+     \r\n\
+     \n\
+     piece 0 0 32\n\
+     GET /a.txt HTTP/1.1\r\n\
+     Host: a\r\n\
+     \r\n\
+     \n\
+     stop 3\n";
 
 /// How many bytes its first line, its records and its last line have.
 static SIZES: [usize; 5] = [27, 46, 46, 46, 7];

@@ -72,7 +72,8 @@ fn tight_bucket(rt: HostRuntime) -> Result<(), Fail> {
     let pieces = [(0, 0, A), (0, 0, A), (999_999, 0, A), (1_000_000, 0, A)];
     let ran = run_policy(&rt, default_costs(), tight(), &pieces)?.expect(&rt, "a replay");
     let want =
-        "reply 0 0 150; 200 OK;reply 1 0 159; 503 Service Unavailable;reply 2 0 159; 503 Service Unavailable;reply 3 0 150; 200 OK;stop 4;";
+        "reply 0 0 150; 200 OK;reply 1 0 159; 503 Service Unavailable;reply 2 0 159; 503 Service Unavailable;\
+         reply 3 0 150; 200 OK;stop 4;";
     check(&rt, &ran, want, &[1, 2], &[201, 201])?;
     let text = String::from_utf8_lossy(rt.alloc(), &ran.text)?;
     assert!(rt; text.contains("Date: Sun, 06 Nov 1994 08:49:38 GMT"));
@@ -102,7 +103,8 @@ fn bypassed_and_closing(rt: HostRuntime) -> Result<(), Fail> {
     let pieces = [(0, 0, bad), (0, 1, A), (0, 2, closing), (0, 3, old)];
     let ran = run_policy(&rt, default_costs(), tight(), &pieces)?.expect(&rt, "a replay");
     let want =
-        "reply 0 0 146; 400 Bad Request;reply 1 1 150; 200 OK;reply 2 2 178; 503 Service Unavailable;reply 3 3 183; 503 Service Unavailable;stop 4;";
+        "reply 0 0 146; 400 Bad Request;reply 1 1 150; 200 OK;reply 2 2 178; 503 Service Unavailable;reply 3 3 183;\
+         \x20503 Service Unavailable;stop 4;";
     check(&rt, &ran, want, &[2, 3], &[201])
 }
 

@@ -29,8 +29,17 @@ fn first_run(rt: HostRuntime) -> Result<(), Fail> {
         &capture_of(rt.alloc(), &[(0, 0, A)])?,
     )
     .expect(&rt, "a snapshot");
-    let want =
-        "haboob-replies 1\nreply 0 0 150\nHTTP/1.1 200 OK\r\nDate: Sun, 06 Nov 1994 08:49:37 GMT\r\nContent-Type: text/plain\r\nContent-Length: 3\r\nLast-Modified: Sun, 06 Nov 1994 08:49:37 GMT\r\n\r\nhi\n\nstop 1\n";
+    let want = "haboob-replies 1\n\
+         reply 0 0 150\n\
+         HTTP/1.1 200 OK\r\n\
+         Date: Sun, 06 Nov 1994 08:49:37 GMT\r\n\
+         Content-Type: text/plain\r\n\
+         Content-Length: 3\r\n\
+         Last-Modified: Sun, 06 Nov 1994 08:49:37 GMT\r\n\
+         \r\n\
+         hi\n\
+         \n\
+         stop 1\n";
     assert_eq!(rt; ran.text.as_slice(), want.as_bytes());
     let outcome = ran.answer?;
     assert_eq!(rt; outcome.summary.counts.ok, 1);
@@ -80,8 +89,16 @@ fn byte_pieces(rt: HostRuntime) -> Result<(), Fail> {
 
 #[test]
 fn pipelined_close(rt: HostRuntime) -> Result<(), Fail> {
-    let three =
-        "GET /a.txt HTTP/1.1\r\nHost: a\r\n\r\nGET /a.txt HTTP/1.1\r\nHost: a\r\nConnection: close\r\n\r\nGET /a.txt HTTP/1.1\r\nHost: a\r\n\r\n";
+    let three = "GET /a.txt HTTP/1.1\r\n\
+         Host: a\r\n\
+         \r\n\
+         GET /a.txt HTTP/1.1\r\n\
+         Host: a\r\n\
+         Connection: close\r\n\
+         \r\n\
+         GET /a.txt HTTP/1.1\r\n\
+         Host: a\r\n\
+         \r\n";
     let want = "reply 0 0 150; 200 OK;reply 1 0 169; 200 OK;stop 2;";
     check(&rt, FILES, &[(0, 0, three), (1, 0, A)], want)
 }
@@ -168,8 +185,14 @@ fn folder_redirect(rt: HostRuntime) -> Result<(), Fail> {
 
 #[test]
 fn not_modified_since(rt: HostRuntime) -> Result<(), Fail> {
-    let text =
-        "GET /a.txt HTTP/1.1\r\nHost: a\r\nIf-Modified-Since: Sun, 06 Nov 1994 08:49:37 GMT\r\n\r\nGET /a.txt HTTP/1.1\r\nHost: a\r\nIf-Modified-Since: Sun, 06 Nov 1994 08:49:36 GMT\r\n\r\n";
+    let text = "GET /a.txt HTTP/1.1\r\n\
+         Host: a\r\n\
+         If-Modified-Since: Sun, 06 Nov 1994 08:49:37 GMT\r\n\
+         \r\n\
+         GET /a.txt HTTP/1.1\r\n\
+         Host: a\r\n\
+         If-Modified-Since: Sun, 06 Nov 1994 08:49:36 GMT\r\n\
+         \r\n";
     let want = "reply 0 0 112; 304 Not Modified;reply 1 0 150; 200 OK;stop 2;";
     check(&rt, FILES, &[(0, 0, text)], want)?;
     let newer = "haboob-snapshot 1\nfile 784111778 5 3\na.txt\nhi\n\nend 1\n";
@@ -203,8 +226,17 @@ fn methods_and_bodies(rt: HostRuntime) -> Result<(), Fail> {
 fn versions_head_empty(rt: HostRuntime) -> Result<(), Fail> {
     let files =
         "haboob-snapshot 1\nfile 784111777 5 3\na.txt\nhi\n\nfile 784111777 1 0\ne\n\nend 2\n";
-    let text =
-        "HEAD /a.txt HTTP/1.1\r\nHost: a\r\n\r\nGET /a.txt HTTP/1.0\r\nConnection: Keep-Alive\r\n\r\nGET /e HTTP/1.1\r\nHost: a\r\n\r\nGET /a.txt HTTP/1.0\r\n\r\n";
+    let text = "HEAD /a.txt HTTP/1.1\r\n\
+         Host: a\r\n\
+         \r\n\
+         GET /a.txt HTTP/1.0\r\n\
+         Connection: Keep-Alive\r\n\
+         \r\n\
+         GET /e HTTP/1.1\r\n\
+         Host: a\r\n\
+         \r\n\
+         GET /a.txt HTTP/1.0\r\n\
+         \r\n";
     let want =
         "reply 0 0 147; 200 OK;reply 1 0 174; 200 OK;reply 2 0 161; 200 OK;reply 3 0 169; 200 OK;stop 4;";
     check(&rt, files, &[(0, 0, text)], want)

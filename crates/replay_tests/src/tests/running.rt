@@ -46,8 +46,8 @@ pub fn default_costs() -> Option<Costs> {
     Costs::new(200, 10, 50).ok()
 }
 
-/// How the staged engine runs: its cuts, the workers and the room of each stage, the pieces of a batch, and the bytes of
-/// the cache.
+/// How the staged engine runs: its cuts, the workers and the room of each stage, the pieces of a batch, and the bytes
+/// of the cache.
 #[derive(Clone, Copy)]
 pub struct Shape<'a> {
     pub front: &'a [usize],

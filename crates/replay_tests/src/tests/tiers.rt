@@ -59,7 +59,8 @@ fn tiers(rt: HostRuntime) -> Result<(), Fail> {
     }
     capture.push_str("stop 6\n")?;
     let want =
-        "reply 0 0 150; 200 OK;reply 1 1 150; 200 OK;reply 2 0 159; 503 Service Unavailable;reply 3 1 150; 200 OK;reply 4 1 159; 503 Service Unavailable;stop 5;";
+        "reply 0 0 150; 200 OK;reply 1 1 150; 200 OK;reply 2 0 159; 503 Service Unavailable;reply 3 1 150; 200 OK;\
+         reply 4 1 159; 503 Service Unavailable;stop 5;";
     for batch in [1, 2, 1024] {
         let ran = run_tiers(&rt, batch, [one, two, one, one], &capture);
         assert_eq!(rt; outline(alloc, &ran.text)?.as_str(), want);

@@ -76,8 +76,27 @@ pub fn tight_bucket(alloc: Global) -> Result<Outcome, AllocError> {
 }
 
 /// The report of `tight_bucket`.
-pub static TIGHT_BUCKET: &str =
-    "haboob-report 1\nmessages 4\nbypassed 0\nadmitted 2\nrejected 2\nstatus 200 2\nstatus 301 0\nstatus 304 0\nstatus 400 0\nstatus 404 0\nstatus 405 0\nstatus 413 0\nstatus 501 0\nstatus 503 2\np50 201\np90 201\np99 201\ncontrols 0\nreject 1\nreject 2\nend\n";
+pub static TIGHT_BUCKET: &str = "haboob-report 1\n\
+     messages 4\n\
+     bypassed 0\n\
+     admitted 2\n\
+     rejected 2\n\
+     status 200 2\n\
+     status 301 0\n\
+     status 304 0\n\
+     status 400 0\n\
+     status 404 0\n\
+     status 405 0\n\
+     status 413 0\n\
+     status 501 0\n\
+     status 503 2\n\
+     p50 201\n\
+     p90 201\n\
+     p99 201\n\
+     controls 0\n\
+     reject 1\n\
+     reject 2\n\
+     end\n";
 
 /// Five requests at one tick, each with a service of 201 ticks: those of tier 0 find one token, those of tier 1 two.
 pub fn two_buckets(alloc: Global) -> Result<Outcome, AllocError> {

@@ -20,7 +20,25 @@ fn of_no_message(rt: HostRuntime) {
     let text = report(rt.alloc(), &outcome).expect(&rt, "memory");
     assert_eq!(rt;
         text.as_str(),
-        "haboob-report 1\nmessages 0\nbypassed 0\nadmitted 0\nrejected 0\nstatus 200 0\nstatus 301 0\nstatus 304 0\nstatus 400 0\nstatus 404 0\nstatus 405 0\nstatus 413 0\nstatus 501 0\nstatus 503 0\np50 -\np90 -\np99 -\ncontrols 0\nend\n"
+        "haboob-report 1\n\
+         messages 0\n\
+         bypassed 0\n\
+         admitted 0\n\
+         rejected 0\n\
+         status 200 0\n\
+         status 301 0\n\
+         status 304 0\n\
+         status 400 0\n\
+         status 404 0\n\
+         status 405 0\n\
+         status 413 0\n\
+         status 501 0\n\
+         status 503 0\n\
+         p50 -\n\
+         p90 -\n\
+         p99 -\n\
+         controls 0\n\
+         end\n"
     );
 }
 
@@ -51,7 +69,29 @@ fn of_each_status(rt: HostRuntime) {
     let text = report(rt.alloc(), &outcome).expect(&rt, "memory");
     assert_eq!(rt;
         text.as_str(),
-        "haboob-report 1\nmessages 45\nbypassed 40\nadmitted 3\nrejected 2\nstatus 200 1\nstatus 301 2\nstatus 304 3\nstatus 400 4\nstatus 404 5\nstatus 405 6\nstatus 413 7\nstatus 501 8\nstatus 503 9\np50 8\np90 9\np99 9\ncontrols 2\ncontrol 1 5000 5000 1500 833\ncontrol 2 5100 100 1080 694\nreject 3\nreject 44\nend\n"
+        "haboob-report 1\n\
+         messages 45\n\
+         bypassed 40\n\
+         admitted 3\n\
+         rejected 2\n\
+         status 200 1\n\
+         status 301 2\n\
+         status 304 3\n\
+         status 400 4\n\
+         status 404 5\n\
+         status 405 6\n\
+         status 413 7\n\
+         status 501 8\n\
+         status 503 9\n\
+         p50 8\n\
+         p90 9\n\
+         p99 9\n\
+         controls 2\n\
+         control 1 5000 5000 1500 833\n\
+         control 2 5100 100 1080 694\n\
+         reject 3\n\
+         reject 44\n\
+         end\n"
     );
 }
 

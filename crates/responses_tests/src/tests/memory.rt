@@ -3,14 +3,31 @@ use paths::{Bytes, Output};
 use responses::{Link, Slip, Status, What, render, write_reply};
 use std::marker::Brand;
 
-static BUSY: &[u8] =
-    b"reply 1 2 178\nHTTP/1.1 503 Service Unavailable\r\nDate: Fri, 31 Dec 9999 23:59:59 GMT\r\nContent-Type: text/plain\r\nContent-Length: 24\r\nRetry-After: 1\r\nConnection: close\r\n\r\n503 Service Unavailable\n\n";
+static BUSY: &[u8] = b"reply 1 2 178\n\
+      HTTP/1.1 503 Service Unavailable\r\n\
+      Date: Fri, 31 Dec 9999 23:59:59 GMT\r\n\
+      Content-Type: text/plain\r\n\
+      Content-Length: 24\r\n\
+      Retry-After: 1\r\n\
+      Connection: close\r\n\
+      \r\n\
+      503 Service Unavailable\n\
+      \n";
 
 static LONG: &[u8; 141] =
-    b"/a%20b-c_d.e~f/a%20b-c_d.e~f/a%20b-c_d.e~f/a%20b-c_d.e~f/a%20b-c_d.e~f/a%20b-c_d.e~f/a%20b-c_d.e~f/a%20b-c_d.e~f/a%20b-c_d.e~f/a%20b-c_d.e~f/";
+    b"/a%20b-c_d.e~f/a%20b-c_d.e~f/a%20b-c_d.e~f/a%20b-c_d.e~f/a%20b-c_d.e~f/a%20b-c_d.e~f/a%20b-c_d.e~f/a\
+      %20b-c_d.e~f/a%20b-c_d.e~f/a%20b-c_d.e~f/";
 
-static MOVED: &[u8] =
-    b"reply 0 0 292\nHTTP/1.1 301 Moved Permanently\r\nDate: Sun, 06 Nov 1994 08:49:37 GMT\r\nContent-Type: text/plain\r\nContent-Length: 22\r\nLocation: /a%20b-c_d.e~f/a%20b-c_d.e~f/a%20b-c_d.e~f/a%20b-c_d.e~f/a%20b-c_d.e~f/a%20b-c_d.e~f/a%20b-c_d.e~f/a%20b-c_d.e~f/a%20b-c_d.e~f/a%20b-c_d.e~f/\r\n\r\n301 Moved Permanently\n\n";
+static MOVED: &[u8] = b"reply 0 0 292\n\
+      HTTP/1.1 301 Moved Permanently\r\n\
+      Date: Sun, 06 Nov 1994 08:49:37 GMT\r\n\
+      Content-Type: text/plain\r\n\
+      Content-Length: 22\r\n\
+      Location: /a%20b-c_d.e~f/a%20b-c_d.e~f/a%20b-c_d.e~f/a%20b-c_d.e~f/a%20b-c_d.e~f/a%20b-c_d.e~f/a%20b\
+      -c_d.e~f/a%20b-c_d.e~f/a%20b-c_d.e~f/a%20b-c_d.e~f/\r\n\
+      \r\n\
+      301 Moved Permanently\n\
+      \n";
 
 /// A growth that is refused is answered so; else the reply is right.
 #[test]

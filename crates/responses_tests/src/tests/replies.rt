@@ -9,8 +9,15 @@ use std::test::Fail;
 #[test]
 fn first_run(rt: HostRuntime) -> Result<(), Fail> {
     let got = page(rt.alloc(), 0, Link::Silent)?;
-    let want =
-        b"reply 0 7 150\nHTTP/1.1 200 OK\r\nDate: Sun, 06 Nov 1994 08:49:37 GMT\r\nContent-Type: text/plain\r\nContent-Length: 3\r\nLast-Modified: Sun, 06 Nov 1994 08:49:37 GMT\r\n\r\nhi\n\n";
+    let want = b"reply 0 7 150\n\
+          HTTP/1.1 200 OK\r\n\
+          Date: Sun, 06 Nov 1994 08:49:37 GMT\r\n\
+          Content-Type: text/plain\r\n\
+          Content-Length: 3\r\n\
+          Last-Modified: Sun, 06 Nov 1994 08:49:37 GMT\r\n\
+          \r\n\
+          hi\n\
+          \n";
     assert_eq!(rt; got.as_slice(), want.as_slice());
     Ok(())
 }
@@ -18,8 +25,16 @@ fn first_run(rt: HostRuntime) -> Result<(), Fail> {
 #[test]
 fn pipelined_close(rt: HostRuntime) -> Result<(), Fail> {
     let got = page(rt.alloc(), 0, Link::Close)?;
-    let want =
-        b"reply 0 7 169\nHTTP/1.1 200 OK\r\nDate: Sun, 06 Nov 1994 08:49:37 GMT\r\nContent-Type: text/plain\r\nContent-Length: 3\r\nLast-Modified: Sun, 06 Nov 1994 08:49:37 GMT\r\nConnection: close\r\n\r\nhi\n\n";
+    let want = b"reply 0 7 169\n\
+          HTTP/1.1 200 OK\r\n\
+          Date: Sun, 06 Nov 1994 08:49:37 GMT\r\n\
+          Content-Type: text/plain\r\n\
+          Content-Length: 3\r\n\
+          Last-Modified: Sun, 06 Nov 1994 08:49:37 GMT\r\n\
+          Connection: close\r\n\
+          \r\n\
+          hi\n\
+          \n";
     assert_eq!(rt; got.as_slice(), want.as_slice());
     Ok(())
 }
@@ -28,8 +43,14 @@ fn pipelined_close(rt: HostRuntime) -> Result<(), Fail> {
 #[test]
 fn newer_file(rt: HostRuntime) -> Result<(), Fail> {
     let got = page(rt.alloc(), 1, Link::Silent)?;
-    let want =
-        b"reply 0 7 147\nHTTP/1.1 200 OK\r\nDate: Sun, 06 Nov 1994 08:49:37 GMT\r\nContent-Type: text/html\r\nContent-Length: 1\r\nLast-Modified: Sun, 06 Nov 1994 08:49:37 GMT\r\n\r\nb\n";
+    let want = b"reply 0 7 147\n\
+          HTTP/1.1 200 OK\r\n\
+          Date: Sun, 06 Nov 1994 08:49:37 GMT\r\n\
+          Content-Type: text/html\r\n\
+          Content-Length: 1\r\n\
+          Last-Modified: Sun, 06 Nov 1994 08:49:37 GMT\r\n\
+          \r\n\
+          b\n";
     assert_eq!(rt; got.as_slice(), want.as_slice());
     Ok(())
 }
@@ -37,8 +58,16 @@ fn newer_file(rt: HostRuntime) -> Result<(), Fail> {
 #[test]
 fn versions_head_empty(rt: HostRuntime) -> Result<(), Fail> {
     let got = page(rt.alloc(), 0, Link::KeepAlive)?;
-    let want =
-        b"reply 0 7 174\nHTTP/1.1 200 OK\r\nDate: Sun, 06 Nov 1994 08:49:37 GMT\r\nContent-Type: text/plain\r\nContent-Length: 3\r\nLast-Modified: Sun, 06 Nov 1994 08:49:37 GMT\r\nConnection: keep-alive\r\n\r\nhi\n\n";
+    let want = b"reply 0 7 174\n\
+          HTTP/1.1 200 OK\r\n\
+          Date: Sun, 06 Nov 1994 08:49:37 GMT\r\n\
+          Content-Type: text/plain\r\n\
+          Content-Length: 3\r\n\
+          Last-Modified: Sun, 06 Nov 1994 08:49:37 GMT\r\n\
+          Connection: keep-alive\r\n\
+          \r\n\
+          hi\n\
+          \n";
     assert_eq!(rt; got.as_slice(), want.as_slice());
     let known = What::<Brand>::Known {
         media: MediaType::Plain,
@@ -46,12 +75,24 @@ fn versions_head_empty(rt: HostRuntime) -> Result<(), Fail> {
         mtime: 784_111_777,
     };
     let got = record(rt.alloc(), true, Link::Silent, known)?;
-    let want =
-        b"reply 0 7 147\nHTTP/1.1 200 OK\r\nDate: Sun, 06 Nov 1994 08:49:37 GMT\r\nContent-Type: text/plain\r\nContent-Length: 3\r\nLast-Modified: Sun, 06 Nov 1994 08:49:37 GMT\r\n\r\n\n";
+    let want = b"reply 0 7 147\n\
+          HTTP/1.1 200 OK\r\n\
+          Date: Sun, 06 Nov 1994 08:49:37 GMT\r\n\
+          Content-Type: text/plain\r\n\
+          Content-Length: 3\r\n\
+          Last-Modified: Sun, 06 Nov 1994 08:49:37 GMT\r\n\
+          \r\n\
+          \n";
     assert_eq!(rt; got.as_slice(), want.as_slice());
     let got = page(rt.alloc(), 2, Link::Silent)?;
-    let want =
-        b"reply 0 7 161\nHTTP/1.1 200 OK\r\nDate: Sun, 06 Nov 1994 08:49:37 GMT\r\nContent-Type: application/octet-stream\r\nContent-Length: 0\r\nLast-Modified: Sun, 06 Nov 1994 08:49:37 GMT\r\n\r\n\n";
+    let want = b"reply 0 7 161\n\
+          HTTP/1.1 200 OK\r\n\
+          Date: Sun, 06 Nov 1994 08:49:37 GMT\r\n\
+          Content-Type: application/octet-stream\r\n\
+          Content-Length: 0\r\n\
+          Last-Modified: Sun, 06 Nov 1994 08:49:37 GMT\r\n\
+          \r\n\
+          \n";
     assert_eq!(rt; got.as_slice(), want.as_slice());
     Ok(())
 }
@@ -61,8 +102,12 @@ fn not_modified_since(rt: HostRuntime) -> Result<(), Fail> {
     for head in [false, true] {
         let unmodified = What::<Brand>::Unmodified { mtime: 784_111_777 };
         let got = record(rt.alloc(), head, Link::Silent, unmodified)?;
-        let want =
-            b"reply 0 7 112\nHTTP/1.1 304 Not Modified\r\nDate: Sun, 06 Nov 1994 08:49:37 GMT\r\nLast-Modified: Sun, 06 Nov 1994 08:49:37 GMT\r\n\r\n\n";
+        let want = b"reply 0 7 112\n\
+              HTTP/1.1 304 Not Modified\r\n\
+              Date: Sun, 06 Nov 1994 08:49:37 GMT\r\n\
+              Last-Modified: Sun, 06 Nov 1994 08:49:37 GMT\r\n\
+              \r\n\
+              \n";
         assert_eq!(rt; got.as_slice(), want.as_slice());
     }
     Ok(())
@@ -75,8 +120,15 @@ fn folder_redirect(rt: HostRuntime) -> Result<(), Fail> {
         Outcome::Move(location) => {
             let moved = What::<Brand>::Moved { location };
             let got = record(rt.alloc(), false, Link::Silent, moved)?;
-            let want =
-                b"reply 0 7 157\nHTTP/1.1 301 Moved Permanently\r\nDate: Sun, 06 Nov 1994 08:49:37 GMT\r\nContent-Type: text/plain\r\nContent-Length: 22\r\nLocation: /docs/\r\n\r\n301 Moved Permanently\n\n";
+            let want = b"reply 0 7 157\n\
+                  HTTP/1.1 301 Moved Permanently\r\n\
+                  Date: Sun, 06 Nov 1994 08:49:37 GMT\r\n\
+                  Content-Type: text/plain\r\n\
+                  Content-Length: 22\r\n\
+                  Location: /docs/\r\n\
+                  \r\n\
+                  301 Moved Permanently\n\
+                  \n";
             assert_eq!(rt; got.as_slice(), want.as_slice());
         }
         _ => assert!(rt; false, "no redirect"),
@@ -93,43 +145,97 @@ fn plain_statuses(rt: HostRuntime) -> Result<(), Fail> {
             false,
             Link::Close,
             Status::BadRequest,
-            "reply 0 7 146\nHTTP/1.1 400 Bad Request\r\nDate: Sun, 06 Nov 1994 08:49:37 GMT\r\nContent-Type: text/plain\r\nContent-Length: 16\r\nConnection: close\r\n\r\n400 Bad Request\n\n",
+            "reply 0 7 146\n\
+             HTTP/1.1 400 Bad Request\r\n\
+             Date: Sun, 06 Nov 1994 08:49:37 GMT\r\n\
+             Content-Type: text/plain\r\n\
+             Content-Length: 16\r\n\
+             Connection: close\r\n\
+             \r\n\
+             400 Bad Request\n\
+             \n",
         ),
         (
             false,
             Link::Silent,
             Status::NotFound,
-            "reply 0 7 123\nHTTP/1.1 404 Not Found\r\nDate: Sun, 06 Nov 1994 08:49:37 GMT\r\nContent-Type: text/plain\r\nContent-Length: 14\r\n\r\n404 Not Found\n\n",
+            "reply 0 7 123\n\
+             HTTP/1.1 404 Not Found\r\n\
+             Date: Sun, 06 Nov 1994 08:49:37 GMT\r\n\
+             Content-Type: text/plain\r\n\
+             Content-Length: 14\r\n\
+             \r\n\
+             404 Not Found\n\
+             \n",
         ),
         (
             false,
             Link::Silent,
             Status::MethodNotAllowed,
-            "reply 0 7 159\nHTTP/1.1 405 Method Not Allowed\r\nDate: Sun, 06 Nov 1994 08:49:37 GMT\r\nContent-Type: text/plain\r\nContent-Length: 23\r\nAllow: GET, HEAD\r\n\r\n405 Method Not Allowed\n\n",
+            "reply 0 7 159\n\
+             HTTP/1.1 405 Method Not Allowed\r\n\
+             Date: Sun, 06 Nov 1994 08:49:37 GMT\r\n\
+             Content-Type: text/plain\r\n\
+             Content-Length: 23\r\n\
+             Allow: GET, HEAD\r\n\
+             \r\n\
+             405 Method Not Allowed\n\
+             \n",
         ),
         (
             false,
             Link::Close,
             Status::ContentTooLarge,
-            "reply 0 7 158\nHTTP/1.1 413 Content Too Large\r\nDate: Sun, 06 Nov 1994 08:49:37 GMT\r\nContent-Type: text/plain\r\nContent-Length: 22\r\nConnection: close\r\n\r\n413 Content Too Large\n\n",
+            "reply 0 7 158\n\
+             HTTP/1.1 413 Content Too Large\r\n\
+             Date: Sun, 06 Nov 1994 08:49:37 GMT\r\n\
+             Content-Type: text/plain\r\n\
+             Content-Length: 22\r\n\
+             Connection: close\r\n\
+             \r\n\
+             413 Content Too Large\n\
+             \n",
         ),
         (
             false,
             Link::Close,
             Status::NotImplemented,
-            "reply 0 7 154\nHTTP/1.1 501 Not Implemented\r\nDate: Sun, 06 Nov 1994 08:49:37 GMT\r\nContent-Type: text/plain\r\nContent-Length: 20\r\nConnection: close\r\n\r\n501 Not Implemented\n\n",
+            "reply 0 7 154\n\
+             HTTP/1.1 501 Not Implemented\r\n\
+             Date: Sun, 06 Nov 1994 08:49:37 GMT\r\n\
+             Content-Type: text/plain\r\n\
+             Content-Length: 20\r\n\
+             Connection: close\r\n\
+             \r\n\
+             501 Not Implemented\n\
+             \n",
         ),
         (
             false,
             Link::Silent,
             busy,
-            "reply 0 7 159\nHTTP/1.1 503 Service Unavailable\r\nDate: Sun, 06 Nov 1994 08:49:37 GMT\r\nContent-Type: text/plain\r\nContent-Length: 24\r\nRetry-After: 1\r\n\r\n503 Service Unavailable\n\n",
+            "reply 0 7 159\n\
+             HTTP/1.1 503 Service Unavailable\r\n\
+             Date: Sun, 06 Nov 1994 08:49:37 GMT\r\n\
+             Content-Type: text/plain\r\n\
+             Content-Length: 24\r\n\
+             Retry-After: 1\r\n\
+             \r\n\
+             503 Service Unavailable\n\
+             \n",
         ),
         (
             true,
             Link::Silent,
             busy,
-            "reply 0 7 135\nHTTP/1.1 503 Service Unavailable\r\nDate: Sun, 06 Nov 1994 08:49:37 GMT\r\nContent-Type: text/plain\r\nContent-Length: 24\r\nRetry-After: 1\r\n\r\n\n",
+            "reply 0 7 135\n\
+             HTTP/1.1 503 Service Unavailable\r\n\
+             Date: Sun, 06 Nov 1994 08:49:37 GMT\r\n\
+             Content-Type: text/plain\r\n\
+             Content-Length: 24\r\n\
+             Retry-After: 1\r\n\
+             \r\n\
+             \n",
         ),
     ];
     for (head, link, status, want) in table {

@@ -6,7 +6,7 @@ use std::io;
 use std::marker::Brand;
 use std::test::Fail;
 
-/// A writer over memory that takes at most one byte a write, and fails behind so many writes.
+/// A writer over memory that takes at most one byte a write, and fails after so many writes.
 #[derive(Drop)]
 struct Slow<'a> {
     taken: &'a mut Vec<u8>,
@@ -33,8 +33,14 @@ impl<'a> io::Write for Slow<'a> {
     }
 }
 
-static WANT: &[u8; 139] =
-    b"reply 3 12 123\nHTTP/1.1 404 Not Found\r\nDate: Thu, 01 Jan 1970 00:00:00 GMT\r\nContent-Type: text/plain\r\nContent-Length: 14\r\n\r\n404 Not Found\n\n";
+static WANT: &[u8; 139] = b"reply 3 12 123\n\
+      HTTP/1.1 404 Not Found\r\n\
+      Date: Thu, 01 Jan 1970 00:00:00 GMT\r\n\
+      Content-Type: text/plain\r\n\
+      Content-Length: 14\r\n\
+      \r\n\
+      404 Not Found\n\
+      \n";
 
 /// For each k, the writer that fails at its write k has taken the first k bytes, and has failed once.
 #[test]

@@ -1,13 +1,18 @@
 //! Why an event is refused.
-ghost use Rattle.std.specs.Prelude.{◌≡◌, ℕ, ◌+◌, ◌<◌, ◌≤◌, List, [], ◌∷◌, ◌++◌, length, IfOk, OnOk, OnErr, IfErr, Some, None, is_some, nat_le, take, map, ◌*◌, ◌^◌, IfSome, true, false};
+ghost use Rattle.std.specs.Prelude.{◌≡◌, ℕ, ◌+◌, ◌<◌, ◌≤◌, List, [], ◌∷◌, ◌++◌, length, IfOk, OnOk, OnErr, IfErr, Some};
+ghost use Rattle.std.specs.Prelude.{None, is_some, nat_le, take, map, ◌*◌, ◌^◌, IfSome, true, false};
 ghost use Rattle.std.specs.Option.{is_none};
 ghost use Rattle.std.specs.List.{list_all, range_with_len};
 ghost use Rattle.stage_graph.specs.Stands.{with_steps, last_cut};
 ghost use Rattle.stage_graph.specs.Steps.{value_of};
 ghost use Rattle.stage_graph.specs.Places.{places_of};
 ghost use Rattle.stage_graph.specs.Counts.{KeepsBounds, takes_of, feeds_of, gives_of};
-ghost use Rattle.stage_graph.specs.Layouts.{Layout, IsPlan, stages, workers, stage_at, cut_at, cut_before, capacity_at, is_last};
-ghost use Rattle.stage_graph.specs.Floors.{standing, queue_at, hand_at, has_left, is_nil, idle_before, is_drained, is_at, first, is_allowed, feed_cause, take_cause, give_cause, back_cause, leave_cause, halt_cause, is_legal_from_opening, all_left, all_done, left_on, has_stop};
+ghost use Rattle.stage_graph.specs.Layouts.{Layout, IsPlan, stages, workers, stage_at, cut_at, cut_before, capacity_at};
+ghost use Rattle.stage_graph.specs.Layouts.{is_last};
+ghost use Rattle.stage_graph.specs.Floors.{standing, queue_at, hand_at, has_left, is_nil, idle_before, is_drained};
+ghost use Rattle.stage_graph.specs.Floors.{is_at, first, is_allowed, feed_cause, take_cause, give_cause, back_cause};
+ghost use Rattle.stage_graph.specs.Floors.{leave_cause, halt_cause, is_legal_from_opening, all_left, all_done, left_on};
+ghost use Rattle.stage_graph.specs.Floors.{has_stop};
 
 use super::{Floor, RunName};
 use crate::{Cause, Chain, Event, Named};
@@ -28,7 +33,8 @@ impl<C: Chain, N: RunName> Floor<C, N> {
 
     pub(super) fn is_queue_full(&self, stage: usize) -> bool
         requires { stage < stages N.plan }
-        ensures { result ≡ nat_le (capacity_at N.plan stage) (length (queue_at (standing N.plan N.count self.now) stage)) }
+        ensures { result ≡ nat_le (capacity_at N.plan stage)
+            (length (queue_at (standing N.plan N.count self.now) stage)) }
     {
         self.queues[stage].is_full()
     }
@@ -215,7 +221,9 @@ impl<C: Chain, N: RunName> Floor<C, N> {
 
     pub(super) fn may_give(&self, worker: usize, number: usize) -> bool
         requires { worker < workers N.plan }
-        ensures { result ≡ is_none (give_cause N.plan (standing N.plan N.count self.now) worker number (cut_at N.plan (stage_at N.plan worker))) }
+        ensures { result ≡ is_none
+            (give_cause N.plan (standing N.plan N.count self.now) worker number
+            (cut_at N.plan (stage_at N.plan worker))) }
     {
         let (_, cut) = self.place(worker);
         self.give_cause(worker, number, cut).is_none()

@@ -1,4 +1,5 @@
-ghost use Rattle.std.specs.Prelude.{◌≡◌, ◌+◌, ◌-◌, ◌/◌, ◌<◌, ◌≤◌, true, nat_le, if◌then◌else◌, IfSome, OnSome, IfNone, vec_len};
+ghost use Rattle.std.specs.Prelude.{◌≡◌, ◌+◌, ◌-◌, ◌/◌, ◌<◌, ◌≤◌, true, nat_le, if◌then◌else◌, IfSome, OnSome, IfNone};
+ghost use Rattle.std.specs.Prelude.{vec_len};
 ghost use Rattle.stage_graph.specs.Layouts.{stages, workers, stage_at, cut_before};
 ghost use Rattle.stage_graph.specs.Floors.{standing, all_left};
 ghost use Rattle.stage_graph.specs.Stands.{last_cut};
@@ -51,7 +52,7 @@ use std::sync::{Mutex, MutexGuard, Wait};
 // A queue that is more than half full has an item, so that one of its workers is in its handler, or is to look. It
 // takes an item each time that it comes back, and doesn't leave before the queue is empty or the floor is stopped. So
 // the queue falls to half, and those that wait for room are woken, if of all workers of the stage one comes back. A
-// gate that holds them all, until an item behind the held ones has moved on, can count on half of the queue's
+// gate that holds them all, until an item after the held ones has moved on, can count on half of the queue's
 // capacity and one place more: nobody sleeps for good before a queue with fewer items.
 #[derive(Drop)]
 pub(super) struct Shared<C: Chain, N: RunName, L: Ledger> {

@@ -30,7 +30,8 @@ pub struct Sum<K: Sums> {
     done: usize,
     value: u64,
     of: PhantomData<K>,
-    pub ghost own: { value ≡ value_of (λ k x. (x * 2 + slice_index K.addends k) % 2 ^ 64) done (slice_index K.inputs number) },
+    pub ghost own: { value
+        ≡ value_of (λ k x. (x * 2 + slice_index K.addends k) % 2 ^ 64) done (slice_index K.inputs number) },
 }
 
 impl<K: Sums> Named for Sum<K> {
@@ -97,7 +98,8 @@ impl<'a, K: Sums> Chain for Adding<'a, K> {
 // The items of the inputs, with no step done.
 pub fn items_of<K: Sums>(alloc: Global, inputs: &[u64]) -> Result<Vec<Sum<K>>, Unrun>
     requires { inputs.now ≡ K.inputs }
-    ensures { IfOk result (λ v. map (λ x. (x.number, x.done)) v.items ≡ map (with_steps 0) (range_with_len 0 (length inputs.now))) }
+    ensures { IfOk result
+        (λ v. map (λ x. (x.number, x.done)) v.items ≡ map (with_steps 0) (range_with_len 0 (length inputs.now))) }
 {
     let mut items = Vec::with_capacity(alloc, inputs.len())?;
     for i in 0..inputs.len() {
@@ -153,7 +155,9 @@ fn sums_with<K: Sums + RunName + Send + Sync, G: Gate + Sync, R: Threads + Wait 
     requires count { length inputs.now ≡ K.count }
     requires plan { plan ≡ K.plan }
     requires cut { last_cut plan ≡ length addends.now }
-    ensures { IfOk result (λ r. r.0.items ≡ map (value_of (λ k x. (x * 2 + slice_index addends.now k) % 2 ^ 64) (length addends.now)) inputs.now) }
+    ensures { IfOk result
+        (λ r. r.0.items ≡ map
+        (value_of (λ k x. (x * 2 + slice_index addends.now k) % 2 ^ 64) (length addends.now)) inputs.now) }
 {
     let items = items_of::<K>(alloc, inputs)?;
     let chain = chain_over::<K>(addends, refused);
@@ -168,7 +172,9 @@ fn parts_of<C: Chain, N: RunName>(
     alloc: Global,
     run: Run<C, N>,
 ) -> Result<(Vec<C::Item>, History), Unrun>
-    ensures { IfOk result (λ r. map C.content r.0.items ≡ map (λ k. value_of C.step (last_cut N.plan) (C.input_at k)) (range_with_len 0 N.count)) }
+    ensures { IfOk result
+        (λ r. map C.content r.0.items
+        ≡ map (λ k. value_of C.step (last_cut N.plan) (C.input_at k)) (range_with_len 0 N.count)) }
 {
     let history = Vec::from_slice(alloc, run.history())?;
     Ok((run.into_items(), History::from(history)))
@@ -185,7 +191,9 @@ pub fn sums_of<G: Gate + Sync, R: Threads + Wait + Sync>(
     gate: &G,
 ) -> Result<(Vec<u64>, History), Unrun>
     requires { last_cut plan ≡ length addends.now }
-    ensures { IfOk result (λ r. r.0.items ≡ map (value_of (λ k x. (x * 2 + slice_index addends.now k) % 2 ^ 64) (length addends.now)) inputs.now) }
+    ensures { IfOk result
+        (λ r. r.0.items ≡ map
+        (value_of (λ k x. (x * 2 + slice_index addends.now k) % 2 ^ 64) (length addends.now)) inputs.now) }
 {
     sums_with::<Brand, G, R>(rt, alloc, plan, addends, refused, inputs, gate)
 }

@@ -87,7 +87,7 @@ impl<R: Clock + Drop> Gate for Watch<R> {
     }
 }
 
-// An item enters before it is given on, and has left behind that: the second stage has it then.
+// An item enters before it is given on, and has left after that: the second stage has it then.
 #[test]
 fn gate_at_a_give(rt: HostRuntime) -> Result<(), Fail> {
     let gate = new_watch(rt.clone()?, [(0, 12, 1), (0, 1234, 123)]);
@@ -98,7 +98,7 @@ fn gate_at_a_give(rt: HostRuntime) -> Result<(), Fail> {
     Ok(())
 }
 
-// Item 0 is refused in the second stage, once item 2 waits in the first. It has left behind its back, which stops the
+// Item 0 is refused in the second stage, once item 2 waits in the first. It has left after its back, which stops the
 // floor: only then item 2 is sent back too.
 #[test]
 fn gate_at_a_back(rt: HostRuntime) -> Result<(), Fail> {

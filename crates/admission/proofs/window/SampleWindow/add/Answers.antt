@@ -1,5 +1,5 @@
 use Rattle.std.proofs.Common.{◌≤◌, arith}
-use Rattle.admission.specs.declared.TheConstants.{MAX_WINDOW}
+use Rattle.admission.specs.Limits.{MAX_WINDOW}
 use Rattle.admission.specs.Tally.{count_in}
 use Rattle.admission.proofs.TallyLemmas.{counted-insert}
 use Rattle.admission.proofs.WindowLemmas.{count-small, tally_room, tally_full}
