@@ -1,5 +1,5 @@
 -- What follows from the definitions.
-use Rattle.std.specs.Prelude.{◌≡◌, ℕ, List, [], ◌∷◌, ◌++◌, length, Option, Some, true, false, is_some}
+use Rattle.std.specs.Prelude.{◌≡◌, ℕ, List, [], ◌∷◌, ◌++◌, length, take, Option, Some, true, false, is_some}
 use Rattle.captures.specs.declared.record.Record.{Record}
 use Rattle.captures.specs.declared.version.Version.TheVariants.{One}
 use Rattle.captures.specs.declared.capture_fault.CaptureFault.{CaptureFault}
@@ -9,10 +9,11 @@ use Rattle.admission.specs.Rules.{rules_of}
 use Rattle.paths.specs.declared.file.File.{File}
 use Rattle.replay.specs.declared.outcome.Outcome.{Outcome}
 use Rattle.replay.specs.declared.summary.Tally.{Tally}
-use Rattle.arrivals.specs.Arrivals.{Arrival}
+use Rattle.arrivals.specs.Arrivals.{Arrival, AreArrivals}
 use Rattle.replay.specs.Choices.{Choice, Terms, terms_of}
 use Rattle.replay.specs.Offers.{Handled, handled}
-use Rattle.replay.specs.Outcomes.{Answers, Stops, StopsFull}
+use Rattle.replay.specs.Outcomes.{Answers, Stops, StopsFull, most_messages}
+use Rattle.replay.specs.Replies.{replies_of}
 use Rattle.replay.specs.Former.{FormerTerms, FormerOutcome, FormerAnswers}
 
 -- settings with the same service times, policies and wait have the same answers, whatever their graphs, batch and cache
@@ -60,6 +61,16 @@ OneLimit = (terms : Terms) (input old new other : Option (List ℕ)) (number ano
 abbrev pub HandledBegin : Type 0
 HandledBegin = (terms : Terms) (arrivals more : List Arrival) → (rest : List Handled)
   × (handled terms (arrivals ++ more) ≡ handled terms arrivals ++ rest)
+
+-- the replies that are due for messages that arrived: to those within the limit
+abbrev pub due : Terms → ℕ → List Arrival → List (ℕ × ℕ × List ℕ)
+due terms start arrivals = replies_of terms start (handled terms (take most_messages arrivals))
+
+-- more records add replies that are due at the end: those due for the first records are the first of those due for all
+abbrev pub DueBegin : Type 0
+DueBegin = (terms : Terms) (start : ℕ) (records more : List Record) (xs ys : List Arrival)
+    → AreArrivals records xs → AreArrivals (records ++ more) ys
+    → (rest : List (ℕ × ℕ × List ℕ)) × (due terms start ys ≡ due terms start xs ++ rest)
 
 -- ---- one policy and four
 

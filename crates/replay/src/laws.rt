@@ -1,6 +1,6 @@
 //! Laws of the definitions that the engines' contracts cite. Each function is there for its clause alone.
 
-ghost use Rattle.replay.specs.Laws.{AnsweredNotFaulty, AnsweredNotFull, FaultyNotFull, OneFault, OneLimit};
+ghost use Rattle.replay.specs.Laws.{AnsweredNotFaulty, AnsweredNotFull, DueBegin, FaultyNotFull, OneFault, OneLimit};
 ghost use Rattle.replay.specs.Laws.{FloorsChangeNothing, FormerAnswersHold, HandledBegin, OneAnswer, SameInVersionOne};
 ghost use Rattle.replay.specs.Laws.{UpgradeKeepsAnswers};
 
@@ -35,6 +35,11 @@ pub fn one_limit()
 /// What becomes of a message depends on the messages before it alone.
 pub fn handled_begin()
     ensures { HandledBegin }
+{}
+
+/// The replies that are due for the first records are the first of those due for all.
+pub fn due_begins()
+    ensures { DueBegin }
 {}
 
 /// A capture of version 1 has the answer that it had when there was one policy and there were no tiers: that policy is

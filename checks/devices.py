@@ -1,0 +1,284 @@
+#!/usr/bin/env python3
+"""Runs the program on poor devices, and looks at its status, its line and what stands at the devices then.
+
+    checks/devices.py PROGRAM
+
+Replays with both engines, a run from standard input to standard output, and upgrades. Inputs come from pipes, byte by
+byte; the replies go into a pipe that is read byte by byte, or into one whose reader goes away; they go into a file that
+may have only so many bytes, and onto a disk with little room (where a disk can be mounted: a user's own tmpfs); so does
+the report. With a C compiler (CC, or cc) besides: each read gives one byte, each write takes one byte; and each read
+fails in turn, then each write, by an error and by an interruption; and each thread in turn can't be started. What stands
+at a device is always a prefix of what is right, all of it where the status is 0, and a file that is full has all that it
+may have.
+"""
+import errno
+import os
+import resource
+import shutil
+import signal
+import subprocess
+import sys
+import tempfile
+import threading
+
+# The folder stays as it is.
+sys.dont_write_bytecode = True
+import reference
+
+SECONDS = 60
+TOP = os.path.dirname(os.path.dirname(os.path.abspath(__file__)))
+SNAPSHOT = b"haboob-snapshot 1\nfile 784111777 5 3\na.txt\nhi\n\nend 1\n"
+REQUEST = b"GET /a.txt HTTP/1.1\r\nHost: a\r\n\r\n"
+SETTINGS = b"[policy]\ndepth = 50\n[floor]\nbatch = 100\n"
+ENGINES = (["--engine", "plain"], ["--engine", "staged"])
+# The places where a file is full: in the first line, in a reply, at the end of the program's buffer, in a later one.
+PLACES = (0, 1, 16, 17, 100, 4096, 65_535, 65_536, 65_537, 100_000)
+DISK = 64 * 1024
+WRITE = 6, b"haboob: write: replies\n"
+REPORT = 6, b"haboob: write: report\n"
+MEMORY = 7, b"haboob: memory\n"
+
+
+def capture_of(count):
+    """A capture of so many requests, one to a piece, on 50 connections."""
+    pieces = b"".join(b"piece %d %d 32\n%b\n" % (100 * number, number % 50, REQUEST) for number in range(count))
+    return b"haboob-capture 1 784111777\n%bstop %d\n" % (pieces, count)
+
+
+class Replay:
+    """The files of a replay, and what it is to write."""
+
+    def __init__(self, count):
+        self.capture = capture_of(count)
+        status, line, self.replies, self.report = reference.replay(SNAPSHOT, self.capture, SETTINGS)
+        assert (status, line) == (0, b"")
+
+    def put(self, folder):
+        for name, data in (("snapshot", SNAPSHOT), ("capture", self.capture), ("settings", SETTINGS), ("replies", b"")):
+            with open(os.path.join(folder, name), "wb") as file:
+                file.write(data)
+
+
+def words(engine, **names):
+    """The words of a replay; each file has the name of its option where no other is given."""
+    given = [word for name in ("snapshot", "capture", "settings", "replies") for word in ("--" + name, names.get(name, name))]
+    return ["replay", *given, *engine]
+
+
+def contents(folder, name):
+    with open(os.path.join(folder, name), "rb") as file:
+        return file.read()
+
+
+def run(program, words, folder, **more):
+    """Status, line and standard output of a run."""
+    ran = subprocess.run([program, *words], cwd=folder, stdout=more.pop("stdout", subprocess.PIPE), stderr=subprocess.PIPE,
+                         stdin=more.pop("stdin", subprocess.DEVNULL), timeout=SECONDS, **more)
+    return ran.returncode, ran.stderr, ran.stdout
+
+
+class Checks:
+    """Counts the runs, and prints those that are wrong."""
+
+    def __init__(self):
+        self.count, self.wrong = 0, 0
+
+    def see(self, name, good, got):
+        self.count += 1
+        if not good:
+            self.wrong += 1
+            print("WRONG: %s: %r" % (name, got), flush=True)
+
+
+def feed(name, data):
+    """Writes data into a pipe byte by byte."""
+    try:
+        with open(name, "wb", buffering=0) as pipe:
+            for at in range(len(data)):
+                pipe.write(data[at:at + 1])
+    except BrokenPipeError:
+        pass
+
+
+def drain(name, most, into):
+    """Reads a pipe byte by byte, and goes away after so many."""
+    with open(name, "rb", buffering=0) as pipe:
+        while len(into) < most:
+            byte = pipe.read(1)
+            if not byte:
+                break
+            into.extend(byte)
+
+
+def by_pipes(program, replay, engine, most):
+    """A replay whose inputs come byte by byte, and whose replies go into a pipe with such a reader."""
+    with tempfile.TemporaryDirectory() as folder:
+        replay.put(folder)
+        for name in ("pipe_in", "pipe_too", "pipe_out"):
+            os.mkfifo(os.path.join(folder, name))
+        got = bytearray()
+        helpers = [threading.Thread(target=feed, args=(os.path.join(folder, "pipe_in"), SNAPSHOT)),
+                   threading.Thread(target=feed, args=(os.path.join(folder, "pipe_too"), replay.capture)),
+                   threading.Thread(target=drain, args=(os.path.join(folder, "pipe_out"), most, got))]
+        for helper in helpers:
+            helper.start()
+        ran = run(program, words(engine, snapshot="pipe_in", capture="pipe_too", replies="pipe_out"), folder)
+        for helper in helpers:
+            helper.join()
+        return ran, bytes(got)
+
+
+def check_pipes(checks, program):
+    small, large = Replay(40), Replay(5000)
+    for engine in ENGINES:
+        ran, got = by_pipes(program, small, engine, len(small.replies) + 1)
+        checks.see("pipes, byte by byte, " + engine[1], (ran, got) == ((0, b"", small.report), small.replies), (ran, got))
+        ran, got = by_pipes(program, large, engine, 100)
+        checks.see("a reader that goes away, " + engine[1], (ran, got) == ((*WRITE, b""), large.replies[:100]), (ran, got))
+
+
+def full_at(place):
+    """What a child does so that no file of its own may have more bytes."""
+    def limit():
+        signal.signal(signal.SIGXFSZ, signal.SIG_IGN)
+        resource.setrlimit(resource.RLIMIT_FSIZE, (place, place))
+    return limit
+
+
+def check_full_files(checks, program):
+    replay = Replay(1000)
+    for engine in ENGINES:
+        for place in PLACES:
+            with tempfile.TemporaryDirectory() as folder:
+                replay.put(folder)
+                ran = run(program, words(engine), folder, preexec_fn=full_at(place))
+                got = ran, contents(folder, "replies")
+            checks.see("replies full at %d, %s" % (place, engine[1]), got == ((*WRITE, b""), replay.replies[:place]), got)
+        for place in (0, 10, len(replay.report) - 1):
+            with tempfile.TemporaryDirectory() as folder, open(os.path.join(folder, "report"), "wb") as report:
+                replay.put(folder)
+                ran = run(program, words(engine, replies="/dev/null"), folder, stdout=report, preexec_fn=full_at(place))
+                got = ran, contents(folder, "report")
+            checks.see("report full at %d, %s" % (place, engine[1]), got == ((*REPORT, None), replay.report[:place]), got)
+
+
+def check_full_disk(checks, program):
+    """The replies go onto a disk of its own with room for a part of them; whether there was one."""
+    replay = Replay(1000)
+    for engine in ENGINES:
+        with tempfile.TemporaryDirectory() as folder:
+            replay.put(folder)
+            os.mkdir(os.path.join(folder, "disk"))
+            script = 'mount -t tmpfs -o size=%d none disk || exit 99; "$@"; status=$?; cat disk/replies >kept; exit $status' % DISK
+            mounted = ["--user", "--map-root-user", "--mount", "sh", "-c", script, "sh", program, *words(engine, replies="disk/replies")]
+            ran = run("unshare", mounted, folder) if shutil.which("unshare") else (99, b"", b"")
+            if ran[0] in (1, 99):
+                return False
+            got = ran, contents(folder, "kept")
+        checks.see("a full disk, " + engine[1], got == ((*WRITE, b""), replay.replies[:DISK]), got)
+    return True
+
+
+class Task:
+    """A run with poor devices: its words, its standard input, and what it is to write, by the name of the file."""
+
+    def __init__(self, name, words, given, wanted):
+        self.name, self.words, self.given, self.wanted = name, words, given, wanted
+
+
+def tasks():
+    replay = Replay(12)
+    lines = reference.replay(SNAPSHOT, replay.capture)[2]
+    upgraded = replay.capture.replace(b"capture 1", b"capture 2")
+    for engine in ENGINES:
+        yield replay, Task("replay, " + engine[1], words(engine), b"", {"replies": replay.replies, "out": replay.report})
+    yield replay, Task("bundle", [], SNAPSHOT + replay.capture, {"out": lines})
+    yield replay, Task("upgrade", ["upgrade", "--capture", "capture", "--output", "output"], b"", {"output": upgraded, "out": b""})
+
+
+def run_poorly(program, replay, task, shim, **poor):
+    """Status, line and what stands at each device of a run with poor devices, and whether a call failed."""
+    with tempfile.TemporaryDirectory() as folder:
+        replay.put(folder)
+        for name, data in (("in", task.given), ("output", b""), ("failed", b"")):
+            with open(os.path.join(folder, name), "wb") as file:
+                file.write(data)
+        with open(os.path.join(folder, "in"), "rb") as given, open(os.path.join(folder, "out"), "wb") as out, \
+                open(os.path.join(folder, "failed"), "wb") as failed:
+            world = dict(os.environ, LD_PRELOAD=shim, FAILED=str(failed.fileno()), **{name: str(poor[name]) for name in poor})
+            status, line, _ = run(program, task.words, folder, env=world, stdin=given, stdout=out, pass_fds=[failed.fileno()])
+        return status, line, {name: contents(folder, name) for name in task.wanted}, contents(folder, "failed") != b""
+
+
+def is_prefix(wanted, got):
+    return all(wanted[name].startswith(got[name]) for name in wanted)
+
+
+def check_failing(checks, program, replay, task, shim, calls, error):
+    """Fails each read or each write of a task in turn, until one run meets no failure."""
+    line = b"haboob: " + calls.lower().encode() + b": "
+    number, met = 0, True
+    while met:
+        number += 1
+        poor = {"READ_MOST": 256, "WRITE_MOST": 256, calls + "_FAILS": number, "ERROR": error}
+        status, told, got, met = run_poorly(program, replay, task, shim, **poor)
+        whole = (status, told, got) == (0, b"", task.wanted)
+        # std's own reader of a whole file, which reads the settings, tries an interrupted read again
+        tried = error == errno.EINTR and calls == "READ"
+        refused = status == 6 and told.startswith(line) and is_prefix(task.wanted, got)
+        good = whole if not met else refused or (whole and tried)
+        checks.see("%s: %s %d fails by %s" % (task.name, calls, number, errno.errorcode[error]), good, (status, told, got))
+
+
+def check_threads(checks, program, replay, task, shim):
+    """Refuses each thread of a task in turn, until a run starts no more."""
+    number, met = 0, True
+    while met:
+        number += 1
+        status, told, got, met = run_poorly(program, replay, task, shim, THREAD_FAILS=number)
+        whole = (status, told, got) == (0, b"", task.wanted)
+        refused = (status, told, got["out"]) == (*MEMORY, b"") and is_prefix(task.wanted, got)
+        checks.see("%s: thread %d can't be started" % (task.name, number), whole or (met and refused), (status, told, got))
+    return number - 1
+
+
+def check_poor(checks, program):
+    """Whether there is a compiler for what makes devices poor."""
+    compiler = shutil.which(os.environ.get("CC", "cc"))
+    if compiler is None:
+        return False
+    with tempfile.TemporaryDirectory() as folder:
+        shim = os.path.join(folder, "devices.so")
+        source = os.path.join(TOP, "checks", "devices.c")
+        subprocess.run([compiler, "-shared", "-fPIC", "-O1", "-o", shim, source, "-ldl"], check=True)
+        for replay, task in tasks():
+            for poor in ({"READ_MOST": 1}, {"WRITE_MOST": 1}, {"READ_MOST": 1, "WRITE_MOST": 1}):
+                got = run_poorly(program, replay, task, shim, **poor)
+                checks.see("%s with %s" % (task.name, poor), got == (0, b"", task.wanted, False), got)
+            for calls in ("READ", "WRITE"):
+                for error in (errno.EIO, errno.EINTR):
+                    check_failing(checks, program, replay, task, shim, calls, error)
+        # so many connections that they are cut by threads too
+        replay = Replay(300)
+        task = Task("replay, staged", words(ENGINES[1]), b"", {"replies": replay.replies, "out": replay.report})
+        print("%d threads were refused in turn" % check_threads(checks, program, replay, task, shim))
+    return True
+
+
+def main():
+    if len(sys.argv) != 2:
+        sys.exit(__doc__)
+    program = os.path.abspath(sys.argv[1])
+    checks = Checks()
+    check_pipes(checks, program)
+    check_full_files(checks, program)
+    if not check_full_disk(checks, program):
+        print("no disk can be mounted: a full one was not tried")
+    if not check_poor(checks, program):
+        print("no C compiler: poor reads and writes were not tried")
+    print("%d runs, %d wrong" % (checks.count, checks.wrong))
+    return int(checks.wrong > 0)
+
+
+if __name__ == "__main__":
+    sys.exit(main())

@@ -1,0 +1,261 @@
+#!/usr/bin/env python3
+"""Measures the peak of memory of both engines and of upgrades on the worst inputs, and compares each with a formula.
+
+    checks/worst_memory.py [--folder FOLDER] [--only WORD] PROGRAM
+
+The formula adds up what a run keeps at a time, in bytes. All runs:
+
+  the program          8 MiB, its buffers, a piece and what is cut from it included
+  the snapshot         its text, and 192 for each file
+  the connections      512 for each number up to the greatest that sent something, and 2 up to the greatest with a tier;
+                       16 KiB (24 in the staged engine) for each of which a block came in several pieces; and the method
+                       and the target of each whose body isn't whole
+  the requests         24 for each that was decided on, and 96 for each control
+  the report           twice its text
+
+The staged engine besides:
+
+  the batch            its pieces, and 64 for each; 256 for each message that ends in them, also beyond the limit
+  a part of it         4,096 messages and those of one piece, at most: 2 KiB for each, and the page of each file's answer
+                       that the cache didn't hold, as often as it is asked for
+  the cache            its limit at most, and 160 for each file of the snapshot
+  the threads          64 KiB for each worker, in both floors together
+
+An upgrade keeps what the program does, and no more. Peaks are those that the system tells of the process (ru_maxrss). A
+run also fails where its status is another than is known. It takes some minutes, and 2 GiB in the folder. Exits with 1
+where a peak is above the formula.
+"""
+import argparse
+import json
+import os
+import resource
+import subprocess
+import sys
+import tempfile
+
+MIB = 2**20
+BASE = 8 * MIB
+SECONDS = 1800
+
+# More address space than the formula gives bytes: stacks and arenas take much of which little is used.
+SPACE = 16 * 2**30
+
+# A process of its own starts the program: the peak of a child begins with that of its parent.
+RUNNER = """
+import json, os, sys
+child = os.fork()
+if child == 0:
+    os.execv(sys.argv[1], sys.argv[1:])
+_, status, used = os.wait4(child, 0)
+sys.stderr.write("\\n" + json.dumps([os.waitstatus_to_exitcode(status), used.ru_maxrss * 1024]))
+"""
+
+PLAIN, STAGED = ["--engine", "plain"], []
+DEFAULT_WORKERS = 10
+DEFAULT_CACHE = 64 * MIB
+DEFAULT_BATCH = 1024
+FILE = [(b"a.txt", b"hi\n")]
+REQUEST = b"GET /a.txt HTTP/1.1\r\nHost: a\r\n\r\n"
+SHORTEST = b"A / HTTP/1.1\nHost:\n\n"
+# A piece holds some more than 2,048 of these, so that the list of its messages has room for nearly twice as many.
+UNEVEN = b"GET /a.tx HTTP/1.1\r\nHost: a\r\n\r\n"
+MOST_PIECE = 65_536
+MOST_MESSAGES = 1_048_576
+ENOUGH = 4_096
+
+# All are admitted, with a control at each; or all but the first are turned away.
+OPEN = b"[policy]\ndepth = 1000000\nrate = 1000000000\nrate_max = 1000000000\nrate_min = 1000000000\nevery = 1\nwindow = 4096\n"
+SHUT = b"[policy]\ndepth = 1\nrate = 1\nrate_min = 1\nrate_max = 1\n"
+
+
+class Input:
+    """A replay's texts, and the numbers of the formula. `write` gives the records of the capture, each as bytes."""
+
+    def __init__(self, name, records, version=1, status=0, files=FILE, settings=b"", **numbers):
+        self.name, self.records, self.version, self.status = name, records, version, status
+        self.files, self.settings = files, settings
+        self.numbers = {"sent": 0, "tiers": 0, "blocks": 0, "heads": 0, "requests": 0, "controls": 0, "pieces": 0,
+                        "waiting": 0, "messages": 0, "unshared": 0, "cache": 0, "workers": DEFAULT_WORKERS, **numbers}
+
+    def write(self, folder):
+        """Writes the texts into the folder; the bytes of the snapshot."""
+        with open(os.path.join(folder, "snapshot"), "wb") as file:
+            file.write(b"haboob-snapshot 1\n")
+            count = 0
+            for name, data in self.files() if callable(self.files) else self.files:
+                file.write(b"file 0 %d %d\n%b\n%b\n" % (len(name), len(data), name, data))
+                count += 1
+            file.write(b"end %d\n" % count)
+            size = file.tell()
+        with open(os.path.join(folder, "capture"), "wb") as file:
+            file.write(b"haboob-capture %d 784111777\n" % self.version)
+            records = 0
+            for record in self.records():
+                file.write(record)
+                records += 1
+            file.write(b"stop %d\n" % records)
+        with open(os.path.join(folder, "settings"), "wb") as file:
+            file.write(self.settings)
+        return size, count
+
+    def bound(self, engine, snapshot, files, report):
+        """The formula."""
+        n = self.numbers
+        total = BASE + snapshot + 192 * files
+        total += 512 * n["sent"] + 2 * n["tiers"] + (24_576 if engine == STAGED else 16_384) * n["blocks"] + n["heads"]
+        total += 24 * n["requests"] + 96 * n["controls"] + 2 * report
+        if engine == STAGED:
+            part = min(n["messages"], ENOUGH + MOST_PIECE // len(SHORTEST))
+            total += n["waiting"] + 64 * n["pieces"] + 256 * n["messages"]
+            total += 2048 * part + n["unshared"] + n["cache"] + 160 * files + MOST_PIECE * n["workers"]
+        return total
+
+
+def piece(conn, data, tick=0):
+    return b"piece %d %d %d\n%b\n" % (tick, conn, len(data), data)
+
+
+def unfinished(count):
+    """Connections that each send 8,191 bytes of a block, the last of them in a piece of its own."""
+    block = b"GET /" + b"a" * 8186
+    for conn in range(count):
+        yield piece(conn, block[:-1])
+    for conn in range(count):
+        yield piece(conn, block[-1:])
+
+
+def bodies(count, sent):
+    """Connections that each send a head of 8,192 bytes, its last byte in a piece of its own, and so much of a body."""
+    front, rest = b"POST /", b" HTTP/1.1\r\nHost: a\r\nContent-Length: 65536\r\n\r\n"
+    head = front + b"a" * (8192 - len(front) - len(rest)) + rest
+    for conn in range(count):
+        yield piece(conn, head[:-1])
+        yield piece(conn, head[-1:] + b"b" * sent)
+
+
+def ends(count):
+    return (b"end 0 %d\n" % conn for conn in range(count))
+
+
+def tiers(count):
+    return (b"tier %d 3\n" % conn for conn in range(count))
+
+
+def empty_lines(count):
+    """Connections that each send 65,535 bytes of empty lines, after the beginning of one in a piece of its own."""
+    for conn in range(count):
+        yield piece(conn, b"\r")
+        yield piece(conn, b"\n" * 65_535)
+
+
+def requests(request, count, service=0):
+    """So many of a request on one connection, as many to a piece as fit, each piece after the service of those before."""
+    most = MOST_PIECE // len(request)
+    for done in range(0, count, most):
+        yield piece(0, request * min(most, count - done), done * service)
+
+
+def many_files():
+    """65,536 files of no bytes."""
+    return ((b"%05d" % number, b"") for number in range(65_536))
+
+
+def each_file():
+    """A request for each of these files."""
+    for first in range(0, 65_536, 2048):
+        yield piece(0, b"".join(b"GET /%05d HTTP/1.1\r\nHost: a\r\n\r\n" % number for number in range(first, first + 2048)))
+
+
+def page_of(size):
+    """A file of so many bytes."""
+    return [(b"a.txt", b"x" * size)]
+
+
+# The settings of one batch of all pieces; of a cache that can't hold the page of a file of 100,000 bytes.
+LARGE_BATCH = b"[floor]\nbatch = 65536\n"
+PAGE = 100_000 + len(b"Content-Type: text/plain\r\nContent-Length: 100000\r\n")
+SMALL_CACHE = b"[floor]\ncache = %d\n" % (PAGE - 1) + OPEN
+
+
+def inputs():
+    of_all = {"requests": MOST_MESSAGES, "pieces": 512, "waiting": 512 * MOST_PIECE, "messages": MOST_MESSAGES, "sent": 1}
+    head = 8192
+    yield Input("one request", lambda: requests(REQUEST, 1), sent=1, requests=1, pieces=1, waiting=32, messages=1)
+    yield Input("4,096 unfinished blocks", lambda: unfinished(4096), sent=4096, blocks=4096, pieces=DEFAULT_BATCH,
+                waiting=DEFAULT_BATCH * 8190)
+    yield Input("65,536 unfinished blocks", lambda: unfinished(65_536), version=2, sent=65_536, blocks=65_536,
+                pieces=DEFAULT_BATCH, waiting=DEFAULT_BATCH * 8190)
+    yield Input("65,536 unfinished blocks in one batch", lambda: unfinished(65_536), version=2, settings=LARGE_BATCH,
+                sent=65_536, blocks=65_536, pieces=65_536, waiting=65_536 * 8190)
+    yield Input("65,536 unfinished bodies", lambda: bodies(65_536, 1), version=2, sent=65_536, blocks=65_536,
+                heads=65_536 * head, pieces=DEFAULT_BATCH, waiting=DEFAULT_BATCH * 4096)
+    yield Input("4,096 bodies but for a byte", lambda: bodies(4096, 65_535), sent=4096, blocks=4096, heads=4096 * head,
+                pieces=DEFAULT_BATCH, waiting=DEFAULT_BATCH // 2 * (MOST_PIECE + 8191))
+    yield Input("65,536 tiers", lambda: tiers(65_536), version=2, tiers=65_536)
+    yield Input("65,536 ends", lambda: ends(65_536), version=2)
+    yield Input("empty lines on 4,096 connections", lambda: empty_lines(4096), sent=4096, blocks=4096,
+                pieces=DEFAULT_BATCH, waiting=DEFAULT_BATCH // 2 * MOST_PIECE)
+    yield Input("1,048,576 requests, a control at each", lambda: requests(REQUEST, MOST_MESSAGES, 201),
+                settings=OPEN, controls=MOST_MESSAGES, **of_all)
+    yield Input("1,048,576 requests, all but one rejected", lambda: requests(REQUEST, MOST_MESSAGES), settings=SHUT, **of_all)
+    yield Input("65,536 files, each asked for", each_file, files=many_files, settings=OPEN, sent=1, requests=65_536,
+                controls=65_536, pieces=32, waiting=32 * MOST_PIECE, messages=65_536, cache=65_536 * 66)
+    yield Input("a cache one byte too small", lambda: requests(REQUEST, 8192), files=page_of(100_000), settings=SMALL_CACHE,
+                sent=1, requests=8192, controls=8192, pieces=4, waiting=4 * MOST_PIECE, messages=8192, cache=PAGE, unshared=ENOUGH * PAGE)
+    yield Input("a batch of 3,354,624 messages", lambda: requests(SHORTEST, 1024 * 3276), status=5,
+                settings=LARGE_BATCH, sent=1, requests=MOST_MESSAGES, pieces=1024, waiting=1024 * MOST_PIECE,
+                messages=1024 * 3276)
+    yield Input("a batch of 2,164,736 messages", lambda: requests(UNEVEN, 1024 * 2114), status=5,
+                settings=LARGE_BATCH, sent=1, requests=MOST_MESSAGES, pieces=1024, waiting=1024 * MOST_PIECE,
+                messages=1024 * 2114)
+
+
+def run(program, words, folder, bound):
+    """The status and the peak of a run, and the bytes that it wrote to standard output."""
+    def limit():
+        resource.setrlimit(resource.RLIMIT_AS, (bound + SPACE, bound + SPACE))
+    with open(os.path.join(folder, "out"), "wb") as out:
+        ran = subprocess.run([sys.executable, "-I", "-S", "-c", RUNNER, program, *words], cwd=folder, stdin=subprocess.DEVNULL,
+                             stdout=out, stderr=subprocess.PIPE, preexec_fn=limit, timeout=SECONDS)
+    status, peak = json.loads(ran.stderr.splitlines()[-1])
+    return status, peak, os.path.getsize(os.path.join(folder, "out"))
+
+
+def told(name, status, wanted, peak, bound):
+    """Prints a line; whether it is wrong."""
+    wrong = status != wanted or peak > bound
+    print("%-52s status %d, peak %7.1f MiB of %7.1f%s" % (name, status, peak / MIB, bound / MIB, ": WRONG" * wrong), flush=True)
+    return wrong
+
+
+def measure(program, given, folder):
+    """Runs an input on both engines and upgrades its capture; how many of the three are wrong."""
+    snapshot, files = given.write(folder)
+    words = ["replay", "--snapshot", "snapshot", "--capture", "capture", "--settings", "settings", "--replies", os.devnull]
+    wrong = 0
+    for name, engine in (("plain", PLAIN), ("staged", STAGED)):
+        status, peak, report = run(program, words + engine, folder, given.bound(engine, snapshot, files, 0))
+        wrong += told("%s, %s" % (given.name, name), status, given.status, peak, given.bound(engine, snapshot, files, report))
+    status, peak, _ = run(program, ["upgrade", "--capture", "capture", "--output", os.devnull], folder, 0)
+    return wrong + told("%s, upgrade" % given.name, status, 0, peak, BASE)
+
+
+def main():
+    parser = argparse.ArgumentParser(description=__doc__, formatter_class=argparse.RawDescriptionHelpFormatter)
+    parser.add_argument("program")
+    parser.add_argument("--folder", help="where the files stand; without it a folder for temporary files")
+    parser.add_argument("--only", default="", metavar="WORD", help="the inputs whose name has this word")
+    options = parser.parse_args()
+    program = os.path.abspath(options.program)
+    wrong, count = 0, 0
+    with tempfile.TemporaryDirectory(dir=options.folder) as folder:
+        for given in inputs():
+            if options.only in given.name:
+                wrong += measure(program, given, folder)
+                count += 3
+    print("%d runs, %d wrong" % (count, wrong))
+    return int(wrong > 0)
+
+
+if __name__ == "__main__":
+    sys.exit(main())
