@@ -40,4 +40,4 @@ RisesFrom t tick reached = (free : ℕ) → RiseWithin t.bucket.tick free (drop 
 -- these are the controls of the tier up to this tick
 abbrev pub Shows : TierStanding → ℕ → List Control → Type 0
 Shows t tick shown = (past : List Decided) (free : ℕ) → TierFits past free t
-  → shown ≡ controls_until t.rules (served past) tick
+    → shown ≡ controls_until t.rules (served past) tick

@@ -13,5 +13,8 @@ window_of size added = record { size = size; samples = keep_last size added }
 
 -- the window with one more sample
 abbrev pub with_sample : Window → ℕ → Window
-with_sample window sample = record { size = window.size; samples = keep_last window.size
-  (window.samples ++ sample ∷ []) }
+with_sample window sample = record {
+  size = window.size;
+  samples = keep_last window.size
+      (window.samples ++ sample ∷ []);
+}

@@ -1,7 +1,9 @@
-ghost use Rattle.std.specs.Prelude.{◌≡◌, ◌-◌, ◌<◌, ◌≤◌, ◌++◌, length, slice_get, ◌∷◌, List, ℕ, [], IfOk, OnOk, OnErr};
+ghost use Rattle.std.specs.Prelude.{◌≡◌, ◌+◌, ◌-◌, ◌<◌, ◌≤◌, ◌++◌, length, slice_get, ◌∷◌, List, ℕ, [], true, false};
+ghost use Rattle.std.specs.Prelude.{IfOk, OnOk, OnErr};
 ghost use Rattle.std.specs.Ordering.{nat_cmp};
-ghost use Rattle.std.specs.Map.{set_value};
-ghost use Rattle.std.specs.BTreeMap.{is_at};
+ghost use Rattle.std.specs.List.Sorted.{IsStrictlySortedBy};
+ghost use Rattle.std.specs.Map.{keys_of, set_value};
+ghost use Rattle.std.specs.BTreeMap.{insert_entry, is_at};
 ghost use Rattle.admission.specs.Tally.{expanded, AllCounted, count_in, remove_one};
 ghost use Rattle.admission.specs.Percentile.{percentile};
 ghost use Rattle.admission.specs.Window.{window_of, with_sample};
@@ -32,22 +34,38 @@ impl Model for SampleWindow {
     ghost invariant = { λ w. IsTally w.counts.entries w.ring.items w.ring.capacity };
 }
 
-/// How often a sample is counted.
+/// Counts a sample once more.
 #[tactic(auto, unfolding(crate::specs::Tally::count_in))]
-fn count_of(counts: &BTreeMap<u64, usize>, sample: u64) -> usize
-    ensures { result ≡ count_in counts.now.entries sample }
+fn count(counts: &mut BTreeMap<u64, usize>, sample: u64) -> Result<(), AllocError>
+    requires { count_in counts.old.entries sample ≤ MAX_WINDOW }
+    ensures ok { OnOk result (counts.new.entries
+        ≡ insert_entry nat_cmp counts.old.entries sample (count_in counts.old.entries sample + 1)) }
+    ensures err { OnErr result (counts.new.entries ≡ counts.old.entries) }
+    ensures ordered { IsStrictlySortedBy nat_cmp (keys_of counts.old.entries) }
 {
-    counts.get(&sample).copied().unwrap_or(0)
+    *counts.entry(sample)?.or_insert(0) += 1;
+    Ok(())
 }
 
-/// Writes how often a sample is counted that the map has.
+/// Counts a sample once less that is counted more than once, and tells whether it was.
 #[tactic(auto, unfolding(crate::specs::Tally::count_in))]
-fn set_count(counts: &mut BTreeMap<u64, usize>, sample: u64, count: usize)
-    requires { 0 < count_in counts.old.entries sample }
-    ensures { counts.new.entries ≡ set_value (is_at (nat_cmp sample)) counts.old.entries count }
+fn lower(counts: &mut BTreeMap<u64, usize>, sample: u64) -> bool
+    ensures several { result ≡ true → 1 < count_in counts.old.entries sample }
+    ensures lower { result ≡ true
+        → counts.new.entries
+        ≡ set_value (is_at (nat_cmp sample)) counts.old.entries (count_in counts.old.entries sample - 1) }
+    ensures few { result ≡ false → count_in counts.old.entries sample ≤ 1 }
+    ensures same { result ≡ false → counts.new.entries ≡ counts.old.entries }
 {
-    if let Some(kept) = counts.get_mut(&sample) {
-        *kept = count;
+    match counts.get_mut(&sample) {
+        Some(count) => {
+            let several = *count > 1;
+            if several {
+                *count -= 1;
+            }
+            several
+        }
+        None => false,
     }
 }
 
@@ -57,10 +75,7 @@ fn uncount(counts: &mut BTreeMap<u64, usize>, sample: u64)
     ensures removed { expanded counts.new.entries ≡ remove_one sample (expanded counts.old.entries) }
     ensures positive { AllCounted counts.new.entries }
 {
-    let count = count_of(counts, sample);
-    if count > 1 {
-        set_count(counts, sample, count - 1);
-    } else {
+    if !lower(counts, sample) {
         counts.remove(&sample);
     }
 }
@@ -99,8 +114,7 @@ impl SampleWindow {
         ensures held { OnOk result (self.new ≡ with_sample self.old sample) }
         ensures err { OnErr result (self.new ≡ self.old) }
     {
-        let count = count_of(&self.counts, sample);
-        self.counts.insert(sample, count + 1)?;
+        count(&mut self.counts, sample)?;
         if let Some(oldest) = self.ring.push_back(sample) {
             uncount(&mut self.counts, oldest);
         }

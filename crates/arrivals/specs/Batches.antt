@@ -14,7 +14,7 @@ use Rattle.arrivals.specs.declared.connection.Connection.{Connection}
 -- the connection reads a piece, these messages end in it, and it stands so after it
 abbrev pub Reads : Connection → List ℕ → List Message → Connection → Type 0
 Reads before piece more after = (text : List ℕ) (ms : List Message) → HasRead before text ms
-  → ReadMore text ms after piece more
+    → ReadMore text ms after piece more
 
 -- it reads these pieces, one after another, with the messages that end in each
 abbrev pub ReadsOn : Connection → List (List ℕ) → List (List Message) → Connection → Type 0
@@ -22,7 +22,7 @@ ReadsOn before [] [] after = before ≡ after
 ReadsOn before [] (ms ∷ mss) after = ⊥
 ReadsOn before (piece ∷ pieces) [] after = ⊥
 ReadsOn before (piece ∷ pieces) (ms ∷ mss) after = (mid : Connection) × Reads before piece ms mid
-  × ReadsOn mid pieces mss after
+    × ReadsOn mid pieces mss after
 
 -- the pieces that these records bring to a connection
 abbrev pub pieces_to : ℕ → List Record → List (List ℕ)
@@ -43,7 +43,7 @@ tiers_of records c = tier_of c records
 abbrev pub origins_of : (ℕ → ℕ) → List Record → List Origin
 origins_of tiers [] = []
 origins_of tiers (Piece tick conn bytes ∷ rs) = record { conn = conn; tick = tick; tier = tiers conn }
-  ∷ origins_of tiers rs
+    ∷ origins_of tiers rs
 origins_of tiers (End tick conn ∷ rs) = origins_of tiers rs
 origins_of tiers (Tier conn tier ∷ rs) = origins_of (with_tier conn tier tiers) rs
 
@@ -59,7 +59,7 @@ arrivals_in tiers place [] found = []
 arrivals_in tiers place (Piece tick conn bytes ∷ rs) [] = []
 arrivals_in tiers place (Piece tick conn bytes ∷ rs) (ms ∷ found) =
     arrivals_with place (record { conn = conn; tick = tick; tier = tiers conn }) ms
-      ++ arrivals_in tiers (place + 1) rs found
+    ++ arrivals_in tiers (place + 1) rs found
 arrivals_in tiers place (End tick conn ∷ rs) found = arrivals_in tiers (place + 1) rs found
 arrivals_in tiers place (Tier conn tier ∷ rs) found = arrivals_in (with_tier conn tier tiers) (place + 1) rs found
 
@@ -79,7 +79,7 @@ pub record Stand (records : List Record) (came : List Arrival) (at : ℕ → Con
 -- arrivals of the batch.
 abbrev pub MergedArrivals : Type 0
 MergedArrivals = (rs : List Record) (found : List (List Message)) (records : List Record) (came : List Arrival)
-  (before after : ℕ → Connection)
+    (before after : ℕ → Connection)
     → length found ≡ length (origins_of (tiers_of records) rs) → Stand records came before
     → ((c : ℕ) → ReadsOn (before c) (pieces_to c rs) (lists_to c (origins_of (tiers_of records) rs) found) (after c))
     → Stand (records ++ rs) (came ++ arrivals_in (tiers_of records) (length records) rs found) after

@@ -29,7 +29,7 @@ some_closes ms = list_any (λ m. closes m.what) ms
 
 -- one more piece was read: these are the messages that end in it
 pub record ReadMore (text : List ℕ) (ms : List Message) (after : Connection) (piece : List ℕ)
-  (more : List Message) : Type 0 where
+    (more : List Message) : Type 0 where
   pub has : HasRead after (text ++ piece) (ms ++ more)
   pub in_piece : EndBetween (length text) (length text + length piece) more
 

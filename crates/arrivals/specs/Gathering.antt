@@ -29,7 +29,7 @@ EndsWith v text start records (Fault f) p now =
     Gave v text start records (Err f) p now × FailsNext v text start records (Err f) now
 
 pub record ReadOn (v : Version) (text : Option (List ℕ)) (start : ℕ) (records : List Record) (ending : Ending)
-  (p : Progress)
+    (p : Progress)
     (now : Option (List ℕ)) : Type 0 where
   pub progress : Progress
   pub ahead : Option (List ℕ)

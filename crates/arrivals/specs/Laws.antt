@@ -17,10 +17,10 @@ ArrivalsOfMessages = (records : List Record) → HasMessages records
 -- two lists of the arrivals of the same records are one
 abbrev pub OneListOfArrivals : Type 0
 OneListOfArrivals = (records : List Record) (xs ys : List Arrival)
-  → AreArrivals records xs → AreArrivals records ys → xs ≡ ys
+    → AreArrivals records xs → AreArrivals records ys → xs ≡ ys
 
 -- more records add arrivals at the end
 abbrev pub ArrivalsBegin : Type 0
 ArrivalsBegin = (records more : List Record) (xs ys : List Arrival)
-  → AreArrivals records xs → AreArrivals (records ++ more) ys
+    → AreArrivals records xs → AreArrivals (records ++ more) ys
     → (rest : List Arrival) × (ys ≡ xs ++ rest)

@@ -47,7 +47,7 @@ named name (Err e) = Err (name e)
 
 infixl 10 ◌>>=◌
 abbrev pub ◌>>=◌ : {A B : Type 0} → Result A CaptureFaultKind → (A → Result B CaptureFaultKind)
-  → Result B CaptureFaultKind
+    → Result B CaptureFaultKind
 (Ok x) >>= f = f x
 (Err e) >>= f = Err e
 
@@ -181,13 +181,13 @@ IsUnfinished r = (r ≡ Err Cut) ⊎ ((left : ℕ) × (r ≡ Ok (None, record { 
 
 -- The fault of the record after these, whose texts stand whole in front of it. (The last line is a record here too.)
 pub record FaultsBehind (v : Version) (text : List ℕ) (start : ℕ) (records : List Record) (f : CaptureFault)
-  (rest : List ℕ) : Type 0 where
+    (rest : List ℕ) : Type 0 where
   pub whole : text ≡ text_before_stop v start records ++ rest
   pub rules : IsCapture v start records
   pub size : length (text_before_stop v start records) ≤ longest_text
   pub at : f.at ≡ length records + 1
   pub kind : record_at v (past_of records)
-    (record { bytes = rest; left = longest_text - length (text_before_stop v start records) }) ≡ Err f.kind
+      (record { bytes = rest; left = longest_text - length (text_before_stop v start records) }) ≡ Err f.kind
 
 -- The first fault of bytes that are no capture text: that of the first line, which is record 0, or of the record after
 -- those that stand whole, by the rules of the version that the first line gave.

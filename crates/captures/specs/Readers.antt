@@ -37,7 +37,7 @@ after past (Tier conn tier) =
 -- A reader has given these records of a text, and no others: they keep the rules, and where the bytes of the input are
 -- known, the first line and the texts of the records were taken from their front, and the rest is ahead.
 pub record Fits (v : Version) (text : Option (List ℕ)) (start : ℕ) (records : List Record) (p : Progress)
-  (now : Option (List ℕ)) : Type 0 where
+    (now : Option (List ℕ)) : Type 0 where
   pub stage : p.stage ≡ Reading
   pub version : p.version ≡ v
   pub begun : p.start ≡ start
@@ -51,11 +51,11 @@ pub record Fits (v : Version) (text : Option (List ℕ)) (start : ℕ) (records 
 -- What the next call on such a reader answers: one more record; `None` only where the text is the capture of these
 -- records; or a fault of the record after these, which is the text's (unless a read failed, or memory ran out).
 abbrev pub Gave : Version → Option (List ℕ) → ℕ → List Record → Result (Option Record) CaptureFault → Progress
-  → Option (List ℕ) → Type 0
+    → Option (List ℕ) → Type 0
 Gave v text start records (Ok (Some r)) p now = Fits v text start (records ++ r ∷ []) p now
 Gave v text start records (Ok None) p now = is_some text ≡ true → IsCaptureText v (unwrap_or text []) start records
 Gave v text start records (Err f) p now = (f.at ≡ length records + 1)
-  × IsForeseen (λ bytes. IsFaultBehind v bytes start records) text f
+    × IsForeseen (λ bytes. IsFaultBehind v bytes start records) text f
 
 -- how far a reader has come by this answer
 abbrev pub stage_after : Result (Option Record) CaptureFault → Stage
@@ -81,29 +81,29 @@ CountsNext stage old new r = MatchResult r (λ _. new ≡ old) (λ f. new ≡ ol
 
 -- the same of a reader that names the kind of a fault alone
 abbrev pub GaveKind : Version → Option (List ℕ) → ℕ → List Record → Result (Option Record) CaptureFaultKind → Progress
-  → Option (List ℕ) → Type 0
+    → Option (List ℕ) → Type 0
 GaveKind v text start records (Ok next) p now = Gave v text start records (Ok next) p now
 GaveKind v text start records (Err kind) p now = Gave v text start records
-  (Err (record { at = length records + 1; kind = kind })) p now
+    (Err (record { at = length records + 1; kind = kind })) p now
 
 -- A read failed in the record after these: their texts were taken whole, and of what follows only a part, in which no
 -- whole record lies.
 pub record FailsInRecord (v : Version) (text : List ℕ) (start : ℕ) (records : List Record)
-  (part rest : List ℕ) : Type 0 where
+    (part rest : List ℕ) : Type 0 where
   pub taken : text ≡ (text_before_stop v start records ++ part) ++ rest
   pub size : length (text_before_stop v start records) + length part ≤ longest_text
   pub unfinished : IsUnfinished
-    (record_at v (past_of records)
-    (record { bytes = part; left = longest_text - length (text_before_stop v start records) }))
+      (record_at v (past_of records)
+      (record { bytes = part; left = longest_text - length (text_before_stop v start records) }))
 
 -- so it is where a reader that has given these records answers a failed read, and the bytes of the input are known
 abbrev pub FailsNext : Version → Option (List ℕ) → ℕ → List Record → Result (Option Record) CaptureFault
-  → Option (List ℕ) → Type 0
+    → Option (List ℕ) → Type 0
 FailsNext v text start records r now = IfErr r (λ f. f.kind ≡ Read → is_some text ≡ true
     → (part : List ℕ) × FailsInRecord v (unwrap_or text []) start records part (unwrap_or now []))
 
 -- the same of a reader that names the kind of a fault alone
 abbrev pub FailsNextKind : Version → Option (List ℕ) → ℕ → List Record → Result (Option Record) CaptureFaultKind
-  → Option (List ℕ) → Type 0
+    → Option (List ℕ) → Type 0
 FailsNextKind v text start records r now = IfErr r (λ kind. kind ≡ Read → is_some text ≡ true
     → (part : List ℕ) × FailsInRecord v (unwrap_or text []) start records part (unwrap_or now []))

@@ -40,7 +40,7 @@ pub record StopsFirst (input : List ℕ) (old new : Option (List ℕ)) (f : Capt
 -- written the first line and these records, and no last line. Where a read failed, this rest is still ahead of the
 -- reader, and no whole record more was taken.
 pub record StopsBehind (input : List ℕ) (rest : Option (List ℕ)) (old new : Option (List ℕ))
-  (f : CaptureFault) : Type 0 where
+    (f : CaptureFault) : Type 0 where
   pub version : Version
   pub start : ℕ
   pub records : List Record
@@ -51,7 +51,7 @@ pub record StopsBehind (input : List ℕ) (rest : Option (List ℕ)) (old new : 
   pub written : Appends old new (text_before_stop Two start records)
   pub fault : is_unforeseen_kind f.kind ≡ false → IsFaultBehind version input start records f
   pub failed : f.kind ≡ kinds.Read → (part : List ℕ)
-    × FailsInRecord version input start records part (unwrap_or rest [])
+      × FailsInRecord version input start records part (unwrap_or rest [])
 
 -- a fault of the capture that isn't a failed read is its first
 abbrev pub Stops : List ℕ → Option (List ℕ) → Option (List ℕ) → Option (List ℕ) → CaptureFault → Type 0
@@ -71,7 +71,7 @@ pub record StopsAmong (input : List ℕ) (old new : Option (List ℕ)) : Type 0 
 -- capture's text
 abbrev pub IsCutShort : List ℕ → Option (List ℕ) → Option (List ℕ) → Type 0
 IsCutShort input old new = StopsAmong input old new
-  ⊎ ((text : List ℕ) × IsUpgrade input text × AppendsPrefix old new text)
+    ⊎ ((text : List ℕ) × IsUpgrade input text × AppendsPrefix old new text)
 
 -- where the reader is out of memory, the call is
 abbrev pub told_as : CaptureFaultKind → CaptureFault → UpgradeFault

@@ -49,7 +49,7 @@ value_at document key = value_in (table_of key) (get_member (name_of (table_of k
 abbrev pub number_or : Key → ℕ → ℕ → ℕ → Option Data → Result ℕ ConfigFault
 number_or key default least most None = Ok default
 number_or key default least most (Some (integer (pos n))) = if nat_le least n && nat_le n most then Ok n else Err
-  (range key)
+    (range key)
 number_or key default least most (Some (integer (negsuc n))) = Err (range key)
 number_or key default least most (Some _) = Err (shape key)
 

@@ -106,5 +106,5 @@ keys_in (Some _) = []
 -- the key of this name there, if it may stand there; each table of a policy may have the keys of one
 abbrev pub key_at : Option Key → List ℕ → Option Key
 key_at (Some (keys.Policy table)) name = option_map (keys.InPolicy table)
-  (find (λ key. bytes_eq (policy_key_name key) name) policy_keys)
+    (find (λ key. bytes_eq (policy_key_name key) name) policy_keys)
 key_at table name = find (λ key. bytes_eq (name_of key) name) (keys_in table)

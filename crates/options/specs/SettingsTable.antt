@@ -57,8 +57,19 @@ policy_in document table otherwise = do
   target ← number document (keys.InPolicy table policy.Target) otherwise.target 1 1000000000000
   low ← number document (keys.InPolicy table policy.Low) otherwise.low 0 100
   depth ← number document (keys.InPolicy table policy.Depth) otherwise.depth 1 1000000
-  Ok (record { window = window; every = every; smoothing = smoothing; rate = rate; rate_min = rate_min;
-    rate_max = rate_max; up = up; down = down; target = target; low = low; depth = depth })
+  Ok (record {
+    window = window;
+    every = every;
+    smoothing = smoothing;
+    rate = rate;
+    rate_min = rate_min;
+    rate_max = rate_max;
+    up = up;
+    down = down;
+    target = target;
+    low = low;
+    depth = depth;
+  })
 
 -- the policy of a document that says nothing of it
 abbrev pub default_policy : Rules
@@ -89,8 +100,18 @@ written_in document = do
   tier1 ← policy_in document tables.Tier1 policy
   tier2 ← policy_in document tables.Tier2 policy
   tier3 ← policy_in document tables.Tier3 policy
-  Ok (record { front = front; back = back; batch = batch; cache = cache; costs = costs; retry_after = retry_after;
-    policy = policy; tier1 = tier1; tier2 = tier2; tier3 = tier3 })
+  Ok (record {
+    front = front;
+    back = back;
+    batch = batch;
+    cache = cache;
+    costs = costs;
+    retry_after = retry_after;
+    policy = policy;
+    tier1 = tier1;
+    tier2 = tier2;
+    tier3 = tier3;
+  })
 
 -- the lists as the plan of a floor, whose last stage ends with this step
 abbrev pub plan_of : Key → ℕ → FloorLists → Result Layout ConfigFault
@@ -114,8 +135,16 @@ chosen w = do
   tier1 ← in_order tables.Tier1 w.tier1
   tier2 ← in_order tables.Tier2 w.tier2
   tier3 ← in_order tables.Tier3 w.tier3
-  Ok (record { front = front; back = back; batch = w.batch; cache = w.cache; costs = w.costs; policies = policy ∷ tier1
-    ∷ tier2 ∷ tier3 ∷ []; retry_after = w.retry_after })
+  Ok (record {
+    front = front;
+    back = back;
+    batch = w.batch;
+    cache = w.cache;
+    costs = w.costs;
+    policies = policy ∷ tier1
+        ∷ tier2 ∷ tier3 ∷ [];
+    retry_after = w.retry_after;
+  })
 
 -- the settings of a document, or its first fault
 abbrev pub settings_of : Members → Result Choice ConfigFault

@@ -34,7 +34,7 @@ sizes files list = sum_by (page_size files) list
 unfoldable pub fitting : List File → ℕ → List ℕ → List ℕ
 fitting files room [] = []
 fitting files room (x ∷ list) = if nat_le (page_size files x) room then x
-  ∷ fitting files (room - page_size files x) list else []
+    ∷ fitting files (room - page_size files x) list else []
 
 -- what a look finds, and what it leaves
 abbrev pub found : ℕ → List ℕ → Option ℕ
@@ -48,7 +48,7 @@ looked file old = record { pages = to_front file old.pages; limit = old.limit }
 abbrev pub kept : List File → ℕ → CacheList → CacheList
 kept files file old = record {
   pages = if has file old.pages then to_front file old.pages else file
-    ∷ fitting files (old.limit - page_size files file) old.pages;
+      ∷ fitting files (old.limit - page_size files file) old.pages;
   limit = old.limit;
 }
 

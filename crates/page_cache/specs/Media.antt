@@ -60,4 +60,4 @@ media_type name = media_text (media_of name)
 -- the two fields of a content of this type and length (RFC 9110, 8.3 and 8.6)
 unfoldable pub entity_fields : MediaType → ℕ → List ℕ
 entity_fields media len = codes "Content-Type: " ++ media_text media ++ codes "\r\nContent-Length: " ++ decimal len
-  ++ codes "\r\n"
+    ++ codes "\r\n"

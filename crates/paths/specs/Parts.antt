@@ -10,7 +10,7 @@ use Rattle.paths.specs.declared.snapshot_fault.SnapshotFaultKind.TheVariants.{Cu
 
 -- a part was taken of which this holds, and the rest is ahead
 pub record TookPart (Holds : List ℕ → Type 0) (old : Option (List ℕ)) (left : ℕ) (new : Option (List ℕ))
-  (left_new : ℕ) : Type 0 where
+    (left_new : ℕ) : Type 0 where
   pub part : List ℕ
   pub bytes : unwrap_or old [] ≡ part ++ unwrap_or new []
   pub count : left ≡ length part + left_new
@@ -19,9 +19,9 @@ pub record TookPart (Holds : List ℕ → Type 0) (old : Option (List ℕ)) (lef
 
 -- where the bytes of the input are known and the fault is a failed read, this holds of what the call had taken
 abbrev pub FailsBehind : {Y E : Type 0} → E → (List ℕ → Type 0) → Option (List ℕ) → ℕ → Option (List ℕ) → ℕ → Result Y E
-  → Type 0
+    → Type 0
 FailsBehind failed Holds old left new left_new r = IfErr r
-  (λ e. e ≡ failed → is_some old ≡ true → TookPart Holds old left new left_new)
+    (λ e. e ≡ failed → is_some old ≡ true → TookPart Holds old left new left_new)
 
 -- it is nothing
 abbrev pub FailsAtOnce : {Y E : Type 0} → E → Option (List ℕ) → ℕ → Option (List ℕ) → ℕ → Result Y E → Type 0
@@ -29,9 +29,9 @@ FailsAtOnce failed old left new left_new r = FailsBehind failed (λ part. part �
 
 -- f finds it cut: nothing whole of what f reads had been taken
 abbrev pub FailsWithin : {X Y E : Type 0} → E → E → (Ahead → Result (X × Ahead) E) → Option (List ℕ) → ℕ
-  → Option (List ℕ) → ℕ → Result Y E → Type 0
+    → Option (List ℕ) → ℕ → Result Y E → Type 0
 FailsWithin failed cut f old left new left_new r = FailsBehind failed
-  (λ part. f (record { bytes = part; left = left }) ≡ Err cut) old left new left_new r
+    (λ part. f (record { bytes = part; left = left }) ≡ Err cut) old left new left_new r
 
 -- A read failed in the entry after these files: their texts were taken whole, and of the entry itself only a part,
 -- which is cut. The fault names that entry.
@@ -70,11 +70,11 @@ pub record NamesBehind (text : List ℕ) (f : SnapshotFault) (files : List File)
 -- where the bytes of the input are known, it does so where memory ran out
 abbrev pub NamesLacking : Option (List ℕ) → SnapshotFault → Type 0
 NamesLacking old f = f.kind ≡ Memory → is_some old ≡ true → (files : List File) × (rest : List ℕ)
-  × NamesBehind (unwrap_or old []) f files rest
+    × NamesBehind (unwrap_or old []) f files rest
 
 -- where the bytes of the input are known and the fault is a failed read
 abbrev pub NamesFailed : (List ℕ → List ℕ → SnapshotFault → Type 0) → Option (List ℕ) → Option (List ℕ) → SnapshotFault
-  → Type 0
+    → Type 0
 NamesFailed Fails old new f = f.kind ≡ Read → is_some old ≡ true → Fails (unwrap_or old []) (unwrap_or new []) f
 
 abbrev pub FailsInText : List ℕ → List ℕ → SnapshotFault → Type 0

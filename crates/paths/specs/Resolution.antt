@@ -46,9 +46,9 @@ file_or_folder None false to = outcomes.Missing
 -- In folder form the folder's `index.html` is asked for; else a file, and a folder of that name is redirected to.
 abbrev pub outcome : List File → Asked → Outcome
 outcome files (askeds.Path segments true) = file_or_missing
-  (position_of files (joined (segments ++ codes "index.html" ∷ [])))
+    (position_of files (joined (segments ++ codes "index.html" ∷ [])))
 outcome files (askeds.Path segments false) = file_or_folder (position_of files (joined segments))
-  (has_folder files (joined segments)) (location segments)
+    (has_folder files (joined segments)) (location segments)
 outcome files askeds.Missing = outcomes.Missing
 outcome files askeds.BadTarget = outcomes.BadTarget
 outcome files askeds.NotAllowed = outcomes.NotAllowed

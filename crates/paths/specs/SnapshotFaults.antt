@@ -42,7 +42,7 @@ named name (Err e) = Err (name e)
 
 infixl 10 ◌>>=◌
 abbrev pub ◌>>=◌ : {A B : Type 0} → Result A SnapshotFaultKind → (A → Result B SnapshotFaultKind)
-  → Result B SnapshotFaultKind
+    → Result B SnapshotFaultKind
 (Ok x) >>= f = f x
 (Err e) >>= f = Err e
 

@@ -33,7 +33,7 @@ longest_text = 1073741824
 -- the line in front of a file
 abbrev pub file_line : File → List ℕ
 file_line f = codes "file " ++ decimal f.mtime ++ codes " " ++ decimal (length f.name) ++ codes " "
-  ++ decimal (length f.bytes)
+    ++ decimal (length f.bytes)
 
 -- a file: its line, its name and its bytes, each with a line feed
 abbrev pub file_text : File → List ℕ
@@ -61,7 +61,7 @@ is_part part = not (bytes_eq part []) && not (bytes_eq part (codes ".")) && not 
 -- a name: UTF-8 without byte 0, of such parts
 abbrev pub is_name : List ℕ → Bool
 is_name name = is_utf8 name && list_all (λ b. not (b == 0)) name && list_all is_part
-  (slice_split (λ b. b == slash) name)
+    (slice_split (λ b. b == slash) name)
 
 -- the first name comes before the second, by their bytes
 abbrev pub comes_before : List ℕ → List ℕ → Bool

@@ -55,7 +55,7 @@ is_unforeseen _ = false
 -- Where the bytes of the input are known, the call gave what f says of what was ahead, and what f leaves is ahead now.
 -- An unforeseen fault is excused.
 abbrev pub Gives : {X E : Type 0} → (E → Bool) → (Ahead → Result (X × Ahead) E) → Option (List ℕ) → ℕ → Option (List ℕ)
-  → ℕ → Result X E → Type 0
+    → ℕ → Result X E → Type 0
 Gives excused f old left new left_new r = is_some old ≡ true → MatchResult r
     (λ x. (f (ahead_of old left) ≡ Ok (x, ahead_of new left_new)) × (is_some new ≡ true))
     (λ e. excused e ≡ false → f (ahead_of old left) ≡ Err e)

@@ -62,7 +62,7 @@ answers_head (Bad fault) = false
 -- what a message is answered with
 abbrev pub answer : {X : Type 0} → List File → Meaning → Given X
 answer files (Request method target version closing since) = outcome_answer files (is_head method) since
-  (outcome files (asked method target))
+    (outcome files (asked method target))
 answer files (Bad fault) = Plain (fault_status fault)
 
 -- what the reply tells of its connection (RFC 9112, 9.3)

@@ -21,7 +21,7 @@ sight_after files costs (Bad fault) sight = sight
 sight_after files costs (Request method target version closing since) Unseen = Asked (asked method target)
 sight_after files costs (Request method target version closing since) (Asked a) = Found (outcome files a)
 sight_after files costs (Request method target version closing since) (Found o) = Priced o
-  (service costs o (is_head method) (is_unmodified_file files since o) (length_given files o))
+    (service costs o (is_head method) (is_unmodified_file files since o) (length_given files o))
 sight_after files costs (Request method target version closing since) (Priced o cost) = Priced o cost
 
 abbrev pub front_step : List File → CostTable → ℕ → Sighted → Sighted
@@ -51,4 +51,4 @@ front_value files costs message = value_of (front_step files costs) 3 (unseen me
 -- the same of the message alone, wherever it came from
 abbrev pub sight_of : List File → CostTable → Meaning → Sight
 sight_of files costs what = sight_after files costs what
-  (sight_after files costs what (sight_after files costs what Unseen))
+    (sight_after files costs what (sight_after files costs what Unseen))

@@ -60,7 +60,7 @@ OneLimit = (terms : Terms) (input old new other : Option (List ℕ)) (number ano
 -- more arrivals change nothing of the numbers and the rejections of those before
 abbrev pub HandledBegin : Type 0
 HandledBegin = (terms : Terms) (arrivals more : List Arrival) → (rest : List Handled)
-  × (handled terms (arrivals ++ more) ≡ handled terms arrivals ++ rest)
+    × (handled terms (arrivals ++ more) ≡ handled terms arrivals ++ rest)
 
 -- the replies that are due for messages that arrived: to those within the limit
 abbrev pub due : Terms → ℕ → List Arrival → List (ℕ × ℕ × List ℕ)

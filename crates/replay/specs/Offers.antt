@@ -31,13 +31,17 @@ is_unmodified_file files since other = false
 -- how long the virtual server works on a request with this outcome
 abbrev pub service_of : Terms → Bool → Option ℕ → Outcome → ℕ
 service_of terms head since o = service terms.costs o head (is_unmodified_file terms.files since o)
-  (length_given terms.files o)
+    (length_given terms.files o)
 
 -- the offer of a message that came from there: none where it breaks a rule, and so is no request
 abbrev pub offer_at : Terms → Origin → Meaning → List Offer
 offer_at terms origin (Request method target version closing since) =
-    record { tier = origin.tier; tick = origin.tick; service = service_of terms (is_head method) since
-      (outcome terms.files (asked method target)) } ∷ []
+    record {
+      tier = origin.tier;
+      tick = origin.tick;
+      service = service_of terms (is_head method) since
+          (outcome terms.files (asked method target));
+    } ∷ []
 offer_at terms origin (Bad fault) = []
 
 -- the offers of these arrivals, in their order
@@ -51,7 +55,7 @@ rejects policies offers offer = is_rejected (decide policies (decided policies o
 -- a message is turned away where the offer that it makes after those of the earlier ones is
 abbrev pub is_turned_away : Terms → List Arrival → Arrival → Bool
 is_turned_away terms earlier a = list_any (rejects terms.policies (offers_of terms earlier))
-  (offer_at terms a.origin a.message.what)
+    (offer_at terms a.origin a.message.what)
 
 -- a message, its number, and whether it was turned away
 pub record Handled : Type 0 where
@@ -60,14 +64,17 @@ pub record Handled : Type 0 where
   pub turned_away : Bool
 
 abbrev pub handled_next : Terms → List Arrival → Arrival → Handled
-handled_next terms earlier a = record { number = length earlier; arrival = a;
-  turned_away = is_turned_away terms earlier a }
+handled_next terms earlier a = record {
+  number = length earlier;
+  arrival = a;
+  turned_away = is_turned_away terms earlier a;
+}
 
 -- these messages after the earlier ones, each in turn, as those before it decide
 unfoldable pub handled_behind : Terms → List Arrival → List Arrival → List Handled
 handled_behind terms earlier [] = []
 handled_behind terms earlier (a ∷ arrivals) = handled_next terms earlier a
-  ∷ handled_behind terms (earlier ++ a ∷ []) arrivals
+    ∷ handled_behind terms (earlier ++ a ∷ []) arrivals
 
 abbrev pub handled : Terms → List Arrival → List Handled
 handled terms arrivals = handled_behind terms [] arrivals

@@ -152,7 +152,7 @@ pub record StopsAtEnd (terms : Terms) (input old new : Option (List ℕ)) : Type
 -- a replay that was cut short has written a prefix of what was due
 abbrev pub IsCutShort : Terms → Option (List ℕ) → Option (List ℕ) → Option (List ℕ) → Type 0
 IsCutShort terms input old new = AppendsInPart old new first_line
-  ⊎ (StopsAmong terms input old new ⊎ StopsAtEnd terms input old new)
+    ⊎ (StopsAmong terms input old new ⊎ StopsAtEnd terms input old new)
 
 -- how often the reader and the writer failed in a call that answered this fault
 abbrev pub reader_failures : ReplayFault → ℕ

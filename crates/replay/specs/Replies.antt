@@ -21,7 +21,7 @@ slip_of terms start h = record {
 -- the reply to a message: its number, its connection, and the reply's text
 unfoldable pub reply_of : Terms → ℕ → Handled → ℕ × ℕ × List ℕ
 reply_of terms start h =
-  (h.number, h.arrival.origin.conn, reply_text terms.files (slip_of {X = Unit {0}} terms start h))
+    (h.number, h.arrival.origin.conn, reply_text terms.files (slip_of {X = Unit {0}} terms start h))
 
 abbrev pub replies_of : Terms → ℕ → List Handled → List (ℕ × ℕ × List ℕ)
 replies_of terms start messages = map (reply_of terms start) messages

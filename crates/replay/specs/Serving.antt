@@ -36,7 +36,7 @@ IsLater (Tier conn tier) arrivals = Unit {0}
 -- the records of the replies to these messages, which come after the earlier ones
 abbrev pub records_behind : Terms → ℕ → List Arrival → List Arrival → List ℕ
 records_behind terms start earlier arrivals = flat_map record_text
-  (replies_of terms start (handled_behind terms earlier arrivals))
+    (replies_of terms start (handled_behind terms earlier arrivals))
 
 -- they were written, and a prefix of them was
 abbrev pub Written : Terms → ℕ → List Arrival → List Arrival → Option (List ℕ) → Option (List ℕ) → Type 0
@@ -44,11 +44,11 @@ Written terms start earlier arrivals old new = Appends old new (records_behind t
 
 abbrev pub WrittenInPart : Terms → ℕ → List Arrival → List Arrival → Option (List ℕ) → Option (List ℕ) → Type 0
 WrittenInPart terms start earlier arrivals old new = (n : ℕ)
-  × Appends old new (take n (records_behind terms start earlier arrivals))
+    × Appends old new (take n (records_behind terms start earlier arrivals))
 
 -- these records were read, and the messages that arrived with them were answered
 pub record Serves (terms : Terms) (records : List Record) (arrivals : List Arrival) (connections : List Connection)
-  (desk : Desk) : Type 0 where
+    (desk : Desk) : Type 0 where
   pub reads : HaveRead records arrivals connections
   pub arrived : AreArrivals records arrivals
   pub stands : Stands terms arrivals desk
@@ -59,7 +59,7 @@ ArriveNext records arrivals rs more = AreArrivals (records ++ rs) (arrivals ++ m
 
 -- more records were read, and the messages that arrived with them were answered
 pub record ServesMore (terms : Terms) (records : List Record) (arrivals : List Arrival) (rs : List Record)
-  (connections : List Connection) (desk : Desk)
+    (connections : List Connection) (desk : Desk)
     (old new : Option (List ℕ)) : Type 0 where
   pub more : List Arrival
   pub serves : Serves terms (records ++ rs) (arrivals ++ more) connections desk
@@ -67,7 +67,7 @@ pub record ServesMore (terms : Terms) (records : List Record) (arrivals : List A
 
 -- the messages of the next records reach beyond the limit: those within it were answered
 pub record ServesFull (terms : Terms) (start : ℕ) (records : List Record) (arrivals : List Arrival) (rs : List Record)
-  (old new : Option (List ℕ)) : Type 0 where
+    (old new : Option (List ℕ)) : Type 0 where
   pub more : List Arrival
   pub arrived : ArriveNext records arrivals rs more
   pub within : ℕ
@@ -77,7 +77,7 @@ pub record ServesFull (terms : Terms) (start : ℕ) (records : List Record) (arr
 
 -- a prefix was written of the replies to the messages of the next records within the limit
 pub record ServesInPart (terms : Terms) (start : ℕ) (records : List Record) (arrivals : List Arrival) (rs : List Record)
-  (old new : Option (List ℕ)) : Type 0 where
+    (old new : Option (List ℕ)) : Type 0 where
   pub more : List Arrival
   pub arrived : ArriveNext records arrivals rs more
   pub within : ℕ

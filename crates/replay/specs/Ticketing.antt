@@ -24,4 +24,4 @@ AreSighted files costs arrivals sights = sights ≡ map (λ a. front_value files
 abbrev pub InTime : List Arrival → List Arrival → Type 0
 InTime earlier [] = Unit {0}
 InTime earlier (a ∷ more) = AreBy a.origin.tick earlier × (a.origin.tick ≤ 1000000000000000) × (a.origin.tier < 4)
-  × InTime (earlier ++ a ∷ []) more
+    × InTime (earlier ++ a ∷ []) more

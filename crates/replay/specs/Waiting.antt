@@ -24,7 +24,7 @@ Waiting rs places = (c : ℕ) → ((place_at places c).pieces ≡ pieces_to c rs
 
 -- These records come next, after others that were served: their pieces wait at the seats, and came from these origins.
 pub record ComeNext (terms : Terms) (records rs : List Record) (arrivals : List Arrival) (places : List Place)
-  (origins : List Origin) (desk : Desk) : Type 0 where
+    (origins : List Origin) (desk : Desk) : Type 0 where
   pub serves : Serves terms records arrivals (connections_of places) desk
   pub waiting : Waiting rs places
   pub origins_are : origins ≡ origins_of (tiers_of records) rs
@@ -34,7 +34,7 @@ pub record ComeNext (terms : Terms) (records rs : List Record) (arrivals : List 
 
 -- these messages come next, after those that were served: they are those of the arrivals, in time
 pub record Upcoming (terms : Terms) (arrivals more : List Arrival) (messages : List Incoming)
-  (desk : Desk) : Type 0 where
+    (desk : Desk) : Type 0 where
   pub stands : Stands terms arrivals desk
   pub are : AreOf more messages
   pub timely : InTime arrivals more

@@ -57,12 +57,12 @@ shown (Some number) = decimal number
 
 abbrev pub percentile_line : ℕ → List ℕ → List ℕ
 percentile_line percent ordered = codes "p" ++ decimal percent ++ codes " " ++ shown (percentile percent ordered)
-  ++ codes "\n"
+    ++ codes "\n"
 
 -- the percentiles of the samples, which are sorted for it
 abbrev pub percentile_lines : List ℕ → List ℕ
 percentile_lines samples = percentile_line 50 (sorted samples) ++ percentile_line 90 (sorted samples)
-  ++ percentile_line 99 (sorted samples)
+    ++ percentile_line 99 (sorted samples)
 
 -- the line of the control number k
 abbrev pub control_line : ℕ → Control → List ℕ

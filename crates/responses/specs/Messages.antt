@@ -54,4 +54,4 @@ pub record IsHead (code : ℕ) (h : ResponseHead) : Type 0 where
 pub record IsReply (head : Bool) (code : ℕ) (body text : List ℕ) : Type 0 where
   pub read : (h : ResponseHead) × IsHead code h × ((more : List ℕ) → Reads head (text ++ more) h body more)
   pub alone : (more : List ℕ) (h : ResponseHead) (part rest : List ℕ) → Reads head (text ++ more) h part rest
-    → IsHead code h × (part ≡ body) × (rest ≡ more)
+      → IsHead code h × (part ≡ body) × (rest ≡ more)

@@ -5,7 +5,7 @@ use Rattle.std.specs.Io.KnownBytes.{Appends}
 -- the line in front of a reply of so many bytes
 abbrev pub record_line : ℕ → ℕ → ℕ → List ℕ
 record_line number conn len = codes "reply " ++ decimal number ++ codes " " ++ decimal conn ++ codes " " ++ decimal len
-  ++ codes "\n"
+    ++ codes "\n"
 
 -- a reply's record: that line, and the reply with a line feed after it
 abbrev pub record_text : ℕ × ℕ × List ℕ → List ℕ

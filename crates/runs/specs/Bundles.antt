@@ -46,7 +46,7 @@ pub record StopsAs (terms : Terms) (capture ahead old new : Option (List ℕ)) (
 -- says what it says of the rest; memory may run out between the two, and then nothing was written either. None else
 -- comes.
 abbrev pub IsBundleFault : Option (List ℕ) → Option (List ℕ) → Option (List ℕ) × ℕ → Option (List ℕ) × ℕ → Fault
-  → Type 0
+    → Type 0
 IsBundleFault input ahead old new (Snapshot f) = IsForeseen IsFrontFault input f × (new ≡ old)
 IsBundleFault input ahead old new (Replay f) = is_some input ≡ true →
     BehindSnapshot (unwrap_or input [])
@@ -77,7 +77,7 @@ BlamedOnce failures old new r = MatchResult r (λ _. new ≡ old) (λ f. (old + 
 -- the bytes after the snapshot are the text of a capture
 abbrev pub HoldsCapture : List File → List ℕ → Type 0
 HoldsCapture files bytes = (version : Version) × (start : ℕ) × (records : List Record)
-  × IsCaptureText version bytes start records
+    × IsCaptureText version bytes start records
 
 -- What a fault of the program says of its input: that of a snapshot or a capture is the first, but for a failed read
 -- and out of memory. Other faults are that the replies can't be written to their end, and out of memory.

@@ -26,7 +26,7 @@ is_fault (Err f) = true
 -- The buffer before a device was to hold `whole` after the run. Either all of it stands at the device; or it wasn't due
 -- any more, and a prefix stands; or it was due and a write failed, which is then the fault, and a prefix stands.
 abbrev pub Settles : Bool → Place → Option (List ℕ) → Option (List ℕ) → Option (List ℕ) → Result Unit Fault
-  → Result Unit Fault → Type 0
+    → Result Unit Fault → Type 0
 Settles cut place old whole new ran told =
     ((told ≡ ran) × (cut ≡ false) × Keeps whole new)
     ⊎ (((told ≡ ran) × (cut ≡ true) × IsPart old whole new)
@@ -34,7 +34,7 @@ Settles cut place old whole new ran told =
 
 -- A run over one device with a buffer before it came to `ran` and was to leave `whole` at the device, of which P holds.
 pub record AtDevice (place : Place) (P : Result Unit Fault → Option (List ℕ) → Type 0) (old new : Option (List ℕ))
-  (told : Result Unit Fault) : Type 0 where
+    (told : Result Unit Fault) : Type 0 where
   pub ran : Result Unit Fault
   pub whole : Option (List ℕ)
   pub says : P ran whole
@@ -47,7 +47,7 @@ Refused old new told = (told ≡ Err Memory) × Keeps old new
 -- The same of a run over the devices of the replies and of the report. Whatever the fault, no more of the report is
 -- due.
 pub record AtDevices (P : Result Unit Fault → Option (List ℕ) → Option (List ℕ) → Type 0)
-  (old new out_old out_new : Option (List ℕ)) (told : Result Unit Fault) : Type 0 where
+    (old new out_old out_new : Option (List ℕ)) (told : Result Unit Fault) : Type 0 where
   pub ran : Result Unit Fault
   pub whole : Option (List ℕ)
   pub out_whole : Option (List ℕ)

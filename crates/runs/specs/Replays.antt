@@ -47,7 +47,7 @@ IsReportFault text old new other = ⊥
 -- comes after a whole snapshot, and says what it says of the capture; no report was written. Else the whole answer was
 -- written, and there was no memory for the report, or a prefix of it stands. None else comes.
 abbrev pub IsReplayFault : Choice → Option (List ℕ) → Option (List ℕ) → Option (List ℕ) → Option (List ℕ) × ℕ
-  → Option (List ℕ) × ℕ → Option (List ℕ) × ℕ → Option (List ℕ) × ℕ → Fault → Type 0
+    → Option (List ℕ) × ℕ → Option (List ℕ) × ℕ → Option (List ℕ) × ℕ → Fault → Type 0
 IsReplayFault choice snapshot capture ahead old new out_old out_new (Snapshot f) =
     IsForeseen IsFirstFault snapshot f × (new ≡ old) × (out_new ≡ out_old)
 IsReplayFault choice snapshot capture ahead old new out_old out_new (Replay f) =
@@ -88,9 +88,9 @@ IsFilesFault snapshot capture other = ⊥
 
 -- what a run over files says of its inputs, and of what it was to leave at the devices of the replies and of the report
 abbrev pub FilesSays : Choice → Option (List ℕ) → Option (List ℕ) → Option (List ℕ) → Option (List ℕ)
-  → Result Unit Fault → Option (List ℕ) → Option (List ℕ) → Type 0
+    → Result Unit Fault → Option (List ℕ) → Option (List ℕ) → Type 0
 FilesSays choice snapshot capture old out_old ran whole out_whole = (ahead : Option (List ℕ)) × (count : ℕ)
-  × (out_count : ℕ) × MatchResult ran
+    × (out_count : ℕ) × MatchResult ran
     (λ done. OfInput snapshot
     (λ files. AnswersAnd (terms_of files choice) capture old whole
     (λ outcome. Appends out_old out_whole (report_text outcome))))

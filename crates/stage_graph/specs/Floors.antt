@@ -114,7 +114,7 @@ halt_cause s = if s.stopped then Some Stopped else None
 abbrev pub is_allowed : Layout → State → Event → Bool
 is_allowed p s (Feed n) = is_none (feed_cause p s) && is_at (first s.backlog) n
 is_allowed p s (Take w n) = nat_lt w (workers p) &&
-  (is_none (take_cause p s w) && is_at (first (queue_at s (stage_at p w))) n)
+    (is_none (take_cause p s w) && is_at (first (queue_at s (stage_at p w))) n)
 is_allowed p s (Give w n) = nat_lt w (workers p) && is_none (give_cause p s w n (cut_at p (stage_at p w)))
 is_allowed p s (Back w n) = nat_lt w (workers p) && is_none (back_cause s w n)
 is_allowed p s (Leave w) = nat_lt w (workers p) && is_none (leave_cause p s w)
@@ -123,12 +123,18 @@ is_allowed p s Halt = is_none (halt_cause s)
 -- the state after an event that is allowed
 abbrev pub after : Layout → State → Event → State
 after p s (Feed n) = record s { backlog = drop 1 s.backlog; queues = slice_set s.queues 0 (queue_at s 0 ++ n ∷ []) }
-after p s (Take w n) = record s { queues = slice_set s.queues (stage_at p w)
-  (drop 1 (queue_at s (stage_at p w))); hands = slice_set s.hands w (Some n) }
+after p s (Take w n) = record s {
+  queues = slice_set s.queues (stage_at p w)
+      (drop 1 (queue_at s (stage_at p w)));
+  hands = slice_set s.hands w (Some n);
+}
 after p s (Give w n) =
     if is_last p (stage_at p w) then record s { hands = slice_set s.hands w None; done = slice_set s.done n true }
-    else record s { hands = slice_set s.hands w None; queues = slice_set s.queues (stage_at p w + 1)
-      (queue_at s (stage_at p w + 1) ++ n ∷ []) }
+    else record s {
+      hands = slice_set s.hands w None;
+      queues = slice_set s.queues (stage_at p w + 1)
+          (queue_at s (stage_at p w + 1) ++ n ∷ []);
+    }
 after p s (Back w n) = record s { hands = slice_set s.hands w None; returned = s.returned ++ n ∷ []; stopped = true }
 after p s (Leave w) = record s { left = slice_set s.left w true }
 after p s Halt = record s { stopped = true }

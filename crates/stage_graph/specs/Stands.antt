@@ -38,18 +38,18 @@ items_at f k = (slice_index_or f.queues k ([], 0)).0
 -- The items on a floor are where its history says, each with the steps of its place: an item in the backlog with
 -- none, one in the queue of a stage with those of the stage before, and a done one with those of the last stage.
 pub record Stands {X : Type 0} (mark : X → ℕ × ℕ) (p : Layout) (n : ℕ) (history : List Event)
-  (f : Parts X) : Type 0 where
+    (f : Parts X) : Type 0 where
   pub plan : IsPlan p
   pub legal : is_legal_from_opening p n history ≡ true
   pub backlog_is : map mark f.backlog ≡ map (with_steps 0) (standing p n history).backlog
   pub stages_are : length f.queues ≡ stages p
   pub queues_are : (k : ℕ) → k < stages p
-    → map mark (items_at f k) ≡ map (with_steps (cut_before p k)) (queue_at (standing p n history) k)
+      → map mark (items_at f k) ≡ map (with_steps (cut_before p k)) (queue_at (standing p n history) k)
   pub capacities_are : (k : ℕ) → k < stages p → (slice_index_or f.queues k ([], 0)).1 ≡ capacity_at p k
   pub hands_are : f.hands ≡ (standing p n history).hands
   pub slots_are : (k : ℕ) → k < n
-    → option_map mark (slice_index_or f.slots k None)
-    ≡ slot_mark (last_cut p) (slice_index_or (standing p n history).done k false) k
+      → option_map mark (slice_index_or f.slots k None)
+      ≡ slot_mark (last_cut p) (slice_index_or (standing p n history).done k false) k
   pub count_is : length f.slots ≡ n
   pub returned_are : map (λ x. (mark x).0) f.returned ≡ (standing p n history).returned
   pub hands_count : length f.hands ≡ workers p

@@ -10,4 +10,4 @@ use Rattle.stage_graph.specs.declared.unrun.Unrun.TheVariants.{Memory, Stopped}
 abbrev pub IsStopped : Layout → ℕ → Unrun → Type 0
 IsStopped p n Memory = Unit {0}
 IsStopped p n (Stopped h) = (is_legal_from_opening p n h ≡ true) × (all_left (standing p n h) ≡ true)
-  × (has_stop h ≡ true) × KeepsBounds p n h
+    × (has_stop h ≡ true) × KeepsBounds p n h
