@@ -4,10 +4,11 @@ reference.py.
 
     checks/cut_inputs.py PROGRAM
 
-Captures with pipelined requests, a closing one, two connections, an end and a tier, each cut after each of its bytes: what
-is told is the first record that isn't whole, and what stands are the replies to the messages of those before it. A
-snapshot cut after each of its bytes. And texts of requests (dates, bodies, faulty lengths, HTTP/1.0, HEAD, an empty file)
-in one piece, and in pieces of one byte at the same tick: the replies are the same. Exits with 1 where anything differs.
+Captures with pipelined requests, a closing one, two connections, an end and a tier, each cut after each of its bytes:
+what is told is the first record that isn't whole, and what stands are the replies to the messages of those before it.
+A snapshot cut after each of its bytes. And texts of requests (dates, bodies, faulty lengths, HTTP/1.0, HEAD, an empty
+file) in one piece, and in pieces of one byte at the same tick: the replies are the same. Exits with 1 where anything
+differs.
 """
 import os
 import sys
@@ -41,7 +42,7 @@ TEXTS = [
     POST + b"Content-Length: 65537\r\n\r\n" + GET,
     POST + b"Transfer-Encoding: chunked\r\nContent-Length: 1\r\nContent-Length: 1\r\n\r\n",
     POST + b"Content-Length: 1\r\nContent-Length: 1\r\n\r\n",
-    b"GET /a.txt HTTP/1.0\r\nConnection: Keep-Alive\r\n\r\nHEAD /a.txt HTTP/1.1\r\nHost: a\r\n\r\nGET /e HTTP/1.0\r\n\r\n" + GET,
+    b"GET /a.txt HTTP/1.0\r\nConnection: Keep-Alive\r\n\r\nHEAD" + GET[3:] + b"GET /e HTTP/1.0\r\n\r\n" + GET,
     b"\r\n\n" + GET,
 ]
 

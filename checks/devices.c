@@ -1,7 +1,7 @@
-/* Makes devices poor, for devices.py: at most READ_MOST bytes come by a read, and at most WRITE_MOST go by a write; read
- * number READ_FAILS fails, or write number WRITE_FAILS, counted from 1, with the error ERROR. A byte is written to the file
- * descriptor FAILED where one was. Standard error is left alone. Thread number THREAD_FAILS can't be started. What isn't
- * set is as ever. */
+/* Makes devices poor, for devices.py: at most READ_MOST bytes come by a read, and at most WRITE_MOST go by a write;
+ * read number READ_FAILS fails, or write number WRITE_FAILS, counted from 1, with the error ERROR; thread number
+ * THREAD_FAILS can't be started. A byte is written to the file descriptor FAILED where one was. Standard error is left
+ * alone. What isn't set is as ever. */
 #define _GNU_SOURCE
 #include <dlfcn.h>
 #include <errno.h>

@@ -4,12 +4,12 @@
     checks/devices.py PROGRAM
 
 Replays with both engines, a run from standard input to standard output, and upgrades. Inputs come from pipes, byte by
-byte; the replies go into a pipe that is read byte by byte, or into one whose reader goes away; they go into a file that
-may have only so many bytes, and onto a disk with little room (where a disk can be mounted: a user's own tmpfs); so does
-the report. With a C compiler (CC, or cc) besides: each read gives one byte, each write takes one byte; and each read
-fails in turn, then each write, by an error and by an interruption; and each thread in turn can't be started. What stands
-at a device is always a prefix of what is right, all of it where the status is 0, and a file that is full has all that it
-may have.
+byte; the replies go into a pipe that is read byte by byte, or into one whose reader goes away; replies and report go
+into a file that may have only so many bytes, and replies onto a disk with little room (where one can be mounted: a
+user's own tmpfs). With a C compiler (CC, or cc) besides: each read gives one byte, each write takes one byte; each read
+fails in turn, then each write, by an error and by an interruption; and each thread in turn can't be started. What
+stands at a device is always a prefix of what is right, all of it where the status is 0, and a file that is full has
+all that it may have.
 """
 import errno
 import os
@@ -61,8 +61,8 @@ class Replay:
 
 def words(engine, **names):
     """The words of a replay; each file has the name of its option where no other is given."""
-    given = [word for name in ("snapshot", "capture", "settings", "replies") for word in ("--" + name, names.get(name, name))]
-    return ["replay", *given, *engine]
+    options = ("snapshot", "capture", "settings", "replies")
+    return ["replay", *(word for name in options for word in ("--" + name, names.get(name, name))), *engine]
 
 
 def contents(folder, name):
@@ -72,8 +72,8 @@ def contents(folder, name):
 
 def run(program, words, folder, **more):
     """Status, line and standard output of a run."""
-    ran = subprocess.run([program, *words], cwd=folder, stdout=more.pop("stdout", subprocess.PIPE), stderr=subprocess.PIPE,
-                         stdin=more.pop("stdin", subprocess.DEVNULL), timeout=SECONDS, **more)
+    devices = {"stdin": subprocess.DEVNULL, "stdout": subprocess.PIPE, "stderr": subprocess.PIPE, **more}
+    ran = subprocess.run([program, *words], cwd=folder, timeout=SECONDS, **devices)
     return ran.returncode, ran.stderr, ran.stdout
 
 
@@ -132,9 +132,11 @@ def check_pipes(checks, program):
     small, large = Replay(40), Replay(5000)
     for engine in ENGINES:
         ran, got = by_pipes(program, small, engine, len(small.replies) + 1)
-        checks.see("pipes, byte by byte, " + engine[1], (ran, got) == ((0, b"", small.report), small.replies), (ran, got))
+        good = (ran, got) == ((0, b"", small.report), small.replies)
+        checks.see("pipes, byte by byte, " + engine[1], good, (ran, got))
         ran, got = by_pipes(program, large, engine, 100)
-        checks.see("a reader that goes away, " + engine[1], (ran, got) == ((*WRITE, b""), large.replies[:100]), (ran, got))
+        good = (ran, got) == ((*WRITE, b""), large.replies[:100])
+        checks.see("a reader that goes away, " + engine[1], good, (ran, got))
 
 
 def full_at(place):
@@ -153,13 +155,18 @@ def check_full_files(checks, program):
                 replay.put(folder)
                 ran = run(program, words(engine), folder, preexec_fn=full_at(place))
                 got = ran, contents(folder, "replies")
-            checks.see("replies full at %d, %s" % (place, engine[1]), got == ((*WRITE, b""), replay.replies[:place]), got)
+            good = got == ((*WRITE, b""), replay.replies[:place])
+            checks.see("replies full at %d, %s" % (place, engine[1]), good, got)
         for place in (0, 10, len(replay.report) - 1):
             with tempfile.TemporaryDirectory() as folder, open(os.path.join(folder, "report"), "wb") as report:
                 replay.put(folder)
                 ran = run(program, words(engine, replies="/dev/null"), folder, stdout=report, preexec_fn=full_at(place))
                 got = ran, contents(folder, "report")
-            checks.see("report full at %d, %s" % (place, engine[1]), got == ((*REPORT, None), replay.report[:place]), got)
+            good = got == ((*REPORT, None), replay.report[:place])
+            checks.see("report full at %d, %s" % (place, engine[1]), good, got)
+
+
+MOUNTED = 'mount -t tmpfs -o size=%d none disk || exit 99; "$@"; status=$?; cat disk/replies >kept; exit $status' % DISK
 
 
 def check_full_disk(checks, program):
@@ -169,9 +176,9 @@ def check_full_disk(checks, program):
         with tempfile.TemporaryDirectory() as folder:
             replay.put(folder)
             os.mkdir(os.path.join(folder, "disk"))
-            script = 'mount -t tmpfs -o size=%d none disk || exit 99; "$@"; status=$?; cat disk/replies >kept; exit $status' % DISK
-            mounted = ["--user", "--map-root-user", "--mount", "sh", "-c", script, "sh", program, *words(engine, replies="disk/replies")]
-            ran = run("unshare", mounted, folder) if shutil.which("unshare") else (99, b"", b"")
+            own = ["--user", "--map-root-user", "--mount", "sh", "-c", MOUNTED, "sh", program]
+            on_disk = words(engine, replies="disk/replies")
+            ran = run("unshare", own + on_disk, folder) if shutil.which("unshare") else (99, b"", b"")
             if ran[0] in (1, 99):
                 return False
             got = ran, contents(folder, "kept")
@@ -191,9 +198,11 @@ def tasks():
     lines = reference.replay(SNAPSHOT, replay.capture)[2]
     upgraded = replay.capture.replace(b"capture 1", b"capture 2")
     for engine in ENGINES:
-        yield replay, Task("replay, " + engine[1], words(engine), b"", {"replies": replay.replies, "out": replay.report})
+        wanted = {"replies": replay.replies, "out": replay.report}
+        yield replay, Task("replay, " + engine[1], words(engine), b"", wanted)
     yield replay, Task("bundle", [], SNAPSHOT + replay.capture, {"out": lines})
-    yield replay, Task("upgrade", ["upgrade", "--capture", "capture", "--output", "output"], b"", {"output": upgraded, "out": b""})
+    upgrade = ["upgrade", "--capture", "capture", "--output", "output"]
+    yield replay, Task("upgrade", upgrade, b"", {"output": upgraded, "out": b""})
 
 
 def run_poorly(program, replay, task, shim, **poor):
@@ -205,8 +214,10 @@ def run_poorly(program, replay, task, shim, **poor):
                 file.write(data)
         with open(os.path.join(folder, "in"), "rb") as given, open(os.path.join(folder, "out"), "wb") as out, \
                 open(os.path.join(folder, "failed"), "wb") as failed:
-            world = dict(os.environ, LD_PRELOAD=shim, FAILED=str(failed.fileno()), **{name: str(poor[name]) for name in poor})
-            status, line, _ = run(program, task.words, folder, env=world, stdin=given, stdout=out, pass_fds=[failed.fileno()])
+            told = failed.fileno()
+            world = {**os.environ, "LD_PRELOAD": shim, "FAILED": str(told), **{name: str(poor[name]) for name in poor}}
+            how = {"env": world, "stdin": given, "stdout": out, "pass_fds": [told]}
+            status, line, _ = run(program, task.words, folder, **how)
         return status, line, {name: contents(folder, name) for name in task.wanted}, contents(folder, "failed") != b""
 
 
@@ -227,7 +238,8 @@ def check_failing(checks, program, replay, task, shim, calls, error):
         tried = error == errno.EINTR and calls == "READ"
         refused = status == 6 and told.startswith(line) and is_prefix(task.wanted, got)
         good = whole if not met else refused or (whole and tried)
-        checks.see("%s: %s %d fails by %s" % (task.name, calls, number, errno.errorcode[error]), good, (status, told, got))
+        name = "%s: %s %d fails by %s" % (task.name, calls, number, errno.errorcode[error])
+        checks.see(name, good, (status, told, got))
 
 
 def check_threads(checks, program, replay, task, shim):
@@ -238,7 +250,8 @@ def check_threads(checks, program, replay, task, shim):
         status, told, got, met = run_poorly(program, replay, task, shim, THREAD_FAILS=number)
         whole = (status, told, got) == (0, b"", task.wanted)
         refused = (status, told, got["out"]) == (*MEMORY, b"") and is_prefix(task.wanted, got)
-        checks.see("%s: thread %d can't be started" % (task.name, number), whole or (met and refused), (status, told, got))
+        name = "%s: thread %d can't be started" % (task.name, number)
+        checks.see(name, whole or (met and refused), (status, told, got))
     return number - 1
 
 

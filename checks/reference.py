@@ -725,12 +725,12 @@ def replies_text(arrived, replies, fault):
 
 
 def replay(snapshot, capture, settings=b""):
-    """Status, line of a fault, replies (None where they aren't opened) and report (docs/FORMATS.md)."""
+    """Status, line of a fault, replies (None where the file stays as it was) and report (docs/FORMATS.md)."""
     replies = None
     try:
         settings = read_settings(settings)
-        replies = b""
         files = read_snapshot(snapshot)
+        replies = b""
         start, pieces, fault = read_capture(capture)
         arrived = arrivals(pieces)
         if len(arrived) > MESSAGES_LIMIT:

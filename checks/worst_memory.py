@@ -16,8 +16,8 @@ The formula adds up what a run keeps at a time, in bytes. All runs:
 The staged engine besides:
 
   the batch            its pieces, and 64 for each; 256 for each message that ends in them, also beyond the limit
-  a part of it         4,096 messages and those of one piece, at most: 2 KiB for each, and the page of each file's answer
-                       that the cache didn't hold, as often as it is asked for
+  a part of it         4,096 messages and those of one piece, at most: 2 KiB for each, and the page of each answer that
+                       the cache didn't hold, as often as it is asked for
   the cache            its limit at most, and 160 for each file of the snapshot
   the threads          64 KiB for each worker, in both floors together
 
@@ -64,7 +64,8 @@ MOST_MESSAGES = 1_048_576
 ENOUGH = 4_096
 
 # All are admitted, with a control at each; or all but the first are turned away.
-OPEN = b"[policy]\ndepth = 1000000\nrate = 1000000000\nrate_max = 1000000000\nrate_min = 1000000000\nevery = 1\nwindow = 4096\n"
+OPEN = b"[policy]\ndepth = 1000000\nrate = 1000000000\nrate_max = 1000000000\nrate_min = 1000000000\nevery = 1\n"
+OPEN += b"window = 4096\n"
 SHUT = b"[policy]\ndepth = 1\nrate = 1\nrate_min = 1\nrate_max = 1\n"
 
 
@@ -149,7 +150,8 @@ def empty_lines(count):
 
 
 def requests(request, count, service=0):
-    """So many of a request on one connection, as many to a piece as fit, each piece after the service of those before."""
+    """So many of a request on one connection, as many to a piece as fit; each piece comes after the service of those
+    before it."""
     most = MOST_PIECE // len(request)
     for done in range(0, count, most):
         yield piece(0, request * min(most, count - done), done * service)
@@ -163,7 +165,8 @@ def many_files():
 def each_file():
     """A request for each of these files."""
     for first in range(0, 65_536, 2048):
-        yield piece(0, b"".join(b"GET /%05d HTTP/1.1\r\nHost: a\r\n\r\n" % number for number in range(first, first + 2048)))
+        names = range(first, first + 2048)
+        yield piece(0, b"".join(b"GET /%05d HTTP/1.1\r\nHost: a\r\n\r\n" % number for number in names))
 
 
 def page_of(size):
@@ -178,7 +181,8 @@ SMALL_CACHE = b"[floor]\ncache = %d\n" % (PAGE - 1) + OPEN
 
 
 def inputs():
-    of_all = {"requests": MOST_MESSAGES, "pieces": 512, "waiting": 512 * MOST_PIECE, "messages": MOST_MESSAGES, "sent": 1}
+    of_all = {"requests": MOST_MESSAGES, "messages": MOST_MESSAGES, "sent": 1, "pieces": 512}
+    of_all["waiting"] = 512 * MOST_PIECE
     head = 8192
     yield Input("one request", lambda: requests(REQUEST, 1), sent=1, requests=1, pieces=1, waiting=32, messages=1)
     yield Input("4,096 unfinished blocks", lambda: unfinished(4096), sent=4096, blocks=4096, pieces=DEFAULT_BATCH,
@@ -197,11 +201,13 @@ def inputs():
                 pieces=DEFAULT_BATCH, waiting=DEFAULT_BATCH // 2 * MOST_PIECE)
     yield Input("1,048,576 requests, a control at each", lambda: requests(REQUEST, MOST_MESSAGES, 201),
                 settings=OPEN, controls=MOST_MESSAGES, **of_all)
-    yield Input("1,048,576 requests, all but one rejected", lambda: requests(REQUEST, MOST_MESSAGES), settings=SHUT, **of_all)
+    yield Input("1,048,576 requests, all but one rejected", lambda: requests(REQUEST, MOST_MESSAGES), settings=SHUT,
+                **of_all)
     yield Input("65,536 files, each asked for", each_file, files=many_files, settings=OPEN, sent=1, requests=65_536,
                 controls=65_536, pieces=32, waiting=32 * MOST_PIECE, messages=65_536, cache=65_536 * 66)
-    yield Input("a cache one byte too small", lambda: requests(REQUEST, 8192), files=page_of(100_000), settings=SMALL_CACHE,
-                sent=1, requests=8192, controls=8192, pieces=4, waiting=4 * MOST_PIECE, messages=8192, cache=PAGE, unshared=ENOUGH * PAGE)
+    yield Input("a cache one byte too small", lambda: requests(REQUEST, 8192), files=page_of(100_000),
+                settings=SMALL_CACHE, sent=1, requests=8192, controls=8192, pieces=4, waiting=4 * MOST_PIECE,
+                messages=8192, cache=PAGE, unshared=ENOUGH * PAGE)
     yield Input("a batch of 3,354,624 messages", lambda: requests(SHORTEST, 1024 * 3276), status=5,
                 settings=LARGE_BATCH, sent=1, requests=MOST_MESSAGES, pieces=1024, waiting=1024 * MOST_PIECE,
                 messages=1024 * 3276)
@@ -215,8 +221,8 @@ def run(program, words, folder, bound):
     def limit():
         resource.setrlimit(resource.RLIMIT_AS, (bound + SPACE, bound + SPACE))
     with open(os.path.join(folder, "out"), "wb") as out:
-        ran = subprocess.run([sys.executable, "-I", "-S", "-c", RUNNER, program, *words], cwd=folder, stdin=subprocess.DEVNULL,
-                             stdout=out, stderr=subprocess.PIPE, preexec_fn=limit, timeout=SECONDS)
+        ran = subprocess.run([sys.executable, "-I", "-S", "-c", RUNNER, program, *words], cwd=folder, preexec_fn=limit,
+                             stdin=subprocess.DEVNULL, stdout=out, stderr=subprocess.PIPE, timeout=SECONDS)
     status, peak = json.loads(ran.stderr.splitlines()[-1])
     return status, peak, os.path.getsize(os.path.join(folder, "out"))
 
@@ -224,18 +230,21 @@ def run(program, words, folder, bound):
 def told(name, status, wanted, peak, bound):
     """Prints a line; whether it is wrong."""
     wrong = status != wanted or peak > bound
-    print("%-52s status %d, peak %7.1f MiB of %7.1f%s" % (name, status, peak / MIB, bound / MIB, ": WRONG" * wrong), flush=True)
+    text = "%-52s status %d, peak %7.1f MiB of %7.1f%s"
+    print(text % (name, status, peak / MIB, bound / MIB, ": WRONG" * wrong), flush=True)
     return wrong
 
 
 def measure(program, given, folder):
     """Runs an input on both engines and upgrades its capture; how many of the three are wrong."""
     snapshot, files = given.write(folder)
-    words = ["replay", "--snapshot", "snapshot", "--capture", "capture", "--settings", "settings", "--replies", os.devnull]
+    named = [word for name in ("snapshot", "capture", "settings") for word in ("--" + name, name)]
+    words = ["replay", *named, "--replies", os.devnull]
     wrong = 0
     for name, engine in (("plain", PLAIN), ("staged", STAGED)):
         status, peak, report = run(program, words + engine, folder, given.bound(engine, snapshot, files, 0))
-        wrong += told("%s, %s" % (given.name, name), status, given.status, peak, given.bound(engine, snapshot, files, report))
+        bound = given.bound(engine, snapshot, files, report)
+        wrong += told("%s, %s" % (given.name, name), status, given.status, peak, bound)
     status, peak, _ = run(program, ["upgrade", "--capture", "capture", "--output", os.devnull], folder, 0)
     return wrong + told("%s, upgrade" % given.name, status, 0, peak, BASE)
 
