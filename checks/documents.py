@@ -1,9 +1,9 @@
 #!/usr/bin/env python3
-"""Runs the commands that README.md, docs/WALK.md and docs/FORMATS.md show, and compares what they print with what stands below them.
+"""Runs the commands that README.md and pages of docs/ show, and compares what they print with what stands below them.
 
 usage: documents.py PROGRAM
 
-A command stands in an indented block behind `$ `, on one or more lines; the lines up to the next command are its output. A
+A command stands in an indented block after `$ `, on one or more lines; the lines up to the next command are its output. A
 line `..` in it stands for any lines. The commands of a document run one after another in one folder, which has the folder
 `examples` and the program as `haboob`.
 """
@@ -13,7 +13,7 @@ import subprocess
 import sys
 import tempfile
 
-DOCUMENTS = ["README.md", os.path.join("docs", "WALK.md"), os.path.join("docs", "FORMATS.md")]
+DOCUMENTS = ["README.md"] + [os.path.join("docs", name) for name in ("WALK.md", "FORMATS.md", "POLICY.md")]
 INDENT = "    "
 PROMPT = INDENT + "$ "
 SECONDS = 60
