@@ -12,3 +12,4 @@ pub mod Sets
 pub mod WritingLemmas
 pub mod UpgradeLemmas
 pub mod UpgradeLaws
+pub mod Lengths

@@ -30,7 +30,7 @@ pub named_ok : {X : Type 0} (name : Stop → CaptureFaultKind) (r : Result X Sto
 named_ok {X = X} name (Ok y) x h = let e : y ≡ x = cc in ap (λ (v : X). let r : Result X Stop = Ok v in r) e
 named_ok name (Err e) x h = absurd cc
 
-bind_some : {A B : Type 0} (o : Option A) (f : A → Option B) (y : B) → (o >?= f) ≡ Some y → (x : A) × (o ≡ Some x) × (f x ≡ Some y)
+pub bind_some : {A B : Type 0} (o : Option A) (f : A → Option B) (y : B) → (o >?= f) ≡ Some y → (x : A) × (o ≡ Some x) × (f x ≡ Some y)
 bind_some (Some x) f y h = (x, refl, h)
 bind_some None f y h = absurd cc
 

@@ -120,21 +120,22 @@ heading_counts v line kind h = elim (heading_kinds v line kind h) [ inl number �
 
 -- a read failed in what a line announced
 pub record_fails : (v : Version) (past : Past) (o m p : Option (List ℕ)) (l ml pl : ℕ) (line : List ℕ) (heading : Heading) → heading_of v line ≡ Ok heading
-    → (is_some o ≡ true → (line_at (ahead_of o l) ≡ Ok (line, ahead_of m ml)) × (is_some m ≡ true))
+    → (is_some o ≡ true → (behind : Ahead) × (line_at (ahead_of o l) ≡ Ok (line, behind)) × (is_some m ≡ true) × ((h : Heading) → heading_of v line ≡ Ok h → behind ≡ ahead_of m ml))
     → (is_some m ≡ true → TookPart (λ part. IsUnfinished (announced v past heading (record { bytes = part; left = ml }))) m ml p pl) → is_some o ≡ true
     → TookPart (λ part. IsUnfinished (record_at v past (record { bytes = part; left = l }))) o l p pl
 record_fails v past o m p l ml pl line heading is read h k =
+    let got = λ (known : is_some o ≡ true). let r = read known in subst (λ (b : Ahead). line_at (ahead_of o l) ≡ Ok (line, b)) (r.3 heading is) r.1 in
     let t : Takes o l m ml (line ++ feed ∷ []) = record {
-      bytes = λ known. (line_inverse (ahead_of o l) (ahead_of m ml) line (read known).0).bytes;
-      count = λ known. (line_inverse (ahead_of o l) (ahead_of m ml) line (read known).0).left;
-      known = λ known. (read known).1;
+      bytes = λ known. (line_inverse (ahead_of o l) (ahead_of m ml) line (got known)).bytes;
+      count = λ known. (line_inverse (ahead_of o l) (ahead_of m ml) line (got known)).left;
+      known = λ known. (read known).2;
     } in
     part_behind (λ part. IsUnfinished (announced v past heading (record { bytes = part; left = ml }))) (λ part. IsUnfinished (record_at v past (record { bytes = part; left = l }))) o m p l ml pl (line ++ feed ∷ []) t
     (λ part left unfinished.
     let all : Ahead = record { bytes = (line ++ feed ∷ []) ++ part; left = l } in
     let mid : Ahead = record { bytes = part; left = ml } in
     let same : record_at v past all ≡ announced v past heading mid =
-    bind_is (named kind_of (line_at all)) _ (line, mid) (named_is kind_of _ (line, mid) (line_alone (ahead_of o l) (ahead_of m ml) line (read k).0 part))
+    bind_is (named kind_of (line_at all)) _ (line, mid) (named_is kind_of _ (line, mid) (line_alone (ahead_of o l) (ahead_of m ml) line (got k) part))
     ∙ bind_is (heading_of v line) _ heading is in
     subst (λ (r : Result (Option Record × Ahead) CaptureFaultKind). IsUnfinished r) (sym same) unfinished) h k
 

@@ -1,5 +1,6 @@
 pub mod CaptureFaults
 pub mod Captures
 pub mod Readers
+pub mod RecordLines
 pub mod Upgrades
 pub mod Writing

@@ -1,21 +1,26 @@
 ghost use Rattle.std.specs.Prelude.{◌≡◌, ◌<◌, ◌≤◌, ◌-◌, ◌^◌, length, IfOk, IfErr, IfSome, ◌≢◌};
-ghost use Rattle.paths.specs.Texts.{Gives};
+ghost use Rattle.paths.specs.Texts.{Counts, Gives, line_at};
 ghost use Rattle.paths.specs.Parts.{FailsAtOnce, FailsBehind, FailsWithin};
 ghost use Rattle.captures.specs.Captures.{Follows};
 ghost use Rattle.captures.specs.CaptureFaults.{CountsKind, IsUnfinished, IsHeadingOf, is_unforeseen_kind, header_at};
 ghost use Rattle.captures.specs.CaptureFaults.{body_at, piece_at, close_at, announced, record_at};
 ghost use Rattle.captures.specs.Readers.{seen};
+ghost use Rattle.captures.specs.RecordLines.{GivesLine};
 
 use crate::heading::{Heading, PieceLine};
 use crate::headings::{read_heading, read_start};
 use crate::so_far::SoFar;
 use crate::{CaptureFaultKind, Record, Version};
-use paths::{Bytes, Input, Stop, read_byte_of, read_line, read_run};
+use paths::{Bytes, Input, Line, Stop, read_byte_of, read_line, read_long_line, read_run};
 use std::alloc::Global;
 use std::io::Read;
 
 /// The most bytes of a piece.
 const MOST_BYTES: u64 = 65_536;
+/// The fewest bytes of a line that announces something, as `stop 0`, with its line feed.
+const SHORTEST_LINE: usize = 7;
+/// The fewest bytes of a piece's line, as `piece 0 0 1`, with its line feed.
+const SHORTEST_PIECE_LINE: usize = 12;
 
 /// Reads the first line, and answers its version and the start.
 pub(crate) fn read_header<R: Read>(
@@ -154,6 +159,24 @@ fn read_announced<R: Read>(
     }
 }
 
+/// Reads the line of a record, or of the end, of a capture of this version. Bytes after a line that announces nothing
+/// may have been read too.
+fn read_record_line<R: Read>(
+    input: &mut Input<R>,
+    left: &mut usize,
+    _version: Version,
+) -> Result<Line, Stop>
+    requires { input.old.1 < 2 ^ 64 - 1 }
+    ensures line { GivesLine _version input.old.0 left.old input.new.0 left.new result }
+    // Where a read failed, no whole line had been taken.
+    ensures part { FailsWithin Stop.Read Stop.Cut line_at input.old.0 left.old input.new.0 left.new result }
+    ensures count { Counts input.old.1 input.new.1 result }
+    // It takes no memory.
+    ensures memory { IfErr result (λ e. e ≢ Stop.Memory) }
+{
+    read_long_line(input, left, SHORTEST_LINE, b"piece ", SHORTEST_PIECE_LINE)
+}
+
 /// Reads the record after those so far, or `None` where the capture ends.
 pub(crate) fn read_record<R: Read>(
     alloc: Global,
@@ -172,7 +195,7 @@ pub(crate) fn read_record<R: Read>(
     ensures fits { IfOk result (λ next. IfSome next (Follows version (seen so_far.now))) }
     ensures count { CountsKind input.old.1 input.new.1 result }
 {
-    let line = read_line(input, left)?;
+    let line = read_record_line(input, left, version)?;
     let heading = read_heading(version, line.as_slice())?;
     read_announced(alloc, input, left, version, so_far, heading)
 }

@@ -107,11 +107,23 @@ const FIELDS_ROOM: usize = 96;
 
 /// The fields `Content-Type` and `Content-Length` of a content of this type and length, each with CR LF after it
 /// (RFC 9110, 8.3 and 8.6).
-#[tactic(auto, unfolding(crate::specs::Media::entity_fields))]
 pub fn entity_fields(alloc: Global, media: MediaType, len: usize) -> Result<String, AllocError>
     ensures { IfOk result (λ text. string_bytes text ≡ entity_fields media len) }
 {
-    let mut text = String::with_capacity(alloc, FIELDS_ROOM)?;
+    entity_fields_before(alloc, media, len, 0)
+}
+
+/// The fields of a content, in a text that has room for so many bytes after them.
+#[tactic(auto, unfolding(crate::specs::Media::entity_fields))]
+pub(crate) fn entity_fields_before(
+    alloc: Global,
+    media: MediaType,
+    len: usize,
+    behind: usize,
+) -> Result<String, AllocError>
+    ensures { IfOk result (λ text. string_bytes text ≡ entity_fields media len) }
+{
+    let mut text = String::with_capacity(alloc, FIELDS_ROOM.saturating_add(behind))?;
     text.push_str("Content-Type: ")?;
     text.push_str(media.text())?;
     text.push_str("\r\nContent-Length: ")?;

@@ -3,7 +3,8 @@ ghost use Rattle.std.specs.Arc.{arc_value};
 ghost use Rattle.paths.specs.Snapshots.{file_of};
 ghost use Rattle.page_cache.specs.Pages.{page_fields, page_size};
 
-use crate::{MediaType, entity_fields};
+use crate::MediaType;
+use crate::media::entity_fields_before;
 use paths::{Snapshot, Tree};
 use std::alloc::{AllocError, Global};
 use std::marker::{Model, PhantomData};
@@ -44,7 +45,7 @@ impl<F: Tree> Page<F> {
     {
         let bytes = snapshot.bytes(file);
         let media = MediaType::of(snapshot.name(file));
-        let mut text = entity_fields(alloc, media, bytes.len())?.into_bytes();
+        let mut text = entity_fields_before(alloc, media, bytes.len(), bytes.len())?.into_bytes();
         let split = text.len();
         text.extend_from_slice(bytes)?;
         let page = Page {

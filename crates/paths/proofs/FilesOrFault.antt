@@ -99,7 +99,7 @@ none_passes p xs k d none lt = go (p (get_or xs k d)) refl
     go true h = absurd (let found = list_any_at p xs k d lt h in cc)
     go false h = refl
 
-rules_more : (fs : List File) (f : File) → IsSnapshot fs → Follows fs f → IsSnapshot (fs ++ f ∷ [])
+pub rules_more : (fs : List File) (f : File) → IsSnapshot fs → Follows fs f → IsSnapshot (fs ++ f ∷ [])
 rules_more fs f c h = record {
   count = let room = h.room in omega (arith, length-append fs (f ∷ []));
   each = All-push IsFile fs f c.each h.file;
@@ -107,7 +107,7 @@ rules_more fs f c h = record {
   apart = all_pairs_push (λ g k. lies_in g.name k.name ≡ false) fs f c.apart (λ k d lt. none_passes (λ g. lies_in g.name f.name) fs k d h.apart lt);
 }
 
-rules_none : IsSnapshot []
+pub rules_none : IsSnapshot []
 rules_none = record {
   count = omega arith;
   each = search rules;

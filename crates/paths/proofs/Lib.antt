@@ -8,6 +8,8 @@ pub mod NoFault
 pub mod OneList
 pub mod PartLemmas
 pub mod Pieces
+pub mod Plain
+pub mod PlainPaths
 pub mod Segmenting
 pub mod Taking
 pub mod Locations

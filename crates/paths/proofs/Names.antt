@@ -157,7 +157,7 @@ no_file_at files name i place j lt is = elim (cases_lt j i) [
 ]
 
 -- what comes between a key and something that begins with the key begins with it too
-begins_between : (key m rest : List ℕ) → comes_before key m ≡ true → comes_before m (key ++ rest) ≡ true → (more : List ℕ) × (m ≡ key ++ more)
+pub begins_between : (key m rest : List ℕ) → comes_before key m ≡ true → comes_before m (key ++ rest) ≡ true → (more : List ℕ) × (m ≡ key ++ more)
 begins_between [] m rest a b = (m, refl)
 begins_between (x ∷ key) [] rest a b = absurd (true≢false (sym a))
 begins_between (x ∷ key) (y ∷ m) rest a b = elim (cases_lt x y) [

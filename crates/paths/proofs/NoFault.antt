@@ -145,7 +145,7 @@ all_is p [] h = refl
 all_is p (x ∷ xs) h = ap (λ b. b && list_all p xs) (All-head (λ f. p f ≡ true) x xs h) ∙ all_is p xs (All-tail (λ f. p f ≡ true) x xs h)
 
 -- the rules say that a file follows those before it
-follows_prefix : (ss more : List File) (q : File) → IsSnapshot (ss ++ q ∷ more) → Follows ss q
+pub follows_prefix : (ss more : List File) (q : File) → IsSnapshot (ss ++ q ∷ more) → Follows ss q
 follows_prefix ss more q c = record {
   room = let few = c.count in omega (arith, length-append ss (q ∷ more));
   file = subst (λ (f : File). IsFile f) (get_or-append_seam ss q more q) (c.each (length ss) q (omega (arith, length-append ss (q ∷ more))));

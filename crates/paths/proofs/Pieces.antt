@@ -1,5 +1,5 @@
 -- A line that is read piece by piece, as far as it owes bytes.
-use Rattle.std.proofs.Common.{◌≡◌, ℕ, ◌+◌, ◌-◌, ◌<◌, ◌≤◌, ◌==◌, not, nat_lt, Bool, true, false, List, [], ◌∷◌, ◌++◌, length, take, drop, get_or, Option, eq-eqb, Some, None, Result, Ok, Err, refl, sym, ap, ◌∙◌, arith, codes, nat_eq, is_some, unwrap_or}
+use Rattle.std.proofs.Common.{◌≡◌, ℕ, ◌+◌, ◌-◌, ◌<◌, ◌≤◌, ◌==◌, not, cond, nat_lt, Bool, true, false, List, [], ◌∷◌, ◌++◌, length, take, drop, get_or, Option, eq-eqb, Some, None, Result, Ok, Err, refl, sym, ap, ◌∙◌, subst, arith, codes, nat_eq, is_some, unwrap_or}
 use Rattle.std.specs.List.{position, position_or_len, before_first, prefix_len, starts_with}
 use Rattle.std.proofs.lemmas.Bool.Decides.{nat_tests, Decides-eqb}
 use Rattle.std.proofs.lemmas.Option.{cond_some}
@@ -10,10 +10,11 @@ use Rattle.std.proofs.lemmas.Slice.Eq.{starts_is}
 use Rattle.paths.specs.declared.file.Heading.{Heading}
 use Rattle.paths.specs.Numbers.{number_of, number_and_rest, three_numbers}
 use Rattle.paths.specs.Numbers.{◌>>=◌ as ◌>?=◌}
-use Rattle.paths.specs.SnapshotFaults.{heading_of, file_heading}
+use Rattle.paths.specs.SnapshotFaults.{heading_of, file_heading, end_heading}
+use Rattle.paths.specs.declared.snapshot_fault.SnapshotFaultKind.TheVariants.{Kind}
 use Rattle.paths.specs.declared.stop.Stop.{Stop}
 use Rattle.paths.specs.Texts.{Ahead, ahead_of, byte_at, line_at, front, ended}
-use Rattle.paths.specs.Owed.{IsOwed}
+use Rattle.paths.specs.Owed.{IsLong, IsOwed, GivesLine, GivesLongLine}
 use Rattle.paths.proofs.Taking.{Takes, TakesLine, takes_more, line_whole}
 
 bind_some : {A B : Type 0} (o : Option A) (f : A → Option B) (y : B) → (o >?= f) ≡ Some y → (x : A) × (o ≡ Some x) × (f x ≡ Some y)
@@ -25,11 +26,11 @@ some_is x y o a b = cc
 
 -- ---- a file's line has ten bytes at least
 
-number_long : (field : List ℕ) (n : ℕ) → number_of field ≡ Some n → 0 < length field
+pub number_long : (field : List ℕ) (n : ℕ) → number_of field ≡ Some n → 0 < length field
 number_long [] n h = absurd cc
 number_long (d ∷ field) n h = omega arith
 
-rest_long : (text : List ℕ) (found : ℕ × List ℕ) → number_and_rest text ≡ Some found → length found.1 + 2 ≤ length text
+pub rest_long : (text : List ℕ) (found : ℕ × List ℕ) → number_and_rest text ≡ Some found → length found.1 + 2 ≤ length text
 rest_long text found h =
     let at = bind_some (position (λ b. b == 32) text) _ _ h in
     let number = bind_some (number_of (take at.0 text)) _ _ at.2 in
@@ -40,7 +41,7 @@ rest_long text found h =
     let some = number_long (take at.0 text) number.0 number.1 in
     omega (arith, first.1, some, length-take at.0 text, ap length rest_is, length-drop (at.0 + 1) text)
 
-three_long : (text : List ℕ) (numbers : ℕ × ℕ × ℕ) → three_numbers text ≡ Some numbers → 5 ≤ length text
+pub three_long : (text : List ℕ) (numbers : ℕ × ℕ × ℕ) → three_numbers text ≡ Some numbers → 5 ≤ length text
 three_long text numbers h =
     let first = bind_some (number_and_rest text) _ _ h in
     let second = bind_some (number_and_rest first.0.1) _ _ first.2 in
@@ -54,15 +55,35 @@ file_long text h is = go (three_numbers text) refl is
     go None e f = absurd cc
     go (Some numbers) e f = three_long text numbers e
 
--- a line that begins as a file's, in its first six bytes
-pub owes_five : (front : List ℕ) → length front ≡ 6 → starts_with nat_eq front (codes "file ") ≡ true
-    → (rest : List ℕ) (h : Heading) → heading_of (front ++ rest) ≡ Ok h → 5 ≤ length rest + 1
-owes_five front size begins rest h is =
-    let cut : front ≡ codes "file " ++ drop 5 front = (starts_is Decides-eqb front (codes "file ") (starts_with nat_eq front (codes "file ")) refl).0 begins in
-    let whole : front ++ rest ≡ codes "file " ++ (drop 5 front ++ rest) = ap (λ v. v ++ rest) cut ∙ append_assoc (codes "file ") (drop 5 front) rest in
-    let read : file_heading (three_numbers (drop 5 front ++ rest)) ≡ Ok h = sym (ap heading_of whole) ∙ is in
-    let long : 5 ≤ length (drop 5 front ++ rest) = file_long (drop 5 front ++ rest) h read in
-    omega (arith, length-append (drop 5 front) rest, length-drop 5 front)
+-- a snapshot's line that announces something is that long
+pub heading_long : (line : List ℕ) (h : Heading) → heading_of line ≡ Ok h → IsLong 6 (codes "file ") 11 line
+heading_long line h is = go (starts_with nat_eq line (codes "file ")) (starts_with nat_eq line (codes "end ")) refl (number_of (drop 4 line)) refl is
+  where
+    go : (b c : Bool) → starts_with nat_eq line (codes "file ") ≡ b → (o : Option ℕ) → number_of (drop 4 line) ≡ o
+        → cond b (file_heading (three_numbers (drop 5 line))) (cond c (end_heading o) (Err Kind)) ≡ Ok h → IsLong 6 (codes "file ") 11 line
+    go true c e o f k =
+        let long : 5 ≤ length (drop 5 line) = file_long (drop 5 line) h k in
+        (omega (arith, length-drop 5 line), λ _. omega (arith, length-drop 5 line))
+    go false true e (Some n) f k =
+        let some = number_long (drop 4 line) n f in
+        (omega (arith, length-drop 4 line), λ yes. absurd cc)
+    go false true e None f k = absurd cc
+    go false false e o f k = absurd cc
+
+-- so what follows a line that announces something is ahead
+pub announced_line : (old : Option (List ℕ)) (left : ℕ) (new : Option (List ℕ)) (left_new : ℕ) (r : Result (List ℕ) Stop)
+    → GivesLongLine 6 (codes "file ") 11 old left new left_new r → GivesLine old left new left_new r
+announced_line old left new left_new (Ok line) gives = λ k. let g = gives k in (g.0, g.1, g.2, λ h is. g.3 (heading_long line h is))
+announced_line old left new left_new (Err e) gives = gives
+
+-- a line goes on that begins with its kind, in its first bytes
+pub owes_rest : (least longer : ℕ) (kind front : List ℕ) → length front ≡ least → starts_with nat_eq front kind ≡ true
+    → IsOwed least kind longer front (longer - least)
+owes_rest least longer kind front size begins rest long =
+    let cut : front ≡ kind ++ drop (length kind) front = (starts_is Decides-eqb front kind (starts_with nat_eq front kind) refl).0 begins in
+    let whole : front ++ rest ≡ kind ++ (drop (length kind) front ++ rest) = ap (λ v. v ++ rest) cut ∙ append_assoc kind (drop (length kind) front) rest in
+    let yes : starts_with nat_eq (front ++ rest) kind ≡ true = (starts_is Decides-eqb (front ++ rest) kind (starts_with nat_eq (front ++ rest) kind) refl).1 _ whole in
+    omega (arith, long.1 yes, length-append front rest)
 
 -- ---- one read of a piece
 
@@ -98,11 +119,11 @@ piece_more o n m l nl ml count line came after room r t came_is within left byte
     rw whole (record { takes = takes_more o n m l nl ml line came t.takes step; feeds = feeds_on line came t.feeds all }, omega (arith, length-append line came))
 
 -- a line feed came, and after it nothing more where the line announces something
-pub piece_ends : (o n m : Option (List ℕ)) (l nl ml count owed : ℕ) (line came after room : List ℕ) (r : Bool) → TakesLine o l n nl line → came ≡ take count room
+pub piece_ends : (least longer : ℕ) (kind : List ℕ) (o n m : Option (List ℕ)) (l nl ml count owed : ℕ) (line came after room : List ℕ) (r : Bool) → TakesLine o l n nl line → came ≡ take count room
     → count ≤ length room → nl ≡ count + ml → Came n nl m ml count room → after ≡ line ++ before_first (λ b. b == 10) came
-    → r ≡ nat_lt (length (before_first (λ b. b == 10) came)) (length came) → r ≡ true → length line + count ≤ 65 → count ≤ owed → IsOwed line owed
-    → is_some o ≡ true → (behind : Ahead) × (line_at (ahead_of o l) ≡ Ok (after, behind)) × (is_some m ≡ true) × ((h : Heading) → heading_of after ≡ Ok h → behind ≡ ahead_of m ml)
-piece_ends o n m l nl ml count owed line came after room r t came_is within left bytes after_is found some short in_owed owes k =
+    → r ≡ nat_lt (length (before_first (λ b. b == 10) came)) (length came) → r ≡ true → length line + count ≤ 65 → count ≤ owed → IsOwed least kind longer line owed
+    → is_some o ≡ true → (behind : Ahead) × (line_at (ahead_of o l) ≡ Ok (after, behind)) × (is_some m ≡ true) × (IsLong least kind longer after → behind ≡ ahead_of m ml)
+piece_ends least longer kind o n m l nl ml count owed line came after room r t came_is within left bytes after_is found some short in_owed owes k =
     let p = prefix_len (λ b. not (b == 10)) came in
     let below : p ≤ length came = prefix_len-le-length (λ b. not (b == 10)) came in
     let size : length came ≡ count = omega (arith, ap length came_is, length-take count room) in
@@ -129,8 +150,8 @@ piece_ends o n m l nl ml count owed line came after room r t came_is within left
       behind,
       ap (λ v. line_at (record { bytes = v; left = l })) text ∙ whole ∙ ap (λ (v : List ℕ). let w : Result (List ℕ × Ahead) Stop = Ok (v, behind) in w) (sym after_is),
       (bytes kn).1,
-      λ h announced.
-          let owed_is : owed ≤ length (take p came) + 1 = owes (take p came) h (ap heading_of (sym after_is) ∙ announced) in
+      λ long.
+          let owed_is : owed ≤ length (take p came) + 1 = owes (take p came) (subst (λ (v : List ℕ). IsLong least kind longer v) after_is long) in
           let none : rest ≡ [] = is_nil rest (omega arith) in
           let left_is : length rest + ml ≡ ml = omega (arith, ap length none) in
           ap (λ (v : List ℕ). let w : Ahead = record { bytes = v ++ ahead; left = length rest + ml } in w) none

@@ -3,6 +3,7 @@ pub mod Devices
 pub mod Numbers
 pub mod Owed
 pub mod Parts
+pub mod PlainPaths
 pub mod Resolution
 pub mod SnapshotFaults
 pub mod Snapshots

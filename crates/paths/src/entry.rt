@@ -25,7 +25,7 @@ const LONGEST_NAME: u64 = 1_024;
 const MOST_FILES: usize = 65_536;
 
 /// Whether these bytes may be a file's name: UTF-8 without byte 0, whose parts between slashes are names of their own.
-fn is_name(name: &[u8]) -> bool
+pub fn is_name(name: &[u8]) -> bool
     ensures { result ≡ is_name name.now }
 {
     is_text(name) && has_no_zero(name) && has_good_parts(name)

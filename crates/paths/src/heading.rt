@@ -2,7 +2,7 @@ ghost use Rattle.std.specs.Prelude.{◌≡◌, ◌+◌, ◌-◌, ◌<◌, ◌≤
 ghost use Rattle.paths.specs.SnapshotFaults.{heading_of};
 ghost use Rattle.paths.specs.Texts.{Counts, line_at};
 ghost use Rattle.paths.specs.Parts.{FailsWithin};
-ghost use Rattle.paths.specs.Owed.{IsOwed, GivesLine};
+ghost use Rattle.paths.specs.Owed.{IsOwed, GivesLine, GivesLongLine};
 
 use crate::file::{FileLine, Heading};
 use crate::numbers::{number, three_numbers};
@@ -10,32 +10,46 @@ use crate::text::read_some_of;
 use crate::{Input, Line, SnapshotFaultKind, Stop};
 use std::io::Read;
 
+/// The most bytes that a line owes at once.
+const MOST_OWED: usize = 8;
 /// The fewest bytes of a line that announces something, as `end 0`, with its line feed.
 const SHORTEST_LINE: usize = 6;
 /// The fewest bytes of a file's line, as `file 0 1 0`, with its line feed.
 const SHORTEST_FILE_LINE: usize = 11;
 
-/// How many bytes a line that begins so has ahead at least, its line feed among them, if it announces something.
-fn owed(front: &[u8]) -> usize
-    ensures owed { IsOwed front.now result }
+/// How many bytes a line that begins so has ahead at least, its line feed among them, if it has `least` bytes, and
+/// `longer` where it begins with `kind`.
+fn owed(front: &[u8], least: usize, kind: &[u8], longer: usize) -> usize
+    requires least { (1 ≤ least) × (least ≤ MOST_OWED) }
+    requires longer { (least < longer) × (longer ≤ least + MOST_OWED) }
+    ensures owed { IsOwed least kind.now longer front.now result }
     ensures some { 0 < result }
-    ensures limit { result ≤ 6 }
+    ensures limit { result ≤ MOST_OWED }
     ensures room { length front.now < 65 → length front.now + result ≤ 65 }
 {
     if front.is_empty() {
-        SHORTEST_LINE
-    } else if front.len() == SHORTEST_LINE && front.starts_with(b"file ") {
-        SHORTEST_FILE_LINE - SHORTEST_LINE
+        least
+    } else if front.len() == least && front.starts_with(kind) {
+        longer - least
     } else {
         1
     }
 }
 
-/// Reads the line of an entry of a text that may take `left` more bytes. What the line owes is read at once: bytes
-/// after a line that announces nothing may have been read too.
-pub(crate) fn read_entry_line<R: Read>(input: &mut Input<R>, left: &mut usize) -> Result<Line, Stop>
-    requires { input.old.1 < 2 ^ 64 - 1 }
-    ensures line { GivesLine input.old.0 left.old input.new.0 left.new result }
+/// Reads the next line of a text that may take `left` more bytes, of which those that announce something have at
+/// least `least` bytes with the line feed (1 to 8), and where they begin with `kind`, at least `longer` (1 to 8
+/// more). What a line owes is read at once: bytes after a line that is shorter may have been read too.
+pub fn read_long_line<R: Read>(
+    input: &mut Input<R>,
+    left: &mut usize,
+    least: usize,
+    kind: &[u8],
+    longer: usize,
+) -> Result<Line, Stop>
+    requires healthy { input.old.1 < 2 ^ 64 - 1 }
+    requires least { (1 ≤ least) × (least ≤ 8) }
+    requires longer { (least < longer) × (longer ≤ least + 8) }
+    ensures line { GivesLongLine least kind.now longer input.old.0 left.old input.new.0 left.new result }
     // Where a read failed, no whole line had been taken.
     ensures part { FailsWithin Stop.Read Stop.Cut line_at input.old.0 left.old input.new.0 left.new result }
     ensures count { Counts input.old.1 input.new.1 result }
@@ -44,8 +58,8 @@ pub(crate) fn read_entry_line<R: Read>(input: &mut Input<R>, left: &mut usize) -
 {
     let mut line = Line::new();
     while line.as_slice().len() < 65 {
-        let mut room = [0; SHORTEST_LINE];
-        let owed = owed(line.as_slice());
+        let mut room = [0; MOST_OWED];
+        let owed = owed(line.as_slice(), least, kind, longer);
         match read_some_of(input, left, &mut room[..owed]) {
             Ok(count) => {
                 if line.push_to_feed(&room[..count]) {
@@ -56,6 +70,20 @@ pub(crate) fn read_entry_line<R: Read>(input: &mut Input<R>, left: &mut usize) -
         }
     }
     Err(Stop::TooLong)
+}
+
+/// Reads the line of an entry of a text that may take `left` more bytes. Bytes after a line that announces nothing
+/// may have been read too.
+pub(crate) fn read_entry_line<R: Read>(input: &mut Input<R>, left: &mut usize) -> Result<Line, Stop>
+    requires { input.old.1 < 2 ^ 64 - 1 }
+    ensures line { GivesLine input.old.0 left.old input.new.0 left.new result }
+    // Where a read failed, no whole line had been taken.
+    ensures part { FailsWithin Stop.Read Stop.Cut line_at input.old.0 left.old input.new.0 left.new result }
+    ensures count { Counts input.old.1 input.new.1 result }
+    // It takes no memory.
+    ensures memory { IfErr result (λ e. e ≢ Stop.Memory) }
+{
+    read_long_line(input, left, SHORTEST_LINE, b"file ", SHORTEST_FILE_LINE)
 }
 
 /// What a line of a snapshot announces.

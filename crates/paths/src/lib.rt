@@ -24,7 +24,9 @@ mod text;
 pub use asked::Asked;
 pub use bytes::Bytes;
 pub use device::{Failed, Input};
+pub use entry::is_name;
 pub use file::File;
+pub use heading::read_long_line;
 pub use laws::{
     no_fault_of_a_prefix, no_fault_of_a_snapshot, one_first_fault, one_prefix, one_snapshot,
     prefix_or_fault, snapshot_or_fault,

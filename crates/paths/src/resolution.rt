@@ -1,9 +1,12 @@
-ghost use Rattle.std.specs.Prelude.{◌≡◌, ◌++◌, [], ◌∷◌, true, false, IfOk, OnOk, string_bytes, codes, flat_map, List};
-ghost use Rattle.std.specs.Prelude.{ℕ};
+ghost use Rattle.std.specs.Prelude.{◌≡◌, ◌++◌, [], ◌∷◌, true, false, IfOk, IfSome, OnOk, string_bytes, codes, flat_map};
+ghost use Rattle.std.specs.Prelude.{List, ℕ};
+ghost use Rattle.std.specs.List.{list_all};
 ghost use Rattle.paths.specs.Snapshots.{slash};
+ghost use Rattle.paths.specs.PlainPaths.{is_plain};
 ghost use Rattle.paths.specs.Targets.{asked};
 ghost use Rattle.paths.specs.Resolution.{IsOutcome, outcome, joined, location, location_byte, slash_before};
 
+use crate::target::is_served;
 use crate::{Asked, Bytes, Outcome, Segments, Snapshot, inspect};
 use percent_encoding::{AsciiSet, NON_ALPHANUMERIC, ascii_set, percent_encode};
 use std::alloc::{AllocError, Global};
@@ -38,6 +41,33 @@ pub fn locate(alloc: Global, files: &Snapshot, asked: &Asked) -> Result<Outcome,
     }
 }
 
+/// Whether a byte of a path stands for itself: it is ASCII, and no byte 0, `#`, `%` or `?`.
+fn is_plain(byte: u8) -> bool
+    ensures { result ≡ is_plain byte }
+{
+    byte < 128 && byte != 0 && byte != b'#' && byte != b'%' && byte != b'?'
+}
+
+/// Whether each byte of a target stands for itself.
+fn is_plain_target(target: &[u8]) -> bool
+    ensures { result ≡ list_all is_plain target.now }
+{
+    target.iter().all(|byte| is_plain(*byte))
+}
+
+/// The file that a plain target names as it stands. It takes no memory.
+fn find_plain(files: &Snapshot, method: &[u8], target: &[u8]) -> Option<usize>
+    ensures { IfSome result (λ file. Outcome.File file ≡ outcome files.now (asked method.now target.now)) }
+{
+    if !is_served(method) || !is_plain_target(target) {
+        return None;
+    }
+    match target.split_first() {
+        Some((b'/', name)) => files.position(name),
+        _ => None,
+    }
+}
+
 /// What a request is answered with, by its method, its target and the names of the snapshot.
 pub fn resolve(
     alloc: Global,
@@ -48,6 +78,9 @@ pub fn resolve(
     ensures outcome { IfOk result (λ o. o ≡ outcome files.now (asked method.now target.now)) }
     ensures is { IfOk result (IsOutcome files.now) }
 {
+    if let Some(file) = find_plain(files, method, target) {
+        return Ok(Outcome::File(file));
+    }
     let asked = inspect(alloc, method, target)?;
     locate(alloc, files, &asked)
 }
@@ -92,11 +125,14 @@ fn find_file(alloc: Global, files: &Snapshot, segments: &Segments) -> Result<Out
     Ok(Outcome::Missing)
 }
 
+/// Room for most names, in bytes.
+const NAME_ROOM: usize = 64;
+
 /// The segments, with a slash between each two.
 fn join(alloc: Global, segments: &[Bytes]) -> Result<Vec<u8>, AllocError>
     ensures { IfOk result (λ name. name.items ≡ joined segments.now) }
 {
-    let mut name = Vec::new(alloc);
+    let mut name = Vec::with_capacity(alloc, NAME_ROOM)?;
     for (at, segment) in segments.iter().enumerate() {
         append_segment(&mut name, at == 0, segment.as_slice())?;
     }

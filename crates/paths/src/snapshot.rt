@@ -106,8 +106,11 @@ impl Snapshot {
 
     /// The number of the file of a name.
     pub(crate) fn position(&self, name: &[u8]) -> Option<usize>
-        ensures { result ≡ position_of self.now name.now }
+        ensures place { result ≡ position_of self.now name.now }
+        // The files of every snapshot keep the rules.
+        ensures rules { IsSnapshot self.now }
     {
+        let _ = &self.files;
         match self.search(name) {
             Ok(file) => Some(file),
             Err(_) => None,

@@ -38,7 +38,7 @@ pub fn inspect(alloc: Global, method: &[u8], target: &[u8]) -> Result<Asked, All
 }
 
 /// Whether the method is one that is served.
-fn is_served(method: &[u8]) -> bool
+pub(crate) fn is_served(method: &[u8]) -> bool
     ensures { result ≡ is_served method.now }
 {
     method == b"GET".as_slice() || method == b"HEAD".as_slice()
@@ -180,11 +180,21 @@ fn first_slash(text: &[u8]) -> Option<usize>
     text.iter().position(|byte| *byte == b'/')
 }
 
+/// Whether an escape may stand in a segment.
+fn has_escape(part: &[u8]) -> bool
+    ensures { result ≡ list_any (λ b. b == 37) part.now }
+{
+    part.iter().any(|byte| *byte == b'%')
+}
+
 /// The bytes that a segment's escapes and other bytes stand for.
 fn decode(alloc: Global, part: &[u8]) -> Result<Bytes, AllocError>
     ensures { IfOk result (λ b. b ≡ percent_decode part.now) }
 {
-    let mut bytes = Vec::new(alloc);
+    if !has_escape(part) {
+        return Ok(Bytes::from_vec(Vec::from_slice(alloc, part)?));
+    }
+    let mut bytes = Vec::with_capacity(alloc, part.len())?;
     percent_encoding::percent_decode(part).append_to(&mut bytes)?;
     Ok(Bytes::from_vec(bytes))
 }
