@@ -1,0 +1,5 @@
+pub mod Prefixes
+pub mod Keeps
+pub mod Rulings
+pub mod Taken
+pub mod WritingLemmas

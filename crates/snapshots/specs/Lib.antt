@@ -1,0 +1,4 @@
+pub mod Keeping
+pub mod Rules
+pub mod Writers
+pub mod Writing

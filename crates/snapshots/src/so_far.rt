@@ -1,0 +1,133 @@
+ghost use Rattle.std.specs.Prelude.{◌≡◌, ◌≢◌, ◌≤◌, ◌<◌, ◌-◌, ◌^◌, [], length, decimal};
+ghost use Rattle.std.specs.Prelude.{IfOk, IfErr, IfSome, Err, Some};
+ghost use Rattle.paths.specs.Snapshots.{file_text, text_before_end};
+ghost use Rattle.snapshots.specs.Keeping.{a_file, broken_by, grown};
+ghost use Rattle.snapshots.specs.Rules.{is_good_name};
+ghost use Rattle.snapshots.specs.Writing.{AppendsPrefix};
+ghost use Rattle.snapshots.specs.Writers.{Took, refused_for, Counts};
+
+use crate::WriteFault;
+use crate::names::Names;
+use crate::texts::write_all;
+use itoa::Buffer;
+use paths::{Output, is_name};
+use std::alloc::{AllocError, Global};
+use std::io::Write;
+
+/// The greatest time of a file, in seconds since 1970-01-01.
+const LATEST_TIME: u64 = 253_402_300_799;
+/// The most bytes of a file.
+const MOST_BYTES: usize = 16_777_216;
+/// The most files.
+const MOST_FILES: usize = 65_536;
+/// The most bytes of a name.
+const LONGEST_NAME: usize = 1_024;
+/// The most bytes of a text.
+const LONGEST_TEXT: usize = 1_073_741_824;
+
+/// What the rules ask of the files so far.
+#[derive(Drop)]
+pub struct SoFar {
+    /// How many there are.
+    pub count: usize,
+    /// How many bytes the text has before its last line.
+    pub size: usize,
+    pub names: Names,
+}
+
+/// How many digits a number has.
+fn digits(number: u64) -> usize
+    ensures value { result ≡ length (decimal number) }
+    ensures limit { result ≤ 40 }
+{
+    Buffer::new().format(number).len()
+}
+
+/// How many bytes the text of a file has.
+fn text_len(name: &[u8], mtime: u64, bytes: &[u8]) -> usize
+    requires name { length name.now ≤ 1024 }
+    requires bytes { length bytes.now ≤ 16777216 }
+    ensures { result ≡ length (file_text (a_file name.now mtime bytes.now)) }
+{
+    let numbers = digits(mtime) + digits(name.len() as u64) + digits(bytes.len() as u64);
+    // `file `, two spaces and three line feeds.
+    10 + numbers + name.len() + bytes.len()
+}
+
+/// Whether these bytes may be the name of a file, as far as other names aren't asked.
+fn is_good_name(name: &[u8]) -> bool
+    ensures { result ≡ is_good_name name.now }
+{
+    !name.is_empty() && name.len() <= LONGEST_NAME && is_name(name)
+}
+
+impl SoFar {
+    /// Writes the first line.
+    pub(crate) fn begin<W: Write>(
+        alloc: Global,
+        output: &mut Output<W>,
+    ) -> Result<SoFar, WriteFault>
+        requires { output.old.1 < 2 ^ 64 - 1 }
+        ensures ok { IfOk result (λ so_far. Took [] output.old.0 output.new.0 so_far) }
+        ensures prefix { IfErr result (λ _. AppendsPrefix output.old.0 output.new.0 (text_before_end [])) }
+        ensures count { Counts output.old.1 output.new.1 result }
+    {
+        let line = b"haboob-snapshot 1\n";
+        write_all(output, line)?;
+        Ok(SoFar {
+            count: 0,
+            size: line.len(),
+            names: Names::new(alloc),
+        })
+    }
+
+    /// The first rule that a file after these would break.
+    #[tactic(auto, unfolding(crate::specs::Keeping::broken_by))]
+    pub(crate) fn broken_rule(&self, name: &[u8], mtime: u64, bytes: &[u8]) -> Option<WriteFault>
+        ensures rule { result ≡ broken_by self.now (a_file name.now mtime bytes.now) }
+        ensures own { IfSome result (λ rule. refused_for (Err rule) ≡ Some rule) }
+        ensures unwritten { IfSome result (λ rule. rule ≢ WriteFault.Write) }
+    {
+        if mtime > LATEST_TIME {
+            return Some(WriteFault::Time);
+        }
+        if bytes.len() > MOST_BYTES {
+            return Some(WriteFault::Size);
+        }
+        if self.count >= MOST_FILES {
+            return Some(WriteFault::Count);
+        }
+        if !is_good_name(name) {
+            return Some(WriteFault::Name);
+        }
+        if !self.names.precede(name) {
+            return Some(WriteFault::Order);
+        }
+        if self.names.has_file_above(name) {
+            return Some(WriteFault::Conflict);
+        }
+        let size = self.size.saturating_add(text_len(name, mtime, bytes));
+        // `end ` and a line feed.
+        if size > LONGEST_TEXT - (5 + digits(self.count as u64 + 1)) {
+            return Some(WriteFault::Text);
+        }
+        None
+    }
+
+    /// The files with one more, whose text has so many bytes.
+    pub(crate) fn then(
+        &self,
+        alloc: Global,
+        name: &[u8],
+        text_len: usize,
+    ) -> Result<SoFar, AllocError>
+        ensures { IfOk result (grown self.now name.now text_len) }
+    {
+        let names = self.names.then(alloc, name)?;
+        Ok(SoFar {
+            count: self.count.saturating_add(1),
+            size: self.size.saturating_add(text_len),
+            names,
+        })
+    }
+}

@@ -1,0 +1,5 @@
+//! Tests of the crate `snapshots`.
+#![tactic(auto)]
+
+#[cfg(test)]
+mod tests;

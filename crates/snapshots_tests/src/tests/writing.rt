@@ -1,0 +1,65 @@
+//! Callers of the writer. What they promise follows from its clauses alone.
+ghost use Rattle.std.specs.Prelude.{◌<◌, ◌-◌, ◌^◌, OnOk};
+ghost use Rattle.std.specs.Io.KnownBytes.{Appends};
+ghost use Rattle.paths.specs.Snapshots.{snapshot_text, IsSnapshotText};
+ghost use Rattle.snapshots.specs.Writers.{Counts};
+
+use paths::{File, Output};
+use snapshots::{SnapshotWriter, WriteFault};
+use std::alloc::Global;
+use std::io::Write;
+
+/// Writes the snapshot of these files, and stops at the first fault.
+pub fn write_files<W: Write>(
+    alloc: Global,
+    output: &mut Output<W>,
+    files: &[File],
+) -> Result<(), WriteFault>
+    requires { output.old.1 < 2 ^ 64 - 1 }
+    ensures text { OnOk result (Appends output.old.0 output.new.0 (snapshot_text files.now)) }
+    ensures rules { OnOk result (IsSnapshotText (snapshot_text files.now) files.now) }
+    ensures count { Counts output.old.1 output.new.1 result }
+{
+    let mut writer = SnapshotWriter::begin(alloc, output)?;
+    for file in files {
+        match writer.add(
+            output,
+            file.name.as_slice(),
+            file.mtime,
+            file.bytes.as_slice(),
+        ) {
+            Ok(()) => (),
+            Err(fault) => return Err(fault),
+        }
+    }
+    writer.finish(output)
+}
+
+/// Writes the snapshot of those of these files that break no rule, and answers the rules that the others break.
+pub fn write_allowed<W: Write>(
+    alloc: Global,
+    output: &mut Output<W>,
+    files: &[File],
+) -> Result<Vec<WriteFault>, WriteFault>
+    requires { output.old.1 < 2 ^ 64 - 1 }
+{
+    let mut refused = Vec::new(alloc);
+    let mut writer = SnapshotWriter::begin(alloc, output)?;
+    for file in files {
+        match writer.add(
+            output,
+            file.name.as_slice(),
+            file.mtime,
+            file.bytes.as_slice(),
+        ) {
+            Ok(()) => (),
+            Err(WriteFault::Write) => return Err(WriteFault::Write),
+            Err(rule) => match refused.push(rule) {
+                Ok(()) => (),
+                Err(_) => return Err(WriteFault::Memory),
+            },
+        }
+    }
+    writer.finish(output)?;
+    Ok(refused)
+}
