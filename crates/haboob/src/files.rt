@@ -160,6 +160,7 @@ fn replay_named<T: Threads + Wait + Sync>(
     let capture = open(rt, names.capture, Place::Capture)?;
     let first = Node::of(&snapshot, Place::Snapshot)?;
     let second = Node::of(&capture, Place::Capture)?;
+    // Without a settings file the capture stands in its place: it is an input anyway.
     let inputs = [first, second, node.unwrap_or(second)];
     let replies = Overwritten::open(rt, names.replies, Place::Replies, &inputs)?;
     let (alloc, out) = (rt.alloc(), rt.stdout());
