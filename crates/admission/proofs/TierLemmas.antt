@@ -8,15 +8,16 @@ use Rattle.token_bucket.specs.Limits.{TOKEN, MAX_TICK}
 use Rattle.admission.specs.Limits.{MAX_OFFERS, MAX_SERVICE}
 use Rattle.admission.specs.declared.control.Control.{Control}
 use Rattle.admission.specs.declared.control.Decision.{Decision}
+use Rattle.admission.specs.declared.control.Outlook.{Outlook}
 use Rattle.admission.specs.declared.control.Decision.TheVariants.{Admitted, Rejected}
 use Rattle.admission.specs.Rules.{Rules, no_rules, rules_of}
 use Rattle.admission.specs.Requests.{Offer, Decided, Served, of_tier, served, last_finish, finish_behind}
 use Rattle.admission.specs.Controls.{controls_until}
-use Rattle.admission.specs.Decisions.{credit, decide, decided_from, decided}
+use Rattle.admission.specs.Decisions.{credit, decide, decided_from, decided, outlook}
 use Rattle.admission.specs.Standing.{TierStanding, Standing, policies_of, IsShare, IsSound}
 use Rattle.admission.specs.Running.{decision_after, free_after}
 use Rattle.admission.specs.Fits.{tick_from, TierFits, Fits}
-use Rattle.admission.specs.TierCalls.{AreNew, Decides, Takes, Shows}
+use Rattle.admission.specs.TierCalls.{AreNew, Decides, Takes, Shows, Foresees}
 use Rattle.admission.proofs.RequestLemmas.{decided_from-push, served-push, of_tier-same, of_tier-other, of_tier-none, tick_from-push, last_finish-push}
 use Rattle.admission.proofs.OfferLemmas.{tier_later}
 use Rattle.admission.proofs.SoundLemmas.{share_later}
@@ -268,3 +269,18 @@ pub offered_policies : (c : Standing) (i free tick : ℕ) (t next : TierStanding
     → next.rules ≡ (slice_index_or c.tiers i t).rules → policies_of (with_tier c i next free tick) ≡ policies_of c
 offered_policies c i free tick t next within at rules =
     policies_kept c i t next free tick (get_at c.tiers i t within at) (rw (← at) at rules)
+
+-- what a request of a tier finds that comes at a later tick
+pub later_at : (c : Standing) (i tick : ℕ) (t : TierStanding) → IsSound c → i < length c.tiers → t ≡ slice_index_or c.tiers i t
+    → c.tick ≤ tick → IsShare MAX_OFFERS c.free tick (slice_index_or c.tiers i t)
+later_at c i tick t sound within at forward =
+    rw (← at) (share_later c.offers c.free c.tick MAX_OFFERS c.free tick t (sound.tiers i t (get_at c.tiers i t within at))
+    sound.offers (omega arith) forward)
+
+pub foreseen_at : (c : Standing) (i tick : ℕ) (t : TierStanding) (offers : List Offer) (found : Outlook) → i < length c.tiers
+    → t ≡ slice_index_or c.tiers i t → Fits offers c → Foresees (slice_index_or c.tiers i t) c.free tick found
+    → found ≡ outlook (policies_of c) (decided (policies_of c) offers) i tick
+foreseen_at c i tick t offers found within at fits foresees =
+    let is : slice_get c.tiers i ≡ Some t = get_at c.tiers i t within at in
+    rw (rules_at c i t is, ← fits.free)
+    (rw (← at) at (foresees (of_tier i (decided (policies_of c) offers)) (rw (← at) (fits.tiers i t is))))

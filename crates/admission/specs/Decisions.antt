@@ -1,11 +1,12 @@
 -- Which offered requests are admitted.
-use Rattle.std.specs.Prelude.{ℕ, ◌+◌, ◌-◌, ◌*◌, min, List, [], ◌∷◌, ◌++◌, count_by, nat_le, if◌then◌else◌}
+use Rattle.std.specs.Prelude.{ℕ, ◌+◌, ◌-◌, ◌*◌, min, List, [], ◌∷◌, ◌++◌, count_by, map, nat_le, if◌then◌else◌}
 use Rattle.token_bucket.specs.Limits.{TOKEN}
 use Rattle.token_bucket.specs.Accrual.{accrual}
 use Rattle.admission.specs.declared.control.Decision.{Decision}
 use Rattle.admission.specs.declared.control.Decision.TheVariants.{Admitted, Rejected}
+use Rattle.admission.specs.declared.control.Outlook.{Outlook}
 use Rattle.admission.specs.Rules.{Rules, rules_of}
-use Rattle.admission.specs.Requests.{Offer, Decided, served, of_tier, is_admitted, finish_behind}
+use Rattle.admission.specs.Requests.{Offer, Decided, served, of_tier, is_admitted, finish_behind, last_finish}
 use Rattle.admission.specs.Controls.{rate_at}
 
 -- a full bucket's units, with what accrues from the first of these requests up to `tick`, without the tokens that they
@@ -42,3 +43,12 @@ decided_from policies past (offer ∷ offers) =
 
 abbrev pub decided : List Rules → List Offer → List Decided
 decided policies offers = decided_from policies [] offers
+
+-- what a request of a tier finds that comes at `tick` after these: its credit and the rate in force, by the rules of
+-- its tier over the requests of its tier, and when the admitted requests of all tiers are finished
+abbrev pub outlook : List Rules → List Decided → ℕ → ℕ → Outlook
+outlook policies past tier tick = record {
+  credit = credit (rules_of policies tier) (of_tier tier past) tick;
+  rate = rate_at (rules_of policies tier) (served (of_tier tier past)) tick;
+  free = last_finish (map (λ r. r.offer) (served past));
+}

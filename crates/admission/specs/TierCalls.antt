@@ -3,8 +3,10 @@ use Rattle.std.specs.Prelude.{◌≡◌, ℕ, ◌+◌, List, [], ◌∷◌, ◌+
 use Rattle.token_bucket.specs.Standing as bucket
 use Rattle.admission.specs.declared.control.Control.{Control}
 use Rattle.admission.specs.declared.control.Decision.{Decision}
+use Rattle.admission.specs.declared.control.Outlook.{Outlook}
 use Rattle.admission.specs.Requests.{Offer, Decided, served}
-use Rattle.admission.specs.Controls.{controls_until}
+use Rattle.admission.specs.Controls.{controls_until, rate_at}
+use Rattle.admission.specs.Decisions.{credit}
 use Rattle.admission.specs.Standing.{TierStanding, RiseWithin, IsShare}
 use Rattle.admission.specs.Running.{decision_after, free_after}
 use Rattle.admission.specs.Fits.{BucketFits, TierFits}
@@ -41,3 +43,8 @@ RisesFrom t tick reached = (free : ℕ) → RiseWithin t.bucket.tick free (drop 
 abbrev pub Shows : TierStanding → ℕ → List Control → Type 0
 Shows t tick shown = (past : List Decided) (free : ℕ) → TierFits past free t
     → shown ≡ controls_until t.rules (served past) tick
+
+-- what a request of the tier finds that comes at this tick
+abbrev pub Foresees : TierStanding → ℕ → ℕ → Outlook → Type 0
+Foresees t free tick found = (past : List Decided) → TierFits past free t → found
+    ≡ record { credit = credit t.rules past tick; rate = rate_at t.rules (served past) tick; free = free }

@@ -19,3 +19,14 @@ pub enum Decision {
     /// It is turned away.
     Rejected,
 }
+
+/// What a request of a tier finds when it comes.
+#[derive(Clone, Copy, Debug, PartialEq, Eq, Hash)]
+pub struct Outlook {
+    /// The credit of the tier's bucket, in units of 10^-9 token.
+    pub credit: u64,
+    /// The tier's rate in force, in thousandths of a token a second. That of a control at the same tick counts.
+    pub rate: u64,
+    /// The tick at which the server has finished the admitted requests of all tiers.
+    pub free: u64,
+}

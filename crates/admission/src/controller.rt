@@ -1,16 +1,16 @@
-ghost use Rattle.std.specs.Prelude.{◌≡◌, ◌+◌, ◌<◌, ◌≤◌, ◌++◌, [], ◌∷◌, ℕ, List, length, map, IfOk, OnOk, OnErr};
+ghost use Rattle.std.specs.Prelude.{◌≡◌, ◌+◌, ◌*◌, ◌<◌, ◌≤◌, ◌++◌, [], ◌∷◌, ℕ, List, length, map, IfOk, OnOk, OnErr};
 ghost use Rattle.std.specs.Prelude.{count_by};
 ghost use Rattle.admission.specs.Rules.{rules_of};
 ghost use Rattle.admission.specs.Requests.{Offer, of_tier, served, is_rejected};
 ghost use Rattle.admission.specs.Controls.{controls_until};
-ghost use Rattle.admission.specs.Decisions.{decide, decided};
+ghost use Rattle.admission.specs.Decisions.{decide, decided, outlook};
 ghost use Rattle.admission.specs.Standing.{last_tick, policies_of};
 ghost use Rattle.admission.specs.Fits.{Fits, tick_from};
 ghost use Rattle.admission.specs.TierCalls.{AreNew};
 ghost use Rattle.admission.specs.Running.{free_after};
 
 use crate::tier::Tier;
-use crate::{Control, Decision, MAX_OFFERS, MAX_SERVICE, MAX_TICK, Policy};
+use crate::{Control, Decision, MAX_OFFERS, MAX_SERVICE, MAX_TICK, Outlook, Policy};
 use std::alloc::{AllocError, Global};
 use std::marker::Model;
 
@@ -106,6 +106,17 @@ impl Controller {
         self.offers += 1;
         self.tick = tick;
         Ok(decision)
+    }
+
+    /// What a request of a tier (0 to 3) finds that comes at `tick`.
+    pub fn outlook(&self, tier: u8, tick: u64) -> Outlook
+        requires tier { tier < 4 }
+        requires forward { (last_tick self.now ≤ tick) × (tick ≤ MAX_TICK) }
+        ensures finds { (offers : List Offer) → Fits offers self.now
+            → result ≡ outlook (policies_of self.now) (decided (policies_of self.now) offers) tier tick }
+        ensures range { result.free ≤ MAX_TICK + MAX_SERVICE * MAX_OFFERS }
+    {
+        self.tiers[usize::from(tier)].outlook(self.free, tick)
     }
 
     /// How many requests of a tier (0 to 3) were admitted.

@@ -11,12 +11,10 @@ mod control;
 mod controller;
 pub mod laws;
 mod policy;
-#[cfg(test)]
-mod tests;
 mod tier;
 mod window;
 
-pub use control::{Control, Decision};
+pub use control::{Control, Decision, Outlook};
 pub use controller::Controller;
 pub use policy::{Policy, PolicyFault};
 pub use token_bucket::{MAX_DEPTH, MAX_RATE, MAX_TICK};

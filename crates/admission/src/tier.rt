@@ -8,12 +8,14 @@ ghost use Rattle.admission.specs.Percentile.{percentile};
 ghost use Rattle.admission.specs.Controls.{smoother, adjusted};
 ghost use Rattle.admission.specs.Standing.{RiseWithin, AllRates, IsShare};
 ghost use Rattle.admission.specs.Fits.{TierFits};
-ghost use Rattle.admission.specs.TierCalls.{Decides, Takes, StaysBeside, Passes, RisesFrom, Shows};
+ghost use Rattle.admission.specs.TierCalls.{Decides, Takes, StaysBeside, Passes, RisesFrom, Shows, Foresees};
 ghost use Rattle.admission.specs.Window.{with_sample};
 ghost use Rattle.admission.specs.Running.{passing, passed, last_rate, next_control, with_due, when_rejected};
 ghost use Rattle.admission.specs.Running.{when_admitted, free_after};
 
-use crate::{Control, Decision, MAX_OFFERS, MAX_RATE, MAX_SERVICE, MAX_TICK, Policy, SampleWindow};
+use crate::{
+    Control, Decision, MAX_OFFERS, MAX_RATE, MAX_SERVICE, MAX_TICK, Outlook, Policy, SampleWindow,
+};
 use std::alloc::{AllocError, Global};
 use std::marker::Model;
 use token_bucket::Bucket;
@@ -236,6 +238,21 @@ impl Tier {
     {
         let (_, reached) = self.bucket_at(tick);
         &self.controls[..reached]
+    }
+
+    /// What a request of this tier finds that comes at `tick`, where the server is free from `free` on.
+    pub(crate) fn outlook(&self, free: u64, tick: u64) -> Outlook
+        requires share { (busy : ℕ) × IsShare MAX_OFFERS busy tick self.now }
+        requires tick { tick ≤ MAX_TICK }
+        ensures finds { Foresees self.now free tick result }
+        ensures free { result.free ≡ free }
+    {
+        let (bucket, _) = self.bucket_at(tick);
+        Outlook {
+            credit: bucket.credit(),
+            rate: bucket.rate(),
+            free,
+        }
     }
 
     /// The bucket at a later tick, and how many controls it has taken on then.

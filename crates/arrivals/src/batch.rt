@@ -34,6 +34,17 @@ pub struct Batch {
     pub ending: Ending,
 }
 
+/// How many bytes of pieces are enough for a batch.
+const ENOUGH_BYTES: usize = 16_777_216;
+
+/// How many bytes a record brings.
+fn bytes_of(next: &Record) -> usize {
+    match next {
+        Record::Piece { bytes, .. } => bytes.as_slice().len(),
+        Record::End { .. } | Record::Tier { .. } => 0,
+    }
+}
+
 /// Takes a record into a batch: the bytes of a piece wait at the seat of its connection, which has the tier that it was
 /// given.
 fn take_record(
@@ -63,8 +74,8 @@ fn take_record(
     }
 }
 
-/// Reads the next batch: so many pieces, with the other records between them, or those before the end of the capture or
-/// its fault.
+/// Reads the next batch: so many pieces, with the other records between them, or fewer where their bytes are enough, or
+/// those before the end of the capture or its fault.
 pub fn read_batch<'a, R: Read>(
     alloc: Global,
     capture: &mut CaptureReader<'a, R>,
@@ -88,7 +99,8 @@ pub fn read_batch<'a, R: Read>(
     ensures same { capture.new.input.ghost_name ≡ capture.old.input.ghost_name }
 {
     let mut origins = Vec::new(alloc);
-    while origins.len() < pieces {
+    let mut bytes: usize = 0;
+    while origins.len() < pieces && bytes < ENOUGH_BYTES {
         let next = match capture.next_record(alloc) {
             Ok(Some(next)) => next,
             Ok(None) => {
@@ -104,6 +116,7 @@ pub fn read_batch<'a, R: Read>(
                 });
             }
         };
+        bytes = bytes.saturating_add(bytes_of(&next));
         take_record(alloc, next, seats, tiers, &mut origins)?;
     }
     Ok(Batch {

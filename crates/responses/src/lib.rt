@@ -15,8 +15,8 @@ mod write_fault;
 
 pub use device::write_all;
 pub use link::Link;
-pub use record::write_reply;
-pub use reply::{Reply, render, try_render};
+pub use record::{write_record, write_reply};
+pub use reply::{Reply, render, render_head, try_render};
 pub use shared_page::SharedPage;
 pub use slip::Slip;
 pub use status::Status;

@@ -36,8 +36,30 @@ fn record_line(number: usize, conn: usize, len: usize) -> Line
     line
 }
 
-/// Writes the record of a reply: a line with its number, its connection and its length, then the reply and a line feed.
-/// It takes no memory. At an `Err` the writer failed in this call, and a prefix of the record stands there.
+/// Writes the record of a reply that stands in two parts: a line with its number, the number of its connection and its
+/// length, then the reply and a line feed. It takes no memory. At an `Err` the writer failed in this call, and a prefix
+/// of the record stands there.
+pub fn write_record<W: io::Write>(
+    output: &mut Output<W>,
+    number: usize,
+    conn: usize,
+    front: &[u8],
+    body: &[u8],
+) -> Result<(), Write>
+    requires { output.old.1 < 2 ^ 64 - 1 }
+    ensures record { WritesFront output.old.0 output.new.0 result
+        (record_text (number, conn, front.now ++ body.now)) }
+    ensures count { CountsWrite output.old.1 output.new.1 result }
+{
+    let line = record_line(number, conn, front.len() + body.len());
+    write_all(output, line.as_slice())?;
+    write_all(output, front)?;
+    write_all(output, body)?;
+    write_all(output, b"\n")?;
+    Ok(())
+}
+
+/// Writes the record of a reply, as [`write_record`] does.
 pub fn write_reply<F: Tree, W: io::Write>(
     output: &mut Output<W>,
     reply: &Reply<F>,
@@ -47,10 +69,5 @@ pub fn write_reply<F: Tree, W: io::Write>(
     ensures count { CountsWrite output.old.1 output.new.1 result }
 {
     let (front, body) = reply.parts();
-    let line = record_line(reply.number(), reply.conn(), front.len() + body.len());
-    write_all(output, line.as_slice())?;
-    write_all(output, front)?;
-    write_all(output, body)?;
-    write_all(output, b"\n")?;
-    Ok(())
+    write_record(output, reply.number(), reply.conn(), front, body)
 }

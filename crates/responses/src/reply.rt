@@ -61,8 +61,8 @@ impl<F: Tree> Reply<F> {
     }
 }
 
-/// The head of a reply, with the empty line that ends it.
-fn render_head<F: Tree>(alloc: Global, slip: &Slip<F>) -> Result<Vec<u8>, AllocError>
+/// The head of a reply, with the empty line that ends it. An `Err` is out of memory.
+pub fn render_head<F: Tree>(alloc: Global, slip: &Slip<F>) -> Result<Vec<u8>, AllocError>
     requires { slip.now.date ≤ 253402300799 }
     ensures { IfOk result (λ head. head.items ≡ head_text F.files slip.now) }
 {

@@ -95,4 +95,12 @@ impl Bucket {
         let units = self.credit;
         units
     }
+
+    /// The rate in force, in units a tick.
+    pub fn rate(&self) -> u64
+        ensures { result ≡ self.now.rate }
+    {
+        let units = self.rate;
+        units
+    }
 }

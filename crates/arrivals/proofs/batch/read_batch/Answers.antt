@@ -1,4 +1,4 @@
-use Rattle.std.proofs.Common.{◌∷◌, ◌++◌, [], ◌∙◌, refl, sym, ap, arith, append_assoc, append-nil}
+use Rattle.std.proofs.Common.{◌∷◌, ◌++◌, [], ◌∙◌, inl, inr, refl, sym, ap, arith, append_assoc, append-nil}
 use Rattle.arrivals.specs.Batches.{origins_of, tiers_of}
 use Rattle.arrivals.proofs.Gathering.{adds_none, adds_more, origins_push, gave_some}
 use Rattle.arrivals.proofs.batch.read_batch.Goals as goal
@@ -17,6 +17,7 @@ loop-alloc-init g c =
       omega (arith, len),
       refl,
       refl,
+      inl refl,
     )
 
 pub returns-in-Ok-None-clause-batch : goal.returns-in-Ok-None-clause-batch
@@ -76,6 +77,7 @@ loop-alloc-preserved g c =
       (let few = took.len in omega (arith, room, before, few)),
       read.count ∙ inv.3,
       read.same ∙ inv.4,
+      inr (omega (arith, room, before)),
     )
 
 pub returns-clause-batch : goal.returns-clause-batch

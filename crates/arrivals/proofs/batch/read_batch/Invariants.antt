@@ -1,4 +1,4 @@
-use Rattle.std.proofs.Common.{◌≡◌, ◌+◌, ◌≤◌, ℕ, List, Option, ◌++◌, vec_len}
+use Rattle.std.proofs.Common.{◌≡◌, ◌+◌, ◌≤◌, ◌<◌, ◌⊎◌, ℕ, List, Option, ◌++◌, vec_len}
 use Rattle.captures.specs.declared.version.Version.{Version}
 use Rattle.captures.specs.Readers.{Fits}
 use Rattle.captures.specs.declared.record.Record.{Record}
@@ -17,6 +17,7 @@ invariant-loop-alloc g l =
     → Fits v text start (records ++ rs) l.capture.progress l.capture.input.now.0))
     × (l.capture.progress.stage ≡ Reading) × (l.capture.progress.room + vec_len l.origins ≤ l.fn.capture.progress.room)
     × (l.capture.input.now.1 ≡ l.fn.capture.input.now.1) × (l.capture.input.ghost_name ≡ l.fn.capture.input.ghost_name)
+    × ((l.bytes ≡ 0) ⊎ (l.capture.progress.room < l.fn.capture.progress.room))
 
 abbrev pub decreases-loop-alloc : goal.decreases-loop-alloc
 decreases-loop-alloc g l = l.capture.progress.room

@@ -1,4 +1,4 @@
-use crate::{Control, Controller, Decision, Policy, PolicyFault};
+use admission::{Control, Controller, Decision, Outlook, Policy, PolicyFault};
 use std::test::Fail;
 
 const ADMITTED_AT_LAST: Decision = Decision::Admitted { finish: 1_199_578 };
@@ -51,6 +51,36 @@ fn a_tight_bucket_admits_one_request_a_second(rt: HostRuntime) -> Result<(), Fai
         controller.offer(0, 1_000_000, 201)?,
         Decision::Admitted { finish: 1_000_201 }
     );
+    Ok(())
+}
+
+/// A control at the tick 5000 lowers the rate from 1000 to 833: a request that comes then finds the lowered rate, and a
+/// tick before it the old one. Each finds a bucket of 10 tokens less the one taken at tick 0, and 1000 units a tick.
+#[test]
+fn a_control_at_the_same_tick_counts(rt: HostRuntime) -> Result<(), Fail> {
+    let policy = Policy::new(1, 1, 700, 1000, 500, 2000, 10, 120, 1000, 90, 10).expect(
+        &rt, "a policy",
+    );
+    let mut controller = Controller::new(rt.alloc(), [policy; 4])?;
+    let fresh = Outlook {
+        credit: 10_000_000_000,
+        rate: 1000,
+        free: 0,
+    };
+    assert_eq!(rt; controller.outlook(2, 7), fresh);
+    controller.offer(0, 0, 5000)?;
+    let before = Outlook {
+        credit: 9_004_999_000,
+        rate: 1000,
+        free: 5000,
+    };
+    assert_eq!(rt; controller.outlook(0, 4999), before);
+    let at = Outlook {
+        credit: 9_005_000_000,
+        rate: 833,
+        free: 5000,
+    };
+    assert_eq!(rt; controller.outlook(0, 5000), at);
     Ok(())
 }
 

@@ -2,13 +2,48 @@
 //! anew. The controller must agree with it at each of some hundred offers.
 ghost use Rattle.std.specs.Prelude.{◌≤◌};
 
-use crate::{Control, Controller, Decision, Policy};
+use admission::{Control, Controller, Decision, Outlook, Policy};
 use std::alloc::{AllocError, AllocGlobal, Global};
 use std::process::Abort;
 use std::test::Fail;
 
 /// Units to a token.
 const TOKEN: u64 = 1_000_000_000;
+
+/// The numbers of a policy.
+#[derive(Clone, Copy)]
+struct Rules {
+    window: u64,
+    every: u64,
+    smoothing: u64,
+    rate: u64,
+    rate_min: u64,
+    rate_max: u64,
+    up: u64,
+    down: u64,
+    target: u64,
+    low: u64,
+    depth: u64,
+}
+
+impl Rules {
+    fn policy(self, rt: &impl Abort) -> Policy {
+        Policy::new(
+            self.window,
+            self.every,
+            self.smoothing,
+            self.rate,
+            self.rate_min,
+            self.rate_max,
+            self.up,
+            self.down,
+            self.target,
+            self.low,
+            self.depth,
+        )
+        .expect(rt, "a policy")
+    }
+}
 
 /// A request that was offered, and when it is finished where it was admitted.
 #[derive(Drop)]
@@ -42,12 +77,12 @@ fn percentile_of(alloc: Global, samples: &[u64]) -> Result<u64, AllocError> {
 }
 
 /// The rate after a control.
-fn rate_of(policy: Policy, smoothed: u64, rate: u64) -> u64 {
-    if smoothed > policy.target {
-        let lowered = rate.saturating_mul(100).checked_div(policy.down);
-        policy.rate_min.max(lowered.unwrap_or(0))
-    } else if smoothed.saturating_mul(100) < policy.low.saturating_mul(policy.target) {
-        policy.rate_max.min(rate.saturating_add(policy.up))
+fn rate_of(rules: Rules, smoothed: u64, rate: u64) -> u64 {
+    if smoothed > rules.target {
+        let lowered = rate.saturating_mul(100).checked_div(rules.down);
+        rules.rate_min.max(lowered.unwrap_or(0))
+    } else if smoothed.saturating_mul(100) < rules.low.saturating_mul(rules.target) {
+        rules.rate_max.min(rate.saturating_add(rules.up))
     } else {
         rate
     }
@@ -56,13 +91,13 @@ fn rate_of(policy: Policy, smoothed: u64, rate: u64) -> u64 {
 /// All controls of the admitted requests of a tier.
 fn controls_of(
     alloc: Global,
-    policy: Policy,
+    rules: Rules,
     requests: &[Request],
     tier: u8,
 ) -> Result<Vec<Control>, AllocError> {
     let mut samples = Vec::new(alloc);
     let mut controls = Vec::new(alloc);
-    let (mut smoothed, mut rate) = (0u64, policy.rate);
+    let (mut smoothed, mut rate) = (0u64, rules.rate);
     for request in requests {
         let Some(finish) = request.finish else {
             continue;
@@ -71,17 +106,17 @@ fn controls_of(
             continue;
         }
         samples.push(finish.saturating_sub(request.tick))?;
-        if (samples.len() as u64).checked_rem(policy.every) != Some(0) {
+        if (samples.len() as u64).checked_rem(rules.every) != Some(0) {
             continue;
         }
-        let first = samples.len().saturating_sub(policy.window as usize);
+        let first = samples.len().saturating_sub(rules.window as usize);
         let percentile = percentile_of(alloc, samples.get(first..).unwrap_or(&[]))?;
-        let before = policy.smoothing.saturating_mul(smoothed);
+        let before = rules.smoothing.saturating_mul(smoothed);
         let own = 1000u64
-            .saturating_sub(policy.smoothing)
+            .saturating_sub(rules.smoothing)
             .saturating_mul(percentile);
         smoothed = before.saturating_add(own) / 1000;
-        rate = rate_of(policy, smoothed, rate);
+        rate = rate_of(rules, smoothed, rate);
         controls.push(Control {
             instant: finish,
             percentile,
@@ -93,31 +128,31 @@ fn controls_of(
 }
 
 /// The rate in force at a tick: that of the last control before it or at it.
-fn rate_at(policy: Policy, controls: &[Control], tick: u64) -> u64 {
+fn rate_at(rules: Rules, controls: &[Control], tick: u64) -> u64 {
     let reached = controls
         .iter()
         .filter(|control| control.instant <= tick)
         .count();
     controls
         .get(reached.wrapping_sub(1))
-        .map_or(policy.rate, |control| control.rate)
+        .map_or(rules.rate, |control| control.rate)
 }
 
 /// What accrues from one tick to another, tick by tick.
-fn accrued(policy: Policy, controls: &[Control], from: u64, to: u64) -> u64 {
+fn accrued(rules: Rules, controls: &[Control], from: u64, to: u64) -> u64 {
     (from..to).fold(0u64, |sum, tick| {
-        sum.saturating_add(rate_at(policy, controls, tick))
+        sum.saturating_add(rate_at(rules, controls, tick))
     })
 }
 
 /// The credit of a request at this tick: the least over the requests of its tier so far of a full bucket at each, with
 /// what accrued from it on and without the tokens taken from it on.
-fn credit_of(policy: Policy, controls: &[Control], requests: &[Request], offer: (u8, u64)) -> u64 {
+fn credit_of(rules: Rules, controls: &[Control], requests: &[Request], offer: (u8, u64)) -> u64 {
     let (tier, tick) = offer;
-    let full = policy.depth.saturating_mul(TOKEN);
+    let full = rules.depth.saturating_mul(TOKEN);
     let (mut least, mut taken, mut gained, mut later) = (full, 0u64, 0u64, tick);
     for request in requests.iter().rev().filter(|request| request.tier == tier) {
-        gained = gained.saturating_add(accrued(policy, controls, request.tick, later));
+        gained = gained.saturating_add(accrued(rules, controls, request.tick, later));
         later = request.tick;
         if request.finish.is_some() {
             taken = taken.saturating_add(TOKEN);
@@ -129,17 +164,35 @@ fn credit_of(policy: Policy, controls: &[Control], requests: &[Request], offer: 
 
 /// What the plain program says of one more offer (tier, tick, service).
 fn decision_of(
-    policy: Policy,
+    rules: Rules,
     controls: &[Control],
     requests: &[Request],
     offer: (u8, u64, u64),
 ) -> Decision {
     let (tier, tick, service) = offer;
-    if credit_of(policy, controls, requests, (tier, tick)) < TOKEN {
+    if credit_of(rules, controls, requests, (tier, tick)) < TOKEN {
         return Decision::Rejected;
     }
     Decision::Admitted {
         finish: finish_of(requests, tick, service),
+    }
+}
+
+/// What the plain program says that a request of a tier finds which comes at a tick.
+fn outlook_of(
+    rules: Rules,
+    controls: &[Control],
+    requests: &[Request],
+    offer: (u8, u64),
+) -> Outlook {
+    Outlook {
+        credit: credit_of(rules, controls, requests, offer),
+        rate: rate_at(rules, controls, offer.1),
+        free: requests
+            .iter()
+            .filter_map(|request| request.finish)
+            .last()
+            .unwrap_or(0),
     }
 }
 
@@ -162,12 +215,12 @@ fn next_number(number: u64) -> u64 {
 fn compare_controls(
     rt: &(impl Abort + AllocGlobal),
     controller: &Controller,
-    policies: [Policy; 4],
+    rules: [Rules; 4],
     requests: &[Request],
     tick: u64,
 ) -> Result<(), Fail> {
     for tier in 0..4u8 {
-        let controls = controls_of(rt.alloc(), policies[usize::from(tier)], requests, tier)?;
+        let controls = controls_of(rt.alloc(), rules[usize::from(tier)], requests, tier)?;
         let shown = controls
             .iter()
             .filter(|control| control.instant <= tick)
@@ -177,16 +230,18 @@ fn compare_controls(
     Ok(())
 }
 
-/// Offers 200 requests up to 15 ticks apart in the first `tiers` tiers, and compares each decision and the controls of
-/// all tiers with those of the plain program. Returns how many were turned away.
-fn compare(
-    rt: &(impl Abort + AllocGlobal),
-    policies: [Policy; 4],
-    tiers: u64,
-) -> Result<usize, Fail>
+/// Offers 200 requests up to 15 ticks apart in the first `tiers` tiers, and compares what each finds, each decision
+/// and the controls of all tiers with those of the plain program. Returns how many were turned away.
+fn compare(rt: &(impl Abort + AllocGlobal), rules: [Rules; 4], tiers: u64) -> Result<usize, Fail>
     requires { (1 ≤ tiers) × (tiers ≤ 4) }
 {
     let alloc = rt.alloc();
+    let policies = [
+        rules[0].policy(rt),
+        rules[1].policy(rt),
+        rules[2].policy(rt),
+        rules[3].policy(rt),
+    ];
     let mut controller = Controller::new(alloc, policies)?;
     let mut requests = Vec::new(alloc);
     let (mut number, mut tick) = (1u64, 0u64);
@@ -195,9 +250,11 @@ fn compare(
         tick += (number >> 33) % 16;
         let service = 1 + (number >> 40) % 12;
         let tier = ((number >> 50) % tiers) as u8;
-        let policy = policies[usize::from(tier)];
-        let controls = controls_of(alloc, policy, &requests, tier)?;
-        let decision = decision_of(policy, &controls, &requests, (tier, tick, service));
+        let own = rules[usize::from(tier)];
+        let controls = controls_of(alloc, own, &requests, tier)?;
+        let outlook = outlook_of(own, &controls, &requests, (tier, tick));
+        assert_eq!(rt; controller.outlook(tier, tick), outlook);
+        let decision = decision_of(own, &controls, &requests, (tier, tick, service));
         assert_eq!(rt; controller.offer(tier, tick, service)?, decision);
         requests.push(Request {
             tier,
@@ -205,7 +262,7 @@ fn compare(
             service,
             finish: finish_in(decision),
         })?;
-        compare_controls(rt, &controller, policies, &requests, tick)?;
+        compare_controls(rt, &controller, rules, &requests, tick)?;
     }
     Ok(
         requests
@@ -219,59 +276,82 @@ fn compare(
 /// script.)
 #[test]
 fn a_window_longer_than_the_controls_are_apart(rt: HostRuntime) -> Result<(), Fail> {
-    let policy = Policy::new(
-        20,
-        7,
-        700,
-        90_000_000,
-        20_000_000,
-        400_000_000,
-        20_000_000,
-        120,
-        12,
-        90,
-        3,
-    )
-    .expect(&rt, "a policy");
-    assert_eq!(rt; compare(&rt, [policy; 4], 1)?, 43);
+    let rules = Rules {
+        window: 20,
+        every: 7,
+        smoothing: 700,
+        rate: 90_000_000,
+        rate_min: 20_000_000,
+        rate_max: 400_000_000,
+        up: 20_000_000,
+        down: 120,
+        target: 12,
+        low: 90,
+        depth: 3,
+    };
+    assert_eq!(rt; compare(&rt, [rules; 4], 1)?, 43);
     Ok(())
 }
 
 #[test]
 fn a_control_at_each_request(rt: HostRuntime) -> Result<(), Fail> {
-    let policy = Policy::new(
-        3,
-        1,
-        0,
-        90_000_000,
-        20_000_000,
-        400_000_000,
-        5_000_000,
-        105,
-        9,
-        100,
-        1,
-    )
-    .expect(&rt, "a policy");
-    assert_eq!(rt; compare(&rt, [policy; 4], 1)?, 112);
+    let rules = Rules {
+        window: 3,
+        every: 1,
+        smoothing: 0,
+        rate: 90_000_000,
+        rate_min: 20_000_000,
+        rate_max: 400_000_000,
+        up: 5_000_000,
+        down: 105,
+        target: 9,
+        low: 100,
+        depth: 1,
+    };
+    assert_eq!(rt; compare(&rt, [rules; 4], 1)?, 112);
     Ok(())
 }
 
 /// Four tiers of four policies, each with a bucket that is now and then empty.
 #[test]
 fn four_tiers(rt: HostRuntime) -> Result<(), Fail> {
-    let policy = |window: u64, every: u64, rate: u64, target: u64, depth: u64| {
-        Policy::new(
-            window, every, 700, rate, 5_000_000, 90_000_000, 2_000_000, 120, target, 90, depth,
-        )
-        .expect(&rt, "a policy")
+    let shared = Rules {
+        window: 20,
+        every: 7,
+        smoothing: 700,
+        rate: 30_000_000,
+        rate_min: 5_000_000,
+        rate_max: 90_000_000,
+        up: 2_000_000,
+        down: 120,
+        target: 12,
+        low: 90,
+        depth: 3,
     };
-    let policies = [
-        policy(20, 7, 30_000_000, 12, 3),
-        policy(3, 1, 20_000_000, 9, 1),
-        policy(5, 2, 15_000_000, 20, 2),
-        policy(1, 4, 25_000_000, 6, 1),
-    ];
-    assert_eq!(rt; compare(&rt, policies, 4)?, 76);
+    let second = Rules {
+        window: 3,
+        every: 1,
+        rate: 20_000_000,
+        target: 9,
+        depth: 1,
+        ..shared
+    };
+    let third = Rules {
+        window: 5,
+        every: 2,
+        rate: 15_000_000,
+        target: 20,
+        depth: 2,
+        ..shared
+    };
+    let fourth = Rules {
+        window: 1,
+        every: 4,
+        rate: 25_000_000,
+        target: 6,
+        depth: 1,
+        ..shared
+    };
+    assert_eq!(rt; compare(&rt, [shared, second, third, fourth], 4)?, 76);
     Ok(())
 }

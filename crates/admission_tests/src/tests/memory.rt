@@ -1,5 +1,5 @@
 //! Out of memory: `rt try --test --fail-alloc 1..` refuses each growth in turn.
-use crate::{Controller, Decision, Policy};
+use admission::{Controller, Decision, Policy};
 
 /// An offer whose growth is refused leaves the controller as it was: offered again, the request has the answer that it
 /// would have had.

@@ -1,4 +1,4 @@
-use crate::SampleWindow;
+use admission::SampleWindow;
 use std::test::Fail;
 
 #[test]

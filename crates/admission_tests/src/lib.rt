@@ -1,0 +1,5 @@
+//! Tests of the crate `admission`.
+#![tactic(auto)]
+
+#[cfg(test)]
+mod tests;
