@@ -9,7 +9,7 @@ use Rattle.paths.specs.declared.file.File.{File}
 use Rattle.paths.specs.Snapshots.{feed, no_file, file_of, file_text, last_line, text_before_end, snapshot_text, longest_text, IsSnapshot, Follows}
 use Rattle.paths.proofs.OneList.{header}
 use Rattle.snapshots.specs.declared.so_far.SoFar.{SoFar}
-use Rattle.snapshots.specs.Keeping.{last_name, lengths_within, IsSoFar, grown}
+use Rattle.snapshots.specs.Keeping.{last_name, lengths_within, IsSoFar, Grown}
 use Rattle.snapshots.proofs.Prefixes.{begins_itself, passes, filter_within}
 
 name_push : (files : List File) (f : File) → last_name (files ++ f ∷ []) ≡ f.name
@@ -42,7 +42,7 @@ whole_size files f =
     length-append (text_before_end (files ++ f ∷ [])) (last_line (files ++ f ∷ []) ++ feed ∷ []) ∙ omega (arith, last, size_push files f)
 
 pub kept_more : (files : List File) (f : File) (s next : SoFar) (n : ℕ) → IsSnapshot files → Follows files f → length (snapshot_text (files ++ f ∷ [])) ≤ longest_text
-    → IsSoFar files s → n ≡ length (file_text f) → grown s f.name n next → IsSoFar (files ++ f ∷ []) next
+    → IsSoFar files s → n ≡ length (file_text f) → Grown s f.name n next → IsSoFar (files ++ f ∷ []) next
 kept_more files f s next n rules fits small kept is h = record {
   count = h.count ∙ (let few = rules.count in omega (arith, kept.count, length-append files (f ∷ [])));
   size = h.size ∙ omega (arith, is, small, kept.size, size_push files f, whole_size files f);

@@ -12,7 +12,7 @@ use Rattle.paths.specs.SnapshotFaults.{IsForeseen, IsFirstFault, is_unforeseen_k
 use Rattle.paths.specs.declared.snapshot_fault.SnapshotFault.{SnapshotFault}
 use Rattle.snapshots.specs.declared.so_far.SoFar.{SoFar}
 use Rattle.snapshots.specs.Rules.{broken_rule}
-use Rattle.snapshots.specs.Keeping.{grown, more}
+use Rattle.snapshots.specs.Keeping.{Grown, more}
 use Rattle.snapshots.specs.Writing.{AppendsPrefix}
 use Rattle.snapshots.specs.Writers.{Took}
 use Rattle.snapshots.proofs.Keeps.{kept_more, text_push, whole_size}
@@ -36,7 +36,7 @@ file_parts f head is =
     ∙ ap (λ v. file_line f ++ feed ∷ v) (append_assoc f.name (feed ∷ []) (f.bytes ++ feed ∷ []))))
 
 pub took_more : (files : List File) (f : File) (before old new : Option (List ℕ)) (s next : SoFar) (head : List ℕ) (n : ℕ) → Took files before old s → broken_rule files f ≡ None
-    → head ≡ (file_line f ++ feed ∷ []) ++ (f.name ++ feed ∷ []) → n ≡ more (length head) (length f.bytes + 1) → Appends old new (head ++ (f.bytes ++ feed ∷ [])) → grown s f.name n next
+    → head ≡ (file_line f ++ feed ∷ []) ++ (f.name ++ feed ∷ []) → n ≡ more (length head) (length f.bytes + 1) → Appends old new (head ++ (f.bytes ++ feed ∷ [])) → Grown s f.name n next
     → Took (files ++ f ∷ []) before new next
 took_more files f before old new s next head n took none is sum h grows =
     let fits = none_broken files f none in

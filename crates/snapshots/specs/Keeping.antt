@@ -47,7 +47,7 @@ broken_by s f =
     else None
 
 -- what is kept with one more name, and so many bytes of text more
-pub record grown (s : SoFar) (name : List ℕ) (n : ℕ) (next : SoFar) : Type 0 where
+pub record Grown (s : SoFar) (name : List ℕ) (n : ℕ) (next : SoFar) : Type 0 where
   pub count : next.count ≡ more s.count 1
   pub size : next.size ≡ more s.size n
   pub last : next.names.last.items ≡ name

@@ -1,7 +1,7 @@
 ghost use Rattle.std.specs.Prelude.{◌≡◌, ◌≢◌, ◌≤◌, ◌<◌, ◌-◌, ◌^◌, [], length, decimal};
 ghost use Rattle.std.specs.Prelude.{IfOk, IfErr, IfSome, Err, Some};
 ghost use Rattle.paths.specs.Snapshots.{file_text, text_before_end};
-ghost use Rattle.snapshots.specs.Keeping.{a_file, broken_by, grown};
+ghost use Rattle.snapshots.specs.Keeping.{a_file, broken_by, Grown};
 ghost use Rattle.snapshots.specs.Rules.{is_good_name};
 ghost use Rattle.snapshots.specs.Writing.{AppendsPrefix};
 ghost use Rattle.snapshots.specs.Writers.{Took, refused_for, Counts};
@@ -17,7 +17,7 @@ use std::io::Write;
 /// The greatest time of a file, in seconds since 1970-01-01.
 const LATEST_TIME: u64 = 253_402_300_799;
 /// The most bytes of a file.
-const MOST_BYTES: usize = 16_777_216;
+pub const MOST_BYTES: usize = 16_777_216;
 /// The most files.
 const MOST_FILES: usize = 65_536;
 /// The most bytes of a name.
@@ -121,7 +121,7 @@ impl SoFar {
         name: &[u8],
         text_len: usize,
     ) -> Result<SoFar, AllocError>
-        ensures { IfOk result (grown self.now name.now text_len) }
+        ensures { IfOk result (Grown self.now name.now text_len) }
     {
         let names = self.names.then(alloc, name)?;
         Ok(SoFar {

@@ -12,6 +12,7 @@ use crate::texts::{file_head, last_line, write_all, write_file};
 use paths::Output;
 use std::alloc::Global;
 use std::io::Write;
+use std::marker::Model;
 
 /// Writes a snapshot's text, file by file, to the output that each call is given: [`SnapshotWriter::begin`], then
 /// [`SnapshotWriter::add`] for each file by rising name, then [`SnapshotWriter::finish`]. It keeps the last name, and
@@ -22,6 +23,14 @@ use std::io::Write;
 pub struct SnapshotWriter {
     alloc: Global,
     so_far: SoFar,
+}
+
+impl Model for SnapshotWriter {
+    ghost use Rattle.snapshots.specs.declared.so_far.SoFar.{SoFar};
+
+    ghost Value = { SoFar };
+
+    ghost view = { λ w. w.so_far };
 }
 
 impl SnapshotWriter {
@@ -35,7 +44,7 @@ impl SnapshotWriter {
         output: &mut Output<W>,
     ) -> Result<SnapshotWriter, WriteFault>
         requires { output.old.1 < 2 ^ 64 - 1 }
-        ensures ok { IfOk result (λ writer. Took [] output.old.0 output.new.0 writer.so_far) }
+        ensures ok { IfOk result (λ writer. Took [] output.old.0 output.new.0 writer) }
         ensures part { IfErr result (λ _. AppendsPrefix output.old.0 output.new.0 (text_before_end [])) }
         ensures count { Counts output.old.1 output.new.1 result }
     {
@@ -58,17 +67,17 @@ impl SnapshotWriter {
         bytes: &[u8],
     ) -> Result<(), WriteFault>
         requires { output.old.1 < 2 ^ 64 - 1 }
-        ensures taken { (files : List AFile) (before : Option (List ℕ)) → Took files before output.old.0 self.old.so_far
-            → OnOk result (Took (files ++ a_file name.now mtime bytes.now ∷ []) before output.new.0 self.new.so_far) }
+        ensures taken { (files : List AFile) (before : Option (List ℕ)) → Took files before output.old.0 self.old
+            → OnOk result (Took (files ++ a_file name.now mtime bytes.now ∷ []) before output.new.0 self.new) }
         // After a failed write a prefix of the text stands.
-        ensures part { (files : List AFile) (before : Option (List ℕ)) → Took files before output.old.0 self.old.so_far
+        ensures part { (files : List AFile) (before : Option (List ℕ)) → Took files before output.old.0 self.old
             → IfErr result (λ f. f ≡ WriteFault.Write
             → AppendsPrefix before output.new.0 (text_before_end (files ++ a_file name.now mtime bytes.now ∷ []))) }
         // Every other fault writes nothing, and leaves the writer as it was.
         ensures unchanged { IfErr result (λ f. f ≢ WriteFault.Write
-            → (self.new.so_far ≡ self.old.so_far) × (output.new ≡ output.old)) }
+            → (self.new ≡ self.old) × (output.new ≡ output.old)) }
         // A rule is named exactly where the files so far with this one keep the rules no longer, and it is the first.
-        ensures rule { (files : List AFile) (before : Option (List ℕ)) → Took files before output.old.0 self.old.so_far
+        ensures rule { (files : List AFile) (before : Option (List ℕ)) → Took files before output.old.0 self.old
             → refused_for result ≡ broken_rule files (a_file name.now mtime bytes.now) }
         ensures count { Counts output.old.1 output.new.1 result }
     {
@@ -91,10 +100,10 @@ impl SnapshotWriter {
     /// `Memory`: the text stands without its last line. `Write`: a prefix of it stands.
     pub fn finish<W: Write>(self, output: &mut Output<W>) -> Result<(), WriteFault>
         requires { output.old.1 < 2 ^ 64 - 1 }
-        ensures text { (files : List AFile) (before : Option (List ℕ)) → Took files before output.old.0 self.so_far
+        ensures text { (files : List AFile) (before : Option (List ℕ)) → Took files before output.old.0 self
             → WritesPrefix before output.new.0 result (snapshot_text files) }
         // The files that were taken keep the rules.
-        ensures rules { (files : List AFile) (before : Option (List ℕ)) → Took files before output.old.0 self.so_far
+        ensures rules { (files : List AFile) (before : Option (List ℕ)) → Took files before output.old.0 self
             → IsSnapshotText (snapshot_text files) files }
         ensures count { Counts output.old.1 output.new.1 result }
     {
