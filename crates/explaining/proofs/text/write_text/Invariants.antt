@@ -1,0 +1,10 @@
+use Rattle.std.proofs.Common.{◌≡◌, ◌++◌, ℕ, List}
+use Rattle.std.specs.Io.KnownBytes.{Appends}
+use Rattle.percent_encoding.specs.Iter.{encoded_text}
+use Rattle.explaining.specs.Rows.{text_field}
+use Rattle.explaining.proofs.text.write_text.Given as goal
+
+-- the text of some of the bytes was written, that of the others is left
+abbrev pub invariant-loop-piece : goal.invariant-loop-piece
+invariant-loop-piece g l = ((done : List ℕ) × Appends l.fn.output.0 l.output.0 done × (text_field l.bytes ≡ done ++ encoded_text l.piece-iterator))
+    × (l.output.1 ≡ l.fn.output.1)

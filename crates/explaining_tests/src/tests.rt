@@ -1,0 +1,9 @@
+mod controls;
+mod devices;
+mod faults;
+mod limits;
+mod many;
+mod memory;
+mod outcomes;
+mod rows;
+mod running;

@@ -1,0 +1,130 @@
+//! Devices that fail.
+use super::running::{
+    A, FILES, capture_of, default_costs, default_policy, explain_devices, settings,
+};
+use captures::CaptureFaultKind;
+use paths::{Input, Output};
+use replay::{ReplayFault, Settings};
+use std::alloc::AllocGlobal;
+use std::io;
+use std::io::{Read, Write};
+use std::process::Abort;
+use std::test::Fail;
+
+/// A reader over memory that gives at most 16 bytes a read, and fails after so many reads.
+#[derive(Drop)]
+struct Flaky<'a> {
+    bytes: &'a [u8],
+    good: usize,
+}
+
+impl<'a> Read for Flaky<'a> {
+    fn read(&mut self, room: &mut [u8]) -> io::Result<usize> {
+        if self.good == 0 {
+            return Err(io::Error::other("refused"));
+        }
+        self.good -= 1;
+        let count = room.len().min(16).min(self.bytes.len());
+        room[..count].copy_from_slice(&self.bytes[..count]);
+        self.bytes = &self.bytes[count..];
+        Ok(count)
+    }
+}
+
+/// A writer over memory that takes at most 5 bytes a write, and fails after so many writes.
+#[derive(Drop)]
+struct Slow<'a> {
+    taken: &'a mut Vec<u8>,
+    good: usize,
+}
+
+impl<'a> Write for Slow<'a> {
+    fn write(&mut self, bytes: &[u8]) -> io::Result<usize> {
+        if self.good == 0 {
+            return Err(io::Error::other("refused"));
+        }
+        self.good -= 1;
+        let count = bytes.len().min(5);
+        self.taken.extend_from_slice(&bytes[..count])?;
+        Ok(count)
+    }
+
+    fn flush(&mut self) -> io::Result<()> {
+        Ok(())
+    }
+}
+
+static WANT: &str =
+    "number,connection,tick,tier,status,decision,service,credit,rate,start,finish,waited,method,target\n\
+     0,0,0,0,200,admitted,201,100000000000,1000000,0,201,0,GET,/a.txt\n";
+
+/// Explains with devices that fail after so many calls; whether the call came to its end.
+fn ends(
+    rt: &(impl Abort + AllocGlobal),
+    settings: &Settings,
+    capture: &str,
+    reads: usize,
+    writes: usize,
+) -> bool {
+    let mut taken = Vec::new(rt.alloc());
+    let mut reader = Input::new(Flaky {
+        bytes: capture.as_bytes(),
+        good: reads,
+    });
+    let mut writer = Output::new(Slow {
+        taken: &mut taken,
+        good: writes,
+    });
+    let ran = explain_devices(rt.alloc(), FILES, settings, &mut reader, &mut writer);
+    let failed = (reader.failures(), writer.failures());
+    let answer = ran.expect(rt, "a snapshot");
+    let want = WANT.as_bytes();
+    match answer {
+        Ok(_) => assert_eq!(rt; taken.as_slice(), want),
+        Err(ReplayFault::Capture(fault)) => {
+            assert_eq!(rt; fault.kind, CaptureFaultKind::Read);
+            assert_eq!(rt; failed, (1, 0));
+            assert!(rt; taken.len() == 98 || taken.len() == want.len());
+        }
+        Err(fault) => {
+            assert_eq!(rt; fault, ReplayFault::Write);
+            assert_eq!(rt; failed, (0, 1));
+        }
+    }
+    assert!(rt; want.starts_with(&taken));
+    answer.is_ok()
+}
+
+/// Fails each read in turn, or each write, until a call comes to its end: how many calls it made, if below 200.
+fn calls_to_the_end(
+    rt: &(impl Abort + AllocGlobal),
+    settings: &Settings,
+    capture: &str,
+    is_read: bool,
+) -> usize {
+    for good in 0..200usize {
+        let (reads, writes) = if is_read {
+            (good, usize::MAX)
+        } else {
+            (usize::MAX, good)
+        };
+        if ends(rt, settings, capture, reads, writes) {
+            return good;
+        }
+    }
+    200
+}
+
+#[test]
+fn each_read_and_write_failing(rt: HostRuntime) -> Result<(), Fail> {
+    let alloc = rt.alloc();
+    let costs = default_costs().expect(&rt, "costs");
+    let policy = default_policy().expect(&rt, "a policy");
+    let settings = settings(alloc, costs, [policy; 4]).expect(&rt, "settings");
+    let capture = capture_of(alloc, &[(0, 0, A)])?;
+    let reads = calls_to_the_end(&rt, &settings, &capture, true);
+    assert!(rt; 5 < reads && reads < 200);
+    let writes = calls_to_the_end(&rt, &settings, &capture, false);
+    assert!(rt; 30 < writes && writes < 200);
+    Ok(())
+}

@@ -1,0 +1,45 @@
+//! Out of memory: `rt try --test --fail-alloc 1..` refuses each growth in turn.
+use super::running::{FILES, default_costs, explain, settings, tight};
+use replay::ReplayFault;
+
+static CAPTURE: &str = "haboob-capture 1 784111777\n\
+     piece 0 0 32\n\
+     GET /a.txt HTTP/1.1\r\n\
+     Host: a\r\n\
+     \r\n\
+     \n\
+     piece 1 3 27\n\
+     GET / HTTP/1.1\r\n\
+     Host: a\r\n\
+     \r\n\
+     \n\
+     stop 2\n";
+
+static WANT: &str =
+    "number,connection,tick,tier,status,decision,service,credit,rate,start,finish,waited,method,target\n\
+     0,0,0,0,200,admitted,201,1000000000,1000,0,201,0,GET,/a.txt\n\
+     1,3,1,0,503,rejected,50,1000,1000,,,200,GET,/\n";
+
+/// A call whose growth is refused says so, and has written a prefix of what it would have written. (Nor can the text in
+/// memory grow then, which is a failed write.)
+#[test]
+fn each_growth_refused(rt: HostRuntime) {
+    let alloc = rt.alloc();
+    let (Some(costs), Some(policy)) = (default_costs(), tight(1)) else {
+        return;
+    };
+    let Some(settings) = settings(alloc, costs, [policy; 4]) else {
+        return;
+    };
+    let Some(ran) = explain(alloc, FILES, &settings, CAPTURE) else {
+        return;
+    };
+    let want = WANT.as_bytes();
+    match ran.answer {
+        Ok(_) => assert_eq!(rt; ran.text.as_slice(), want),
+        Err(fault) => {
+            assert!(rt; fault == ReplayFault::Memory || fault == ReplayFault::Write);
+            assert!(rt; want.starts_with(&ran.text));
+        }
+    }
+}

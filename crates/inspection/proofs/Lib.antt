@@ -1,0 +1,9 @@
+pub mod Seconds
+pub mod Counted
+pub mod Sharing
+pub mod Lines
+pub mod Everyone
+pub mod Holding
+pub mod Endings
+pub mod OneInspection
+pub mod Totals

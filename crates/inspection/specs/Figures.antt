@@ -1,0 +1,197 @@
+-- What a capture holds: figures of its records, of the texts of its connections and of the messages that arrive.
+use Rattle.std.specs.Prelude.{◌≡◌, ℕ, ◌+◌, ◌-◌, ◌/◌, ◌≤◌, ◌==◌, Bool, true, false, not, List, length, map, count_by}
+use Rattle.std.specs.Prelude.{sum_by, slice_get, nat_lt, bytes_eq, codes, if◌then◌else◌}
+use Rattle.std.specs.List.{range_with_len}
+use Rattle.captures.specs.declared.version.Version.TheVariants.{Two}
+use Rattle.captures.specs.declared.record.Record.{Record}
+use Rattle.captures.specs.declared.record.Record.TheVariants.{Piece, End, Tier}
+use Rattle.captures.specs.Captures.{last_connection, last_of, ticks_of}
+use Rattle.http_requests.specs.declared.messages.Message.{Message}
+use Rattle.http_requests.specs.declared.messages.What.{What}
+use Rattle.http_requests.specs.declared.messages.What.TheVariants.{Request, Bad}
+use Rattle.http_requests.specs.declared.messages.Version.TheVariants.{Http10, Http11}
+use Rattle.http_requests.specs.declared.messages.Fault.TheVariants.{TooLong, Block, Host, Coding, Length, BodySize}
+use Rattle.http_requests.specs.Heads.{is_get_or_head}
+use Rattle.arrivals.specs.Arrivals.{Arrival, text_of, messages_of}
+use Rattle.arrivals.specs.Connections.{some_closes}
+use Rattle.inspection.specs.declared.record_counts.RecordCounts.{RecordCounts}
+use Rattle.inspection.specs.declared.message_counts.MethodCounts.{MethodCounts}
+use Rattle.inspection.specs.declared.message_counts.VersionCounts.{VersionCounts}
+use Rattle.inspection.specs.declared.message_counts.FaultCounts.{FaultCounts}
+use Rattle.inspection.specs.declared.message_counts.MessageCounts.{MessageCounts}
+use Rattle.inspection.specs.declared.inspection.Share.{Share}
+use Rattle.inspection.specs.declared.inspection.Second.{Second}
+use Rattle.inspection.specs.declared.inspection.Inspection.{Inspection}
+
+-- the kinds of records
+abbrev pub is_piece : Record → Bool
+is_piece (Piece tick conn bytes) = true
+is_piece (End tick conn) = false
+is_piece (Tier conn tier) = false
+
+abbrev pub is_end : Record → Bool
+is_end (Piece tick conn bytes) = false
+is_end (End tick conn) = true
+is_end (Tier conn tier) = false
+
+abbrev pub is_tier : Record → Bool
+is_tier (Piece tick conn bytes) = false
+is_tier (End tick conn) = false
+is_tier (Tier conn tier) = true
+
+abbrev pub records_by_kind : List Record → RecordCounts
+records_by_kind records = record {
+  all = length records;
+  pieces = count_by is_piece records;
+  ends = count_by is_end records;
+  tiers = count_by is_tier records;
+}
+
+-- the kinds of messages: a request by its method (RFC 9110, 9.1) and its version (RFC 9112, 2.3), or a fault
+abbrev pub is_request : What → Bool
+is_request (Request method target version closing since) = true
+is_request (Bad fault) = false
+
+abbrev pub has_method : List ℕ → What → Bool
+has_method name (Request method target version closing since) = bytes_eq method name
+has_method name (Bad fault) = false
+
+abbrev pub has_other_method : What → Bool
+has_other_method (Request method target version closing since) = not (is_get_or_head method)
+has_other_method (Bad fault) = false
+
+abbrev pub is_http10 : What → Bool
+is_http10 (Request method target Http10 closing since) = true
+is_http10 (Request method target Http11 closing since) = false
+is_http10 (Bad fault) = false
+
+abbrev pub is_http11 : What → Bool
+is_http11 (Request method target Http10 closing since) = false
+is_http11 (Request method target Http11 closing since) = true
+is_http11 (Bad fault) = false
+
+abbrev pub is_too_long : What → Bool
+is_too_long (Bad TooLong) = true
+is_too_long _ = false
+
+abbrev pub is_bad_block : What → Bool
+is_bad_block (Bad Block) = true
+is_bad_block _ = false
+
+abbrev pub is_bad_host : What → Bool
+is_bad_host (Bad Host) = true
+is_bad_host _ = false
+
+abbrev pub is_bad_coding : What → Bool
+is_bad_coding (Bad Coding) = true
+is_bad_coding _ = false
+
+abbrev pub is_bad_length : What → Bool
+is_bad_length (Bad Length) = true
+is_bad_length _ = false
+
+abbrev pub is_bad_body_size : What → Bool
+is_bad_body_size (Bad BodySize) = true
+is_bad_body_size _ = false
+
+abbrev pub methods_by_kind : List What → MethodCounts
+methods_by_kind whats = record {
+  get = count_by (has_method (codes "GET")) whats;
+  head = count_by (has_method (codes "HEAD")) whats;
+  other = count_by has_other_method whats;
+}
+
+abbrev pub versions_by_kind : List What → VersionCounts
+versions_by_kind whats = record { http10 = count_by is_http10 whats; http11 = count_by is_http11 whats }
+
+abbrev pub faults_by_kind : List What → FaultCounts
+faults_by_kind whats = record {
+  too_long = count_by is_too_long whats;
+  block = count_by is_bad_block whats;
+  host = count_by is_bad_host whats;
+  coding = count_by is_bad_coding whats;
+  length = count_by is_bad_length whats;
+  body_size = count_by is_bad_body_size whats;
+}
+
+abbrev pub messages_by_kind : List What → MessageCounts
+messages_by_kind whats = record {
+  all = length whats;
+  requests = count_by is_request whats;
+  methods = methods_by_kind whats;
+  versions = versions_by_kind whats;
+  faults = faults_by_kind whats;
+}
+
+-- what the messages are that arrive
+abbrev pub whats_of : List Arrival → List What
+whats_of arrivals = map (λ a. a.message.what) arrivals
+
+-- where the last of these messages ends: the place after its last byte, 0 of no messages
+abbrev pub end_of : List Message → ℕ
+end_of ms = last_of (map (λ m. m.end) ms)
+
+-- how many bytes of a connection's text come after the last of its messages
+abbrev pub bytes_after : List ℕ → List Message → ℕ
+bytes_after text ms = length text - end_of ms
+
+-- those after a message that closes the connection, and those of one that none closes
+abbrev pub bytes_after_close : List ℕ → List Message → ℕ
+bytes_after_close text ms = if some_closes ms then bytes_after text ms else 0
+
+abbrev pub bytes_unfinished : List ℕ → List Message → ℕ
+bytes_unfinished text ms = if some_closes ms then 0 else bytes_after text ms
+
+-- so many bytes on each, summed up; and on how many there are some
+abbrev pub share_over : {X : Type 0} → (X → ℕ) → List X → Share
+share_over bytes_on xs = record {
+  bytes = sum_by bytes_on xs;
+  connections = count_by (λ x. nat_lt 0 (bytes_on x)) xs;
+}
+
+-- how many numbers connections may have, and these numbers, from 0 on
+unfoldable pub connection_numbers : ℕ
+connection_numbers = last_connection Two + 1
+
+abbrev pub every_connection : List ℕ
+every_connection = range_with_len 0 connection_numbers
+
+abbrev pub received : List Record → Share
+received records = share_over (λ c. length (text_of c records)) every_connection
+
+abbrev pub after_close : List Record → List Arrival → Share
+after_close records arrivals =
+    share_over (λ c. bytes_after_close (text_of c records) (messages_of c arrivals)) every_connection
+
+abbrev pub unfinished : List Record → List Arrival → Share
+unfinished records arrivals =
+    share_over (λ c. bytes_unfinished (text_of c records) (messages_of c arrivals)) every_connection
+
+-- a second has so many ticks
+abbrev pub ticks_of_a_second : ℕ
+ticks_of_a_second = 1000000
+
+-- the seconds in which messages arrive, one for each message
+abbrev pub seconds_of : List Arrival → List ℕ
+seconds_of arrivals = map (λ a. a.origin.tick / ticks_of_a_second) arrivals
+
+-- how many of them are this one
+abbrev pub count_in : ℕ → List ℕ → ℕ
+count_in second seconds = count_by (λ s. s == second) seconds
+
+-- it is the one of the most messages, the first of equals; of no messages it is second 0
+pub record IsBusiest (seconds : List ℕ) (busiest : Second) : Type 0 where
+  pub is : busiest.messages ≡ count_in busiest.number seconds
+  pub most : (second : ℕ) → count_in second seconds ≤ busiest.messages
+  pub first : (second : ℕ) → count_in second seconds ≡ busiest.messages → busiest.number ≤ second
+
+-- these are the figures of the records, of which these are the arrivals
+pub record AreFigures (records : List Record) (arrivals : List Arrival) (i : Inspection) : Type 0 where
+  pub counts : i.records ≡ records_by_kind records
+  pub first_tick : i.first_tick ≡ slice_get (ticks_of records) 0
+  pub last_tick : i.last_tick ≡ slice_get (ticks_of records) (length (ticks_of records) - 1)
+  pub received : i.received ≡ received records
+  pub messages : i.messages ≡ messages_by_kind (whats_of arrivals)
+  pub after_close : i.after_close ≡ after_close records arrivals
+  pub unfinished : i.unfinished ≡ unfinished records arrivals
+  pub busiest : IsBusiest (seconds_of arrivals) i.busiest

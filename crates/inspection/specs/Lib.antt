@@ -1,0 +1,4 @@
+pub mod Figures
+pub mod Inspections
+pub mod Running
+pub mod Texts

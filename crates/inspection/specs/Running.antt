@@ -1,0 +1,212 @@
+-- What is kept of a capture while its records are read.
+use Rattle.std.specs.Prelude.{◌≡◌, ◌≢◌, ℕ, ◌+◌, ◌-◌, ◌/◌, ◌<◌, ◌≤◌, false, List, [], ◌∷◌, ◌++◌, length}
+use Rattle.std.specs.Prelude.{map, replicate, slice_get, slice_index_or, codes, bytes_eq, nat_lt, if◌then◌else◌}
+use Rattle.std.specs.Prelude.{Some, unwrap_or}
+use Rattle.captures.specs.declared.record.Record.{Record}
+use Rattle.captures.specs.declared.record.Record.TheVariants.{Piece, End, Tier}
+use Rattle.captures.specs.Captures.{last_of, ticks_of, sizes_of, size_of, longest_text}
+use Rattle.http_requests.specs.declared.messages.Message.{Message}
+use Rattle.http_requests.specs.declared.messages.What.{What}
+use Rattle.http_requests.specs.declared.messages.What.TheVariants.{Request, Bad}
+use Rattle.http_requests.specs.declared.messages.Version.{Version}
+use Rattle.http_requests.specs.declared.messages.Version.TheVariants.{Http10, Http11}
+use Rattle.http_requests.specs.declared.messages.Fault.{Fault}
+use Rattle.http_requests.specs.declared.messages.Fault.TheVariants.{TooLong, Block, Host, Coding, Length, BodySize}
+use Rattle.arrivals.specs.Arrivals.{Arrival, AreArrivals, text_of, messages_of}
+use Rattle.arrivals.specs.Connections.{HaveRead, some_closes}
+use Rattle.arrivals.specs.declared.connection.Connection.{Connection}
+use Rattle.inspection.specs.declared.record_counts.RecordCounts.{RecordCounts}
+use Rattle.inspection.specs.declared.message_counts.MethodCounts.{MethodCounts}
+use Rattle.inspection.specs.declared.message_counts.VersionCounts.{VersionCounts}
+use Rattle.inspection.specs.declared.message_counts.FaultCounts.{FaultCounts}
+use Rattle.inspection.specs.declared.message_counts.MessageCounts.{MessageCounts}
+use Rattle.inspection.specs.declared.inspection.Share.{Share}
+use Rattle.inspection.specs.declared.busy.Busy.{Busy}
+use Rattle.inspection.specs.declared.tails.Tail.{Tail}
+use Rattle.inspection.specs.declared.found.Found.{Found}
+use Rattle.inspection.specs.Figures.{records_by_kind, messages_by_kind, whats_of, end_of, seconds_of}
+use Rattle.inspection.specs.Figures.{ticks_of_a_second, count_in, IsBusiest}
+
+-- ---- counts
+
+-- each of the counts is below n
+pub record FewRecords (n : ℕ) (c : RecordCounts) : Type 0 where
+  pub all : c.all < n
+  pub pieces : c.pieces < n
+  pub ends : c.ends < n
+  pub tiers : c.tiers < n
+
+pub record FewMethods (n : ℕ) (c : MethodCounts) : Type 0 where
+  pub get : c.get < n
+  pub head : c.head < n
+  pub other : c.other < n
+
+pub record FewVersions (n : ℕ) (c : VersionCounts) : Type 0 where
+  pub http10 : c.http10 < n
+  pub http11 : c.http11 < n
+
+pub record FewFaults (n : ℕ) (c : FaultCounts) : Type 0 where
+  pub too_long : c.too_long < n
+  pub block : c.block < n
+  pub host : c.host < n
+  pub coding : c.coding < n
+  pub length : c.length < n
+  pub body_size : c.body_size < n
+
+pub record FewMessages (n : ℕ) (c : MessageCounts) : Type 0 where
+  pub all : c.all < n
+  pub requests : c.requests < n
+  pub methods : FewMethods n c.methods
+  pub versions : FewVersions n c.versions
+  pub faults : FewFaults n c.faults
+
+-- the counts with one more record
+abbrev pub with_piece : RecordCounts → RecordCounts
+with_piece c = record c { all = c.all + 1; pieces = c.pieces + 1 }
+
+abbrev pub with_end : RecordCounts → RecordCounts
+with_end c = record c { all = c.all + 1; ends = c.ends + 1 }
+
+abbrev pub with_tier : RecordCounts → RecordCounts
+with_tier c = record c { all = c.all + 1; tiers = c.tiers + 1 }
+
+-- the counts with one more request of this method, or of this version
+abbrev pub with_method : MethodCounts → List ℕ → MethodCounts
+with_method c method =
+    if bytes_eq method (codes "GET") then record c { get = c.get + 1 }
+    else if bytes_eq method (codes "HEAD") then record c { head = c.head + 1 }
+    else record c { other = c.other + 1 }
+
+abbrev pub with_version : VersionCounts → Version → VersionCounts
+with_version c Http10 = record c { http10 = c.http10 + 1 }
+with_version c Http11 = record c { http11 = c.http11 + 1 }
+
+-- the counts with one more message of this fault
+abbrev pub with_fault : FaultCounts → Fault → FaultCounts
+with_fault c TooLong = record c { too_long = c.too_long + 1 }
+with_fault c Block = record c { block = c.block + 1 }
+with_fault c Host = record c { host = c.host + 1 }
+with_fault c Coding = record c { coding = c.coding + 1 }
+with_fault c Length = record c { length = c.length + 1 }
+with_fault c BodySize = record c { body_size = c.body_size + 1 }
+
+-- the counts with one more message
+abbrev pub with_message : MessageCounts → What → MessageCounts
+with_message c (Request method target version closing since) = record {
+  all = c.all + 1;
+  requests = c.requests + 1;
+  methods = with_method c.methods method;
+  versions = with_version c.versions version;
+  faults = c.faults;
+}
+with_message c (Bad fault) = record {
+  all = c.all + 1;
+  requests = c.requests;
+  methods = c.methods;
+  versions = c.versions;
+  faults = with_fault c.faults fault;
+}
+
+-- ---- seconds
+
+-- The last of these seconds and how many stand in it, and the busiest one.
+pub record IsBusy (seconds : List ℕ) (busy : Busy) : Type 0 where
+  pub now : busy.now.messages ≡ count_in busy.now.number seconds
+  pub later : (second : ℕ) → busy.now.number < second → count_in second seconds ≡ 0
+  pub busiest : IsBusiest seconds busy.busiest
+
+-- ---- connections
+
+-- what is kept of a connection that has read this text, whose messages are these
+abbrev pub tail_of : List ℕ → List Message → Tail
+tail_of text ms = record { bytes = length text; end = end_of ms; closed = some_closes ms }
+
+abbrev pub empty_tail : Tail
+empty_tail = record { bytes = 0; end = 0; closed = false }
+
+-- what is kept of a connection by its number
+abbrev pub tail_at : List Tail → ℕ → Tail
+tail_at tails c = slice_index_or tails c empty_tail
+
+-- how many of its bytes come after its last message; those where a message has closed it, and those where none has
+abbrev pub rest_of : Tail → ℕ
+rest_of t = t.bytes - t.end
+
+abbrev pub rest_after_close : Tail → ℕ
+rest_after_close t = if t.closed then rest_of t else 0
+
+abbrev pub rest_unfinished : Tail → ℕ
+rest_unfinished t = if t.closed then 0 else rest_of t
+
+-- no more bytes came on it than a capture's text has
+abbrev pub FewBytes : Tail → Type 0
+FewBytes t = t.bytes ≤ longest_text
+
+-- a share with so many bytes of one more connection
+abbrev pub with_bytes : Share → ℕ → Share
+with_bytes share bytes = record {
+  bytes = share.bytes + bytes;
+  connections = share.connections + (if nat_lt 0 bytes then 1 else 0);
+}
+
+-- no more connections are kept than there are numbers for (`connection_numbers`)
+abbrev pub most_connections : ℕ
+most_connections = 65536
+
+pub record AreTails (records : List Record) (arrivals : List Arrival) (tails : List Tail) : Type 0 where
+  pub few : length tails ≤ most_connections
+  pub each : (c : ℕ) → tail_at tails c ≡ tail_of (text_of c records) (messages_of c arrivals)
+
+-- ---- all of it
+
+-- what is kept after these records, of which these are the arrivals
+pub record IsFound (records : List Record) (arrivals : List Arrival) (f : Found) : Type 0 where
+  pub counts : f.records ≡ records_by_kind records
+  pub first_tick : f.first_tick ≡ slice_get (ticks_of records) 0
+  pub last_tick : f.last_tick ≡ slice_get (ticks_of records) (length (ticks_of records) - 1)
+  pub messages : f.messages ≡ messages_by_kind (whats_of arrivals)
+  pub busy : IsBusy (seconds_of arrivals) f.busy
+  pub past : f.busy.now.number ≤ last_of (ticks_of records) / ticks_of_a_second
+  pub tails : AreTails records arrivals f.tails
+  pub few : length arrivals ≤ sizes_of records
+
+-- a piece of so many bytes was taken, in which these messages end
+pub record TookPiece (tick conn bytes : ℕ) (ms : List Message) (old new : Found) : Type 0 where
+  pub counts : new.records ≡ with_piece old.records
+  pub first_tick : new.first_tick ≡ Some (unwrap_or old.first_tick tick)
+  pub last_tick : new.last_tick ≡ Some tick
+  pub messages : (whats : List What) → old.messages ≡ messages_by_kind whats
+      → new.messages ≡ messages_by_kind (whats ++ map (λ m. m.what) ms)
+  pub busy : (seconds : List ℕ) → IsBusy seconds old.busy → old.busy.now.number ≤ tick / ticks_of_a_second
+      → IsBusy (seconds ++ replicate (length ms) (tick / ticks_of_a_second)) new.busy
+  pub past : new.busy.now.number ≡ tick / ticks_of_a_second
+  pub few : length new.tails ≤ most_connections
+  pub own : (text piece : List ℕ) (sofar : List Message) → tail_at old.tails conn ≡ tail_of text sofar
+      → length piece ≡ bytes → tail_at new.tails conn ≡ tail_of (text ++ piece) (sofar ++ ms)
+  pub others : (c : ℕ) → c ≢ conn → tail_at new.tails c ≡ tail_at old.tails c
+
+-- a record gave a tick
+abbrev pub with_tick : Found → ℕ → Found
+with_tick f tick = record f { first_tick = Some (unwrap_or f.first_tick tick); last_tick = Some tick }
+
+-- the record comes no earlier than these
+abbrev pub IsNoEarlier : List Record → Record → Type 0
+IsNoEarlier records (Piece tick conn bytes) = last_of (ticks_of records) ≤ tick
+IsNoEarlier records (End tick conn) = last_of (ticks_of records) ≤ tick
+IsNoEarlier records (Tier conn tier) = Unit {0}
+
+-- there is room for the record after these
+abbrev pub HasRoomFor : List Record → Record → Type 0
+HasRoomFor records r = length records + sizes_of records + (size_of r + 1) ≤ longest_text
+
+-- these records were read, and what they hold is kept
+pub record Holds (records : List Record) (arrivals : List Arrival) (connections : List Connection)
+    (f : Found) : Type 0 where
+  pub reads : HaveRead records arrivals connections
+  pub arrived : AreArrivals records arrivals
+  pub found : IsFound records arrivals f
+
+-- so it is with one more record, and with the messages that arrive with it
+abbrev pub HoldsMore : List Record → List Arrival → Record → List Connection → Found → Type 0
+HoldsMore records arrivals r connections f =
+    (more : List Arrival) × Holds (records ++ r ∷ []) (arrivals ++ more) connections f

@@ -1,0 +1,119 @@
+ghost use Rattle.std.specs.Prelude.{◌≡◌, ◌+◌, ◌-◌, ◌<◌, ◌^◌, ◌++◌, List, length, map};
+ghost use Rattle.http_requests.specs.declared.messages.What.{What as AWhat};
+ghost use Rattle.inspection.specs.Figures.{messages_by_kind};
+ghost use Rattle.inspection.specs.Running.{FewRecords, FewMethods, FewVersions, FewFaults, FewMessages};
+ghost use Rattle.inspection.specs.Running.{with_piece, with_end, with_tier, with_method, with_version, with_fault};
+ghost use Rattle.inspection.specs.Running.{with_message};
+
+use crate::message_counts::{FaultCounts, MessageCounts, MethodCounts, VersionCounts};
+use crate::record_counts::RecordCounts;
+use http_requests::{Fault, Message, Version, What};
+
+impl RecordCounts {
+    /// Counts one more piece.
+    pub(crate) fn note_piece(&mut self)
+        requires { FewRecords (2 ^ 64 - 1) self.old }
+        ensures { self.new ≡ with_piece self.old }
+    {
+        self.all += 1;
+        self.pieces += 1;
+    }
+
+    /// Counts one more end.
+    pub(crate) fn note_end(&mut self)
+        requires { FewRecords (2 ^ 64 - 1) self.old }
+        ensures { self.new ≡ with_end self.old }
+    {
+        self.all += 1;
+        self.ends += 1;
+    }
+
+    /// Counts one more tier.
+    pub(crate) fn note_tier(&mut self)
+        requires { FewRecords (2 ^ 64 - 1) self.old }
+        ensures { self.new ≡ with_tier self.old }
+    {
+        self.all += 1;
+        self.tiers += 1;
+    }
+}
+
+impl MethodCounts {
+    /// Counts one more request by its method.
+    fn note(&mut self, method: &[u8])
+        requires { FewMethods (2 ^ 64 - 1) self.old }
+        ensures { self.new ≡ with_method self.old method.now }
+    {
+        if method == b"GET".as_slice() {
+            self.get += 1;
+        } else if method == b"HEAD".as_slice() {
+            self.head += 1;
+        } else {
+            self.other += 1;
+        }
+    }
+}
+
+impl VersionCounts {
+    /// Counts one more request by its version.
+    fn note(&mut self, version: Version)
+        requires { FewVersions (2 ^ 64 - 1) self.old }
+        ensures { self.new ≡ with_version self.old version }
+    {
+        match version {
+            Version::Http10 => self.http10 += 1,
+            Version::Http11 => self.http11 += 1,
+        }
+    }
+}
+
+impl FaultCounts {
+    /// Counts one more message by its fault.
+    fn note(&mut self, fault: Fault)
+        requires { FewFaults (2 ^ 64 - 1) self.old }
+        ensures { self.new ≡ with_fault self.old fault }
+    {
+        match fault {
+            Fault::TooLong => self.too_long += 1,
+            Fault::Block => self.block += 1,
+            Fault::Host => self.host += 1,
+            Fault::Coding => self.coding += 1,
+            Fault::Length => self.length += 1,
+            Fault::BodySize => self.body_size += 1,
+        }
+    }
+}
+
+impl MessageCounts {
+    /// Counts one more message.
+    fn note(&mut self, what: &What)
+        requires { FewMessages (2 ^ 64 - 1) self.old }
+        ensures { self.new ≡ with_message self.old what.now }
+    {
+        self.all += 1;
+        match what {
+            What::Request {
+                method,
+                version,
+                ..
+            } => {
+                self.requests += 1;
+                self.methods.note(method.as_slice());
+                self.versions.note(*version);
+            }
+            What::Bad(fault) => self.faults.note(*fault),
+        }
+    }
+
+    /// Counts these messages.
+    pub(crate) fn note_all(&mut self, messages: &[Message])
+        requires { (whats : List AWhat) × (self.old ≡ messages_by_kind whats)
+            × (length whats + length messages.now < 2 ^ 64) }
+        ensures { (whats : List AWhat) → self.old ≡ messages_by_kind whats
+            → self.new ≡ messages_by_kind (whats ++ map (λ m. m.what) messages.now) }
+    {
+        for message in messages {
+            self.note(&message.what);
+        }
+    }
+}

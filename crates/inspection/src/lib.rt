@@ -1,0 +1,23 @@
+//! What a capture holds: figures of its records, its connections and the messages that arrive on them.
+#![tactic(auto)]
+
+mod busy;
+mod counting;
+mod found;
+mod inspect_fault;
+mod inspecting;
+mod inspection;
+mod laws;
+mod message_counts;
+mod record_counts;
+mod shares;
+mod tails;
+mod texts;
+
+pub use inspect_fault::InspectFault;
+pub use inspecting::inspect;
+pub use inspection::{Inspection, Second, Share};
+pub use laws::{bytes_of_all_pieces, messages_of_one_kind, one_inspection, requests_by_kind};
+pub use message_counts::{FaultCounts, MessageCounts, MethodCounts, VersionCounts};
+pub use record_counts::RecordCounts;
+pub use texts::inspection_text;

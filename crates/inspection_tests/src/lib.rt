@@ -1,0 +1,5 @@
+//! Tests of the crate `inspection`.
+#![tactic(auto)]
+
+#[cfg(test)]
+mod tests;
