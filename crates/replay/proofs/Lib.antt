@@ -4,11 +4,14 @@ pub mod Offering
 pub mod Handling
 pub mod Judging
 pub mod Writing
+pub mod Texts
+pub mod RowByRow
 pub mod Server
 pub mod OneAnswer
 pub mod OneOutcome
 pub mod Sights
 pub mod Ticketed
 pub mod Upcoming
+pub mod Grouping
 pub mod ByBatch
 pub mod Former

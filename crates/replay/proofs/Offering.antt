@@ -88,11 +88,11 @@ pub is_rejected_one : (policies : List Rules) (offers : List Offer) (offer : Off
 unfolding rejects
 is_rejected_one policies offers offer e = rw (← e) refl
 
-abbrev finish_or : ℕ → Decision → ℕ
+abbrev pub finish_or : ℕ → Decision → ℕ
 finish_or other (Admitted finish) = finish
 finish_or other Rejected = other
 
-finish_is : (enough : Bool) (own finish : ℕ) → Admitted finish ≡ (if enough then (Admitted own) else Rejected) → finish ≡ own
+pub finish_is : (enough : Bool) (own finish : ℕ) → Admitted finish ≡ (if enough then (Admitted own) else Rejected) → finish ≡ own
 finish_is true own finish e = ap (finish_or own) e
 finish_is false own finish e = ap (finish_or own) e
 

@@ -12,6 +12,7 @@ use Rattle.captures.proofs.Agree.{Agrees, no_fault, few_records, one_fault as on
 use Rattle.arrivals.specs.Arrivals.{Arrival, AreArrivals}
 use Rattle.replay.specs.Choices.{Terms}
 use Rattle.replay.specs.Offers.{handled}
+use Rattle.replay.specs.Telling.{replies_told}
 use Rattle.replay.specs.Outcomes.{most_messages, Answers, Taken, StopsAfter, Stops, StopsFull}
 use Rattle.replay.specs.Replies.{first_line, text_before_stop, replies_of}
 use Rattle.replay.specs.Laws.{AnsweredNotFaulty, AnsweredNotFull, FaultyNotFull, OneFault, OneLimit}
@@ -78,7 +79,7 @@ go_on v w bytes s t rs ss f x y xs ys (q ∷ more) fault a few b beyond rules si
     no_fault_among v w bytes s t rs ss f x y q more fault rules size same start is rest
 
 behind_not_full : (terms others : Terms) (input ahead old new before after : Option (List ℕ)) (f : CaptureFault) (number : ℕ) → is_some input ≡ true → is_unforeseen_kind f.kind ≡ false
-    → StopsAfter terms input ahead old new f → StopsFull others input before after number → ⊥
+    → StopsAfter (replies_told terms) input ahead old new f → StopsFull others input before after number → ⊥
 behind_not_full terms others input ahead old new before after f number known foreseen stop full =
     let bytes = unwrap_or input [] in
     let r = stop.taken in
@@ -136,7 +137,7 @@ one_limit terms input old new other number another known given a b =
     )
 
 same_after : (terms : Terms) (input ahead behind old new other : Option (List ℕ)) (f g : CaptureFault) → is_some input ≡ true → is_some old ≡ true → f ≡ g
-    → StopsAfter terms input ahead old new f → StopsAfter terms input behind old other g → new ≡ other
+    → StopsAfter (replies_told terms) input ahead old new f → StopsAfter (replies_told terms) input behind old other g → new ≡ other
 same_after terms input ahead behind old new other f g known given same a b =
     let r = a.taken in
     let t = b.taken in

@@ -35,12 +35,14 @@ use Rattle.replay.specs.Choices.{Terms}
 use Rattle.arrivals.specs.Arrivals.{Arrival, AreArrivals, bytes_to, text_of, messages_of}
 use Rattle.arrivals.specs.Connections.{HasRead, HasRoom, ReadMore, HaveRead, connection_at, arrivals_with}
 use Rattle.replay.specs.Offers.{handled}
-use Rattle.replay.specs.Replies.{replies_of, first_line, last_line, text_before_stop, replies_text}
+use Rattle.replay.specs.Replies.{replies_of, first_line, last_line, text_before_stop}
 use Rattle.replay.specs.Counting.{summary_of}
-use Rattle.replay.specs.Serving.{Stands, AreBy, IsLater, Serves, Written, WrittenInPart, ServesMore, ServesFull, ServesInPart}
-use Rattle.replay.specs.Outcomes.{Answers, AppendsInPart, told_as, capture_fault, IfCapture, IfTooMany, IfCutShort, IsOwn, IsWriteOrMemory, IsCutShort, StopsFull, Stops, Taken, WhereKnown, reader_failures, writer_failures}
+use Rattle.replay.specs.Serving.{Stands, AreBy, IsLater, Serves, Written, ServesFull, ServesInPart, TellsMore, TellsFull, TellsInPart, HasTold}
+use Rattle.replay.specs.Telling.{Telling, IsTelling, Told, ToldInPart, replies_told}
+use Rattle.replay.specs.Outcomes.{Answers, AppendsInPart, told_as, capture_fault, IfCapture, IfTooMany, IfCutShort, IsOwn, IsWriteOrMemory, IsCutShort, IsCutOff, StopsBeyond, StopsFull, StopsTelling, Stops, Taken, WhereKnown, reader_failures, writer_failures}
 use Rattle.arrivals.proofs.Arriving.{from_piece, reads_none, arrives_none, reads_piece, reads_end, reads_tier, arrives_piece, arrives_end, arrives_tier}
-use Rattle.replay.proofs.Writing.{appends_then, part_all, part_then, written_none, text_none, text_more, replies_count}
+use Rattle.replay.proofs.Writing.{part_all, replies_laws}
+use Rattle.replay.proofs.Texts.{told_none, text_begun, text_told, text_part, text_ended, text_ended_part}
 use Rattle.replay.proofs.Judging.{answered_is}
 
 -- ---- the room of a connection
@@ -154,27 +156,27 @@ tiers_after_tier conn tier r records old new is given are = λ c.
 pub no_tiers : (tiers : List ℕ) → tiers ≡ [] → AreTiers [] tiers
 no_tiers tiers none = λ c. rw none (sym (tier_of_none c))
 
-pub serves_end : (terms : Terms) (tick conn : ℕ) (records : List Record) (arrivals : List Arrival) (r : Record) (connections : List Connection) (desk : Desk) (old : Option (List ℕ))
-    → r ≡ End tick conn → Serves terms records arrivals connections desk → ServesMore terms records arrivals (r ∷ []) connections desk old old
-serves_end terms tick conn records arrivals r connections desk old is serves =
+pub serves_end : (t : Telling) (terms : Terms) (tick conn : ℕ) (records : List Record) (arrivals : List Arrival) (r : Record) (connections : List Connection) (desk : Desk) (old : Option (List ℕ))
+    → IsTelling t → r ≡ End tick conn → Serves terms records arrivals connections desk → TellsMore t terms records arrivals (r ∷ []) connections desk old old
+serves_end t terms tick conn records arrivals r connections desk old laws is serves =
     let reads = reads_end records arrivals connections tick conn serves.reads in
     let more : Serves terms (records ++ End tick conn ∷ []) arrivals connections desk = record {
       reads = reads;
       arrived = arrives_end records arrivals connections tick conn serves.arrived reads;
       stands = serves.stands;
     } in
-    rw is (record { more = []; serves = rw (append-nil arrivals) more; written = written_none terms desk.start arrivals old })
+    rw is (record { more = []; serves = rw (append-nil arrivals) more; written = told_none t desk.start arrivals old laws })
 
-pub serves_tier : (terms : Terms) (conn tier : ℕ) (records : List Record) (arrivals : List Arrival) (r : Record) (connections : List Connection) (desk : Desk) (old : Option (List ℕ))
-    → r ≡ Tier conn tier → Serves terms records arrivals connections desk → ServesMore terms records arrivals (r ∷ []) connections desk old old
-serves_tier terms conn tier records arrivals r connections desk old is serves =
+pub serves_tier : (t : Telling) (terms : Terms) (conn tier : ℕ) (records : List Record) (arrivals : List Arrival) (r : Record) (connections : List Connection) (desk : Desk) (old : Option (List ℕ))
+    → IsTelling t → r ≡ Tier conn tier → Serves terms records arrivals connections desk → TellsMore t terms records arrivals (r ∷ []) connections desk old old
+serves_tier t terms conn tier records arrivals r connections desk old laws is serves =
     let reads = reads_tier records arrivals connections conn tier serves.reads in
     let more : Serves terms (records ++ Tier conn tier ∷ []) arrivals connections desk = record {
       reads = reads;
       arrived = arrives_tier records arrivals connections conn tier serves.arrived reads;
       stands = serves.stands;
     } in
-    rw is (record { more = []; serves = rw (append-nil arrivals) more; written = written_none terms desk.start arrivals old })
+    rw is (record { more = []; serves = rw (append-nil arrivals) more; written = told_none t desk.start arrivals old laws })
 
 -- what a piece has brought
 pub record Took (n : ℕ) (before after : List Connection) (piece : List ℕ) (out : List Message) : Type 0 where
@@ -196,11 +198,11 @@ brought terms tier tick conn n bytes piece ms out records arrivals r before afte
     let ends = (reading (text_of conn records) (messages_of conn arrivals) (serves.reads.each conn)).in_piece in
     rw is (record { reads = reads; arrived = arrives_piece records arrivals after tier tick conn bytes ms own serves.arrived ends reads })
 
-pub serves_piece : (terms : Terms) (tier tick conn : ℕ) (ms : List Message) (records : List Record) (arrivals : List Arrival) (r : Record) (after : List Connection) (desk now : Desk) (old new : Option (List ℕ))
+pub serves_piece : (t : Telling) (terms : Terms) (tier tick conn : ℕ) (ms : List Message) (records : List Record) (arrivals : List Arrival) (r : Record) (after : List Connection) (desk now : Desk) (old new : Option (List ℕ))
     → Brought records arrivals r after (arrivals_with (length records) (from_piece tier tick conn) ms) → now.start ≡ desk.start
     → Stands terms (arrivals ++ arrivals_with (length records) (from_piece tier tick conn) ms) now
-    → Written terms desk.start arrivals (arrivals_with (length records) (from_piece tier tick conn) ms) old new → ServesMore terms records arrivals (r ∷ []) after now old new
-serves_piece terms tier tick conn ms records arrivals r after desk now old new brings start stands written = record {
+    → Told t desk.start arrivals (arrivals_with (length records) (from_piece tier tick conn) ms) old new → TellsMore t terms records arrivals (r ∷ []) after now old new
+serves_piece t terms tier tick conn ms records arrivals r after desk now old new brings start stands written = record {
   more = arrivals_with (length records) (from_piece tier tick conn) ms;
   serves = record { reads = brings.reads; arrived = brings.arrived; stands = stands };
   written = rw start written;
@@ -214,11 +216,11 @@ map_take f (suc i) (x ∷ xs) = ap (λ ys. f x ∷ ys) (map_take f i xs)
 take_with : (place : ℕ) (origin : Origin) (i : ℕ) (ms : List Message) → arrivals_with place origin (take i ms) ≡ take i (arrivals_with place origin ms)
 take_with place origin i ms = map_take (λ m. record { origin = origin; place = place; message = m }) i ms
 
-pub serves_full : (terms : Terms) (tier tick conn i : ℕ) (ms : List Message) (records : List Record) (arrivals : List Arrival) (r : Record) (after : List Connection) (before : List Connection) (desk : Desk) (old new : Option (List ℕ))
+pub serves_full : (t : Telling) (terms : Terms) (tier tick conn i : ℕ) (ms : List Message) (records : List Record) (arrivals : List Arrival) (r : Record) (after : List Connection) (before : List Connection) (desk : Desk) (old new : Option (List ℕ))
     → Brought records arrivals r after (arrivals_with (length records) (from_piece tier tick conn) ms) → Serves terms records arrivals before desk
-    → i < length ms → desk.totals.answered + i ≡ 1048576 → Written terms desk.start arrivals (arrivals_with (length records) (from_piece tier tick conn) (take i ms)) old new
-    → ServesFull terms desk.start records arrivals (r ∷ []) old new
-serves_full terms tier tick conn i ms records arrivals r after before desk old new brings serves lt full written =
+    → i < length ms → desk.totals.answered + i ≡ 1048576 → Told t desk.start arrivals (arrivals_with (length records) (from_piece tier tick conn) (take i ms)) old new
+    → TellsFull t desk.start records arrivals (r ∷ []) old new
+serves_full t terms tier tick conn i ms records arrivals r after before desk old new brings serves lt full written =
     let place = length records in
     let is = answered_is terms arrivals desk serves.stands in
     let len : length (arrivals_with place (from_piece tier tick conn) ms) ≡ length ms = length-map ms _ in
@@ -231,11 +233,11 @@ serves_full terms tier tick conn i ms records arrivals r after before desk old n
       written = rw (take_with place (from_piece tier tick conn) i ms) at written;
     }
 
-pub serves_part : (terms : Terms) (tier tick conn i : ℕ) (ms : List Message) (records : List Record) (arrivals : List Arrival) (r : Record) (after : List Connection) (before : List Connection) (desk : Desk) (old new : Option (List ℕ))
+pub serves_part : (t : Telling) (terms : Terms) (tier tick conn i : ℕ) (ms : List Message) (records : List Record) (arrivals : List Arrival) (r : Record) (after : List Connection) (before : List Connection) (desk : Desk) (old new : Option (List ℕ))
     → Brought records arrivals r after (arrivals_with (length records) (from_piece tier tick conn) ms) → Serves terms records arrivals before desk
-    → desk.totals.answered + i ≤ 1048576 → WrittenInPart terms desk.start arrivals (arrivals_with (length records) (from_piece tier tick conn) (take i ms)) old new
-    → ServesInPart terms desk.start records arrivals (r ∷ []) old new
-serves_part terms tier tick conn i ms records arrivals r after before desk old new brings serves few written =
+    → desk.totals.answered + i ≤ 1048576 → ToldInPart t desk.start arrivals (arrivals_with (length records) (from_piece tier tick conn) (take i ms)) old new
+    → TellsInPart t desk.start records arrivals (r ∷ []) old new
+serves_part t terms tier tick conn i ms records arrivals r after before desk old new brings serves few written =
     let place = length records in
     let is = answered_is terms arrivals desk serves.stands in
     record {
@@ -284,30 +286,13 @@ gave_end v text now start records p x is h = subst (λ (o : Option Record). Gave
 
 -- ---- the end
 
-pub first_written : (terms : Terms) (start : ℕ) (old new : Option (List ℕ)) → Appends old new first_line → Appends old new (text_before_stop (replies_of terms start (handled terms [])))
-first_written terms start old new h = rw (text_none terms start) h
-
-pub more_written : (terms : Terms) (start : ℕ) (arrivals more : List Arrival) (old mid new : Option (List ℕ)) → Appends old mid (text_before_stop (replies_of terms start (handled terms arrivals)))
-    → Written terms start arrivals more mid new → Appends old new (text_before_stop (replies_of terms start (handled terms (arrivals ++ more))))
-more_written terms start arrivals more old mid new before after = rw (text_more terms start arrivals more) (appends_then old mid new (text_before_stop (replies_of terms start (handled terms arrivals))) _ before after)
-
-pub part_written : (terms : Terms) (start : ℕ) (arrivals more : List Arrival) (old mid new : Option (List ℕ)) → Appends old mid (text_before_stop (replies_of terms start (handled terms arrivals)))
-    → WrittenInPart terms start arrivals more mid new → AppendsInPart old new (text_before_stop (replies_of terms start (handled terms (arrivals ++ more))))
-part_written terms start arrivals more old mid new before after = rw (text_more terms start arrivals more) (part_then old mid new (text_before_stop (replies_of terms start (handled terms arrivals))) _ before after)
-
-pub all_written : (terms : Terms) (start count : ℕ) (arrivals : List Arrival) (old mid new : Option (List ℕ)) → count ≡ length arrivals
-    → Appends old mid (text_before_stop (replies_of terms start (handled terms arrivals))) → Appends mid new (last_line count) → Appends old new (replies_text (replies_of terms start (handled terms arrivals)))
-all_written terms start count arrivals old mid new e before after =
-    let n : length (replies_of terms start (handled terms arrivals)) ≡ count = replies_count terms start arrivals ∙ sym e in
-    rw n (appends_then old mid new (text_before_stop (replies_of terms start (handled terms arrivals))) (last_line count) before after)
-
--- the whole capture was answered
-pub answers_all : (terms : Terms) (v : Version) (start count : ℕ) (records : List Record) (arrivals : List Arrival) (connections : List Connection) (desk : Desk)
-    (input old mid new : Option (List ℕ)) (outcome : Outcome) → IsCapture v start records → WhereKnown input (λ bytes. IsCaptureText v bytes start records)
+-- the whole capture was told of
+pub all_told : (t : Telling) (terms : Terms) (v : Version) (start count : ℕ) (records : List Record) (arrivals : List Arrival) (connections : List Connection) (desk : Desk)
+    (input old mid new : Option (List ℕ)) (outcome : Outcome) → IsTelling t → IsCapture v start records → WhereKnown input (λ bytes. IsCaptureText v bytes start records)
     → Serves terms records arrivals connections desk
-    → Appends old mid (text_before_stop (replies_of terms start (handled terms arrivals))) → Appends mid new (last_line count) → count ≡ desk.totals.answered
-    → outcome.rejected ≡ desk.totals.rejected → outcome.summary ≡ summary_of terms arrivals → Answers terms input old new outcome
-answers_all terms v start count records arrivals connections desk input old mid new outcome rules capture serves before last counted rejected told = record {
+    → Appends old mid (t.so_far start arrivals) → Appends mid new (t.last count) → count ≡ desk.totals.answered
+    → outcome.rejected ≡ desk.totals.rejected → outcome.summary ≡ summary_of terms arrivals → HasTold t terms input old new outcome
+all_told t terms v start count records arrivals connections desk input old mid new outcome laws rules capture serves before last counted rejected told = record {
   version = v;
   start = start;
   records = records;
@@ -316,19 +301,18 @@ answers_all terms v start count records arrivals connections desk input old mid 
   capture = capture;
   arrived = serves.arrived;
   few = serves.stands.few;
-  written = all_written terms start count arrivals old mid new (counted ∙ answered_is terms arrivals desk serves.stands) before last;
+  written = text_ended t start count arrivals old mid new laws (counted ∙ answered_is terms arrivals desk serves.stands) before last;
   rejected = rejected ∙ ap (λ t. t.rejected) serves.stands.totals;
   summary = told;
 }
 
 -- the last line was not
-pub ends_in_part : (terms : Terms) (v : Version) (start count : ℕ) (records : List Record) (arrivals : List Arrival) (connections : List Connection) (desk : Desk)
-    (input old mid new : Option (List ℕ)) → IsCapture v start records → WhereKnown input (λ bytes. IsCaptureText v bytes start records)
+pub ends_short : (t : Telling) (terms : Terms) (v : Version) (start count : ℕ) (records : List Record) (arrivals : List Arrival) (connections : List Connection) (desk : Desk)
+    (input old mid new : Option (List ℕ)) → IsTelling t → IsCapture v start records → WhereKnown input (λ bytes. IsCaptureText v bytes start records)
     → Serves terms records arrivals connections desk
-    → Appends old mid (text_before_stop (replies_of terms start (handled terms arrivals))) → AppendsInPart mid new (last_line count) → count ≡ desk.totals.answered
-    → IsCutShort terms input old new
-ends_in_part terms v start count records arrivals connections desk input old mid new rules capture serves before last counted =
-    let n : length (replies_of terms start (handled terms arrivals)) ≡ count = replies_count terms start arrivals ∙ sym (counted ∙ answered_is terms arrivals desk serves.stands) in
+    → Appends old mid (t.so_far start arrivals) → AppendsInPart mid new (t.last count) → count ≡ desk.totals.answered
+    → IsCutOff t input old new
+ends_short t terms v start count records arrivals connections desk input old mid new laws rules capture serves before last counted =
     inr (inr (record {
       version = v;
       start = start;
@@ -338,7 +322,7 @@ ends_in_part terms v start count records arrivals connections desk input old mid
       capture = capture;
       arrived = serves.arrived;
       few = serves.stands.few;
-      written = rw n (part_then old mid new (text_before_stop (replies_of terms start (handled terms arrivals))) (last_line count) before last);
+      written = text_ended_part t start count arrivals old mid new laws (counted ∙ answered_is terms arrivals desk serves.stands) before last;
     }))
 
 -- ---- faults
@@ -448,14 +432,14 @@ short_capture (Err (faults.TooMany n)) P h = absurd h
 short_capture (Err faults.Write) P h = tt
 short_capture (Err faults.Memory) P h = tt
 
-pub stops_first : (terms : Terms) (input ahead old new : Option (List ℕ)) (f : CaptureFault) → Appends old new first_line → f.at ≡ 0 → IsForeseen IsHeaderFault input f
-    → Stops terms input ahead old new f
-stops_first terms input ahead old new f written at fault = inl (record { at = at; written = written; fault = λ foreseen known. fault known foreseen })
+pub halts_first : (t : Telling) (input ahead old new : Option (List ℕ)) (f : CaptureFault) → Appends old new t.first → f.at ≡ 0 → IsForeseen IsHeaderFault input f
+    → StopsTelling t input ahead old new f
+halts_first t input ahead old new f written at fault = inl (record { at = at; written = written; fault = λ foreseen known. fault known foreseen })
 
 -- the records that a reader has given
-abbrev pub taken : (terms : Terms) (v : Version) (input now : Option (List ℕ)) (start : ℕ) (records : List Record) (arrivals : List Arrival) (p : Progress)
+abbrev pub taken : (v : Version) (input now : Option (List ℕ)) (start : ℕ) (records : List Record) (arrivals : List Arrival) (p : Progress)
     → Fits v input start records p now → AreArrivals records arrivals → Taken input
-taken terms v input now start records arrivals p fits arrived = record {
+taken v input now start records arrivals p fits arrived = record {
   version = v;
   start = start;
   records = records;
@@ -467,12 +451,12 @@ taken terms v input now start records arrivals p fits arrived = record {
   arrived = arrived;
 }
 
-pub stops_after : (terms : Terms) (v : Version) (input now ahead left old new : Option (List ℕ)) (start : ℕ) (records : List Record) (arrivals : List Arrival) (p : Progress) (connections : List Connection) (desk : Desk)
-    (f : CaptureFault) → Fits v input start records p now → Serves terms records arrivals connections desk → Appends old new (text_before_stop (replies_of terms start (handled terms arrivals)))
+pub halts_after : (t : Telling) (terms : Terms) (v : Version) (input now ahead left old new : Option (List ℕ)) (start : ℕ) (records : List Record) (arrivals : List Arrival) (p : Progress) (connections : List Connection) (desk : Desk)
+    (f : CaptureFault) → Fits v input start records p now → Serves terms records arrivals connections desk → Appends old new (t.so_far start arrivals)
     → (f.at ≡ length records + 1) × IsForeseen (λ bytes. IsFaultBehind v bytes start records) input f → FailsNext v input start records (Err f) left
-    → ahead ≡ left → Stops terms input ahead old new f
-stops_after terms v input now ahead left old new start records arrivals p connections desk f fits serves written fault failed same = inr (record {
-  taken = taken terms v input now start records arrivals p fits serves.arrived;
+    → ahead ≡ left → StopsTelling t input ahead old new f
+halts_after t terms v input now ahead left old new start records arrivals p connections desk f fits serves written fault failed same = inr (record {
+  taken = taken v input now start records arrivals p fits serves.arrived;
   at = fault.0;
   few = serves.stands.few;
   written = written;
@@ -481,52 +465,52 @@ stops_after terms v input now ahead left old new start records arrivals p connec
 })
 
 -- a fault of the reader that was told
-pub stops_told : (terms : Terms) (v : Version) (input now ahead left old new : Option (List ℕ)) (start : ℕ) (records : List Record) (arrivals : List Arrival) (p : Progress) (connections : List Connection) (desk : Desk)
+pub halts_told : (t : Telling) (terms : Terms) (v : Version) (input now ahead left old new : Option (List ℕ)) (start : ℕ) (records : List Record) (arrivals : List Arrival) (p : Progress) (connections : List Connection) (desk : Desk)
     (f : CaptureFault) (r : ReplayFault) → r ≡ capture_fault f
-    → Fits v input start records p now → Serves terms records arrivals connections desk → Appends old new (text_before_stop (replies_of terms start (handled terms arrivals)))
+    → Fits v input start records p now → Serves terms records arrivals connections desk → Appends old new (t.so_far start arrivals)
     → (f.at ≡ length records + 1) × IsForeseen (λ bytes. IsFaultBehind v bytes start records) input f → FailsNext v input start records (Err f) left
-    → ahead ≡ left → IfCapture r (Stops terms input ahead old new)
-stops_told terms v input now ahead left old new start records arrivals p connections desk f r is fits serves written fault failed same =
+    → ahead ≡ left → IfCapture r (StopsTelling t input ahead old new)
+halts_told t terms v input now ahead left old new start records arrivals p connections desk f r is fits serves written fault failed same =
     rw is
-    (told f (Stops terms input ahead old new)
-    (stops_after terms v input now ahead left old new start records arrivals p connections desk f fits serves written fault failed same))
+    (told f (StopsTelling t input ahead old new)
+    (halts_after t terms v input now ahead left old new start records arrivals p connections desk f fits serves written fault failed same))
 
 take_all : {A : Type 0} (xs : List A) → take (length xs) xs ≡ xs
 take_all xs = grind (arith, common_steps)
 
 -- all of the messages so far were answered, and nothing of the next
-pub short_among : (terms : Terms) (v : Version) (input now old new : Option (List ℕ)) (start : ℕ) (records : List Record) (arrivals : List Arrival) (p : Progress) (connections : List Connection) (desk : Desk)
-    → Fits v input start records p now → Serves terms records arrivals connections desk → Appends old new (text_before_stop (replies_of terms start (handled terms arrivals)))
-    → IsCutShort terms input old new
-short_among terms v input now old new start records arrivals p connections desk fits serves written = inr (inl (record {
-  taken = taken terms v input now start records arrivals p fits serves.arrived;
+pub cut_among : (t : Telling) (terms : Terms) (v : Version) (input now old new : Option (List ℕ)) (start : ℕ) (records : List Record) (arrivals : List Arrival) (p : Progress) (connections : List Connection) (desk : Desk)
+    → Fits v input start records p now → Serves terms records arrivals connections desk → Appends old new (t.so_far start arrivals)
+    → IsCutOff t input old new
+cut_among t terms v input now old new start records arrivals p connections desk fits serves written = inr (inl (record {
+  taken = taken v input now start records arrivals p fits serves.arrived;
   within = length arrivals;
   few = serves.stands.few;
   written = rw (take_all arrivals) (part_all old new _ written);
 }))
 
-pub stops_full : (terms : Terms) (v : Version) (input now old mid new : Option (List ℕ)) (start n : ℕ) (records : List Record) (arrivals : List Arrival) (rs : List Record) (p : Progress)
-    → Fits v input start (records ++ rs) p now → Appends old mid (text_before_stop (replies_of terms start (handled terms arrivals))) → n ≡ 1048576
-    → ServesFull terms start records arrivals rs mid new → StopsFull terms input old new n
-stops_full terms v input now old mid new start n records arrivals rs p fits written number full =
+pub halts_full : (t : Telling) (v : Version) (input now old mid new : Option (List ℕ)) (start n : ℕ) (records : List Record) (arrivals : List Arrival) (rs : List Record) (p : Progress)
+    → IsTelling t → Fits v input start (records ++ rs) p now → Appends old mid (t.so_far start arrivals) → n ≡ 1048576
+    → TellsFull t start records arrivals rs mid new → StopsBeyond t input old new n
+halts_full t v input now old mid new start n records arrivals rs p laws fits written number full =
     let here : take 1048576 (arrivals ++ full.more) ≡ arrivals ++ take full.within full.more = rw (← full.full) (take-append-add arrivals full.more full.within) in
     record {
-      taken = taken terms v input now start (records ++ rs) (arrivals ++ full.more) p fits full.arrived;
+      taken = taken v input now start (records ++ rs) (arrivals ++ full.more) p fits full.arrived;
       beyond = let all = full.full in let more = full.beyond in let len = length-append arrivals full.more in omega (arith, all, more, len);
       is_number = number;
-      written = rw here (more_written terms start arrivals (take full.within full.more) old mid new written full.written);
+      written = rw here (text_told t start arrivals (take full.within full.more) old mid new laws written full.written);
     }
 
-pub short_part : (terms : Terms) (v : Version) (input now old mid new : Option (List ℕ)) (start : ℕ) (records : List Record) (arrivals : List Arrival) (rs : List Record) (p : Progress)
-    → Fits v input start (records ++ rs) p now → Appends old mid (text_before_stop (replies_of terms start (handled terms arrivals)))
-    → ServesInPart terms start records arrivals rs mid new → IsCutShort terms input old new
-short_part terms v input now old mid new start records arrivals rs p fits written part =
+pub cut_part : (t : Telling) (v : Version) (input now old mid new : Option (List ℕ)) (start : ℕ) (records : List Record) (arrivals : List Arrival) (rs : List Record) (p : Progress)
+    → IsTelling t → Fits v input start (records ++ rs) p now → Appends old mid (t.so_far start arrivals)
+    → TellsInPart t start records arrivals rs mid new → IsCutOff t input old new
+cut_part t v input now old mid new start records arrivals rs p laws fits written part =
     let here : take (length arrivals + part.within) (arrivals ++ part.more) ≡ arrivals ++ take part.within part.more = take-append-add arrivals part.more part.within in
     inr (inl (record {
-      taken = taken terms v input now start (records ++ rs) (arrivals ++ part.more) p fits part.arrived;
+      taken = taken v input now start (records ++ rs) (arrivals ++ part.more) p fits part.arrived;
       within = length arrivals + part.within;
       few = part.few;
-      written = rw here (part_written terms start arrivals (take part.within part.more) old mid new written part.written);
+      written = rw here (text_part t start arrivals (take part.within part.more) old mid new laws written part.written);
     }))
 
 pub own_capture : (f : ReplayFault) (P : CaptureFault → Type 0) → IsOwn f → IfCapture f P
@@ -557,3 +541,75 @@ blamed_told old new f r is count =
     once kinds.Trailing = omega arith
     once kinds.TooLarge = omega arith
     once kinds.Memory = omega arith
+
+-- ---- where the replies are told
+
+pub first_written : (terms : Terms) (start : ℕ) (old new : Option (List ℕ)) → Appends old new first_line → Appends old new (text_before_stop (replies_of terms start (handled terms [])))
+first_written terms start old new h = text_begun (replies_told terms) start old new (replies_laws terms) h
+
+pub more_written : (terms : Terms) (start : ℕ) (arrivals more : List Arrival) (old mid new : Option (List ℕ)) → Appends old mid (text_before_stop (replies_of terms start (handled terms arrivals)))
+    → Written terms start arrivals more mid new → Appends old new (text_before_stop (replies_of terms start (handled terms (arrivals ++ more))))
+more_written terms start arrivals more old mid new before after = text_told (replies_told terms) start arrivals more old mid new (replies_laws terms) before after
+
+-- what was told is the answer
+pub has_answered : (terms : Terms) (input old new : Option (List ℕ)) (outcome : Outcome) → HasTold (replies_told terms) terms input old new outcome → Answers terms input old new outcome
+has_answered terms input old new outcome h = record {
+  version = h.version;
+  start = h.start;
+  records = h.records;
+  arrivals = h.arrivals;
+  rules = h.rules;
+  capture = h.capture;
+  arrived = h.arrived;
+  few = h.few;
+  written = h.written;
+  rejected = h.rejected;
+  summary = h.summary;
+}
+
+pub answers_all : (terms : Terms) (v : Version) (start count : ℕ) (records : List Record) (arrivals : List Arrival) (connections : List Connection) (desk : Desk)
+    (input old mid new : Option (List ℕ)) (outcome : Outcome) → IsCapture v start records → WhereKnown input (λ bytes. IsCaptureText v bytes start records)
+    → Serves terms records arrivals connections desk
+    → Appends old mid (text_before_stop (replies_of terms start (handled terms arrivals))) → Appends mid new (last_line count) → count ≡ desk.totals.answered
+    → outcome.rejected ≡ desk.totals.rejected → outcome.summary ≡ summary_of terms arrivals → Answers terms input old new outcome
+answers_all terms v start count records arrivals connections desk input old mid new outcome rules capture serves before last counted rejected told =
+    has_answered terms input old new outcome
+    (all_told (replies_told terms) terms v start count records arrivals connections desk input old mid new outcome (replies_laws terms) rules capture serves before last counted rejected told)
+
+pub ends_in_part : (terms : Terms) (v : Version) (start count : ℕ) (records : List Record) (arrivals : List Arrival) (connections : List Connection) (desk : Desk)
+    (input old mid new : Option (List ℕ)) → IsCapture v start records → WhereKnown input (λ bytes. IsCaptureText v bytes start records)
+    → Serves terms records arrivals connections desk
+    → Appends old mid (text_before_stop (replies_of terms start (handled terms arrivals))) → AppendsInPart mid new (last_line count) → count ≡ desk.totals.answered
+    → IsCutShort terms input old new
+ends_in_part terms v start count records arrivals connections desk input old mid new rules capture serves before last counted =
+    ends_short (replies_told terms) terms v start count records arrivals connections desk input old mid new (replies_laws terms) rules capture serves before last counted
+
+pub stops_first : (terms : Terms) (input ahead old new : Option (List ℕ)) (f : CaptureFault) → Appends old new first_line → f.at ≡ 0 → IsForeseen IsHeaderFault input f
+    → Stops terms input ahead old new f
+stops_first terms input ahead old new f written at fault = halts_first (replies_told terms) input ahead old new f written at fault
+
+pub stops_told : (terms : Terms) (v : Version) (input now ahead left old new : Option (List ℕ)) (start : ℕ) (records : List Record) (arrivals : List Arrival) (p : Progress) (connections : List Connection) (desk : Desk)
+    (f : CaptureFault) (r : ReplayFault) → r ≡ capture_fault f
+    → Fits v input start records p now → Serves terms records arrivals connections desk → Appends old new (text_before_stop (replies_of terms start (handled terms arrivals)))
+    → (f.at ≡ length records + 1) × IsForeseen (λ bytes. IsFaultBehind v bytes start records) input f → FailsNext v input start records (Err f) left
+    → ahead ≡ left → IfCapture r (Stops terms input ahead old new)
+stops_told terms v input now ahead left old new start records arrivals p connections desk f r is fits serves written fault failed same =
+    halts_told (replies_told terms) terms v input now ahead left old new start records arrivals p connections desk f r is fits serves written fault failed same
+
+pub short_among : (terms : Terms) (v : Version) (input now old new : Option (List ℕ)) (start : ℕ) (records : List Record) (arrivals : List Arrival) (p : Progress) (connections : List Connection) (desk : Desk)
+    → Fits v input start records p now → Serves terms records arrivals connections desk → Appends old new (text_before_stop (replies_of terms start (handled terms arrivals)))
+    → IsCutShort terms input old new
+short_among terms v input now old new start records arrivals p connections desk fits serves written =
+    cut_among (replies_told terms) terms v input now old new start records arrivals p connections desk fits serves written
+
+pub stops_full : (terms : Terms) (v : Version) (input now old mid new : Option (List ℕ)) (start n : ℕ) (records : List Record) (arrivals : List Arrival) (rs : List Record) (p : Progress)
+    → Fits v input start (records ++ rs) p now → Appends old mid (text_before_stop (replies_of terms start (handled terms arrivals))) → n ≡ 1048576
+    → ServesFull terms start records arrivals rs mid new → StopsFull terms input old new n
+stops_full terms v input now old mid new start n records arrivals rs p fits written number full =
+    halts_full (replies_told terms) v input now old mid new start n records arrivals rs p (replies_laws terms) fits written number full
+
+pub short_part : (terms : Terms) (v : Version) (input now old mid new : Option (List ℕ)) (start : ℕ) (records : List Record) (arrivals : List Arrival) (rs : List Record) (p : Progress)
+    → Fits v input start (records ++ rs) p now → Appends old mid (text_before_stop (replies_of terms start (handled terms arrivals)))
+    → ServesInPart terms start records arrivals rs mid new → IsCutShort terms input old new
+short_part terms v input now old mid new start records arrivals rs p fits written part =
+    cut_part (replies_told terms) v input now old mid new start records arrivals rs p (replies_laws terms) fits written part

@@ -125,7 +125,7 @@ replies_are X terms start hs tickets replies slips e =
 -- ---- writing
 
 -- a prefix of a prefix's part
-part_longer : (old new : Option (List ℕ)) (text rest : List ℕ) → AppendsInPart old new text → AppendsInPart old new (text ++ rest)
+pub part_longer : (old new : Option (List ℕ)) (text rest : List ℕ) → AppendsInPart old new text → AppendsInPart old new (text ++ rest)
 part_longer old new text rest part =
     let short = go part.0 text in
     (short.0, rw short.1 part.1)

@@ -11,8 +11,9 @@ use Rattle.replay.specs.Choices.{Terms}
 use Rattle.arrivals.specs.Arrivals.{Arrival}
 use Rattle.arrivals.specs.Connections.{arrivals_with}
 use Rattle.replay.specs.Offers.{handled_next, handled_behind, handled}
-use Rattle.replay.specs.Replies.{reply_of, replies_of, first_line, text_before_stop}
+use Rattle.replay.specs.Replies.{reply_of, replies_of, first_line, last_line, text_before_stop}
 use Rattle.replay.specs.Outcomes.{AppendsInPart}
+use Rattle.replay.specs.Telling.{IsTelling, replies_told}
 use Rattle.replay.specs.Serving.{records_behind, Written, WrittenInPart}
 use Rattle.replay.proofs.Offering.{handled_more, handled_one, handled_count}
 
@@ -93,3 +94,13 @@ text_more terms start arrivals more =
 
 pub replies_count : (terms : Terms) (start : ℕ) (arrivals : List Arrival) → length (replies_of terms start (handled terms arrivals)) ≡ length arrivals
 replies_count terms start arrivals = length-map (handled terms arrivals) (reply_of terms start) ∙ handled_count terms [] arrivals
+
+-- the replies are told from the first line to the last
+pub replies_laws : (terms : Terms) → IsTelling (replies_told terms)
+replies_laws terms = record {
+  begins = text_none terms;
+  goes_on = text_more terms;
+  none = records_none terms;
+  more = records_more terms;
+  ends = λ start arrivals. ap (λ n. text_before_stop (replies_of terms start (handled terms arrivals)) ++ last_line n) (replies_count terms start arrivals);
+}

@@ -1,17 +1,22 @@
 -- What follows from the definitions.
-use Rattle.std.specs.Prelude.{◌≡◌, ℕ, List, [], ◌∷◌, ◌++◌, length, take, Option, Some, true, false, is_some}
+use Rattle.std.specs.Prelude.{◌≡◌, ℕ, ◌+◌, ◌-◌, Bool, List, [], ◌∷◌, ◌++◌, length, take, Option, Some, None}
+use Rattle.std.specs.Prelude.{true, false, is_some}
 use Rattle.captures.specs.declared.record.Record.{Record}
 use Rattle.captures.specs.declared.version.Version.TheVariants.{One}
 use Rattle.captures.specs.declared.capture_fault.CaptureFault.{CaptureFault}
 use Rattle.captures.specs.CaptureFaults.{is_unforeseen_kind}
 use Rattle.captures.specs.Upgrades.{IsUpgrade}
 use Rattle.admission.specs.Rules.{rules_of}
+use Rattle.admission.specs.Requests.{Offer, is_rejected}
+use Rattle.admission.specs.declared.control.Decision.TheVariants.{Admitted}
+use Rattle.explaining.specs.declared.row.Offered.{Offered}
 use Rattle.paths.specs.declared.file.File.{File}
 use Rattle.replay.specs.declared.outcome.Outcome.{Outcome}
 use Rattle.replay.specs.declared.summary.Tally.{Tally}
 use Rattle.arrivals.specs.Arrivals.{Arrival, AreArrivals}
 use Rattle.replay.specs.Choices.{Choice, Terms, terms_of}
-use Rattle.replay.specs.Offers.{Handled, handled}
+use Rattle.replay.specs.Offers.{Handled, handled, handled_next}
+use Rattle.replay.specs.Explaining.{offered_behind, row_of}
 use Rattle.replay.specs.Outcomes.{Answers, Stops, StopsFull, most_messages}
 use Rattle.replay.specs.Replies.{replies_of}
 use Rattle.replay.specs.Former.{FormerTerms, FormerOutcome, FormerAnswers}
@@ -71,6 +76,23 @@ abbrev pub DueBegin : Type 0
 DueBegin = (terms : Terms) (start : ℕ) (records more : List Record) (xs ys : List Arrival)
     → AreArrivals records xs → AreArrivals (records ++ more) ys
     → (rest : List (ℕ × ℕ × List ℕ)) × (due terms start ys ≡ due terms start xs ++ rest)
+
+-- ---- rows and replies
+
+abbrev pub is_told_rejected : Option Offered → Bool
+is_told_rejected None = false
+is_told_rejected (Some o) = is_rejected o.decision
+
+-- a row says that a request was rejected exactly where its reply turns it away
+abbrev pub RowsAgree : Type 0
+RowsAgree = (terms : Terms) (earlier : List Arrival) (a : Arrival)
+    → is_told_rejected (row_of terms earlier a).offered ≡ (handled_next terms earlier a).turned_away
+
+-- the service of an admitted request begins when it came, or once it has waited as long as its row says
+abbrev pub StartsOnceFree : Type 0
+StartsOnceFree = (terms : Terms) (earlier : List Arrival) (offer : Offer) (finish : ℕ)
+    → (offered_behind terms earlier offer).decision ≡ Admitted finish
+    → finish - offer.service ≡ offer.tick + ((offered_behind terms earlier offer).found.free - offer.tick)
 
 -- ---- one policy and four
 

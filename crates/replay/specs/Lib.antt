@@ -3,13 +3,17 @@ pub mod Answers
 pub mod Offers
 pub mod Replies
 pub mod Counting
+pub mod Telling
 pub mod Totals
 pub mod Deciding
 pub mod Serving
 pub mod Outcomes
+pub mod Explaining
+pub mod Rowing
 pub mod Former
 pub mod Laws
 pub mod Fronts
 pub mod Backs
+pub mod Groups
 pub mod Ticketing
 pub mod Waiting

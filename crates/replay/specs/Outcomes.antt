@@ -17,7 +17,8 @@ use Rattle.arrivals.specs.Arrivals.{Arrival, AreArrivals}
 use Rattle.replay.specs.Choices.{Terms}
 use Rattle.replay.specs.Offers.{handled}
 use Rattle.replay.specs.Counting.{rejected_of, summary_of}
-use Rattle.replay.specs.Replies.{first_line, text_before_stop, replies_of, replies_text}
+use Rattle.replay.specs.Replies.{replies_of, replies_text}
+use Rattle.replay.specs.Telling.{Telling, replies_told}
 
 abbrev pub most_messages : ℕ
 most_messages = 1048576
@@ -81,10 +82,11 @@ abbrev pub IsOwn : ReplayFault → Type 0
 IsOwn (Capture f) = ⊥
 IsOwn other = Unit {0}
 
--- The replay stopped at the first line: it has written its own.
-pub record StopsFirst (input old new : Option (List ℕ)) (f : CaptureFault) : Type 0 where
+-- The replay stopped at the first line: it has written its own. (What is written are these texts, here and below: the
+-- replies, or the rows of a table.)
+pub record StopsFirst (t : Telling) (input old new : Option (List ℕ)) (f : CaptureFault) : Type 0 where
   pub at : f.at ≡ 0
-  pub written : Appends old new first_line
+  pub written : Appends old new t.first
   pub fault : is_unforeseen_kind f.kind ≡ false → WhereKnown input (λ bytes. IsHeaderFault bytes f)
 
 -- Records that were read: they keep the rules, and their texts are a prefix of the input, within the limit of a
@@ -100,45 +102,50 @@ pub record Taken (input : Option (List ℕ)) : Type 0 where
   pub size : WhereKnown input (λ bytes. length (records_text version start records) ≤ longest_text)
   pub arrived : AreArrivals records arrivals
 
--- The replay stopped at the record after these: it has written the replies to the messages that arrived with them, and
+-- The replay stopped at the record after these: it has written what is told of the messages that arrived with them, and
 -- no last line. Where it was a read that failed, nothing that was read after them is a whole record.
-pub record StopsAfter (terms : Terms) (input ahead old new : Option (List ℕ)) (f : CaptureFault) : Type 0 where
+pub record StopsAfter (t : Telling) (input ahead old new : Option (List ℕ)) (f : CaptureFault) : Type 0 where
   pub taken : Taken input
   pub at : f.at ≡ length taken.records + 1
   pub few : length taken.arrivals ≤ most_messages
-  pub written : Appends old new (text_before_stop (replies_of terms taken.start (handled terms taken.arrivals)))
+  pub written : Appends old new (t.so_far taken.start taken.arrivals)
   pub fault : is_unforeseen_kind f.kind ≡ false
       → WhereKnown input (λ bytes. IsFaultBehind taken.version bytes taken.start taken.records f)
   pub failed : FailsNext taken.version input taken.start taken.records (Err f) ahead
 
 -- a fault of the capture that isn't a failed read is its first; `ahead` is what of the input wasn't read
-abbrev pub Stops : Terms → Option (List ℕ) → Option (List ℕ) → Option (List ℕ) → Option (List ℕ) → CaptureFault → Type 0
-Stops terms input ahead old new f = StopsFirst input old new f ⊎ StopsAfter terms input ahead old new f
+abbrev pub StopsTelling : Telling → Option (List ℕ) → Option (List ℕ) → Option (List ℕ) → Option (List ℕ) → CaptureFault
+    → Type 0
+StopsTelling t input ahead old new f = StopsFirst t input old new f ⊎ StopsAfter t input ahead old new f
 
--- The messages that arrived with these records are more than the limit: the replies to those within it were written,
+abbrev pub Stops : Terms → Option (List ℕ) → Option (List ℕ) → Option (List ℕ) → Option (List ℕ) → CaptureFault → Type 0
+Stops terms input ahead old new f = StopsTelling (replies_told terms) input ahead old new f
+
+-- The messages that arrived with these records are more than the limit: what is told of those within it was written,
 -- and no last line. The number is that of the first beyond it.
-pub record StopsFull (terms : Terms) (input old new : Option (List ℕ)) (number : ℕ) : Type 0 where
+pub record StopsBeyond (t : Telling) (input old new : Option (List ℕ)) (number : ℕ) : Type 0 where
   pub taken : Taken input
   pub beyond : most_messages < length taken.arrivals
   pub is_number : number ≡ most_messages
-  pub written : Appends old new
-      (text_before_stop (replies_of terms taken.start (handled terms (take most_messages taken.arrivals))))
+  pub written : Appends old new (t.so_far taken.start (take most_messages taken.arrivals))
+
+abbrev pub StopsFull : Terms → Option (List ℕ) → Option (List ℕ) → Option (List ℕ) → ℕ → Type 0
+StopsFull terms input old new number = StopsBeyond (replies_told terms) input old new number
 
 -- a prefix of the text was written
 abbrev pub AppendsInPart : Option (List ℕ) → Option (List ℕ) → List ℕ → Type 0
 AppendsInPart old new text = (n : ℕ) × Appends old new (take n text)
 
--- A prefix was written of the first line and the replies to the messages, within the limit, that arrived with these
+-- A prefix was written of the first line and what is told of the messages, within the limit, that arrived with these
 -- records.
-pub record StopsAmong (terms : Terms) (input old new : Option (List ℕ)) : Type 0 where
+pub record StopsAmong (t : Telling) (input old new : Option (List ℕ)) : Type 0 where
   pub taken : Taken input
   pub within : ℕ
   pub few : within ≤ most_messages
-  pub written : AppendsInPart old new
-      (text_before_stop (replies_of terms taken.start (handled terms (take within taken.arrivals))))
+  pub written : AppendsInPart old new (t.so_far taken.start (take within taken.arrivals))
 
--- The input is a capture's text, and a prefix of the whole answer to it was written.
-pub record StopsAtEnd (terms : Terms) (input old new : Option (List ℕ)) : Type 0 where
+-- The input is a capture's text, and a prefix of all that is told of it was written.
+pub record StopsAtEnd (t : Telling) (input old new : Option (List ℕ)) : Type 0 where
   pub version : Version
   pub start : ℕ
   pub records : List Record
@@ -147,12 +154,14 @@ pub record StopsAtEnd (terms : Terms) (input old new : Option (List ℕ)) : Type
   pub capture : WhereKnown input (λ bytes. IsCaptureText version bytes start records)
   pub arrived : AreArrivals records arrivals
   pub few : length arrivals ≤ most_messages
-  pub written : AppendsInPart old new (replies_text (replies_of terms start (handled terms arrivals)))
+  pub written : AppendsInPart old new (t.whole start arrivals)
 
 -- a replay that was cut short has written a prefix of what was due
+abbrev pub IsCutOff : Telling → Option (List ℕ) → Option (List ℕ) → Option (List ℕ) → Type 0
+IsCutOff t input old new = AppendsInPart old new t.first ⊎ (StopsAmong t input old new ⊎ StopsAtEnd t input old new)
+
 abbrev pub IsCutShort : Terms → Option (List ℕ) → Option (List ℕ) → Option (List ℕ) → Type 0
-IsCutShort terms input old new = AppendsInPart old new first_line
-    ⊎ (StopsAmong terms input old new ⊎ StopsAtEnd terms input old new)
+IsCutShort terms input old new = IsCutOff (replies_told terms) input old new
 
 -- how often the reader and the writer failed in a call that answered this fault
 abbrev pub reader_failures : ReplayFault → ℕ

@@ -1,20 +1,25 @@
--- How the plain engine stands between two messages, and between two records.
+-- How an engine stands between two messages, and between two records.
 use Rattle.std.specs.Prelude.{◌≡◌, ℕ, ◌+◌, ◌<◌, ◌≤◌, List, ◌++◌, length, take, All, Option, flat_map}
 use Rattle.std.specs.Io.KnownBytes.{Appends}
 use Rattle.captures.specs.declared.record.Record.{Record}
 use Rattle.captures.specs.declared.record.Record.TheVariants.{Piece, End, Tier}
+use Rattle.captures.specs.declared.version.Version.{Version}
+use Rattle.captures.specs.Captures.{IsCapture, IsCaptureText}
 use Rattle.responses.specs.Records.{record_text}
 use Rattle.admission.specs.Fits.{Fits}
 use Rattle.admission.specs.Standing.{policies_of}
 use Rattle.replay.specs.Choices.{Terms}
 use Rattle.arrivals.specs.Arrivals.{Arrival, AreArrivals}
 use Rattle.arrivals.specs.Connections.{HaveRead}
-use Rattle.replay.specs.Offers.{offers_of, handled_behind}
-use Rattle.replay.specs.Outcomes.{most_messages}
+use Rattle.replay.specs.Offers.{offers_of, handled, handled_behind}
+use Rattle.replay.specs.Counting.{rejected_of, summary_of}
+use Rattle.replay.specs.Outcomes.{most_messages, WhereKnown}
 use Rattle.replay.specs.Replies.{replies_of}
+use Rattle.replay.specs.Telling.{Telling, Told, ToldInPart, replies_told}
 use Rattle.replay.specs.Totals.{totals_of}
 use Rattle.arrivals.specs.declared.connection.Connection.{Connection}
 use Rattle.replay.specs.declared.desk.Desk.{Desk}
+use Rattle.replay.specs.declared.outcome.Outcome.{Outcome}
 
 -- these messages were decided on and counted
 pub record Stands (terms : Terms) (arrivals : List Arrival) (desk : Desk) : Type 0 where
@@ -57,29 +62,58 @@ pub record Serves (terms : Terms) (records : List Record) (arrivals : List Arriv
 abbrev pub ArriveNext : List Record → List Arrival → List Record → List Arrival → Type 0
 ArriveNext records arrivals rs more = AreArrivals (records ++ rs) (arrivals ++ more)
 
--- more records were read, and the messages that arrived with them were answered
-pub record ServesMore (terms : Terms) (records : List Record) (arrivals : List Arrival) (rs : List Record)
+-- more records were read, and the messages that arrived with them were decided on and told of
+pub record TellsMore (t : Telling) (terms : Terms) (records : List Record) (arrivals : List Arrival) (rs : List Record)
     (connections : List Connection) (desk : Desk)
     (old new : Option (List ℕ)) : Type 0 where
   pub more : List Arrival
   pub serves : Serves terms (records ++ rs) (arrivals ++ more) connections desk
-  pub written : Written terms desk.start arrivals more old new
+  pub written : Told t desk.start arrivals more old new
 
--- the messages of the next records reach beyond the limit: those within it were answered
-pub record ServesFull (terms : Terms) (start : ℕ) (records : List Record) (arrivals : List Arrival) (rs : List Record)
+-- the messages of the next records reach beyond the limit: those within it were told of
+pub record TellsFull (t : Telling) (start : ℕ) (records : List Record) (arrivals : List Arrival) (rs : List Record)
     (old new : Option (List ℕ)) : Type 0 where
   pub more : List Arrival
   pub arrived : ArriveNext records arrivals rs more
   pub within : ℕ
   pub full : length arrivals + within ≡ most_messages
   pub beyond : within < length more
-  pub written : Written terms start arrivals (take within more) old new
+  pub written : Told t start arrivals (take within more) old new
 
--- a prefix was written of the replies to the messages of the next records within the limit
-pub record ServesInPart (terms : Terms) (start : ℕ) (records : List Record) (arrivals : List Arrival) (rs : List Record)
+-- a prefix was written of what is told of the messages of the next records within the limit
+pub record TellsInPart (t : Telling) (start : ℕ) (records : List Record) (arrivals : List Arrival) (rs : List Record)
     (old new : Option (List ℕ)) : Type 0 where
   pub more : List Arrival
   pub arrived : ArriveNext records arrivals rs more
   pub within : ℕ
   pub few : length arrivals + within ≤ most_messages
-  pub written : WrittenInPart terms start arrivals (take within more) old new
+  pub written : ToldInPart t start arrivals (take within more) old new
+
+-- the same, where the replies are told
+abbrev pub ServesMore : Terms → List Record → List Arrival → List Record → List Connection → Desk → Option (List ℕ)
+    → Option (List ℕ) → Type 0
+ServesMore terms records arrivals rs connections desk old new =
+    TellsMore (replies_told terms) terms records arrivals rs connections desk old new
+
+abbrev pub ServesFull : Terms → ℕ → List Record → List Arrival → List Record → Option (List ℕ) → Option (List ℕ)
+    → Type 0
+ServesFull terms start records arrivals rs old new = TellsFull (replies_told terms) start records arrivals rs old new
+
+abbrev pub ServesInPart : Terms → ℕ → List Record → List Arrival → List Record → Option (List ℕ) → Option (List ℕ)
+    → Type 0
+ServesInPart terms start records arrivals rs old new =
+    TellsInPart (replies_told terms) start records arrivals rs old new
+
+-- these records were all of a capture, and its messages were told of: as `Answers`, whatever is told
+pub record HasTold (t : Telling) (terms : Terms) (input old new : Option (List ℕ)) (outcome : Outcome) : Type 0 where
+  pub version : Version
+  pub start : ℕ
+  pub records : List Record
+  pub arrivals : List Arrival
+  pub rules : IsCapture version start records
+  pub capture : WhereKnown input (λ bytes. IsCaptureText version bytes start records)
+  pub arrived : AreArrivals records arrivals
+  pub few : length arrivals ≤ most_messages
+  pub written : Appends old new (t.whole start arrivals)
+  pub rejected : outcome.rejected ≡ rejected_of (handled terms arrivals)
+  pub summary : outcome.summary ≡ summary_of terms arrivals

@@ -1,33 +1,37 @@
 ghost use Rattle.std.specs.Prelude.{◌≡◌, ◌<◌, ◌≤◌, ◌-◌, ◌+◌, ◌^◌, ◌++◌, ◌∷◌, [], ℕ, List, true, length, take, OnOk};
-ghost use Rattle.std.specs.Prelude.{IfOk, IfErr};
+ghost use Rattle.std.specs.Prelude.{IfOk, IfErr, OnErr};
+ghost use Rattle.std.specs.Io.KnownBytes.{Appends};
+ghost use Rattle.paths.specs.Snapshots.{file_of};
+ghost use Rattle.responses.specs.Records.{record_text};
 ghost use Rattle.captures.specs.Captures.{latest_start};
-ghost use Rattle.replay.specs.Choices.{terms_of};
+ghost use Rattle.replay.specs.Choices.{Terms, terms_of};
 ghost use Rattle.arrivals.specs.Arrivals.{Arrival};
 ghost use Rattle.arrivals.specs.Connections.{arrivals_with};
 ghost use Rattle.replay.specs.Outcomes.{CountsBy, writer_failures, IsOwn, IfTooMany, IfCutShort};
-ghost use Rattle.replay.specs.Serving.{Stands, AreBy, Written, WrittenInPart};
+ghost use Rattle.replay.specs.Outcomes.{AppendsInPart, IsWriteOrMemory};
+ghost use Rattle.replay.specs.Serving.{Stands, AreBy};
+ghost use Rattle.replay.specs.Telling.{IsTelling, Told, ToldInPart};
 ghost use Rattle.replay.specs.Fronts.{sight_of};
-ghost use Rattle.replay.specs.Backs.{slip_of_ticket, reply_to, is_due, is_back};
+ghost use Rattle.replay.specs.Backs.{slip_of_ticket, reply_to, given_as, is_back};
 ghost use Rattle.replay.specs.declared.back_state.BackState.TheVariants.{Due as Waits};
 
-use crate::answers::{answers_head, service_of};
-use crate::deciding::settle;
+use crate::answers::{answers_head, known_file, service_of};
 use crate::desk::Desk;
 use crate::service_time::ServiceTime;
 use crate::sight::Sight;
+use crate::telling::Tells;
 use crate::ticket::{Due, Ticket};
 use crate::{MOST_MESSAGES, ReplayFault, Settings};
 use arrivals::Origin;
 use cost_model::Costs;
 use http_requests::{Message, What as Meaning};
-use page_cache::Page;
 use paths::{Output, Snapshot, Tree, resolve};
-use responses::{Reply, SharedPage, Slip, What, render, write_reply};
+use responses::{Slip, render, render_head, write_record, write_reply};
 use std::alloc::{AllocError, Global};
 use std::io::Write;
 
 /// What is known of a message before it is decided on.
-fn look_into(
+pub(crate) fn look_into(
     alloc: Global,
     snapshot: &Snapshot,
     costs: Costs,
@@ -50,15 +54,47 @@ fn look_into(
     Ok(Sight::Priced(outcome, ServiceTime::new(service)))
 }
 
-/// The slip of a ticket, with a page that is built for it.
-fn with_page<F: Tree>(
+/// Writes the reply that gives a file, by the slip of the answer to HEAD. The bytes go to the writer as they stand in
+/// the snapshot.
+fn give_file<F: Tree, W: Write>(
+    alloc: Global,
+    snapshot: &Snapshot,
+    slip: &Slip<F>,
+    file: usize,
+    writer: &mut Output<W>,
+) -> Result<(), ReplayFault>
+    requires file { file < length snapshot.now }
+    requires date { slip.now.date ≤ 253402300799 }
+    requires failures { writer.old.1 < 2 ^ 64 - 1 }
+    ensures written { OnOk result (Appends writer.old.0 writer.new.0
+        (record_text (given_as F.files slip.now (file_of snapshot.now file).bytes))) }
+    ensures part { OnErr result (AppendsInPart writer.old.0 writer.new.0
+        (record_text (given_as F.files slip.now (file_of snapshot.now file).bytes))) }
+    ensures failures { CountsBy writer_failures writer.old.1 writer.new.1 result }
+    ensures own { IfErr result IsWriteOrMemory }
+{
+    let front = render_head(alloc, slip)?;
+    let body: &[u8] = if slip.head { &[] } else { snapshot.bytes(file) };
+    write_record(writer, slip.number, slip.conn, &front, body)?;
+    Ok(())
+}
+
+/// Answers a message that was decided on.
+pub(crate) fn answer_ticket<F: Tree, W: Write>(
     alloc: Global,
     snapshot: &Snapshot,
     ticket: Ticket<F>,
-) -> Result<Slip<F>, AllocError>
+    writer: &mut Output<W>,
+) -> Result<(), ReplayFault>
     requires snapshot { snapshot.now ≡ F.files }
-    requires due { is_due F.files ticket.due ≡ true }
-    ensures { IfOk result (λ slip. slip ≡ slip_of_ticket ticket) }
+    requires ready { is_back F.files (Waits ticket) ≡ true }
+    requires failures { writer.old.1 < 2 ^ 64 - 1 }
+    ensures written { OnOk result (Appends writer.old.0 writer.new.0
+        (record_text (reply_to F.files (slip_of_ticket ticket)))) }
+    ensures part { OnErr result (AppendsInPart writer.old.0 writer.new.0
+        (record_text (reply_to F.files (slip_of_ticket ticket)))) }
+    ensures failures { CountsBy writer_failures writer.old.1 writer.new.1 result }
+    ensures own { IfErr result IsWriteOrMemory }
 {
     let Ticket {
         number,
@@ -68,39 +104,36 @@ fn with_page<F: Tree>(
         link,
         due,
     } = ticket;
-    let what = match due {
-        Due::Told(what) => what,
-        Due::Page { file, mtime } => What::Page {
-            page: SharedPage::new(Page::build(alloc, snapshot, file)?),
-            mtime,
-        },
-    };
-    Ok(Slip {
-        number,
-        conn,
-        date,
-        head,
-        link,
-        what,
-    })
-}
-
-/// The reply to a message that was decided on.
-fn reply_to<F: Tree>(
-    alloc: Global,
-    snapshot: &Snapshot,
-    ticket: Ticket<F>,
-) -> Result<Reply<F>, AllocError>
-    requires snapshot { snapshot.now ≡ F.files }
-    requires ready { is_back F.files (Waits ticket) ≡ true }
-    ensures { IfOk result (λ reply. reply ≡ reply_to F.files (slip_of_ticket ticket)) }
-{
-    let slip = with_page(alloc, snapshot, ticket)?;
-    render(alloc, slip)
+    match due {
+        Due::Page { file, mtime } => {
+            let slip = Slip {
+                number,
+                conn,
+                date,
+                head,
+                link,
+                what: known_file(snapshot, file, mtime),
+            };
+            give_file::<F, W>(alloc, snapshot, &slip, file, writer)
+        }
+        Due::Told(what) => {
+            let slip = Slip {
+                number,
+                conn,
+                date,
+                head,
+                link,
+                what,
+            };
+            let reply = render(alloc, slip)?;
+            write_reply(writer, &reply)?;
+            Ok(())
+        }
+    }
 }
 
 /// Answers the next message.
-fn answer_message<F: Tree, W: Write>(
+fn answer_message<T: Tells, F: Tree, W: Write>(
     alloc: Global,
     snapshot: &Snapshot,
     settings: &Settings,
@@ -121,7 +154,7 @@ fn answer_message<F: Tree, W: Write>(
         → Stands (terms_of F.files settings.now) (arrivals ++ a ∷ []) desk.new) }
     ensures written { OnOk result ((arrivals : List Arrival) (a : Arrival)
         → Stands (terms_of F.files settings.now) arrivals desk.old → a.origin ≡ origin → a.message.what ≡ what.now
-        → Written (terms_of F.files settings.now) desk.old.start arrivals (a ∷ []) writer.old.0 writer.new.0) }
+        → Told (T.telling (terms_of F.files settings.now)) desk.old.start arrivals (a ∷ []) writer.old.0 writer.new.0) }
     ensures start { OnOk result (desk.new.start ≡ desk.old.start) }
     ensures number { OnOk result (desk.new.totals.answered ≡ desk.old.totals.answered + 1) }
     ensures many { IfErr result (λ f. IfTooMany f (λ n. (n ≡ MOST_MESSAGES)
@@ -129,7 +162,8 @@ fn answer_message<F: Tree, W: Write>(
     ensures part { IfErr result (λ f. IfCutShort f ((desk.old.totals.answered < MOST_MESSAGES)
         × ((arrivals : List Arrival) (a : Arrival) → Stands (terms_of F.files settings.now) arrivals desk.old
         → a.origin ≡ origin → a.message.what ≡ what.now
-        → WrittenInPart (terms_of F.files settings.now) desk.old.start arrivals (a ∷ []) writer.old.0 writer.new.0))) }
+        → ToldInPart (T.telling (terms_of F.files settings.now)) desk.old.start arrivals (a ∷ [])
+        writer.old.0 writer.new.0))) }
     ensures failures { CountsBy writer_failures writer.old.1 writer.new.1 result }
     ensures own { IfErr result IsOwn }
 {
@@ -137,15 +171,11 @@ fn answer_message<F: Tree, W: Write>(
     if number == MOST_MESSAGES {
         return Err(ReplayFault::TooMany(MOST_MESSAGES));
     }
-    let sight = look_into(alloc, snapshot, settings.costs, what)?;
-    let ticket = settle::<F>(snapshot, settings, origin, what, sight, desk)?;
-    let reply = reply_to(alloc, snapshot, ticket)?;
-    write_reply(writer, &reply)?;
-    Ok(())
+    T::tell::<F, W>(alloc, snapshot, settings, origin, what, desk, writer)
 }
 
 /// Answers the messages that ended in a piece, in their order.
-pub(crate) fn answer_all<F: Tree, W: Write>(
+pub(crate) fn answer_all<T: Tells, F: Tree, W: Write>(
     alloc: Global,
     snapshot: &Snapshot,
     settings: &Settings,
@@ -155,6 +185,7 @@ pub(crate) fn answer_all<F: Tree, W: Write>(
     writer: &mut Output<W>,
 ) -> Result<(), ReplayFault>
     requires snapshot { snapshot.now ≡ F.files }
+    requires texts { (terms : Terms) → IsTelling (T.telling terms) }
     requires start { desk.old.start ≤ latest_start }
     requires tick { origin.tick ≤ 1000000000000000 }
     requires tier { origin.tier < 4 }
@@ -166,24 +197,24 @@ pub(crate) fn answer_all<F: Tree, W: Write>(
         → Stands (terms_of F.files settings.now) (arrivals ++ arrivals_with place origin messages.now) desk.new) }
     ensures written { OnOk result ((arrivals : List Arrival) (place : ℕ)
         → Stands (terms_of F.files settings.now) arrivals desk.old
-        → Written (terms_of F.files settings.now) desk.old.start arrivals
+        → Told (T.telling (terms_of F.files settings.now)) desk.old.start arrivals
         (arrivals_with place origin messages.now) writer.old.0 writer.new.0) }
     ensures start { OnOk result (desk.new.start ≡ desk.old.start) }
     ensures many { IfErr result (λ f. IfTooMany f (λ n. (n ≡ MOST_MESSAGES) × (i : ℕ) × (i < length messages.now)
         × (desk.old.totals.answered + i ≡ MOST_MESSAGES)
         × ((arrivals : List Arrival) (place : ℕ) → Stands (terms_of F.files settings.now) arrivals desk.old
-        → Written (terms_of F.files settings.now) desk.old.start arrivals
+        → Told (T.telling (terms_of F.files settings.now)) desk.old.start arrivals
         (arrivals_with place origin (take i messages.now)) writer.old.0 writer.new.0))) }
     ensures part { IfErr result (λ f. IfCutShort f ((i : ℕ) × (i ≤ length messages.now)
         × (desk.old.totals.answered + i ≤ MOST_MESSAGES) × ((arrivals : List Arrival) (place : ℕ)
         → Stands (terms_of F.files settings.now) arrivals desk.old
-        → WrittenInPart (terms_of F.files settings.now) desk.old.start arrivals
+        → ToldInPart (T.telling (terms_of F.files settings.now)) desk.old.start arrivals
         (arrivals_with place origin (take i messages.now)) writer.old.0 writer.new.0))) }
     ensures failures { CountsBy writer_failures writer.old.1 writer.new.1 result }
     ensures own { IfErr result IsOwn }
 {
     for message in messages {
-        answer_message::<F, W>(
+        answer_message::<T, F, W>(
             alloc,
             snapshot,
             settings,

@@ -1,5 +1,7 @@
 ghost use Rattle.std.specs.Prelude.{◌≡◌, ◌<◌, ◌≤◌, ◌&&◌, true, length};
 ghost use Rattle.paths.specs.Resolution.{IsOutcome};
+ghost use Rattle.paths.specs.Snapshots.{file_of};
+ghost use Rattle.page_cache.specs.Media.{media_of};
 ghost use Rattle.cost_model.specs.Services.{service};
 ghost use Rattle.replay.specs.Answers.{fault_status, is_unmodified, outcome_answer, answers_head, link_of};
 ghost use Rattle.replay.specs.Backs.{told, only_head, has_location, is_due};
@@ -33,6 +35,19 @@ fn is_unmodified(since: Option<u64>, mtime: u64) -> bool
     }
 }
 
+/// What HEAD is told of a file that was last changed at `mtime`, in seconds since 1970-01-01.
+pub(crate) fn known_file<F: Tree>(snapshot: &Snapshot, file: usize, mtime: u64) -> What<F>
+    requires { file < length snapshot.now }
+    ensures { result ≡ What.Known (media_of (file_of snapshot.now file).name)
+        (length (file_of snapshot.now file).bytes) mtime }
+{
+    What::Known {
+        media: MediaType::of(snapshot.name(file)),
+        len: snapshot.bytes(file).len() as u64,
+        mtime,
+    }
+}
+
 /// What a file is answered with.
 fn file_answer<F: Tree>(snapshot: &Snapshot, head: bool, since: Option<u64>, file: usize) -> Due<F>
     requires snapshot { snapshot.now ≡ F.files }
@@ -46,11 +61,7 @@ fn file_answer<F: Tree>(snapshot: &Snapshot, head: bool, since: Option<u64>, fil
         return Due::Told(What::Unmodified { mtime });
     }
     if head {
-        return Due::Told(What::Known {
-            media: MediaType::of(snapshot.name(file)),
-            len: snapshot.bytes(file).len() as u64,
-            mtime,
-        });
+        return Due::Told(known_file(snapshot, file, mtime));
     }
     Due::Page { file, mtime }
 }

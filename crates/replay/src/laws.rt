@@ -2,7 +2,7 @@
 
 ghost use Rattle.replay.specs.Laws.{AnsweredNotFaulty, AnsweredNotFull, DueBegin, FaultyNotFull, OneFault, OneLimit};
 ghost use Rattle.replay.specs.Laws.{FloorsChangeNothing, FormerAnswersHold, HandledBegin, OneAnswer, SameInVersionOne};
-ghost use Rattle.replay.specs.Laws.{UpgradeKeepsAnswers};
+ghost use Rattle.replay.specs.Laws.{RowsAgree, StartsOnceFree, UpgradeKeepsAnswers};
 
 /// The graphs of the floors, the records of a batch and the bytes of the cache change no answer.
 pub fn floors_change_nothing()
@@ -56,4 +56,14 @@ pub fn former_answers_hold()
 /// A capture of version 1 and its upgraded text have the same answers, whatever the policies of tiers 1 to 3.
 pub fn upgrade_keeps_answers()
     ensures { UpgradeKeepsAnswers }
+{}
+
+/// A row of the table of decisions says that a request was rejected exactly where its reply turns it away.
+pub fn rows_agree()
+    ensures { RowsAgree }
+{}
+
+/// The service of an admitted request begins when it came, or once it has waited as long as its row says.
+pub fn starts_once_free()
+    ensures { StartsOnceFree }
 {}

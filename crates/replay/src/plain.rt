@@ -7,7 +7,8 @@ ghost use Rattle.captures.specs.declared.record.Record.{Record as ARecord};
 ghost use Rattle.replay.specs.Choices.{Terms, terms_of};
 ghost use Rattle.arrivals.specs.Arrivals.{Arrival};
 ghost use Rattle.replay.specs.Replies.{first_line, last_line};
-ghost use Rattle.replay.specs.Serving.{IsLater, Serves, ServesMore, ServesFull, ServesInPart, Stands};
+ghost use Rattle.replay.specs.Telling.{IsTelling};
+ghost use Rattle.replay.specs.Serving.{IsLater, Serves, TellsMore, TellsFull, TellsInPart, Stands, HasTold};
 ghost use Rattle.replay.specs.Counting.{rejected_of, summary_of, tally_of};
 ghost use Rattle.arrivals.specs.Tiers.{AreTiers};
 ghost use Rattle.admission.specs.Requests.{Offer};
@@ -16,11 +17,13 @@ ghost use Rattle.admission.specs.Standing.{policies_of};
 ghost use Rattle.replay.specs.Offers.{handled};
 ghost use Rattle.replay.specs.Outcomes.{Answers, AppendsInPart, IfCapture, IfTooMany, IfCutShort, IsCutShort, IsOwn};
 ghost use Rattle.replay.specs.Outcomes.{Stops, StopsFull, CountsBy, reader_failures, writer_failures};
-ghost use Rattle.replay.specs.Outcomes.{IsWriteOrMemory};
+ghost use Rattle.replay.specs.Outcomes.{IsWriteOrMemory, StopsTelling, StopsBeyond, IsCutOff};
 
 use crate::answering::answer_all;
 use crate::desk::Desk;
 use crate::outcome::Outcome;
+use crate::replies::Replies;
+use crate::telling::Tells;
 use crate::totals::Totals;
 use crate::{MOST_MESSAGES, ReplayFault, Settings, Summary, Tally};
 use admission::Controller;
@@ -99,7 +102,7 @@ pub(crate) fn outcome_of(alloc: Global, desk: Desk) -> Result<Outcome, AllocErro
 }
 
 /// Reads one more record: answers the messages that arrive with it.
-fn answer_record<F: Tree, W: Write>(
+fn answer_record<T: Tells, F: Tree, W: Write>(
     alloc: Global,
     snapshot: &Snapshot,
     settings: &Settings,
@@ -110,6 +113,7 @@ fn answer_record<F: Tree, W: Write>(
     writer: &mut Output<W>,
 ) -> Result<(), ReplayFault>
     requires snapshot { snapshot.now ≡ F.files }
+    requires texts { (terms : Terms) → IsTelling (T.telling terms) }
     requires start { desk.old.start ≤ latest_start }
     requires record { (version : AVersion) × IsRecord version next.now }
     requires room { (records : List ARecord) × (arrivals : List Arrival)
@@ -120,18 +124,18 @@ fn answer_record<F: Tree, W: Write>(
         → AreTiers (records ++ next.now ∷ []) tiers.new) }
     ensures serves { OnOk result ((records : List ARecord) (arrivals : List Arrival) → AreTiers records tiers.old
         → Serves (terms_of F.files settings.now) records arrivals connections.old desk.old
-        → ServesMore (terms_of F.files settings.now) records arrivals
+        → TellsMore (T.telling (terms_of F.files settings.now)) (terms_of F.files settings.now) records arrivals
         (next.now ∷ []) connections.new desk.new writer.old.0 writer.new.0) }
     ensures start { OnOk result (desk.new.start ≡ desk.old.start) }
     ensures many { IfErr result (λ f. IfTooMany f (λ n. (n ≡ MOST_MESSAGES)
         × ((records : List ARecord) (arrivals : List Arrival) → AreTiers records tiers.old
         → Serves (terms_of F.files settings.now) records arrivals connections.old desk.old
-        → ServesFull (terms_of F.files settings.now) desk.old.start records arrivals
+        → TellsFull (T.telling (terms_of F.files settings.now)) desk.old.start records arrivals
         (next.now ∷ []) writer.old.0 writer.new.0))) }
     ensures part { IfErr result (λ f. IfCutShort f ((writer.new.0
         ≡ writer.old.0) ⊎ ((records : List ARecord) (arrivals : List Arrival) → AreTiers records tiers.old
         → Serves (terms_of F.files settings.now) records arrivals connections.old desk.old
-        → ServesInPart (terms_of F.files settings.now) desk.old.start records arrivals
+        → TellsInPart (T.telling (terms_of F.files settings.now)) desk.old.start records arrivals
         (next.now ∷ []) writer.old.0 writer.new.0))) }
     ensures failures { CountsBy writer_failures writer.old.1 writer.new.1 result }
     ensures own { IfErr result IsOwn }
@@ -150,9 +154,68 @@ fn answer_record<F: Tree, W: Write>(
                 tick: *tick,
                 tier: tiers.of(*conn),
             };
-            answer_all::<F, W>(alloc, snapshot, settings, origin, &messages, desk, writer)
+            answer_all::<T, F, W>(alloc, snapshot, settings, origin, &messages, desk, writer)
         }
     }
+}
+
+/// Replays a capture on one thread: each message is decided on and told of, in the order of their arrival, before the
+/// next record is read. The first line is written before anything is read, the last one after the end of the input.
+pub(crate) fn replay_telling<T: Tells, F: Tree, R: Read, W: Write>(
+    alloc: Global,
+    snapshot: &Snapshot,
+    settings: &Settings,
+    reader: &mut Input<R>,
+    writer: &mut Output<W>,
+) -> Result<Outcome, ReplayFault>
+    requires snapshot { snapshot.now ≡ F.files }
+    requires reading { reader.old.1 < 2 ^ 64 - 1 }
+    requires writing { writer.old.1 < 2 ^ 64 - 1 }
+    ensures stops { IfErr result (λ f. IfCapture f
+        (StopsTelling (T.telling (terms_of F.files settings.now))
+        reader.old.0 reader.new.0 writer.old.0 writer.new.0)) }
+    ensures many { IfErr result (λ f. IfTooMany f
+        (StopsBeyond (T.telling (terms_of F.files settings.now)) reader.old.0 writer.old.0 writer.new.0)) }
+    ensures part { IfErr result (λ f. IfCutShort f
+        (IsCutOff (T.telling (terms_of F.files settings.now)) reader.old.0 writer.old.0 writer.new.0)) }
+    ensures reads { CountsBy reader_failures reader.old.1 reader.new.1 result }
+    ensures writes { CountsBy writer_failures writer.old.1 writer.new.1 result }
+    ensures ok { IfOk result (HasTold (T.telling (terms_of F.files settings.now)) (terms_of F.files settings.now)
+        reader.old.0 writer.old.0 writer.new.0) }
+{
+    T::begin(writer)?;
+    let mut capture = match CaptureReader::open(reader) {
+        Ok(capture) => capture,
+        Err(fault) => return Err(ReplayFault::from(fault)),
+    };
+    let mut connections = Connections::new(alloc);
+    let mut tiers = Tiers::new(alloc);
+    let mut desk = Desk {
+        start: capture.start(),
+        controller: Controller::new(alloc, settings.policies)?,
+        totals: Totals::new(alloc),
+    };
+    loop {
+        let next = match capture.next_record(alloc) {
+            Ok(Some(next)) => next,
+            Ok(None) => break,
+            Err(fault) => return Err(ReplayFault::from(fault)),
+        };
+        answer_record::<T, F, W>(
+            alloc,
+            snapshot,
+            settings,
+            &next,
+            &mut connections,
+            &mut tiers,
+            &mut desk,
+            writer,
+        )?;
+    }
+    let answered = desk.totals.answered;
+    let outcome = outcome_of(alloc, desk)?;
+    T::finish(alloc, writer, answered)?;
+    Ok(outcome)
 }
 
 /// Replays a capture on one thread: each message is answered, in the order of their arrival, before the next record is
@@ -187,37 +250,5 @@ pub fn plain_replay<F: Tree, R: Read, W: Write>(
     ensures ok { IfOk result
         (Answers (terms_of F.files settings.now) reader.old.0 writer.old.0 writer.new.0) }
 {
-    write_first_line(writer)?;
-    let mut capture = match CaptureReader::open(reader) {
-        Ok(capture) => capture,
-        Err(fault) => return Err(ReplayFault::from(fault)),
-    };
-    let mut connections = Connections::new(alloc);
-    let mut tiers = Tiers::new(alloc);
-    let mut desk = Desk {
-        start: capture.start(),
-        controller: Controller::new(alloc, settings.policies)?,
-        totals: Totals::new(alloc),
-    };
-    loop {
-        let next = match capture.next_record(alloc) {
-            Ok(Some(next)) => next,
-            Ok(None) => break,
-            Err(fault) => return Err(ReplayFault::from(fault)),
-        };
-        answer_record::<F, W>(
-            alloc,
-            snapshot,
-            settings,
-            &next,
-            &mut connections,
-            &mut tiers,
-            &mut desk,
-            writer,
-        )?;
-    }
-    let answered = desk.totals.answered;
-    let outcome = outcome_of(alloc, desk)?;
-    write_last_line(alloc, writer, answered)?;
-    Ok(outcome)
+    replay_telling::<Replies, F, R, W>(alloc, snapshot, settings, reader, writer)
 }

@@ -1,5 +1,9 @@
 ghost use Rattle.std.specs.Prelude.{◌≡◌, ◌<◌, ◌≤◌, ◌-◌, ◌+◌, ◌^◌, ◌++◌, ℕ, List, take, flat_map, length, IfErr, OnOk};
-ghost use Rattle.std.specs.Prelude.{OnErr};
+ghost use Rattle.std.specs.Prelude.{OnErr, true};
+ghost use Rattle.std.specs.List.{list_all};
+ghost use Rattle.replay.specs.Backs.{is_back};
+ghost use Rattle.replay.specs.declared.back_state.BackState.TheVariants.{Due as Waits};
+ghost use Rattle.replay.specs.Groups.{records_of};
 ghost use Rattle.captures.specs.Captures.{latest_start};
 ghost use Rattle.responses.specs.Records.{record_text};
 ghost use Rattle.arrivals.specs.Arrivals.{Arrival};
@@ -15,7 +19,9 @@ use crate::back::run_back;
 use crate::deciding::decide_all;
 use crate::desk::Desk;
 use crate::front::run_front;
+use crate::groups::{Pages, groups_of};
 use crate::shifted::Shifted;
+use crate::ticket::Ticket;
 use crate::{MOST_MESSAGES, ReplayFault, Settings};
 use arrivals::{Incoming, Series};
 use page_cache::PageCache;
@@ -44,13 +50,88 @@ fn write_replies<F: Tree, W: Write>(
     Ok(())
 }
 
+/// Answers a group of messages that were decided on: their pages are fetched and their replies rendered by a floor, and
+/// written in their order.
+fn answer_group<F: Tree + Send + Sync, G: Gate + Sync, T: Threads + Wait + Sync, W: Write>(
+    rt: &T,
+    alloc: Global,
+    snapshot: &Snapshot,
+    settings: &Settings,
+    cache: &Mutex<PageCache<F>>,
+    gate: &G,
+    group: Vec<Ticket<F>>,
+    writer: &mut Output<W>,
+) -> Result<(), ReplayFault>
+    requires snapshot { snapshot.now ≡ F.files }
+    requires ready { list_all (λ t. is_back F.files (Waits t)) group.items ≡ true }
+    requires failures { writer.old.1 < 2 ^ 64 - 1 }
+    ensures written { OnOk result (Appends writer.old.0 writer.new.0 (records_of F.files group.items)) }
+    ensures part { OnErr result (AppendsInPart writer.old.0 writer.new.0 (records_of F.files group.items)) }
+    ensures failures { CountsBy writer_failures writer.old.1 writer.new.1 result }
+    ensures own { IfErr result IsWriteOrMemory }
+{
+    let first = match group.first() {
+        Some(ticket) => ticket.number,
+        None => return Ok(()),
+    };
+    let behind = Shifted {
+        gate,
+        stages: settings.front.stages(),
+        first,
+    };
+    let replies = run_back::<F, Shifted<G>, T>(
+        rt,
+        alloc,
+        &settings.back,
+        snapshot,
+        cache,
+        group,
+        &behind,
+    )?;
+    write_replies(&replies, writer)
+}
+
+/// Answers messages that were decided on, a group of them at a time, so that memory holds the pages of one.
+fn answer_tickets<F: Tree + Send + Sync, G: Gate + Sync, T: Threads + Wait + Sync, W: Write>(
+    rt: &T,
+    alloc: Global,
+    snapshot: &Snapshot,
+    settings: &Settings,
+    pages: &Pages<F>,
+    gate: &G,
+    tickets: Vec<Ticket<F>>,
+    writer: &mut Output<W>,
+) -> Result<(), ReplayFault>
+    requires snapshot { snapshot.now ≡ F.files }
+    requires ready { list_all (λ t. is_back F.files (Waits t)) tickets.items ≡ true }
+    requires failures { writer.old.1 < 2 ^ 64 - 1 }
+    ensures written { OnOk result (Appends writer.old.0 writer.new.0 (records_of F.files tickets.items)) }
+    ensures part { OnErr result (AppendsInPart writer.old.0 writer.new.0 (records_of F.files tickets.items)) }
+    ensures failures { CountsBy writer_failures writer.old.1 writer.new.1 result }
+    ensures own { IfErr result IsWriteOrMemory }
+{
+    for group in groups_of(alloc, snapshot, pages.room, tickets)? {
+        answer_group::<F, G, T, W>(
+            rt,
+            alloc,
+            snapshot,
+            settings,
+            &pages.cache,
+            gate,
+            group.into_vec(),
+            writer,
+        )?;
+    }
+    Ok(())
+}
+
 /// Serves messages within the limit, by a pair of floors with the decisions between them.
 fn serve_few<F: Tree + Send + Sync, G: Gate + Sync, T: Threads + Wait + Sync, W: Write>(
     rt: &T,
     alloc: Global,
     snapshot: &Snapshot,
     settings: &Settings,
-    cache: &Mutex<PageCache<F>>,
+    pages: &Pages<F>,
     gate: &G,
     messages: Vec<Incoming>,
     desk: &mut Desk,
@@ -94,21 +175,7 @@ fn serve_few<F: Tree + Send + Sync, G: Gate + Sync, T: Threads + Wait + Sync, W:
         &before,
     )?;
     let tickets = decide_all::<F>(alloc, snapshot, settings, sights, desk)?;
-    let behind = Shifted {
-        gate,
-        stages: settings.front.stages(),
-        first,
-    };
-    let replies = run_back::<F, Shifted<G>, T>(
-        rt,
-        alloc,
-        &settings.back,
-        snapshot,
-        cache,
-        tickets,
-        &behind,
-    )?;
-    write_replies(&replies, writer)
+    answer_tickets::<F, G, T, W>(rt, alloc, snapshot, settings, pages, gate, tickets, writer)
 }
 
 /// Serves messages: those within the limit.
@@ -117,7 +184,7 @@ fn serve_part<F: Tree + Send + Sync, G: Gate + Sync, T: Threads + Wait + Sync, W
     alloc: Global,
     snapshot: &Snapshot,
     settings: &Settings,
-    cache: &Mutex<PageCache<F>>,
+    pages: &Pages<F>,
     gate: &G,
     messages: Vec<Incoming>,
     desk: &mut Desk,
@@ -152,13 +219,13 @@ fn serve_part<F: Tree + Send + Sync, G: Gate + Sync, T: Threads + Wait + Sync, W
     let room = MOST_MESSAGES - desk.totals.answered;
     if messages.len() <= room {
         return serve_few::<F, G, T, W>(
-            rt, alloc, snapshot, settings, cache, gate, messages, desk, writer,
+            rt, alloc, snapshot, settings, pages, gate, messages, desk, writer,
         );
     }
     let mut within = messages;
     within.truncate(room);
     serve_few::<F, G, T, W>(
-        rt, alloc, snapshot, settings, cache, gate, within, desk, writer,
+        rt, alloc, snapshot, settings, pages, gate, within, desk, writer,
     )?;
     Err(ReplayFault::TooMany(MOST_MESSAGES))
 }
@@ -174,7 +241,7 @@ pub(crate) fn serve_parts<
     alloc: Global,
     snapshot: &Snapshot,
     settings: &Settings,
-    cache: &Mutex<PageCache<F>>,
+    pages: &Pages<F>,
     gate: &G,
     parts: Vec<Series<Incoming>>,
     desk: &mut Desk,
@@ -212,7 +279,7 @@ pub(crate) fn serve_parts<
             alloc,
             snapshot,
             settings,
-            cache,
+            pages,
             gate,
             part.into_vec(),
             desk,

@@ -10,6 +10,7 @@ ghost use Rattle.replay.specs.Serving.{ServesMore, ServesFull, ServesInPart};
 ghost use Rattle.replay.specs.Waiting.{ComeNext, Waiting, connections_of};
 
 use crate::desk::Desk;
+use crate::groups::{Pages, room_for_pages};
 use crate::outcome::Outcome;
 use crate::plain::{outcome_of, write_first_line, write_last_line};
 use crate::serving::serve_parts;
@@ -33,7 +34,7 @@ fn serve_batch<F: Tree + Send + Sync, G: Gate + Sync, T: Threads + Wait + Sync, 
     alloc: Global,
     snapshot: &Snapshot,
     settings: &Settings,
-    cache: &Mutex<PageCache<F>>,
+    pages: &Pages<F>,
     gate: &G,
     seats: Seats,
     origins: &[Origin],
@@ -66,7 +67,7 @@ fn serve_batch<F: Tree + Send + Sync, G: Gate + Sync, T: Threads + Wait + Sync, 
     let pieces = seats.merge(alloc, origins)?;
     let parts = parts_of(alloc, pieces)?;
     serve_parts::<F, G, T, W>(
-        rt, alloc, snapshot, settings, cache, gate, parts, desk, writer,
+        rt, alloc, snapshot, settings, pages, gate, parts, desk, writer,
     )?;
     Ok(seats)
 }
@@ -127,7 +128,10 @@ pub fn staged_replay<
         controller: Controller::new(alloc, settings.policies)?,
         totals: Totals::new(alloc),
     };
-    let cache = Mutex::new(PageCache::<F>::new(alloc, settings.cache, snapshot.len())?);
+    let pages = Pages {
+        cache: Mutex::new(PageCache::<F>::new(alloc, settings.cache, snapshot.len())?),
+        room: room_for_pages(snapshot, settings.cache),
+    };
     loop {
         let batch = read_batch(alloc, &mut capture, settings.batch, &mut seats, &mut tiers)?;
         seats = serve_batch::<F, G, T, W>(
@@ -135,7 +139,7 @@ pub fn staged_replay<
             alloc,
             snapshot,
             settings,
-            &cache,
+            &pages,
             gate,
             seats,
             &batch.origins,

@@ -1,4 +1,4 @@
-use Rattle.std.proofs.Common.{◌∙◌, sym, ap}
+use Rattle.std.proofs.Common.{◌∙◌, sym, ap, refl}
 use Rattle.replay.specs.Choices.{Choice, terms_of}
 use Rattle.replay.proofs.Upcoming.{none_stands, none_written, sighted_are, replies_are, ok_all, ok_more, err_more, unwritten, no_messages}
 use Rattle.replay.proofs.serving.serve_few.Goals as goal
@@ -20,24 +20,19 @@ decide_all-requires-clause-arrived g c =
 pub returns-in_err-tickets-clause-part : goal.returns-in_err-tickets-clause-part
 returns-in_err-tickets-clause-part g c = unwritten _ _ _ _ c.args.writer.now.0
 
-pub returns-in_err-replies-clause-part : goal.returns-in_err-replies-clause-part
-returns-in_err-replies-clause-part g c = unwritten _ _ _ _ c.args.writer.now.0
-
 pub returns-clause-stands : goal.returns-clause-stands
-returns-clause-stands g c = ok_all c.write_replies.result _ (λ arrivals more up. c.in_ok-tickets.ensures.stands arrivals more up.stands (sighted_are _ _ _ more _ _ (ap (λ (s : Choice). s.costs) c.settings.view_is) up.are c.in_ok-sights.ensures))
+returns-clause-stands g c = ok_all c.answer_tickets.result _ (λ arrivals more up. c.in_ok-tickets.ensures.stands arrivals more up.stands (sighted_are _ _ _ more _ _ (ap (λ (s : Choice). s.costs) c.settings.view_is) up.are c.in_ok-sights.ensures))
 
 pub returns-clause-written : goal.returns-clause-written
-returns-clause-written g c = ok_more c.write_replies.result _ _
+returns-clause-written g c = ok_more c.answer_tickets.result _ _
     (λ written arrivals more up.
     (let slips = c.in_ok-tickets.ensures.slips arrivals more up.stands (sighted_are _ _ _ more _ _ (ap (λ (s : Choice). s.costs) c.settings.view_is) up.are c.in_ok-sights.ensures) in
-    let replies = c.deref.ensures.value ∙ replies_are _ (terms_of g.F.Tree.files c.args.settings.now) c.args.desk.now.start _ _ _ slips c.in_ok-replies.ensures in
-    rw (← replies) written))
-    c.write_replies.ensures.written
+    rw (replies_are _ (terms_of g.F.Tree.files c.args.settings.now) c.args.desk.now.start _ _ _ slips refl) at written))
+    c.answer_tickets.ensures.written
 
 pub returns-clause-part : goal.returns-clause-part
-returns-clause-part g c = err_more c.write_replies.result _ _
+returns-clause-part g c = err_more c.answer_tickets.result _ _
     (λ part arrivals more up.
     (let slips = c.in_ok-tickets.ensures.slips arrivals more up.stands (sighted_are _ _ _ more _ _ (ap (λ (s : Choice). s.costs) c.settings.view_is) up.are c.in_ok-sights.ensures) in
-    let replies = c.deref.ensures.value ∙ replies_are _ (terms_of g.F.Tree.files c.args.settings.now) c.args.desk.now.start _ _ _ slips c.in_ok-replies.ensures in
-    rw (← replies) part))
-    c.write_replies.ensures.part
+    rw (replies_are _ (terms_of g.F.Tree.files c.args.settings.now) c.args.desk.now.start _ _ _ slips refl) at part))
+    c.answer_tickets.ensures.part

@@ -13,13 +13,13 @@ use Rattle.replay.specs.Waiting.{Waiting, connections_of}
 use Rattle.replay.proofs.staged.staged_replay.Given as goal
 
 -- some records were read, the messages that arrived with them are answered, and nothing waits
-abbrev pub invariant-loop-cache : goal.invariant-loop-cache
-invariant-loop-cache g l =
+abbrev pub invariant-loop-pages : goal.invariant-loop-pages
+invariant-loop-pages g l =
     ((v : Version) × (records : List Record) × (arrivals : List Arrival) × Fits v l.fn.reader.0 l.desk.start records l.capture.progress l.capture.input.now.0
     × Serves (terms_of g.F.Tree.files l.settings) records arrivals (connections_of l.seats) l.desk × AreTiers records l.tiers
     × Appends l.fn.writer.0 l.writer.0 (text_before_stop (replies_of (terms_of g.F.Tree.files l.settings) l.desk.start (handled (terms_of g.F.Tree.files l.settings) arrivals))))
     × (l.capture.input.ghost_name ≡ l.initial.capture.input.ghost_name) × (l.capture.input.now.1 ≡ l.fn.reader.1) × (l.writer.1 ≡ l.fn.writer.1)
     × (l.desk.start ≤ 4102444800) × Waiting [] l.seats
 
-abbrev pub decreases-loop-cache : goal.decreases-loop-cache
-decreases-loop-cache g l = l.capture.progress.room
+abbrev pub decreases-loop-pages : goal.decreases-loop-pages
+decreases-loop-pages g l = l.capture.progress.room

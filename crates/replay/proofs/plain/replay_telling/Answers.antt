@@ -1,24 +1,23 @@
 use Rattle.std.proofs.Common.{◌∙◌, [], ◌∷◌, ◌++◌, ℕ, List, Option, refl, sym, ap, subst, inl, inr, rules}
 use Rattle.std.specs.Io.KnownBytes.{Appends}
 use Rattle.replay.specs.Choices.{terms_of}
-use Rattle.replay.specs.Offers.{handled}
-use Rattle.replay.specs.Replies.{replies_of, text_before_stop}
-use Rattle.replay.specs.Outcomes.{Stops, IsCutShort}
+use Rattle.replay.specs.Outcomes.{StopsTelling, IsCutOff}
+use Rattle.replay.proofs.Texts.{text_begun, text_told}
 use Rattle.replay.proofs.Writing.{part_all}
 use Rattle.replay.proofs.Judging.{stands_none, cut_short, passed_on, on_many, on_cut}
 use Rattle.arrivals.proofs.Gathering.{gave_some}
-use Rattle.replay.proofs.Server.{serves_none, no_tiers, first_written, more_written, sizes_left, is_later, gave_end, answers_all, ends_in_part, told, told_short, own_capture, stops_first, stops_told, stops_full, short_among, short_part}
-use Rattle.replay.proofs.plain.plain_replay.Goals as goal
+use Rattle.replay.proofs.Server.{serves_none, no_tiers, sizes_left, is_later, gave_end, all_told, ends_short, told, told_short, own_capture, halts_first, halts_told, halts_full, cut_among, cut_part}
+use Rattle.replay.proofs.plain.replay_telling.Goals as goal
 
 pub returns-in-Err-clause-stops : goal.returns-in-Err-clause-stops
-returns-in-Err-clause-stops g c = rw c.from.ensures (told _ (Stops (terms_of g.F.Tree.files c.args.settings.now) c.args.reader.now.0 _ c.args.writer.now.0 c.write_first_line.new.writer.0)
-    (stops_first (terms_of g.F.Tree.files c.args.settings.now) c.args.reader.now.0 _ c.args.writer.now.0 c.write_first_line.new.writer.0 _ c.in_ok-write_first_line.ensures.written c.in-Err.ensures.at c.in-Err.ensures.fault))
+returns-in-Err-clause-stops g c = rw c.from.ensures (told _ (StopsTelling (g.T.Tells.telling (terms_of g.F.Tree.files c.args.settings.now)) c.args.reader.now.0 _ c.args.writer.now.0 c.begin.new.writer.0)
+    (halts_first (g.T.Tells.telling (terms_of g.F.Tree.files c.args.settings.now)) c.args.reader.now.0 _ c.args.writer.now.0 c.begin.new.writer.0 _ (c.in_ok-begin.ensures.written (terms_of g.F.Tree.files c.args.settings.now)) c.in-Err.ensures.at c.in-Err.ensures.fault))
 
 pub returns-in-Err-clause-part : goal.returns-in-Err-clause-part
-returns-in-Err-clause-part g c = rw c.from.ensures (told_short _ (IsCutShort (terms_of g.F.Tree.files c.args.settings.now) c.args.reader.now.0 c.args.writer.now.0 c.write_first_line.new.writer.0) (inl (part_all c.args.writer.now.0 c.write_first_line.new.writer.0 _ c.in_ok-write_first_line.ensures.written)))
+returns-in-Err-clause-part g c = rw c.from.ensures (told_short _ (IsCutOff (g.T.Tells.telling (terms_of g.F.Tree.files c.args.settings.now)) c.args.reader.now.0 c.args.writer.now.0 c.begin.new.writer.0) (inl (part_all c.args.writer.now.0 c.begin.new.writer.0 _ (c.in_ok-begin.ensures.written (terms_of g.F.Tree.files c.args.settings.now)))))
 
 pub returns-in_err-new-clause-part : goal.returns-in_err-new-clause-part
-returns-in_err-new-clause-part g c = cut_short c.from_residual-in_err-new.result _ (inl (part_all c.args.writer.now.0 c.write_first_line.new.writer.0 _ c.in_ok-write_first_line.ensures.written))
+returns-in_err-new-clause-part g c = cut_short c.from_residual-in_err-new.result _ (inl (part_all c.args.writer.now.0 c.begin.new.writer.0 _ (c.in_ok-begin.ensures.written (terms_of g.F.Tree.files c.args.settings.now))))
 
 pub loop-next-init : goal.loop-next-init
 loop-next-init g c =
@@ -30,24 +29,24 @@ loop-next-init g c =
         rw c.start.ensures c.in-Ok.ensures.ok,
         serves_none terms c.new-connections.result _ c.new-connections.ensures (stands_none terms _ (c.in_ok-new.ensures.policies ∙ ap (λ s. s.policies) c.settings.view_is) c.in_ok-new.ensures.fits c.new-2.ensures),
         no_tiers c.new-tiers.result c.new-tiers.ensures,
-        first_written terms c.start.result c.args.writer.now.0 c.write_first_line.new.writer.0 c.in_ok-write_first_line.ensures.written,
+        text_begun (g.T.Tells.telling terms) c.start.result c.args.writer.now.0 c.begin.new.writer.0 (c.in_ok-begin.ensures.texts terms) (c.in_ok-begin.ensures.written terms),
       ),
       refl,
       c.in-Ok.ensures.count,
-      c.in_ok-write_first_line.ensures.failures,
+      c.in_ok-begin.ensures.failures,
       rw c.start.ensures c.in-Ok.ensures.ok.rules.in_time,
     )
 
 pub returns-in-Err-next_record-clause-stops : goal.returns-in-Err-next_record-clause-stops
 returns-in-Err-next_record-clause-stops g c =
     let inv = c.loop-next.invariant.0 in
-    stops_told (terms_of g.F.Tree.files c.args.settings.now) inv.0 c.args.reader.now.0 _ _ c.next_record.new.self.input.now.0 _ _ _ inv.1 inv.2 _ _ _ c.in-Err-next_record.fault c.from-in-Err-next_record.result c.from-in-Err-next_record.ensures inv.3 inv.4 inv.6
+    halts_told (g.T.Tells.telling (terms_of g.F.Tree.files c.args.settings.now)) (terms_of g.F.Tree.files c.args.settings.now) inv.0 c.args.reader.now.0 _ _ c.next_record.new.self.input.now.0 _ _ _ inv.1 inv.2 _ _ _ c.in-Err-next_record.fault c.from-in-Err-next_record.result c.from-in-Err-next_record.ensures inv.3 inv.4 inv.6
     (c.in-Err-next_record.ensures.next _ _ _ _ inv.3) (c.in-Err-next_record.ensures.failed _ _ _ _ inv.3) (search rules)
 
 pub returns-in-Err-next_record-clause-part : goal.returns-in-Err-next_record-clause-part
 returns-in-Err-next_record-clause-part g c =
     let inv = c.loop-next.invariant.0 in
-    rw c.from-in-Err-next_record.ensures (told_short _ (IsCutShort (terms_of g.F.Tree.files c.args.settings.now) c.args.reader.now.0 c.args.writer.now.0 c.loop-next.writer.0) (short_among (terms_of g.F.Tree.files c.args.settings.now) _ _ _ _ _ _ _ _ _ _ _ inv.3 inv.4 inv.6))
+    rw c.from-in-Err-next_record.ensures (told_short _ (IsCutOff (g.T.Tells.telling (terms_of g.F.Tree.files c.args.settings.now)) c.args.reader.now.0 c.args.writer.now.0 c.loop-next.writer.0) (cut_among (g.T.Tells.telling (terms_of g.F.Tree.files c.args.settings.now)) (terms_of g.F.Tree.files c.args.settings.now) _ _ _ _ _ _ _ _ _ _ _ inv.3 inv.4 inv.6))
 
 pub answer_record-requires-clause-record : goal.answer_record-requires-clause-record
 answer_record-requires-clause-record g c = (c.loop-next.capture.progress.version, rw c.in-Ok-Some.field-0-is at c.in-Ok-Some.ensures.limits)
@@ -73,7 +72,7 @@ returns-in_err-answer_record-clause-many g c =
     let fits = gave_some inv.0 _ _ _ inv.1 _ _ _ c.in-Ok-Some.field-0-is (c.in-Ok-Some.ensures.next _ _ _ _ inv.3) in
     passed_on c.from_residual-in_err-answer_record.result _ _
     (λ f same. rw same (on_many c.in_err-answer_record.field-0.0 _ _
-    (λ n full. stops_full (terms_of g.F.Tree.files c.args.settings.now) inv.0 _ _ _ _ _ _ n inv.1 inv.2 (c.in-Ok-Some.next ∷ []) _ fits inv.6 full.0 (full.1 inv.1 inv.2 inv.5 inv.4))
+    (λ n full. halts_full (g.T.Tells.telling (terms_of g.F.Tree.files c.args.settings.now)) inv.0 _ _ _ _ _ _ n inv.1 inv.2 (c.in-Ok-Some.next ∷ []) _ (c.in_ok-begin.ensures.texts (terms_of g.F.Tree.files c.args.settings.now)) fits inv.6 full.0 (full.1 inv.1 inv.2 inv.5 inv.4))
     c.in_err-answer_record.ensures.many))
     c.from_residual-in_err-answer_record.ensures.1
 
@@ -85,9 +84,9 @@ returns-in_err-answer_record-clause-part g c =
     passed_on c.from_residual-in_err-answer_record.result _ _
     (λ f same. rw same (on_cut c.in_err-answer_record.field-0.0 _ _
     (λ short. elim short [
-      | inl none ↦ short_among terms _ _ _ _ _ _ _ _ _ _ _ inv.3 inv.4
-          (subst (λ (w : Option (List ℕ)). Appends c.args.writer.now.0 w (text_before_stop (replies_of terms c.loop-next.desk.start (handled terms inv.2)))) (sym none) inv.6)
-      | inr part ↦ short_part terms inv.0 _ _ _ _ _ _ inv.1 inv.2 (c.in-Ok-Some.next ∷ []) _ fits inv.6 (part inv.1 inv.2 inv.5 inv.4)
+      | inl none ↦ cut_among (g.T.Tells.telling terms) terms _ _ _ _ _ _ _ _ _ _ _ inv.3 inv.4
+          (subst (λ (w : Option (List ℕ)). Appends c.args.writer.now.0 w ((g.T.Tells.telling terms).so_far c.loop-next.desk.start inv.2)) (sym none) inv.6)
+      | inr part ↦ cut_part (g.T.Tells.telling terms) inv.0 _ _ _ _ _ _ inv.1 inv.2 (c.in-Ok-Some.next ∷ []) _ (c.in_ok-begin.ensures.texts (terms_of g.F.Tree.files c.args.settings.now)) fits inv.6 (part inv.1 inv.2 inv.5 inv.4)
     ])
     c.in_err-answer_record.ensures.part))
     c.from_residual-in_err-answer_record.ensures.1
@@ -106,7 +105,7 @@ loop-next-preserved-in_ok-answer_record g c =
         rw one.start (gave_some own.0 _ _ _ own.1 _ _ _ c.in-Ok-Some.field-0-is (c.in-Ok-Some.ensures.next _ _ _ _ own.3)),
         more.serves,
         one.tiers own.1 own.5,
-        rw one.start (more_written terms c.loop-next.desk.start own.2 more.more _ _ _ own.6 (rw one.start at more.written)),
+        rw one.start (text_told (g.T.Tells.telling terms) c.loop-next.desk.start own.2 more.more _ _ _ (c.in_ok-begin.ensures.texts terms) own.6 (rw one.start at more.written)),
       ),
       c.in-Ok-Some.ensures.same ∙ inv.1,
       c.in-Ok-Some.ensures.count ∙ inv.2,
@@ -128,7 +127,7 @@ loop-next-preserved g c =
         rw one.start (gave_some own.0 _ _ _ own.1 _ _ _ c.in-Ok-Some.field-0-is (c.in-Ok-Some.ensures.next _ _ _ _ own.3)),
         more.serves,
         one.tiers own.1 own.5,
-        rw one.start (more_written terms c.loop-next.desk.start own.2 more.more _ _ _ own.6 (rw one.start at more.written)),
+        rw one.start (text_told (g.T.Tells.telling terms) c.loop-next.desk.start own.2 more.more _ _ _ (c.in_ok-begin.ensures.texts terms) own.6 (rw one.start at more.written)),
       ),
       c.in-Ok-Some.ensures.same ∙ inv.1,
       c.in-Ok-Some.ensures.count ∙ inv.2,
@@ -139,19 +138,19 @@ loop-next-preserved g c =
 pub returns-in_err-outcome-clause-part : goal.returns-in_err-outcome-clause-part
 returns-in_err-outcome-clause-part g c =
     let inv = c.loop-next.invariant.0 in
-    cut_short c.from_residual-in_err-outcome.result _ (short_among (terms_of g.F.Tree.files c.args.settings.now) _ _ _ _ _ _ _ _ _ _ _ inv.3 inv.4 inv.6)
+    cut_short c.from_residual-in_err-outcome.result _ (cut_among (g.T.Tells.telling (terms_of g.F.Tree.files c.args.settings.now)) (terms_of g.F.Tree.files c.args.settings.now) _ _ _ _ _ _ _ _ _ _ _ inv.3 inv.4 inv.6)
 
-pub returns-in_err-write_last_line-clause-part : goal.returns-in_err-write_last_line-clause-part
-returns-in_err-write_last_line-clause-part g c =
+pub returns-in_err-finish-clause-part : goal.returns-in_err-finish-clause-part
+returns-in_err-finish-clause-part g c =
     let inv = c.loop-next.invariant.0 in
-    cut_short c.from_residual-in_err-write_last_line.result _
-    (ends_in_part (terms_of g.F.Tree.files c.args.settings.now) inv.0 _ _ inv.1 inv.2 _ _ _ _ _ _ inv.3.rules
-    (gave_end inv.0 _ _ _ inv.1 _ _ c.in-Ok-None.field-0-is (c.in-Ok-None.ensures.next _ _ _ _ inv.3)) inv.4 inv.6 c.in_err-write_last_line.ensures.part refl)
+    cut_short c.from_residual-in_err-finish.result _
+    (ends_short (g.T.Tells.telling (terms_of g.F.Tree.files c.args.settings.now)) (terms_of g.F.Tree.files c.args.settings.now) inv.0 _ _ inv.1 inv.2 _ _ _ _ _ _ (c.in_ok-begin.ensures.texts (terms_of g.F.Tree.files c.args.settings.now)) inv.3.rules
+    (gave_end inv.0 _ _ _ inv.1 _ _ c.in-Ok-None.field-0-is (c.in-Ok-None.ensures.next _ _ _ _ inv.3)) inv.4 inv.6 (c.in_err-finish.ensures.part (terms_of g.F.Tree.files c.args.settings.now)) refl)
 
 pub returns-clause-ok : goal.returns-clause-ok
 returns-clause-ok g c =
     let inv = c.loop-next.invariant.0 in
     let terms = terms_of g.F.Tree.files c.args.settings.now in
-    answers_all terms inv.0 _ c.loop-next.desk.totals.answered inv.1 inv.2 c.loop-next.connections c.loop-next.desk _ _ _ _ _ inv.3.rules
-    (gave_end inv.0 _ _ _ inv.1 _ _ c.in-Ok-None.field-0-is (c.in-Ok-None.ensures.next _ _ _ _ inv.3)) inv.4 inv.6 c.in_ok-write_last_line.ensures.written refl
+    all_told (g.T.Tells.telling terms) terms inv.0 _ c.loop-next.desk.totals.answered inv.1 inv.2 c.loop-next.connections c.loop-next.desk _ _ _ _ _ (c.in_ok-begin.ensures.texts terms) inv.3.rules
+    (gave_end inv.0 _ _ _ inv.1 _ _ c.in-Ok-None.field-0-is (c.in-Ok-None.ensures.next _ _ _ _ inv.3)) inv.4 inv.6 (c.in_ok-finish.ensures.written terms) refl
     c.in_ok-outcome.ensures.rejected (c.in_ok-outcome.ensures.summary terms inv.2 inv.4.stands)

@@ -1,0 +1,180 @@
+-- The row of one more message, and the rows of more.
+use Rattle.std.proofs.Common.{◌≡◌, ℕ, ◌+◌, ◌-◌, max, Bool, true, false, List, [], ◌∷◌, ◌++◌, ◌||◌, map, Option, Some, refl, sym, ap, ◌∙◌, append-nil, append_assoc, arith}
+use Rattle.std.specs.Prelude.{if◌then◌else◌}
+use Rattle.std.specs.List.{list_any}
+use Rattle.std.specs.Option.{option_map}
+use Rattle.paths.specs.Targets.{asked}
+use Rattle.paths.specs.Resolution.{outcome}
+use Rattle.paths.specs.Snapshots.{file_of}
+use Rattle.paths.specs.declared.file.File.{File}
+use Rattle.paths.specs.declared.outcome.Outcome.{Outcome}
+use Rattle.paths.specs.declared.outcome.Outcome.TheVariants as outcomes
+use Rattle.cost_model.specs.Services.{CostTable}
+use Rattle.http_requests.specs.declared.messages.Fault.TheVariants as faults
+use Rattle.http_requests.specs.declared.messages.What.{What as Meaning}
+use Rattle.http_requests.specs.declared.messages.What.TheVariants.{Request, Bad}
+use Rattle.admission.specs.declared.control.Outlook.{Outlook}
+use Rattle.admission.specs.declared.control.Decision.TheVariants.{Admitted, Rejected}
+use Rattle.admission.specs.Rules.{Rules}
+use Rattle.admission.specs.Requests.{Offer, served, last_finish, finish_behind, is_rejected}
+use Rattle.admission.specs.Decisions.{decide, decided, outlook}
+use Rattle.admission.specs.Fits.{Fits}
+use Rattle.admission.specs.Standing.{policies_of}
+use Rattle.admission.proofs.RequestLemmas.{last_finish-push}
+use Rattle.responses.specs.Replies.{status_of}
+use Rattle.responses.specs.declared.what.What.{What as Given}
+use Rattle.responses.specs.declared.slip.Slip.{Slip}
+use Rattle.explaining.specs.declared.row.Row.{Row}
+use Rattle.explaining.specs.Rows.{heading, row_text}
+use Rattle.arrivals.specs.Arrivals.{Arrival}
+use Rattle.arrivals.specs.declared.origin.Origin.{Origin}
+use Rattle.replay.specs.Choices.{Terms}
+use Rattle.replay.specs.Answers.{given, outcome_answer, is_unmodified, is_head}
+use Rattle.replay.specs.Offers.{service_of, offer_at, offers_of, rejects, is_turned_away, handled_next}
+use Rattle.replay.specs.Replies.{slip_of}
+use Rattle.replay.specs.Fronts.{sight_of}
+use Rattle.replay.specs.Serving.{Stands}
+use Rattle.replay.specs.Telling.{IsTelling}
+use Rattle.replay.specs.Explaining.{first_offered, row_of, method_of, target_of, row_behind, rows_behind, table, rows_told}
+use Rattle.replay.specs.Rowing.{service_in, turns_away, offered_with}
+use Rattle.replay.specs.declared.desk.Desk.{Desk}
+use Rattle.replay.specs.declared.sight.Sight.{Sight}
+use Rattle.replay.specs.Laws.{is_told_rejected, RowsAgree, StartsOnceFree}
+use Rattle.replay.proofs.SameAnswer.{status_same}
+use Rattle.replay.proofs.Offering.{finish_is}
+
+-- ---- rows after rows
+
+rows_more : (terms : Terms) (earlier first more : List Arrival) → rows_behind terms earlier (first ++ more) ≡ rows_behind terms earlier first ++ rows_behind terms (earlier ++ first) more
+unfolding rows_behind
+rows_more terms earlier [] more = rw (append-nil earlier) refl
+rows_more terms earlier (a ∷ first) more =
+    let e : (earlier ++ a ∷ []) ++ first ≡ earlier ++ a ∷ first = append_assoc earlier (a ∷ []) first in
+    ap (λ v. row_behind terms earlier a ++ v) (rows_more terms (earlier ++ a ∷ []) first more ∙ ap (λ past. rows_behind terms (earlier ++ a ∷ []) first ++ rows_behind terms past more) e)
+    ∙ sym (append_assoc (row_behind terms earlier a) (rows_behind terms (earlier ++ a ∷ []) first) (rows_behind terms (earlier ++ a ∷ first) more))
+
+rows_none : (terms : Terms) (earlier : List Arrival) → rows_behind terms earlier [] ≡ []
+unfolding rows_behind
+rows_none terms earlier = refl
+
+rows_one : (terms : Terms) (earlier : List Arrival) (a : Arrival) → rows_behind terms earlier (a ∷ []) ≡ row_behind terms earlier a
+unfolding rows_behind
+rows_one terms earlier a = append-nil (row_behind terms earlier a)
+
+-- the rows are told from the heading on
+pub rows_laws : (terms : Terms) → IsTelling (rows_told terms)
+rows_laws terms = record {
+  begins = λ start. ap (λ v. heading ++ v) (rows_none terms []) ∙ append-nil heading;
+  goes_on = λ start arrivals more. ap (λ v. heading ++ v) (rows_more terms [] arrivals more) ∙ sym (append_assoc heading (rows_behind terms [] arrivals) (rows_behind terms arrivals more));
+  none = λ start. rows_none terms;
+  more = λ start. rows_more terms;
+  ends = λ start arrivals. sym (append-nil (table terms arrivals));
+}
+
+-- ---- what became of a message
+
+-- no answer turns a request away
+if_answered : {X : Type 0} (t : Bool) (x y : Given X) → turns_away x ≡ false → turns_away y ≡ false → turns_away (if t then x else y) ≡ false
+if_answered true x y one other = one
+if_answered false x y one other = other
+
+answered : (X : Type 0) (files : List File) (head : Bool) (since : Option ℕ) (o : Outcome) → turns_away (outcome_answer {X = X} files head since o) ≡ false
+answered X files head since (outcomes.File file) =
+    if_answered (is_unmodified since (file_of files file).mtime) _ _ refl (if_answered head _ _ refl refl)
+answered X files head since (outcomes.Move location) = refl
+answered X files head since outcomes.Missing = refl
+answered X files head since outcomes.BadTarget = refl
+answered X files head since outcomes.NotAllowed = refl
+answered X files head since outcomes.NotKnown = refl
+
+away_is : (X : Type 0) (terms : Terms) (away : Bool) (what : Meaning) → turns_away (given {X = X} terms away what) ≡ away
+away_is X terms true what = refl
+away_is X terms false (Request method target version closing since) = answered X terms.files (is_head method) since (outcome terms.files (asked method target))
+away_is X terms false (Bad faults.TooLong) = refl
+away_is X terms false (Bad faults.Block) = refl
+away_is X terms false (Bad faults.Host) = refl
+away_is X terms false (Bad faults.Coding) = refl
+away_is X terms false (Bad faults.Length) = refl
+away_is X terms false (Bad faults.BodySize) = refl
+
+-- the decision on an offer, by whether it is turned away
+by_away : (enough : Bool) (own : ℕ) (away : Bool) → away ≡ is_rejected (if enough then (Admitted own) else Rejected)
+    → (if away then Rejected else (Admitted own)) ≡ (if enough then (Admitted own) else Rejected)
+by_away true own away e = rw e refl
+by_away false own away e = rw e refl
+
+alone : (t : Bool) → (t || false) ≡ t
+alone true = refl
+alone false = refl
+
+decision_is : (policies : List Rules) (offers : List Offer) (offer : Offer) (away : Bool) → away ≡ list_any (rejects policies offers) (offer ∷ [])
+    → (if away then Rejected else (Admitted (max (last_finish (map (λ r. r.offer) (served (decided policies offers)))) offer.tick + offer.service))) ≡ decide policies (decided policies offers) offer
+unfolding rejects
+decision_is policies offers offer away e =
+    let d = decide policies (decided policies offers) offer in
+    let any : list_any (rejects policies offers) (offer ∷ []) ≡ (is_rejected d || false) = refl in
+    rw (← last_finish-push (map (λ r. r.offer) (served (decided policies offers))) offer)
+    (by_away _ _ away (e ∙ any ∙ alone (is_rejected d)))
+
+offered_is : (terms : Terms) (arrivals : List Arrival) (origin : Origin) (what : Meaning) (service : Option ℕ) (found : Outlook) (away : Bool)
+    → service ≡ service_in (sight_of terms.files terms.costs what) → found ≡ outlook terms.policies (decided terms.policies (offers_of terms arrivals)) origin.tier origin.tick
+    → away ≡ list_any (rejects terms.policies (offers_of terms arrivals)) (offer_at terms origin what)
+    → option_map (λ s. offered_with found origin.tick s away) service ≡ first_offered terms arrivals (offer_at terms origin what)
+offered_is terms arrivals origin (Request method target version closing since) service found away costs finds is =
+    let decision = decision_is terms.policies (offers_of terms arrivals) _ away is in
+    rw (costs, finds) (ap (λ d. Some (record { service = service_of terms (is_head method) since (outcome terms.files (asked method target)); found = outlook terms.policies (decided terms.policies (offers_of terms arrivals)) origin.tier origin.tick; decision = d })) decision)
+offered_is terms arrivals origin (Bad fault) service found away costs finds is = rw costs refl
+
+pub row_is : (X : Type 0) (terms : Terms) (start : ℕ) (arrivals : List Arrival) (a : Arrival) (origin : Origin) (service : Option ℕ) (found : Outlook) (slip : Slip X) (row : Row)
+    → a.origin ≡ origin → service ≡ service_in (sight_of terms.files terms.costs a.message.what)
+    → found ≡ outlook terms.policies (decided terms.policies (offers_of terms arrivals)) origin.tier origin.tick → slip ≡ slip_of terms start (handled_next terms arrivals a)
+    → row ≡ record { number = slip.number; conn = slip.conn; tick = origin.tick; tier = origin.tier; status = status_of slip.what; offered = option_map (λ s. offered_with found origin.tick s (turns_away slip.what)) service }
+    → row ≡ row_of terms arrivals a
+row_is X terms start arrivals a origin service found slip row from costs finds slips is =
+    let away = is_turned_away terms arrivals a in
+    let told = offered_is terms arrivals a.origin a.message.what service found away costs (rw from finds) refl in
+    is ∙ rw (slips, ← from, away_is X terms away a.message.what, status_same X (Unit {0}) terms away a.message.what, told) refl
+
+-- ---- one row written
+
+-- what the desk foresees
+pub foreseen : (terms : Terms) (arrivals : List Arrival) (desk : Desk) (found : Outlook) (tier tick : ℕ) → Stands terms arrivals desk
+    → ((offers : List Offer) → Fits offers desk.controller → found ≡ outlook (policies_of desk.controller) (decided (policies_of desk.controller) offers) tier tick)
+    → found ≡ outlook terms.policies (decided terms.policies (offers_of terms arrivals)) tier tick
+foreseen terms arrivals desk found tier tick stands finds = rw stands.policies at (finds (offers_of terms arrivals) stands.fits)
+
+pub row_written : (terms : Terms) (arrivals : List Arrival) (a : Arrival) (row : Row) (what : Meaning) (method target : List ℕ) → row ≡ row_of terms arrivals a → a.message.what ≡ what
+    → method ≡ method_of what → target ≡ target_of what → row_text row method target ≡ rows_behind terms arrivals (a ∷ [])
+unfolding row_behind
+row_written terms arrivals a row what method target is meaning methods targets =
+    ap (λ r. row_text r method target) is ∙ ap (λ m. row_text (row_of terms arrivals a) m target) (methods ∙ ap method_of (sym meaning))
+    ∙ ap (λ t. row_text (row_of terms arrivals a) (method_of a.message.what) t) (targets ∙ ap target_of (sym meaning)) ∙ sym (rows_one terms arrivals a)
+
+-- how long a message takes, as it was looked into
+pub costs_known : (snapshot files : List File) (costs table : CostTable) (said what : Meaning) (sight : Sight) (service : Option ℕ)
+    → service ≡ service_in sight → sight ≡ sight_of snapshot costs said → snapshot ≡ files → costs ≡ table → what ≡ said → service ≡ service_in (sight_of files table what)
+costs_known snapshot files costs table said what sight service is sees same tables meaning =
+    is ∙ ap service_in sees ∙ ap (λ f. service_in (sight_of f costs said)) same ∙ ap (λ t. service_in (sight_of files t said)) tables
+    ∙ ap (λ w. service_in (sight_of files table w)) (sym meaning)
+
+-- ---- what rows say
+
+rejected_told : (terms : Terms) (earlier : List Arrival) (origin : Origin) (what : Meaning)
+    → is_told_rejected (first_offered terms earlier (offer_at terms origin what)) ≡ list_any (rejects terms.policies (offers_of terms earlier)) (offer_at terms origin what)
+unfolding rejects
+rejected_told terms earlier origin (Request method target version closing since) = sym (alone (is_rejected (decide terms.policies (decided terms.policies (offers_of terms earlier)) _)))
+rejected_told terms earlier origin (Bad fault) = refl
+
+pub rows_agree : RowsAgree
+rows_agree terms earlier a = rejected_told terms earlier a.origin a.message.what
+
+pub starts_once_free : StartsOnceFree
+starts_once_free terms earlier offer finish admitted =
+    let past = decided terms.policies (offers_of terms earlier) in
+    let free = last_finish (map (λ r. r.offer) (served past)) in
+    let is : finish ≡ finish_behind (served past) offer = finish_is _ _ _ (sym admitted) in
+    let runs : finish_behind (served past) offer ≡ max free offer.tick + offer.service = last_finish-push (map (λ r. r.offer) (served past)) offer in
+    begins free offer.tick offer.service finish (is ∙ runs)
+  where
+    begins : (free tick service finish : ℕ) → finish ≡ max free tick + service → finish - service ≡ tick + (free - tick)
+    begins free tick service finish e = omega (arith, e)

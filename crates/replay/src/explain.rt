@@ -1,0 +1,51 @@
+ghost use Rattle.std.specs.Prelude.{◌≡◌, ◌-◌, ◌<◌, ◌^◌, IfOk, IfErr};
+ghost use Rattle.replay.specs.Choices.{terms_of};
+ghost use Rattle.replay.specs.Explaining.{Explains, rows_told};
+ghost use Rattle.replay.specs.Outcomes.{IfCapture, IfTooMany, IfCutShort, StopsTelling, StopsBeyond, IsCutOff};
+ghost use Rattle.replay.specs.Outcomes.{CountsBy, reader_failures, writer_failures};
+
+use crate::outcome::Outcome;
+use crate::plain::replay_telling;
+use crate::rows::Rows;
+use crate::{ReplayFault, Settings};
+use paths::{Input, Output, Snapshot, Tree};
+use std::alloc::Global;
+use std::io::{Read, Write};
+
+/// Decides on the messages of a capture as a replay does, and writes no reply: a table in CSV, with a heading and a row
+/// for each message in the order of their arrival. The outcome is that of the replay. The heading is written before
+/// anything is read, and each row before the next record is read; no page is built, and no reply rendered.
+///
+/// # Errors
+///
+/// As [`crate::plain_replay`]: `Capture` with the capture's first fault, or where its reader failed; `TooMany` at
+/// message 1,048,576, counted from 0; `Write` where the writer failed; `Memory`. The rows of the messages of earlier
+/// records stand.
+pub fn explain_replay<F: Tree, R: Read, W: Write>(
+    alloc: Global,
+    snapshot: &Snapshot,
+    settings: &Settings,
+    reader: &mut Input<R>,
+    writer: &mut Output<W>,
+) -> Result<Outcome, ReplayFault>
+    requires snapshot { snapshot.now ≡ F.files }
+    requires reading { reader.old.1 < 2 ^ 64 - 1 }
+    requires writing { writer.old.1 < 2 ^ 64 - 1 }
+    // Read, and each other fault of the capture, only with the rows of the messages of the whole records before it.
+    ensures stops { IfErr result (λ f. IfCapture f
+        (StopsTelling (rows_told (terms_of F.files settings.now))
+        reader.old.0 reader.new.0 writer.old.0 writer.new.0)) }
+    // Too many messages, only with the rows of those within the limit.
+    ensures many { IfErr result (λ f. IfTooMany f
+        (StopsBeyond (rows_told (terms_of F.files settings.now)) reader.old.0 writer.old.0 writer.new.0)) }
+    // After a failed write and out of memory, a prefix of what was due stands.
+    ensures part { IfErr result (λ f. IfCutShort f
+        (IsCutOff (rows_told (terms_of F.files settings.now)) reader.old.0 writer.old.0 writer.new.0)) }
+    // A device is blamed only where it failed in this call.
+    ensures reads { CountsBy reader_failures reader.old.1 reader.new.1 result }
+    ensures writes { CountsBy writer_failures writer.old.1 writer.new.1 result }
+    ensures ok { IfOk result
+        (Explains (terms_of F.files settings.now) reader.old.0 writer.old.0 writer.new.0) }
+{
+    replay_telling::<Rows, F, R, W>(alloc, snapshot, settings, reader, writer)
+}

@@ -1,0 +1,85 @@
+ghost use Rattle.std.specs.Prelude.{◌≡◌, ◌++◌, IfOk};
+ghost use Rattle.replay.specs.Groups.{all_of};
+
+use crate::ticket::{Due, Ticket};
+use arrivals::Series;
+use page_cache::PageCache;
+use paths::{Snapshot, Tree};
+use std::alloc::{AllocError, Global};
+use std::sync::Mutex;
+
+/// How many bytes of pages the replies of a group hold at most, where the cache can't hold the pages of all files.
+const MOST_HELD: usize = 33_554_432;
+
+/// More bytes than a page has besides those of its file.
+const FIELDS: usize = 256;
+
+/// The pages that all workers share.
+#[derive(Drop)]
+pub struct Pages<F: Tree> {
+    pub cache: Mutex<PageCache<F>>,
+    /// How many bytes of pages the replies of a group may hold, each counted as often as it is due.
+    pub room: usize,
+}
+
+/// How many bytes of pages the replies of a group may hold. Where the cache has room for the pages of all files, each
+/// stands in memory once, however many replies share it.
+pub(crate) fn room_for_pages(snapshot: &Snapshot, cache: usize) -> usize {
+    let mut all: usize = 0;
+    for file in 0..snapshot.len() {
+        let page = snapshot.bytes(file).len().saturating_add(FIELDS);
+        all = all.saturating_add(page);
+    }
+    if all <= cache { usize::MAX } else { MOST_HELD }
+}
+
+/// How many bytes of a file the page of a ticket holds.
+fn page_len<F: Tree>(snapshot: &Snapshot, ticket: &Ticket<F>) -> usize {
+    match &ticket.due {
+        Due::Page { file, .. } if *file < snapshot.len() => snapshot.bytes(*file).len(),
+        _ => 0,
+    }
+}
+
+/// Puts a group after the others if it is full: what is left of it.
+fn laid_by<F: Tree>(
+    alloc: Global,
+    groups: &mut Vec<Series<Ticket<F>>>,
+    group: Vec<Ticket<F>>,
+    is_full: bool,
+) -> Result<Vec<Ticket<F>>, AllocError>
+    ensures { IfOk result (λ rest. all_of groups.new.items ++ rest.items ≡ all_of groups.old.items ++ group.items) }
+{
+    if !is_full {
+        return Ok(group);
+    }
+    groups.push(Series::from_vec(group))?;
+    Ok(Vec::new(alloc))
+}
+
+/// The tickets in groups, one after another, whose pages take no more than `room` bytes.
+pub(crate) fn groups_of<F: Tree>(
+    alloc: Global,
+    snapshot: &Snapshot,
+    room: usize,
+    tickets: Vec<Ticket<F>>,
+) -> Result<Vec<Series<Ticket<F>>>, AllocError>
+    ensures { IfOk result (λ groups. all_of groups.items ≡ tickets.items) }
+{
+    let mut groups = Vec::new(alloc);
+    let mut group = Vec::new(alloc);
+    let mut held: usize = 0;
+    for ticket in tickets {
+        let own = page_len(snapshot, &ticket);
+        let is_full = own > room.saturating_sub(held);
+        group = laid_by(alloc, &mut groups, group, is_full)?;
+        held = if is_full {
+            own
+        } else {
+            held.saturating_add(own)
+        };
+        group.push(ticket)?;
+    }
+    groups.push(Series::from_vec(group))?;
+    Ok(groups)
+}

@@ -1,0 +1,192 @@
+ghost use Rattle.std.specs.Prelude.{◌≡◌, ◌≤◌, ◌+◌, ◌*◌, ℕ, List, IfSome};
+ghost use Rattle.std.specs.Option.{option_map};
+ghost use Rattle.responses.specs.Replies.{status_of, plain_status};
+ghost use Rattle.admission.specs.Decisions.{decided, outlook};
+ghost use Rattle.arrivals.specs.Arrivals.{Arrival};
+ghost use Rattle.replay.specs.Choices.{Terms};
+ghost use Rattle.replay.specs.Offers.{handled_next, offers_of};
+ghost use Rattle.replay.specs.Replies.{slip_of};
+ghost use Rattle.replay.specs.Fronts.{sight_of};
+ghost use Rattle.replay.specs.Backs.{slip_of_ticket, told};
+ghost use Rattle.replay.specs.Explaining.{row_of, method_of, target_of};
+ghost use Rattle.replay.specs.Rowing.{service_in, turns_away, offered_with};
+
+use crate::answering::look_into;
+use crate::deciding::settle;
+use crate::desk::Desk;
+use crate::sight::Sight;
+use crate::telling::Tells;
+use crate::ticket::{Due, Ticket};
+use crate::{ReplayFault, Settings};
+use admission::{Decision, MAX_OFFERS, MAX_SERVICE, MAX_TICK, Outlook};
+use arrivals::Origin;
+use explaining::{Offered, Row, write_heading, write_row};
+use http_requests::What as Meaning;
+use paths::{Output, Snapshot, Tree};
+use responses::{Status, What};
+use std::alloc::Global;
+use std::io::Write;
+
+/// How long the server works on a message that was looked into, in ticks: nothing where it is no request.
+fn service_in(sight: &Sight) -> Option<u64>
+    ensures is { result ≡ service_in sight.now }
+    ensures range { IfSome result (λ service. service ≤ MAX_SERVICE) }
+{
+    match sight {
+        Sight::Priced(_, service) => Some(service.ticks()),
+        _ => None,
+    }
+}
+
+fn plain_status(status: Status) -> u16
+    ensures { result ≡ plain_status status }
+{
+    match status {
+        Status::BadRequest => 400,
+        Status::NotFound => 404,
+        Status::MethodNotAllowed => 405,
+        Status::ContentTooLarge => 413,
+        Status::NotImplemented => 501,
+        Status::ServiceUnavailable { .. } => 503,
+    }
+}
+
+/// The status that a message is answered with.
+fn status_of<F: Tree>(due: &Due<F>) -> u16
+    ensures { result ≡ status_of (told due.now) }
+{
+    match due {
+        Due::Page { .. } | Due::Told(What::Page { .. } | What::Known { .. }) => 200,
+        Due::Told(What::Moved { .. }) => 301,
+        Due::Told(What::Unmodified { .. }) => 304,
+        Due::Told(What::Plain { status }) => plain_status(*status),
+    }
+}
+
+/// Whether a message is turned away.
+fn turns_away<F: Tree>(due: &Due<F>) -> bool
+    ensures { result ≡ turns_away (told due.now) }
+{
+    match due {
+        Due::Told(
+            What::Plain {
+                status: Status::ServiceUnavailable { .. },
+            },
+        ) => true,
+        _ => false,
+    }
+}
+
+/// A request that found this, and was turned away or not.
+fn offered_with(found: Outlook, tick: u64, service: u64, away: bool) -> Offered
+    requires free { found.free ≤ MAX_TICK + MAX_SERVICE * MAX_OFFERS }
+    requires tick { tick ≤ MAX_TICK }
+    requires service { service ≤ MAX_SERVICE }
+    ensures { result ≡ offered_with found tick service away }
+{
+    let decision = if away {
+        Decision::Rejected
+    } else {
+        Decision::Admitted {
+            finish: found.free.max(tick) + service,
+        }
+    };
+    Offered {
+        service,
+        found,
+        decision,
+    }
+}
+
+/// The same of a message that may be no request.
+fn offered_of(found: Outlook, tick: u64, service: Option<u64>, away: bool) -> Option<Offered>
+    requires free { found.free ≤ MAX_TICK + MAX_SERVICE * MAX_OFFERS }
+    requires tick { tick ≤ MAX_TICK }
+    requires service { IfSome service (λ service. service ≤ MAX_SERVICE) }
+    ensures { result ≡ option_map (λ s. offered_with found tick s away) service }
+{
+    match service {
+        Some(service) => Some(offered_with(found, tick, service, away)),
+        None => None,
+    }
+}
+
+/// The row of a message that came from there, takes that long, found this and has this ticket.
+fn row_of<F: Tree>(origin: Origin, service: Option<u64>, found: Outlook, ticket: &Ticket<F>) -> Row
+    requires free { found.free ≤ MAX_TICK + MAX_SERVICE * MAX_OFFERS }
+    requires tick { origin.tick ≤ MAX_TICK }
+    requires service { IfSome service (λ service. service ≤ MAX_SERVICE) }
+    ensures { (terms : Terms) (start : ℕ) (arrivals : List Arrival) (a : Arrival) → a.origin ≡ origin
+        → service ≡ service_in (sight_of terms.files terms.costs a.message.what)
+        → found ≡ outlook terms.policies (decided terms.policies (offers_of terms arrivals)) origin.tier origin.tick
+        → slip_of_ticket ticket.now ≡ slip_of terms start (handled_next terms arrivals a)
+        → result ≡ row_of terms arrivals a }
+{
+    let away = turns_away(&ticket.due);
+    Row {
+        number: ticket.number,
+        conn: ticket.conn,
+        tick: origin.tick,
+        tier: origin.tier,
+        status: status_of(&ticket.due),
+        offered: offered_of(found, origin.tick, service, away),
+    }
+}
+
+fn method_of(what: &Meaning) -> &[u8]
+    ensures { result.now ≡ method_of what.now }
+{
+    match what {
+        Meaning::Request { method, .. } => method.as_slice(),
+        Meaning::Bad(_) => &[],
+    }
+}
+
+fn target_of(what: &Meaning) -> &[u8]
+    ensures { result.now ≡ target_of what.now }
+{
+    match what {
+        Meaning::Request { target, .. } => target.as_slice(),
+        Meaning::Bad(_) => &[],
+    }
+}
+
+/// The rows of a table are told.
+pub(crate) struct Rows;
+
+impl Tells for Rows {
+    ghost use Rattle.replay.specs.Explaining.{rows_told};
+
+    ghost telling = { rows_told };
+
+    fn begin<W: Write>(writer: &mut Output<W>) -> Result<(), ReplayFault> {
+        write_heading(writer)?;
+        Ok(())
+    }
+
+    fn tell<F: Tree, W: Write>(
+        alloc: Global,
+        snapshot: &Snapshot,
+        settings: &Settings,
+        origin: Origin,
+        what: &Meaning,
+        desk: &mut Desk,
+        writer: &mut Output<W>,
+    ) -> Result<(), ReplayFault> {
+        let sight = look_into(alloc, snapshot, settings.costs, what)?;
+        let service = service_in(&sight);
+        let found = desk.controller.outlook(origin.tier, origin.tick);
+        let ticket = settle::<F>(snapshot, settings, origin, what, sight, desk)?;
+        let row = row_of(origin, service, found, &ticket);
+        write_row(writer, &row, method_of(what), target_of(what))?;
+        Ok(())
+    }
+
+    fn finish<W: Write>(
+        _alloc: Global,
+        _writer: &mut Output<W>,
+        _count: usize,
+    ) -> Result<(), ReplayFault> {
+        Ok(())
+    }
+}

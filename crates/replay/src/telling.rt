@@ -1,0 +1,84 @@
+ghost use Rattle.std.specs.Prelude.{◌≡◌, ◌<◌, ◌≤◌, ◌-◌, ◌+◌, ◌^◌, ◌++◌, ◌∷◌, [], List, OnOk, OnErr, IfErr};
+ghost use Rattle.std.specs.Io.KnownBytes.{Appends};
+ghost use Rattle.captures.specs.Captures.{latest_start};
+ghost use Rattle.arrivals.specs.Arrivals.{Arrival};
+ghost use Rattle.replay.specs.Choices.{Terms, terms_of};
+ghost use Rattle.replay.specs.Outcomes.{AppendsInPart, CountsBy, writer_failures, IsWriteOrMemory};
+ghost use Rattle.replay.specs.Serving.{Stands, AreBy};
+ghost use Rattle.replay.specs.Telling.{Telling, IsTelling, Told, ToldInPart};
+
+use crate::desk::Desk;
+use crate::{MOST_MESSAGES, ReplayFault, Settings};
+use arrivals::Origin;
+use http_requests::What as Meaning;
+use paths::{Output, Snapshot, Tree};
+use std::alloc::Global;
+use std::io::Write;
+
+/// What a replay writes of the messages of a capture, one after another: their replies, or the rows of a table.
+/// `telling` has the texts.
+pub(crate) trait Tells {
+    ghost use Rattle.replay.specs.Choices.{Terms};
+    ghost use Rattle.replay.specs.Telling.{Telling};
+
+    ghost telling: { Terms → Telling };
+
+    /// Writes what stands before any message.
+    fn begin<W: Write>(writer: &mut Output<W>) -> Result<(), ReplayFault>
+        requires { writer.old.1 < 2 ^ 64 - 1 }
+        // Each text is written from the first line to the last.
+        ensures texts { (terms : Terms) → IsTelling (telling terms) }
+        ensures written { OnOk result ((terms : Terms) → Appends writer.old.0 writer.new.0 (telling terms).first) }
+        ensures part { OnErr result
+            ((terms : Terms) → AppendsInPart writer.old.0 writer.new.0 (telling terms).first) }
+        ensures failures { CountsBy writer_failures writer.old.1 writer.new.1 result }
+        ensures own { IfErr result IsWriteOrMemory };
+
+    /// Decides on the next message, counts it, and writes what is told of it.
+    fn tell<F: Tree, W: Write>(
+        alloc: Global,
+        snapshot: &Snapshot,
+        settings: &Settings,
+        origin: Origin,
+        what: &Meaning,
+        desk: &mut Desk,
+        writer: &mut Output<W>,
+    ) -> Result<(), ReplayFault>
+        requires snapshot { snapshot.now ≡ F.files }
+        requires start { desk.old.start ≤ latest_start }
+        requires tick { origin.tick ≤ 1000000000000000 }
+        requires tier { origin.tier < 4 }
+        requires few { desk.old.totals.answered < MOST_MESSAGES }
+        requires stands { (arrivals : List Arrival) × Stands (terms_of F.files settings.now) arrivals desk.old
+            × AreBy origin.tick arrivals }
+        requires failures { writer.old.1 < 2 ^ 64 - 1 }
+        ensures stands { OnOk result ((arrivals : List Arrival) (a : Arrival)
+            → Stands (terms_of F.files settings.now) arrivals desk.old → a.origin ≡ origin → a.message.what ≡ what.now
+            → Stands (terms_of F.files settings.now) (arrivals ++ a ∷ []) desk.new) }
+        ensures written { OnOk result ((arrivals : List Arrival) (a : Arrival)
+            → Stands (terms_of F.files settings.now) arrivals desk.old → a.origin ≡ origin → a.message.what ≡ what.now
+            → Told (telling (terms_of F.files settings.now)) desk.old.start arrivals (a ∷ [])
+            writer.old.0 writer.new.0) }
+        ensures start { OnOk result (desk.new.start ≡ desk.old.start) }
+        ensures number { OnOk result (desk.new.totals.answered ≡ desk.old.totals.answered + 1) }
+        ensures part { OnErr result ((arrivals : List Arrival) (a : Arrival)
+            → Stands (terms_of F.files settings.now) arrivals desk.old → a.origin ≡ origin → a.message.what ≡ what.now
+            → ToldInPart (telling (terms_of F.files settings.now)) desk.old.start arrivals (a ∷ [])
+            writer.old.0 writer.new.0) }
+        ensures failures { CountsBy writer_failures writer.old.1 writer.new.1 result }
+        ensures own { IfErr result IsWriteOrMemory };
+
+    /// Writes what stands after so many messages, where no other comes.
+    fn finish<W: Write>(
+        alloc: Global,
+        writer: &mut Output<W>,
+        count: usize,
+    ) -> Result<(), ReplayFault>
+        requires { writer.old.1 < 2 ^ 64 - 1 }
+        ensures written { OnOk result
+            ((terms : Terms) → Appends writer.old.0 writer.new.0 ((telling terms).last count)) }
+        ensures part { OnErr result
+            ((terms : Terms) → AppendsInPart writer.old.0 writer.new.0 ((telling terms).last count)) }
+        ensures failures { CountsBy writer_failures writer.old.1 writer.new.1 result }
+        ensures own { IfErr result IsWriteOrMemory };
+}
