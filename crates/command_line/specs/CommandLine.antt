@@ -4,10 +4,13 @@ use Rattle.std.specs.Prelude.{◌≡◌, ◌≢◌, Bool, true, false, List, [],
 use Rattle.std.specs.Prelude.{option_and_then, unwrap_or, codes, bytes_eq, if◌then◌else◌}
 use Rattle.clap.specs.Words.{App, Row, Rule, Text, fault_of, first_of, new_app, new_rule, subcommand_of, takes}
 use Rattle.clap.specs.Words.{with_rule, with_subcommand}
+use Rattle.clap.specs.declared.builder.action.ArgAction.TheVariants.{SetTrue}
 use Rattle.clap.specs.declared.error.ErrorKind.{ErrorKind}
 use Rattle.clap.specs.declared.error.ErrorKind.TheVariants.{OutOfMemory}
 use Rattle.command_line.specs.declared.words.Engine.{Engine}
 use Rattle.command_line.specs.declared.words.Engine.TheVariants.{Plain, Staged}
+use Rattle.command_line.specs.declared.words.Subcommand.{Subcommand}
+use Rattle.command_line.specs.declared.words.Subcommand.TheVariants as subcommands
 use Rattle.command_line.specs.declared.words.Job.{Job}
 use Rattle.command_line.specs.declared.words.Job.TheVariants as jobs
 use Rattle.command_line.specs.declared.words.WordFault.{WordFault}
@@ -19,6 +22,10 @@ option_of name = record (new_rule name) { long = Some name; value_names = 1 }
 
 abbrev pub required_of : Text → Rule
 required_of name = record (option_of name) { required = true }
+
+-- a flag, as `--skip`
+abbrev pub flag_of : Text → Rule
+flag_of name = record (new_rule name) { long = Some name; action = Some SetTrue }
 
 -- `replay`, with three options that are required, one that isn't, and one with a default
 unfoldable pub replay_command : App
@@ -37,17 +44,58 @@ upgrade_command =
     (required_of (codes "capture")))
     (required_of (codes "output"))
 
--- the program, which wants a subcommand, `replay` or `upgrade`; the words are those after its name
+-- `snapshot`, with two options that are required, and a flag
+unfoldable pub snapshot_command : App
+snapshot_command =
+    with_rule (with_rule (with_rule (new_app (codes "snapshot"))
+    (required_of (codes "folder")))
+    (required_of (codes "output")))
+    (flag_of (codes "skip"))
+
+-- `inspect`, with one option that is required
+unfoldable pub inspect_command : App
+inspect_command =
+    with_rule (new_app (codes "inspect"))
+    (required_of (codes "capture"))
+
+-- `explain`, with three options that are required, and one that isn't
+unfoldable pub explain_command : App
+explain_command =
+    with_rule (with_rule (with_rule (with_rule (new_app (codes "explain"))
+    (required_of (codes "snapshot")))
+    (required_of (codes "capture")))
+    (required_of (codes "messages")))
+    (option_of (codes "settings"))
+
+-- the program, which wants one of its subcommands; the words are those after its name
 abbrev pub program_of : App → App
 program_of a = record a { top = record a.top { no_binary_name = true; subcommand_required = true } }
 
 unfoldable pub command_line : App
 command_line =
-    with_subcommand (with_subcommand (program_of (new_app (codes "haboob"))) replay_command.top) upgrade_command.top
+    with_subcommand (with_subcommand (with_subcommand (with_subcommand (with_subcommand
+    (program_of (new_app (codes "haboob")))
+    replay_command.top)
+    upgrade_command.top)
+    snapshot_command.top)
+    inspect_command.top)
+    explain_command.top
 
--- the value that an option has on these words
-abbrev pub value_on : List Text → Text → Option Text
-value_on words name = option_and_then (λ p. first_of name p.1) (subcommand_of command_line words)
+-- ---- what a subcommand asks for: its name, and the values of its options
+
+abbrev pub Found : Type 0
+Found = Option (Text × List Row)
+
+-- the value of an option
+abbrev pub value_of : Found → Text → Option Text
+value_of found name = option_and_then (λ p. first_of name p.1) found
+
+-- A file's name as the words give it. (The command takes no words without those that are required.)
+abbrev pub file_of : Found → Text → Text
+file_of found name = unwrap_or (value_of found name) []
+
+abbrev pub is_given : Found → Text → Bool
+is_given found name = bytes_eq (file_of found name) (codes "true")
 
 abbrev pub engine_named : Text → Option Engine
 engine_named name =
@@ -55,39 +103,66 @@ engine_named name =
     else if bytes_eq name (codes "staged") then Some Staged
     else None
 
-abbrev pub engine_on : List Text → Option Engine
-engine_on words = engine_named (unwrap_or (value_on words (codes "engine")) [])
+abbrev pub engine_of : Found → Option Engine
+engine_of found = engine_named (file_of found (codes "engine"))
 
--- A file's name as the words give it. (The command takes no words without those that are required.)
-abbrev pub file_on : List Text → Text → Text
-file_on words name = unwrap_or (value_on words name) []
+-- The subcommand of a name. (The command takes no words that name another.)
+abbrev pub subcommand_named : Text → Subcommand
+subcommand_named name =
+    if bytes_eq name (codes "upgrade") then subcommands.Upgrade
+    else if bytes_eq name (codes "snapshot") then subcommands.Snapshot
+    else if bytes_eq name (codes "inspect") then subcommands.Inspect
+    else if bytes_eq name (codes "explain") then subcommands.Explain
+    else subcommands.Replay
 
--- the subcommand that was found is `upgrade`
-abbrev pub names_upgrade : Option (Text × List Row) → Bool
-names_upgrade found = option_map_or (λ p. bytes_eq p.0 (codes "upgrade")) found false
+abbrev pub subcommand_of_rows : Found → Subcommand
+subcommand_of_rows found = option_map_or (λ p. subcommand_named p.0) found subcommands.Replay
 
--- Whether the words name the subcommand `upgrade`. (The command takes no words that name neither it nor `replay`.)
-abbrev pub is_upgrade : List Text → Bool
-is_upgrade words = names_upgrade (subcommand_of command_line words)
+-- a subcommand asks for this job
+abbrev pub AsksBy : Found → Job → Type 0
+AsksBy found jobs.Bundle = ⊥
+AsksBy found (jobs.Replay snapshot capture replies settings chosen) =
+    (subcommand_of_rows found ≡ subcommands.Replay)
+    × (snapshot.now ≡ file_of found (codes "snapshot"))
+    × (capture.now ≡ file_of found (codes "capture"))
+    × (replies.now ≡ file_of found (codes "replies"))
+    × (option_map (λ s. s.now) settings ≡ value_of found (codes "settings"))
+    × (engine_of found ≡ Some chosen)
+AsksBy found (jobs.Upgrade capture output) =
+    (subcommand_of_rows found ≡ subcommands.Upgrade)
+    × (capture.now ≡ file_of found (codes "capture"))
+    × (output.now ≡ file_of found (codes "output"))
+AsksBy found (jobs.Snapshot folder output skip) =
+    (subcommand_of_rows found ≡ subcommands.Snapshot)
+    × (folder.now ≡ file_of found (codes "folder"))
+    × (output.now ≡ file_of found (codes "output"))
+    × (skip ≡ is_given found (codes "skip"))
+AsksBy found (jobs.Inspect capture) =
+    (subcommand_of_rows found ≡ subcommands.Inspect)
+    × (capture.now ≡ file_of found (codes "capture"))
+AsksBy found (jobs.Explain snapshot capture messages settings) =
+    (subcommand_of_rows found ≡ subcommands.Explain)
+    × (snapshot.now ≡ file_of found (codes "snapshot"))
+    × (capture.now ≡ file_of found (codes "capture"))
+    × (messages.now ≡ file_of found (codes "messages"))
+    × (option_map (λ s. s.now) settings ≡ value_of found (codes "settings"))
 
--- the command takes the words, and they ask for this job
+-- a subcommand asks for a replay by another engine, and no other fault comes
+abbrev pub IsEngineFault : Found → WordFault → Type 0
+IsEngineFault found (faults.Words text) = ⊥
+IsEngineFault found faults.Engine = (subcommand_of_rows found ≡ subcommands.Replay) × (engine_of found ≡ None)
+IsEngineFault found faults.Memory = ⊥
+
+-- ---- what the words ask for
+
+-- the command takes the words, and P holds of what their subcommand asks for
+abbrev pub Taken : List Text → (Found → Type 0) → Type 0
+Taken words P = (words ≢ []) × (fault_of command_line words ≡ []) × P (subcommand_of command_line words)
+
+-- the words ask for this job
 abbrev pub Asks : List Text → Job → Type 0
 Asks words jobs.Bundle = words ≡ []
-Asks words (jobs.Replay snapshot capture replies settings chosen) =
-    (words ≢ [])
-    × (fault_of command_line words ≡ [])
-    × (is_upgrade words ≡ false)
-    × (snapshot.now ≡ file_on words (codes "snapshot"))
-    × (capture.now ≡ file_on words (codes "capture"))
-    × (replies.now ≡ file_on words (codes "replies"))
-    × (option_map (λ s. s.now) settings ≡ value_on words (codes "settings"))
-    × (engine_on words ≡ Some chosen)
-Asks words (jobs.Upgrade capture output) =
-    (words ≢ [])
-    × (fault_of command_line words ≡ [])
-    × (is_upgrade words ≡ true)
-    × (capture.now ≡ file_on words (codes "capture"))
-    × (output.now ≡ file_on words (codes "output"))
+Asks words job = Taken words (λ found. AsksBy found job)
 
 -- the command doesn't take the words
 abbrev pub AreNotTaken : List Text → Type 0
@@ -96,8 +171,7 @@ AreNotTaken words = (takes command_line words ≡ false) × (fault_of command_li
 -- The words are refused for this. Words that the command takes have no fault but another engine's name.
 abbrev pub Refuses : List Text → WordFault → Type 0
 Refuses words (faults.Words text) = (words ≢ []) × AreNotTaken words
-Refuses words faults.Engine =
-    (words ≢ []) × (fault_of command_line words ≡ []) × (is_upgrade words ≡ false) × (engine_on words ≡ None)
+Refuses words faults.Engine = Taken words (λ found. IsEngineFault found faults.Engine)
 Refuses words faults.Memory = words ≢ []
 
 -- what the command alone refuses

@@ -1,8 +1,7 @@
 //! The command line of Haboob: the job that its arguments ask for.
 #![tactic(auto)]
 
-#[cfg(test)]
-mod tests;
+mod commands;
 mod words;
 
 pub use words::{Engine, Job, WordFault, read_words};

@@ -1,38 +1,14 @@
-ghost use Rattle.std.specs.Prelude.{◌≡◌, [], Ok, codes, false, map, option_and_then, option_map, IfOk, IfErr};
-ghost use Rattle.clap.specs.Words.{app_of, fault_of, kind_of, first_of, rule_of, subcommand_of, subcommand_rows_of};
-ghost use Rattle.clap.specs.declared.builder.Command.TheViews.{out-Command};
-ghost use Rattle.command_line.specs.CommandLine.{Asks, Becomes, IsRefusal, Refuses, command_line, engine_named};
-ghost use Rattle.command_line.specs.CommandLine.{names_upgrade, option_of, replay_command, upgrade_command};
+ghost use Rattle.std.specs.Prelude.{◌≡◌, [], Ok, codes, map, option_map, IfOk, IfErr};
+ghost use Rattle.clap.specs.Words.{fault_of, kind_of, subcommand_of, subcommand_rows_of};
+ghost use Rattle.command_line.specs.CommandLine.{Asks, AsksBy, Becomes, IsEngineFault, IsRefusal, Refuses};
+ghost use Rattle.command_line.specs.CommandLine.{command_line, engine_named, file_of, is_given, subcommand_named};
+ghost use Rattle.command_line.specs.CommandLine.{subcommand_of_rows, value_of};
 
+use crate::commands::command_line;
 use clap::error::ErrorKind;
-use clap::{Arg, ArgMatches, Command, Error};
+use clap::{ArgMatches, Error};
 use std::alloc::{AllocError, Global};
 use std::convert::AsStr;
-
-/// What help says after the commands.
-const PROGRAM_NOTES: &str =
-    "Without a command, a snapshot directly followed by a capture is read from standard
-input, and the replies are written to standard output, with default settings.
-
-Examples:
-  haboob replay --snapshot site.snapshot --capture day.capture --replies day.replies
-  haboob upgrade --capture old.capture --output new.capture";
-
-/// What help says after the options of `replay`.
-const REPLAY_NOTES: &str = "Example:
-  haboob replay --snapshot site.snapshot --capture day.capture --replies day.replies \\
-    --settings tight.toml";
-
-/// What help says after the options of `upgrade`.
-const UPGRADE_NOTES: &str =
-    "A capture of version 1 is written as one of version 2, with the same start and the same
-records. A capture of version 2 is written as it is.
-
-Example:
-  haboob upgrade --capture old.capture --output new.capture";
-
-/// What help says of the engines.
-const ENGINE_HELP: &str = "plain, on one thread, or staged, on many; both answer the same";
 
 /// Which engine answers the messages.
 #[derive(Clone, Copy, Debug, PartialEq, Eq)]
@@ -61,6 +37,33 @@ pub enum Job<'a> {
         capture: &'a str,
         output: &'a str,
     },
+    /// The files of a folder go into a snapshot. What can't stand there is left out where that is asked for.
+    Snapshot {
+        folder: &'a str,
+        output: &'a str,
+        skip: bool,
+    },
+    /// Standard output tells what the capture in a file holds.
+    Inspect {
+        capture: &'a str,
+    },
+    /// As `Replay`, with a table of decisions in the place of the replies.
+    Explain {
+        snapshot: &'a str,
+        capture: &'a str,
+        messages: &'a str,
+        settings: Option<&'a str>,
+    },
+}
+
+/// The subcommands.
+#[derive(Clone, Copy, Debug)]
+enum Subcommand {
+    Replay,
+    Upgrade,
+    Snapshot,
+    Inspect,
+    Explain,
 }
 
 /// Why words ask for nothing.
@@ -85,8 +88,8 @@ impl From<AllocError> for WordFault {
     }
 }
 
-/// What the words after the program's name ask for: without words `Bundle`, else a replay or an upgrade of the files
-/// that they name. The file names are taken as they are.
+/// What the words after the program's name ask for: without words `Bundle`, else what their subcommand does with the
+/// files that they name. The file names are taken as they are.
 ///
 /// # Errors
 ///
@@ -99,26 +102,55 @@ pub fn read_words<'a, S: AsStr>(alloc: Global, words: &'a [S]) -> Result<Job<'a>
     if words.is_empty() {
         return Ok(Job::Bundle);
     }
-    let matches = matches_of(alloc, words)?;
-    // the command takes no words without the options that it requires, so none of these is missing
-    let capture = value(&matches, "capture").unwrap_or("");
-    if is_upgrade(&matches) {
-        let output = value(&matches, "output").unwrap_or("");
-        return Ok(Job::Upgrade { capture, output });
+    job_of(&matches_of(alloc, words)?)
+}
+
+/// The job of a subcommand. The command takes no words without the options that it requires, so none of these is
+/// missing.
+fn job_of<'a>(matches: &ArgMatches<'a>) -> Result<Job<'a>, WordFault>
+    ensures job { IfOk result (AsksBy (subcommand_rows_of matches.now)) }
+    ensures fault { IfErr result (IsEngineFault (subcommand_rows_of matches.now)) }
+{
+    match chosen(matches) {
+        Subcommand::Replay => {
+            let Some(engine) = engine_named(value(matches, "engine").unwrap_or("")) else {
+                return Err(WordFault::Engine);
+            };
+            Ok(Job::Replay {
+                snapshot: file(matches, "snapshot"),
+                capture: file(matches, "capture"),
+                replies: file(matches, "replies"),
+                settings: value(matches, "settings"),
+                engine,
+            })
+        }
+        Subcommand::Upgrade => {
+            Ok(Job::Upgrade {
+                capture: file(matches, "capture"),
+                output: file(matches, "output"),
+            })
+        }
+        Subcommand::Snapshot => {
+            Ok(Job::Snapshot {
+                folder: file(matches, "folder"),
+                output: file(matches, "output"),
+                skip: is_given(matches, "skip"),
+            })
+        }
+        Subcommand::Inspect => {
+            Ok(Job::Inspect {
+                capture: file(matches, "capture"),
+            })
+        }
+        Subcommand::Explain => {
+            Ok(Job::Explain {
+                snapshot: file(matches, "snapshot"),
+                capture: file(matches, "capture"),
+                messages: file(matches, "messages"),
+                settings: value(matches, "settings"),
+            })
+        }
     }
-    let snapshot = value(&matches, "snapshot").unwrap_or("");
-    let replies = value(&matches, "replies").unwrap_or("");
-    let settings = value(&matches, "settings");
-    let Some(engine) = engine_named(value(&matches, "engine").unwrap_or("")) else {
-        return Err(WordFault::Engine);
-    };
-    Ok(Job::Replay {
-        snapshot,
-        capture,
-        replies,
-        settings,
-        engine,
-    })
 }
 
 fn engine_named(name: &str) -> Option<Engine>
@@ -131,25 +163,50 @@ fn engine_named(name: &str) -> Option<Engine>
     }
 }
 
-/// Whether the subcommand is `upgrade`.
-fn is_upgrade(matches: &ArgMatches) -> bool
-    ensures { result ≡ names_upgrade (subcommand_rows_of matches.now) }
+fn subcommand_named(name: &str) -> Subcommand
+    ensures { result ≡ subcommand_named name.now }
+{
+    match name {
+        "upgrade" => Subcommand::Upgrade,
+        "snapshot" => Subcommand::Snapshot,
+        "inspect" => Subcommand::Inspect,
+        "explain" => Subcommand::Explain,
+        _ => Subcommand::Replay,
+    }
+}
+
+/// The subcommand that the words name.
+fn chosen(matches: &ArgMatches) -> Subcommand
+    ensures { result ≡ subcommand_of_rows (subcommand_rows_of matches.now) }
 {
     match matches.subcommand() {
-        Some((name, _)) => name == "upgrade",
-        None => false,
+        Some((name, _)) => subcommand_named(name),
+        None => Subcommand::Replay,
     }
 }
 
 /// The value of an option of the subcommand.
 fn value<'a>(matches: &ArgMatches<'a>, option: &str) -> Option<&'a str>
-    ensures { option_map (λ s. s.now) result
-        ≡ option_and_then (λ p. first_of option.now p.1) (subcommand_rows_of matches.now) }
+    ensures { option_map (λ s. s.now) result ≡ value_of (subcommand_rows_of matches.now) option.now }
 {
     match matches.subcommand() {
         Some((_, of_subcommand)) => of_subcommand.get_str(option),
         None => None,
     }
+}
+
+/// The name of a file that the subcommand requires.
+fn file<'a>(matches: &ArgMatches<'a>, option: &str) -> &'a str
+    ensures { result.now ≡ file_of (subcommand_rows_of matches.now) option.now }
+{
+    value(matches, option).unwrap_or("")
+}
+
+/// Whether a flag of the subcommand is given.
+fn is_given(matches: &ArgMatches, flag: &str) -> bool
+    ensures { result ≡ is_given (subcommand_rows_of matches.now) flag.now }
+{
+    value(matches, flag).unwrap_or("") == "true"
 }
 
 /// What the command makes of the words.
@@ -175,84 +232,4 @@ fn refusal(alloc: Global, error: &Error) -> WordFault
         Ok(text) => WordFault::Words(text),
         Err(_) => WordFault::Memory,
     }
-}
-
-/// The command `haboob`, whose words are those after its name.
-fn command_line<'a>(alloc: Global) -> Result<Command<'a>, AllocError>
-    ensures { IfOk result (λ command. app_of command ≡ command_line) }
-{
-    let replay = replay_command(alloc)?;
-    let upgrade = upgrade_command(alloc)?;
-    Command::new(alloc, "haboob")
-        .bin_name("haboob")?
-        .no_binary_name(true)
-        .subcommand_required(true)
-        .about("Answers recorded requests for the files of a site, and reports the load.")
-        .after_help(PROGRAM_NOTES)
-        .subcommand(replay)?
-        .subcommand(upgrade)
-}
-
-fn replay_command<'a>(alloc: Global) -> Result<Command<'a>, AllocError>
-    ensures app { IfOk result (λ command. app_of command ≡ replay_command) }
-    ensures local { IfOk result (λ command. (out-Command command).has_globals ≡ false) }
-{
-    let snapshot = file_option(alloc, "snapshot", "The files of the site").required(true);
-    let capture = file_option(alloc, "capture", "The recorded requests").required(true);
-    let replies = file_option(
-        alloc,
-        "replies",
-        "Where the replies go; a file that is there is overwritten",
-    )
-    .required(true);
-    let settings = file_option(
-        alloc,
-        "settings",
-        "Settings, as TOML; a key that is left out has its default",
-    );
-    let engine = option(alloc, "engine", "ENGINE")
-        .help(ENGINE_HELP)
-        .default_value("staged");
-    Command::new(alloc, "replay")
-        .about("Answers a capture's requests, and writes a report to standard output.")
-        .after_help(REPLAY_NOTES)
-        .arg(snapshot)?
-        .arg(capture)?
-        .arg(replies)?
-        .arg(settings)?
-        .arg(engine)
-}
-
-fn upgrade_command<'a>(alloc: Global) -> Result<Command<'a>, AllocError>
-    ensures app { IfOk result (λ command. app_of command ≡ upgrade_command) }
-    ensures local { IfOk result (λ command. (out-Command command).has_globals ≡ false) }
-{
-    let capture = file_option(alloc, "capture", "The capture to read").required(true);
-    let output = file_option(
-        alloc,
-        "output",
-        "Where the new capture goes; another file that is there is overwritten",
-    )
-    .required(true);
-    Command::new(alloc, "upgrade")
-        .about("Writes a capture of an older version as one of version 2.")
-        .after_help(UPGRADE_NOTES)
-        .arg(capture)?
-        .arg(output)
-}
-
-/// An option whose value is the name of a file.
-fn file_option<'a>(alloc: Global, name: &'a str, help: &'a str) -> Arg<'a>
-    ensures rule { rule_of result ≡ option_of name.entry.now }
-    ensures local { result.global ≡ false }
-{
-    option(alloc, name, "FILE").help(help)
-}
-
-/// An option with one value.
-fn option<'a>(alloc: Global, name: &'a str, value: &'a str) -> Arg<'a>
-    ensures rule { rule_of result ≡ option_of name.entry.now }
-    ensures local { result.global ≡ false }
-{
-    Arg::new(alloc, name).long(name).value_name(value)
 }

@@ -1,13 +1,18 @@
-use command_line::{Engine, Job, WordFault, read_words};
+use crate::folder::{FileFolder, list_folder};
+use crate::overwritten::{Node, Overwritten};
+use command_line::{Job, WordFault, read_words};
 use options::{LONGEST_SETTINGS, default_settings, read_settings};
+use paths::Output;
 use replay::Settings;
-use runs::{Fault, Place, run_files, run_program, upgrade_files};
-use std::fs::{File, OpenOptions};
-use std::io::{ErrorKind, Read, Write};
-use std::os::unix::fs::MetadataExt;
+use runs::{
+    Fault, Place, Wanted, inspect_files, run_files, run_program, run_snapshot, upgrade_files,
+    write_skipped,
+};
+use std::env;
+use std::fs::File;
+use std::io::{ErrorKind, Read};
 use std::sync::Wait;
 use std::thread::Threads;
-use std::{env, io};
 
 /// How many bytes of a settings file are read: one more than it may have.
 const MOST_READ: u64 = LONGEST_SETTINGS as u64 + 1;
@@ -35,81 +40,6 @@ fn open(rt: &HostRuntime, name: &str, place: Place) -> Result<File, Fault> {
     }
 }
 
-/// Which file an open one is, whatever its name: a node of a device.
-#[derive(Clone, Copy, PartialEq)]
-struct Node {
-    device: u64,
-    inode: u64,
-    /// Whether it is a file that keeps its bytes, and no pipe or device.
-    is_regular: bool,
-}
-
-impl Node {
-    /// The node of an open file.
-    fn of(file: &File, place: Place) -> Result<Node, Fault> {
-        match file.metadata() {
-            Ok(known) => Ok(Node {
-                device: known.dev(),
-                inode: known.ino(),
-                is_regular: known.is_file(),
-            }),
-            Err(_) => Err(Fault::Open(place)),
-        }
-    }
-}
-
-/// A file to be written. Where it is there it keeps its bytes until the first byte is written, and is emptied then.
-/// What can't be emptied, as a pipe, is written as it is.
-#[derive(Drop)]
-struct Overwritten {
-    file: File,
-    /// Whether it is still to be emptied.
-    is_full: bool,
-}
-
-impl Overwritten {
-    /// Opens a file to be written. A regular one that is among the inputs is refused, and keeps its bytes.
-    fn open(
-        rt: &HostRuntime,
-        name: &str,
-        place: Place,
-        inputs: &[Node],
-    ) -> Result<Overwritten, Fault> {
-        let opened = OpenOptions::new().write(true).create(true).open(rt, name);
-        let Ok(file) = opened else {
-            return Err(Fault::Open(place));
-        };
-        let node = Node::of(&file, place)?;
-        if node.is_regular && inputs.contains(&node) {
-            return Err(Fault::Open(place));
-        }
-        Ok(Overwritten {
-            file,
-            is_full: node.is_regular,
-        })
-    }
-
-    /// Empties the file, where that is still to be done.
-    fn empty(&mut self) -> io::Result<()> {
-        if self.is_full {
-            self.file.set_len(0)?;
-            self.is_full = false;
-        }
-        Ok(())
-    }
-}
-
-impl Write for Overwritten {
-    fn write(&mut self, bytes: &[u8]) -> io::Result<usize> {
-        self.empty()?;
-        self.file.write(bytes)
-    }
-
-    fn flush(&mut self) -> io::Result<()> {
-        self.file.flush()
-    }
-}
-
 /// The settings of a file, and which file it is; or the default ones without it.
 fn settings_in(rt: &HostRuntime, name: Option<&str>) -> Result<(Settings, Option<Node>), Fault> {
     let alloc = rt.alloc();
@@ -126,6 +56,12 @@ fn settings_in(rt: &HostRuntime, name: Option<&str>) -> Result<(Settings, Option
     }
 }
 
+/// Tells on standard output what a capture file holds.
+fn inspect_named(rt: &HostRuntime, capture: &str) -> Result<(), Fault> {
+    let capture = open(rt, capture, Place::Capture)?;
+    inspect_files(rt.alloc(), capture, rt.stdout()).0
+}
+
 /// Writes the upgraded text of a capture file to another.
 fn upgrade_named(rt: &HostRuntime, capture: &str, output: &str) -> Result<(), Fault> {
     let capture = open(rt, capture, Place::Capture)?;
@@ -137,18 +73,39 @@ fn upgrade_named(rt: &HostRuntime, capture: &str, output: &str) -> Result<(), Fa
     upgrade_files(rt.alloc(), capture, output).0
 }
 
-/// The names of a replay's files, and its engine.
+/// Writes the files of a folder as a snapshot. What is in the folder is listed before the output is opened: so a new
+/// output is none of its files, and one that was among them is refused.
+fn snapshot_named(rt: &HostRuntime, folder: &str, output: &str, skip: bool) -> Result<(), Fault> {
+    let listing = list_folder(rt, folder)?;
+    let output = Overwritten::open(rt, output, Place::Output, &listing.nodes)?;
+    let skipped = run_snapshot(
+        rt.alloc(),
+        &FileFolder { rt, path: folder },
+        &listing.found,
+        skip,
+        &mut Output::new(output),
+    )?;
+    if skip {
+        // Where standard error can't be written, the snapshot stands all the same.
+        let _ = write_skipped(skipped, &mut Output::new(rt.stderr()));
+    }
+    Ok(())
+}
+
+/// The names of a replay's files, and what is wanted of its messages.
 #[derive(Drop)]
 struct Names<'a> {
     snapshot: &'a str,
     capture: &'a str,
-    replies: &'a str,
     settings: Option<&'a str>,
-    engine: Engine,
+    wanted: Wanted,
+    /// The file that what is wanted goes into.
+    written: &'a str,
+    place: Place,
 }
 
 /// Replays one file against another, with the report on standard output. The files are opened in the order settings,
-/// snapshot, capture, replies; the settings are read before the snapshot is opened. `threads` is the runtime once more,
+/// snapshot, capture, output; the settings are read before the snapshot is opened. `threads` is the runtime once more,
 /// for the engine that starts threads.
 fn replay_named<T: Threads + Wait + Sync>(
     rt: &HostRuntime,
@@ -162,23 +119,22 @@ fn replay_named<T: Threads + Wait + Sync>(
     let second = Node::of(&capture, Place::Capture)?;
     // Without a settings file the capture stands in its place: it is an input anyway.
     let inputs = [first, second, node.unwrap_or(second)];
-    let replies = Overwritten::open(rt, names.replies, Place::Replies, &inputs)?;
+    let written = Overwritten::open(rt, names.written, names.place, &inputs)?;
     let (alloc, out) = (rt.alloc(), rt.stdout());
     run_files(
         threads,
         alloc,
         &settings,
-        names.engine,
+        names.wanted,
         snapshot,
         capture,
-        replies,
+        written,
         out,
     )
     .0
 }
 
-/// Does what the arguments ask for: a run from standard input to standard output, one over files, or an upgrade of a
-/// capture.
+/// Does what the arguments ask for: a run from standard input to standard output, or one over the files that they name.
 ///
 /// Which arguments there are, and what the files hold, is the system's to say: no contract can. Tests do, and
 /// checks/run_program.py.
@@ -197,12 +153,35 @@ pub fn run_arguments<T: Threads + Wait + Sync>(rt: &HostRuntime, threads: &T) ->
             let names = Names {
                 snapshot,
                 capture,
-                replies,
                 settings,
-                engine,
+                wanted: Wanted::Replies(engine),
+                written: replies,
+                place: Place::Replies,
             };
             replay_named(rt, threads, &names)
         }
+        Job::Explain {
+            snapshot,
+            capture,
+            messages,
+            settings,
+        } => {
+            let names = Names {
+                snapshot,
+                capture,
+                settings,
+                wanted: Wanted::Rows,
+                written: messages,
+                place: Place::Messages,
+            };
+            replay_named(rt, threads, &names).map_err(Fault::of_rows)
+        }
+        Job::Inspect { capture } => inspect_named(rt, capture),
         Job::Upgrade { capture, output } => upgrade_named(rt, capture, output),
+        Job::Snapshot {
+            folder,
+            output,
+            skip,
+        } => snapshot_named(rt, folder, output, skip),
     }
 }

@@ -1,12 +1,15 @@
 //! Haboob replays recorded web traffic against a snapshot of a file tree.
 //!
 //! Without arguments it reads from standard input a snapshot directly followed by a capture, and writes the replies to
-//! standard output. `haboob replay` reads them from files, writes the replies to a file, and a report to standard
-//! output. `haboob upgrade` writes a capture of an older version as one of version 2. A fault is reported by one line
-//! on standard error, and by the status that the program ends with.
+//! standard output. Its commands read and write files: `haboob replay` writes the replies, `haboob explain` a table of
+//! decisions in their place, and both a report to standard output; `haboob snapshot` writes the files of a folder as a
+//! snapshot, `haboob inspect` tells what a capture holds, and `haboob upgrade` writes one of an older version as one of
+//! version 2. A fault is reported by one line on standard error, and by the status that the program ends with.
 #![tactic(auto)]
 
 mod files;
+mod folder;
+mod overwritten;
 
 use files::run_arguments;
 use paths::Output;

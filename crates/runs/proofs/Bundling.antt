@@ -7,6 +7,7 @@ use Rattle.replay.specs.declared.replay_fault.ReplayFault.{ReplayFault}
 use Rattle.replay.specs.declared.outcome.Outcome.{Outcome}
 use Rattle.replay.specs.Choices.{Choice, terms_of}
 use Rattle.replay.specs.Outcomes.{Answers, IfCapture, IfTooMany, IfCutShort, Stops, StopsFull, IsCutShort}
+use Rattle.replay.specs.Telling.{replies_told}
 use Rattle.options.specs.SettingsTable.{default_choice}
 use Rattle.runs.specs.Bundles.{BehindSnapshot, WritesAnswer, default_terms, StopsAs}
 
@@ -40,9 +41,10 @@ pub stops_behind_snapshot : (files : List File) (choice : Choice) (input rest ah
     → IfCapture f (Stops (terms_of files choice) rest ahead old new)
     → IfTooMany f (StopsFull (terms_of files choice) rest old new)
     → IfCutShort f (IsCutShort (terms_of files choice) rest old new)
-    → is_some input ≡ true → BehindSnapshot (unwrap_or input []) (λ files capture. StopsAs (default_terms files) (Some capture) ahead old new f)
+    → is_some input ≡ true → BehindSnapshot (unwrap_or input []) (λ files capture. StopsAs (replies_told (default_terms files)) (Some capture) ahead old new f)
 stops_behind_snapshot files choice input rest ahead old new f is reads rules is_stop is_many is_part known =
     behind input rest files _ reads rules known
     (λ there.
-    (let says : StopsAs (terms_of files choice) rest ahead old new f = record { stops = is_stop; many = is_many; part = is_part } in
-    rw is at (subst (λ o. StopsAs (terms_of files choice) o ahead old new f) (known_some rest there) says)))
+    (let says : StopsAs (replies_told (terms_of files choice)) rest ahead old new f = record { stops = is_stop; many = is_many; part = is_part } in
+    let here = subst (λ o. StopsAs (replies_told (terms_of files choice)) o ahead old new f) (known_some rest there) says in
+    subst (λ (c : Choice). StopsAs (replies_told (terms_of files c)) (Some (unwrap_or rest [])) ahead old new f) is here))

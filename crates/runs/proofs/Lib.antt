@@ -4,3 +4,6 @@ pub mod Programs
 pub mod Reporting
 pub mod Settling
 pub mod Upgraded
+pub mod LineWrites
+pub mod FoldersTaken
+pub mod Inspected

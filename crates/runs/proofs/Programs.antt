@@ -6,25 +6,26 @@ use Rattle.captures.specs.CaptureFaults.{is_unforeseen_kind, IsFirstFault}
 use Rattle.replay.specs.declared.replay_fault.ReplayFault.{ReplayFault}
 use Rattle.replay.specs.declared.replay_fault.ReplayFault.TheVariants as replays
 use Rattle.replay.specs.Choices.{Terms}
-use Rattle.replay.specs.Outcomes.{IfCapture, Stops, WhereKnown}
+use Rattle.replay.specs.Outcomes.{IfCapture, StopsTelling, WhereKnown}
+use Rattle.replay.specs.Telling.{Telling, replies_told}
 use Rattle.runs.specs.declared.fault.Fault.{Fault}
-use Rattle.runs.specs.declared.fault.Fault.TheVariants.{Words, Settings, Snapshot, Replay, Upgrade, Open, Read, Write, Memory}
+use Rattle.runs.specs.declared.fault.Fault.TheVariants.{Words, Settings, Snapshot, Replay, Upgrade, Folder, Open, Read, Write, Memory}
 use Rattle.runs.specs.declared.place.Place.TheVariants.{Replies}
 use Rattle.runs.specs.Bundles.{BehindSnapshot, IsBundleFault, IsProgramFault, default_terms}
 
 -- where a replay stops, the capture's fault is the first of its text
-pub first_of_stop : (terms : Terms) (input ahead old new : Option (List ℕ)) (f : CaptureFault) → Stops terms input ahead old new f
+pub first_of_stop : (t : Telling) (input ahead old new : Option (List ℕ)) (f : CaptureFault) → StopsTelling t input ahead old new f
     → is_unforeseen_kind f.kind ≡ false → WhereKnown input (λ bytes. IsFirstFault bytes f)
-first_of_stop terms input ahead old new f (inl first) foreseen known = inl (first.fault foreseen known)
-first_of_stop terms input ahead old new f (inr later) foreseen known =
+first_of_stop t input ahead old new f (inl first) foreseen known = inl (first.fault foreseen known)
+first_of_stop t input ahead old new f (inr later) foreseen known =
     inr (later.taken.version, later.taken.start, later.taken.records, later.fault foreseen known)
 
-pub first_of_replay : (terms : Terms) (input ahead old new : Option (List ℕ)) (f : ReplayFault) → IfCapture f (Stops terms input ahead old new)
+pub first_of_replay : (t : Telling) (input ahead old new : Option (List ℕ)) (f : ReplayFault) → IfCapture f (StopsTelling t input ahead old new)
     → IfCapture f (λ g. is_unforeseen_kind g.kind ≡ false → WhereKnown input (λ bytes. IsFirstFault bytes g))
-first_of_replay terms input ahead old new (replays.Capture f) stops = (stops.0, first_of_stop terms input ahead old new f stops.1)
-first_of_replay terms input ahead old new (replays.TooMany number) stops = tt
-first_of_replay terms input ahead old new replays.Write stops = tt
-first_of_replay terms input ahead old new replays.Memory stops = tt
+first_of_replay t input ahead old new (replays.Capture f) stops = (stops.0, first_of_stop t input ahead old new f stops.1)
+first_of_replay t input ahead old new (replays.TooMany number) stops = tt
+first_of_replay t input ahead old new replays.Write stops = tt
+first_of_replay t input ahead old new replays.Memory stops = tt
 
 -- the same of bytes that are known
 first_of_bytes : (bytes : List ℕ) (f : ReplayFault) → IfCapture f (λ g. is_unforeseen_kind g.kind ≡ false → WhereKnown (Some bytes) (λ bytes. IsFirstFault bytes g))
@@ -50,8 +51,9 @@ pub told_of_run : (input ahead : Option (List ℕ)) (old new : Option (List ℕ)
 told_of_run input ahead old new (Words f) says = absurd says
 told_of_run input ahead old new (Settings f) says = absurd says
 told_of_run input ahead old new (Snapshot f) says = says.0
-told_of_run input ahead old new (Replay f) says = λ known. behind_weaker _ _ _ (λ files bytes told. first_of_bytes bytes f (first_of_replay (default_terms files) (Some bytes) ahead old.0 new.0 f told.stops)) (says known)
+told_of_run input ahead old new (Replay f) says = λ known. behind_weaker _ _ _ (λ files bytes told. first_of_bytes bytes f (first_of_replay (replies_told (default_terms files)) (Some bytes) ahead old.0 new.0 f told.stops)) (says known)
 told_of_run input ahead old new (Upgrade f) says = absurd says
+told_of_run input ahead old new (Folder f) says = absurd says
 told_of_run input ahead old new (Open place) says = absurd says
 told_of_run input ahead old new (Read place) says = absurd says
 told_of_run input ahead old new (Write place) says = absurd says

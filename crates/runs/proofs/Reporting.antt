@@ -4,23 +4,26 @@ use Rattle.paths.specs.declared.file.File.{File}
 use Rattle.paths.specs.SnapshotFaults.{ReadsWhole}
 use Rattle.replay.specs.declared.outcome.Outcome.{Outcome}
 use Rattle.replay.specs.declared.replay_fault.ReplayFault.{ReplayFault}
-use Rattle.replay.specs.Choices.{Choice, terms_of}
-use Rattle.replay.specs.Outcomes.{IfCapture, IfTooMany, IfCutShort, Stops, StopsFull, IsCutShort, WhereKnown}
+use Rattle.replay.specs.Choices.{Choice, Terms, terms_of}
+use Rattle.replay.specs.Outcomes.{IfCapture, IfTooMany, IfCutShort, StopsTelling, StopsBeyond, IsCutOff, WhereKnown}
 use Rattle.runs.specs.declared.fault.Fault.{Fault}
-use Rattle.runs.specs.declared.fault.Fault.TheVariants.{Words, Settings, Snapshot, Replay, Upgrade, Open, Read, Write, Memory}
+use Rattle.runs.specs.declared.fault.Fault.TheVariants.{Words, Settings, Snapshot, Replay, Upgrade, Folder, Open, Read, Write, Memory}
 use Rattle.runs.specs.declared.place.Place.{Place}
 use Rattle.runs.specs.declared.place.Place.TheVariants as places
 use Rattle.runs.specs.Bundles.{StopsAs, HoldsCapture}
+use Rattle.runs.specs.Wanted.{HasWritten, wanted_of}
+use Rattle.runs.specs.declared.wanted.Wanted.{Wanted}
+use Rattle.runs.specs.declared.wanted.Wanted.TheVariants as wants
 use Rattle.runs.specs.Replays.{OfInput, AnswersAnd, IsReplayFault, IsFilesFault}
 use Rattle.runs.proofs.Programs.{first_of_replay}
 
 -- a replay after a whole snapshot came to no end
-pub stops_behind : (choice : Choice) (snapshot read capture ahead : Option (List ℕ)) (files : List File) (old new : Option (List ℕ)) (f : ReplayFault) → ReadsWhole snapshot read files
-    → IfCapture f (Stops (terms_of files choice) capture ahead old new)
-    → IfTooMany f (StopsFull (terms_of files choice) capture old new)
-    → IfCutShort f (IsCutShort (terms_of files choice) capture old new)
-    → OfInput snapshot (λ its. StopsAs (terms_of its choice) capture ahead old new f)
-stops_behind choice snapshot read capture ahead files old new f whole is_stop is_many is_part known = record {
+pub stops_behind : (wanted : Wanted) (choice : Choice) (snapshot read capture ahead : Option (List ℕ)) (files : List File) (old new : Option (List ℕ)) (f : ReplayFault) → ReadsWhole snapshot read files
+    → IfCapture f (StopsTelling (wanted_of wanted (terms_of files choice)) capture ahead old new)
+    → IfTooMany f (StopsBeyond (wanted_of wanted (terms_of files choice)) capture old new)
+    → IfCutShort f (IsCutOff (wanted_of wanted (terms_of files choice)) capture old new)
+    → OfInput snapshot (λ its. StopsAs (wanted_of wanted (terms_of its choice)) capture ahead old new f)
+stops_behind wanted choice snapshot read capture ahead files old new f whole is_stop is_many is_part known = record {
   files = files;
   text = whole.text known;
   holds = record { stops = is_stop; many = is_many; part = is_part };
@@ -37,26 +40,29 @@ inputs_weaker snapshot P Q weaker holds known =
     }
 
 -- a fault of the run is one of the program
-pub told_of_replay : (choice : Choice) (snapshot capture ahead : Option (List ℕ)) (old new out_old out_new : Option (List ℕ) × ℕ) (f : Fault) → IsReplayFault choice snapshot capture ahead old new out_old out_new f → IsFilesFault snapshot capture f
-told_of_replay choice snapshot capture ahead old new out_old out_new (Words f) says = absurd says
-told_of_replay choice snapshot capture ahead old new out_old out_new (Settings f) says = absurd says
-told_of_replay choice snapshot capture ahead old new out_old out_new (Snapshot f) says = says.0
-told_of_replay choice snapshot capture ahead old new out_old out_new (Replay f) says =
-    inputs_weaker snapshot (λ files. StopsAs (terms_of files choice) capture ahead old.0 new.0 f) _ (λ files told. first_of_replay (terms_of files choice) capture ahead old.0 new.0 f told.stops) says.0
-told_of_replay choice snapshot capture ahead old new out_old out_new (Upgrade f) says = absurd says
-told_of_replay choice snapshot capture ahead old new out_old out_new (Open place) says = absurd says
-told_of_replay choice snapshot capture ahead old new out_old out_new (Read place) says = absurd says
-told_of_replay choice snapshot capture ahead old new out_old out_new (Write places.Settings) says = absurd says
-told_of_replay choice snapshot capture ahead old new out_old out_new (Write places.Snapshot) says = absurd says
-told_of_replay choice snapshot capture ahead old new out_old out_new (Write places.Capture) says = absurd says
-told_of_replay choice snapshot capture ahead old new out_old out_new (Write places.Replies) says = absurd says
-told_of_replay choice snapshot capture ahead old new out_old out_new (Write places.Report) says = tt
-told_of_replay choice snapshot capture ahead old new out_old out_new (Write places.Output) says = absurd says
-told_of_replay choice snapshot capture ahead old new out_old out_new Memory says = tt
+pub told_of_replay : (wanted : Wanted) (choice : Choice) (snapshot capture ahead : Option (List ℕ)) (old new out_old out_new : Option (List ℕ) × ℕ) (f : Fault) → IsReplayFault wanted choice snapshot capture ahead old new out_old out_new f → IsFilesFault snapshot capture f
+told_of_replay wanted choice snapshot capture ahead old new out_old out_new (Words f) says = absurd says
+told_of_replay wanted choice snapshot capture ahead old new out_old out_new (Settings f) says = absurd says
+told_of_replay wanted choice snapshot capture ahead old new out_old out_new (Snapshot f) says = says.0
+told_of_replay wanted choice snapshot capture ahead old new out_old out_new (Replay f) says =
+    inputs_weaker snapshot (λ files. StopsAs (wanted_of wanted (terms_of files choice)) capture ahead old.0 new.0 f) _ (λ files told. first_of_replay (wanted_of wanted (terms_of files choice)) capture ahead old.0 new.0 f told.stops) says.0
+told_of_replay wanted choice snapshot capture ahead old new out_old out_new (Upgrade f) says = absurd says
+told_of_replay wanted choice snapshot capture ahead old new out_old out_new (Folder f) says = absurd says
+told_of_replay wanted choice snapshot capture ahead old new out_old out_new (Open place) says = absurd says
+told_of_replay wanted choice snapshot capture ahead old new out_old out_new (Read place) says = absurd says
+told_of_replay wanted choice snapshot capture ahead old new out_old out_new (Write places.Settings) says = absurd says
+told_of_replay wanted choice snapshot capture ahead old new out_old out_new (Write places.Snapshot) says = absurd says
+told_of_replay wanted choice snapshot capture ahead old new out_old out_new (Write places.Capture) says = absurd says
+told_of_replay wanted choice snapshot capture ahead old new out_old out_new (Write places.Replies) says = absurd says
+told_of_replay wanted choice snapshot capture ahead old new out_old out_new (Write places.Messages) says = absurd says
+told_of_replay wanted choice snapshot capture ahead old new out_old out_new (Write places.Report) says = tt
+told_of_replay wanted choice snapshot capture ahead old new out_old out_new (Write places.Output) says = absurd says
+told_of_replay wanted choice snapshot capture ahead old new out_old out_new (Write places.Folder) says = absurd says
+told_of_replay wanted choice snapshot capture ahead old new out_old out_new Memory says = tt
 
-told_of_ran : (choice : Choice) (snapshot capture ahead : Option (List ℕ)) (old new out_old out_new : Option (List ℕ) × ℕ) (ran : Result Unit Fault) → IfErr ran (IsReplayFault choice snapshot capture ahead old new out_old out_new) → IfErr ran (IsFilesFault snapshot capture)
-told_of_ran choice snapshot capture ahead old new out_old out_new (Ok x) says = tt
-told_of_ran choice snapshot capture ahead old new out_old out_new (Err f) says = told_of_replay choice snapshot capture ahead old new out_old out_new f says
+told_of_ran : (wanted : Wanted) (choice : Choice) (snapshot capture ahead : Option (List ℕ)) (old new out_old out_new : Option (List ℕ) × ℕ) (ran : Result Unit Fault) → IfErr ran (IsReplayFault wanted choice snapshot capture ahead old new out_old out_new) → IfErr ran (IsFilesFault snapshot capture)
+told_of_ran wanted choice snapshot capture ahead old new out_old out_new (Ok x) says = tt
+told_of_ran wanted choice snapshot capture ahead old new out_old out_new (Err f) says = told_of_replay wanted choice snapshot capture ahead old new out_old out_new f says
 
 -- a fault after it is that the rest of an output can't be written
 told_of_rest : (snapshot capture : Option (List ℕ)) (place : Place) (ran told : Result Unit Fault) → IsFilesFault snapshot capture (Write place) → IfErr ran (IsFilesFault snapshot capture)
@@ -64,13 +70,13 @@ told_of_rest : (snapshot capture : Option (List ℕ)) (place : Place) (ran told 
 told_of_rest snapshot capture place ran told allowed says (inl same) = rw same says
 told_of_rest snapshot capture place ran told allowed says (inr unwritten) = rw unwritten allowed
 
-pub told_of_files : (choice : Choice) (snapshot capture ahead : Option (List ℕ)) (old new out_old out_new : Option (List ℕ) × ℕ) (ran rest told : Result Unit Fault)
-    → IfErr ran (IsReplayFault choice snapshot capture ahead old new out_old out_new)
+pub told_of_files : (wanted : Wanted) (choice : Choice) (snapshot capture ahead : Option (List ℕ)) (old new out_old out_new : Option (List ℕ) × ℕ) (ran rest told : Result Unit Fault)
+    → IfErr ran (IsReplayFault wanted choice snapshot capture ahead old new out_old out_new)
     → (rest ≡ ran) ⊎ (rest ≡ Err (Write places.Replies))
     → (told ≡ rest) ⊎ (told ≡ Err (Write places.Report)) → IfErr told (IsFilesFault snapshot capture)
-told_of_files choice snapshot capture ahead old new out_old out_new ran rest told says replies_rest report_rest =
+told_of_files wanted choice snapshot capture ahead old new out_old out_new ran rest told says replies_rest report_rest =
     told_of_rest snapshot capture places.Report rest told tt
-    (told_of_rest snapshot capture places.Replies ran rest tt (told_of_ran choice snapshot capture ahead old new out_old out_new ran says) replies_rest)
+    (told_of_rest snapshot capture places.Replies ran rest tt (told_of_ran wanted choice snapshot capture ahead old new out_old out_new ran says) replies_rest)
     report_rest
 
 -- where the program came to its end, so did the run, and the capture that it answered is a capture's text
@@ -86,14 +92,18 @@ ok_of_rest P f ran told says (inr unwritten) = rw unwritten tt
 abbrev pub Holds : Option (List ℕ) → List File → Type 0
 Holds capture files = WhereKnown capture (HoldsCapture files)
 
-pub ok_of_files : (choice : Choice) (snapshot capture old new : Option (List ℕ)) (P : Outcome → Type 0) (ran rest told : Result Unit Fault)
-    → OnOk ran (OfInput snapshot (λ files. AnswersAnd (terms_of files choice) capture old new P))
+is_text : (wanted : Wanted) (terms : Terms) (capture old new : Option (List ℕ)) (outcome : Outcome) → HasWritten wanted terms capture old new outcome → Holds capture terms.files
+is_text (wants.Replies engine) terms capture old new outcome h known = (h.version, h.start, h.records, h.capture known)
+is_text wants.Rows terms capture old new outcome h known = (h.version, h.start, h.records, h.capture known)
+
+pub ok_of_files : (wanted : Wanted) (choice : Choice) (snapshot capture old new : Option (List ℕ)) (P : Outcome → Type 0) (ran rest told : Result Unit Fault)
+    → OnOk ran (OfInput snapshot (λ files. AnswersAnd wanted (terms_of files choice) capture old new P))
     → (rest ≡ ran) ⊎ (rest ≡ Err (Write places.Replies))
     → (told ≡ rest) ⊎ (told ≡ Err (Write places.Report)) → OnOk told (OfInput snapshot (Holds capture))
-ok_of_files choice snapshot capture old new P ran rest told says replies_rest report_rest =
-    let answered : List File → Type 0 = λ files. AnswersAnd (terms_of files choice) capture old new P in
+ok_of_files wanted choice snapshot capture old new P ran rest told says replies_rest report_rest =
+    let answered : List File → Type 0 = λ files. AnswersAnd wanted (terms_of files choice) capture old new P in
     ok_of_rest (OfInput snapshot (Holds capture)) (Write places.Report) rest told
     (ok_of_rest (OfInput snapshot (Holds capture)) (Write places.Replies) ran rest
     (ok_weaker (OfInput snapshot answered) (OfInput snapshot (Holds capture)) ran
-    (inputs_weaker snapshot answered (Holds capture) (λ files answer known. (answer.answer.version, answer.answer.start, answer.answer.records, answer.answer.capture known))) says) replies_rest)
+    (inputs_weaker snapshot answered (Holds capture) (λ files answer known. is_text wanted (terms_of files choice) capture old new answer.outcome answer.answer known)) says) replies_rest)
     report_rest

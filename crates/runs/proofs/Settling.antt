@@ -3,6 +3,7 @@ use Rattle.std.proofs.Common.{◌≡◌, ◌⊎◌, inl, inr, ℕ, Bool, true, L
 use Rattle.std.specs.Io.KnownBytes.{Appends, append_known}
 use Rattle.captures.specs.Upgrades.{Upgrades}
 use Rattle.replay.specs.Choices.{Choice, terms_of}
+use Rattle.runs.specs.declared.wanted.Wanted.{Wanted}
 use Rattle.replay.specs.Outcomes.{WhereKnown}
 use Rattle.report.specs.Reports.{report_text}
 use Rattle.runs.specs.declared.fault.Fault.{Fault}
@@ -22,7 +23,7 @@ pub settled : (cut its : Bool) (place : Place) (stood old mid whole new : Option
     → Settles cut place stood mid new ran told → Settles its place old whole new ran told
 settled cut its place stood old mid whole new ran told from to same stands = rw (from, ← to, ← same) stands
 
-told_by : (cut : Bool) (place : Place) (old whole new : Option (List ℕ)) (ran told : Result Unit Fault) → Settles cut place old whole new ran told
+pub told_by : (cut : Bool) (place : Place) (old whole new : Option (List ℕ)) (ran told : Result Unit Fault) → Settles cut place old whole new ran told
     → (told ≡ ran) ⊎ (told ≡ Err (Write place))
 told_by cut place old whole new ran told (inl all) = inl all.0
 told_by cut place old whole new ran told (inr (inl stopped)) = inl stopped.0
@@ -95,45 +96,45 @@ upgraded_ok input old new told at =
     ok_of_upgraded_files input old at.whole at.ran told (upgrade_ok_of input old at.whole at.ran at.says)
     (told_by (is_cut at.ran) places.Output old at.whole new at.ran told at.stands)
 
-pub files_says : (choice : Choice) (snapshot capture old out_old : Option (List ℕ)) (snapshot_seen capture_seen left before after out_before out_after : Option (List ℕ) × ℕ) (ran : Result Unit Fault)
+pub files_says : (wanted : Wanted) (choice : Choice) (snapshot capture old out_old : Option (List ℕ)) (snapshot_seen capture_seen left before after out_before out_after : Option (List ℕ) × ℕ) (ran : Result Unit Fault)
     → snapshot_seen ≡ (snapshot, 0) → capture_seen ≡ (capture, 0) → before ≡ (old, 0) → out_before ≡ (out_old, 0)
-    → OnOk ran (OfInput snapshot_seen.0 (λ files. AnswersAnd (terms_of files choice) capture_seen.0 before.0 after.0 (λ outcome. Appends out_before.0 out_after.0 (report_text outcome))))
-    → IfErr ran (IsReplayFault choice snapshot_seen.0 capture_seen.0 left.0 before after out_before out_after) → FilesSays choice snapshot capture old out_old ran after.0 out_after.0
-files_says choice snapshot capture old out_old snapshot_seen capture_seen left before after out_before out_after (Ok done) shows capture_shows is out_is answer fault =
-    let P : Option (List ℕ) × ℕ → Type 0 = λ s. OfInput s.0 (λ files. AnswersAnd (terms_of files choice) capture_seen.0 before.0 after.0 (λ outcome. Appends out_before.0 out_after.0 (report_text outcome))) in
-    let Q : Option (List ℕ) × ℕ → Type 0 = λ s. OfInput snapshot (λ files. AnswersAnd (terms_of files choice) s.0 before.0 after.0 (λ outcome. Appends out_before.0 out_after.0 (report_text outcome))) in
-    let R : Option (List ℕ) × ℕ → Type 0 = λ b. OfInput snapshot (λ files. AnswersAnd (terms_of files choice) capture b.0 after.0 (λ outcome. Appends out_before.0 out_after.0 (report_text outcome))) in
-    let S : Option (List ℕ) × ℕ → Type 0 = λ b. OfInput snapshot (λ files. AnswersAnd (terms_of files choice) capture old after.0 (λ outcome. Appends b.0 out_after.0 (report_text outcome))) in
+    → OnOk ran (OfInput snapshot_seen.0 (λ files. AnswersAnd wanted (terms_of files choice) capture_seen.0 before.0 after.0 (λ outcome. Appends out_before.0 out_after.0 (report_text outcome))))
+    → IfErr ran (IsReplayFault wanted choice snapshot_seen.0 capture_seen.0 left.0 before after out_before out_after) → FilesSays wanted choice snapshot capture old out_old ran after.0 out_after.0
+files_says wanted choice snapshot capture old out_old snapshot_seen capture_seen left before after out_before out_after (Ok done) shows capture_shows is out_is answer fault =
+    let P : Option (List ℕ) × ℕ → Type 0 = λ s. OfInput s.0 (λ files. AnswersAnd wanted (terms_of files choice) capture_seen.0 before.0 after.0 (λ outcome. Appends out_before.0 out_after.0 (report_text outcome))) in
+    let Q : Option (List ℕ) × ℕ → Type 0 = λ s. OfInput snapshot (λ files. AnswersAnd wanted (terms_of files choice) s.0 before.0 after.0 (λ outcome. Appends out_before.0 out_after.0 (report_text outcome))) in
+    let R : Option (List ℕ) × ℕ → Type 0 = λ b. OfInput snapshot (λ files. AnswersAnd wanted (terms_of files choice) capture b.0 after.0 (λ outcome. Appends out_before.0 out_after.0 (report_text outcome))) in
+    let S : Option (List ℕ) × ℕ → Type 0 = λ b. OfInput snapshot (λ files. AnswersAnd wanted (terms_of files choice) capture old after.0 (λ outcome. Appends b.0 out_after.0 (report_text outcome))) in
     (left.0, after.1, out_after.1, subst S out_is (subst R is (subst Q capture_shows (subst P shows answer))))
-files_says choice snapshot capture old out_old snapshot_seen capture_seen left before after out_before out_after (Err f) shows capture_shows is out_is answer fault =
-    let P : Option (List ℕ) × ℕ → Type 0 = λ s. IsReplayFault choice s.0 capture_seen.0 left.0 before after out_before out_after f in
-    let Q : Option (List ℕ) × ℕ → Type 0 = λ s. IsReplayFault choice snapshot s.0 left.0 before after out_before out_after f in
-    let R : Option (List ℕ) × ℕ → Type 0 = λ b. IsReplayFault choice snapshot capture left.0 b after out_before out_after f in
-    let S : Option (List ℕ) × ℕ → Type 0 = λ b. IsReplayFault choice snapshot capture left.0 (old, 0) after b out_after f in
+files_says wanted choice snapshot capture old out_old snapshot_seen capture_seen left before after out_before out_after (Err f) shows capture_shows is out_is answer fault =
+    let P : Option (List ℕ) × ℕ → Type 0 = λ s. IsReplayFault wanted choice s.0 capture_seen.0 left.0 before after out_before out_after f in
+    let Q : Option (List ℕ) × ℕ → Type 0 = λ s. IsReplayFault wanted choice snapshot s.0 left.0 before after out_before out_after f in
+    let R : Option (List ℕ) × ℕ → Type 0 = λ b. IsReplayFault wanted choice snapshot capture left.0 b after out_before out_after f in
+    let S : Option (List ℕ) × ℕ → Type 0 = λ b. IsReplayFault wanted choice snapshot capture left.0 (old, 0) after b out_after f in
     (left.0, after.1, out_after.1, subst S out_is (subst R is (subst Q capture_shows (subst P shows fault))))
 
-files_fault_of : (choice : Choice) (snapshot capture old whole out_old out_whole : Option (List ℕ)) (ran : Result Unit Fault) (says : FilesSays choice snapshot capture old out_old ran whole out_whole)
-    → IfErr ran (IsReplayFault choice snapshot capture says.0 (old, 0) (whole, says.1) (out_old, 0) (out_whole, says.2))
-files_fault_of choice snapshot capture old whole out_old out_whole (Ok done) says = tt
-files_fault_of choice snapshot capture old whole out_old out_whole (Err f) says = says.3
+files_fault_of : (wanted : Wanted) (choice : Choice) (snapshot capture old whole out_old out_whole : Option (List ℕ)) (ran : Result Unit Fault) (says : FilesSays wanted choice snapshot capture old out_old ran whole out_whole)
+    → IfErr ran (IsReplayFault wanted choice snapshot capture says.0 (old, 0) (whole, says.1) (out_old, 0) (out_whole, says.2))
+files_fault_of wanted choice snapshot capture old whole out_old out_whole (Ok done) says = tt
+files_fault_of wanted choice snapshot capture old whole out_old out_whole (Err f) says = says.3
 
-files_ok_of : (choice : Choice) (snapshot capture old whole out_old out_whole : Option (List ℕ)) (ran : Result Unit Fault) → FilesSays choice snapshot capture old out_old ran whole out_whole
-    → OnOk ran (OfInput snapshot (λ files. AnswersAnd (terms_of files choice) capture old whole (λ outcome. Appends out_old out_whole (report_text outcome))))
-files_ok_of choice snapshot capture old whole out_old out_whole (Ok done) says = says.3
-files_ok_of choice snapshot capture old whole out_old out_whole (Err f) says = tt
+files_ok_of : (wanted : Wanted) (choice : Choice) (snapshot capture old whole out_old out_whole : Option (List ℕ)) (ran : Result Unit Fault) → FilesSays wanted choice snapshot capture old out_old ran whole out_whole
+    → OnOk ran (OfInput snapshot (λ files. AnswersAnd wanted (terms_of files choice) capture old whole (λ outcome. Appends out_old out_whole (report_text outcome))))
+files_ok_of wanted choice snapshot capture old whole out_old out_whole (Ok done) says = says.3
+files_ok_of wanted choice snapshot capture old whole out_old out_whole (Err f) says = tt
 
-pub files_fault : (choice : Choice) (snapshot capture old new out_old out_new : Option (List ℕ)) (told : Result Unit Fault)
-    → AtDevices (FilesSays choice snapshot capture old out_old) old new out_old out_new told → IfErr told (IsFilesFault snapshot capture)
-files_fault choice snapshot capture old new out_old out_new told at =
-    told_of_files choice snapshot capture at.says.0 (old, 0) (at.whole, at.says.1) (out_old, 0) (at.out_whole, at.says.2) at.ran at.rest told
-    (files_fault_of choice snapshot capture old at.whole out_old at.out_whole at.ran at.says)
+pub files_fault : (wanted : Wanted) (choice : Choice) (snapshot capture old new out_old out_new : Option (List ℕ)) (told : Result Unit Fault)
+    → AtDevices (FilesSays wanted choice snapshot capture old out_old) old new out_old out_new told → IfErr told (IsFilesFault snapshot capture)
+files_fault wanted choice snapshot capture old new out_old out_new told at =
+    told_of_files wanted choice snapshot capture at.says.0 (old, 0) (at.whole, at.says.1) (out_old, 0) (at.out_whole, at.says.2) at.ran at.rest told
+    (files_fault_of wanted choice snapshot capture old at.whole out_old at.out_whole at.ran at.says)
     (told_by (is_cut at.ran) places.Replies old at.whole new at.ran at.rest at.replies)
     (told_by (is_fault at.rest) places.Report out_old at.out_whole out_new at.rest told at.report)
 
-pub files_ok : (choice : Choice) (snapshot capture old new out_old out_new : Option (List ℕ)) (told : Result Unit Fault)
-    → AtDevices (FilesSays choice snapshot capture old out_old) old new out_old out_new told → OnOk told (OfInput snapshot (λ files. WhereKnown capture (HoldsCapture files)))
-files_ok choice snapshot capture old new out_old out_new told at =
-    ok_of_files choice snapshot capture old at.whole (λ outcome. Appends out_old at.out_whole (report_text outcome)) at.ran at.rest told
-    (files_ok_of choice snapshot capture old at.whole out_old at.out_whole at.ran at.says)
+pub files_ok : (wanted : Wanted) (choice : Choice) (snapshot capture old new out_old out_new : Option (List ℕ)) (told : Result Unit Fault)
+    → AtDevices (FilesSays wanted choice snapshot capture old out_old) old new out_old out_new told → OnOk told (OfInput snapshot (λ files. WhereKnown capture (HoldsCapture files)))
+files_ok wanted choice snapshot capture old new out_old out_new told at =
+    ok_of_files wanted choice snapshot capture old at.whole (λ outcome. Appends out_old at.out_whole (report_text outcome)) at.ran at.rest told
+    (files_ok_of wanted choice snapshot capture old at.whole out_old at.out_whole at.ran at.says)
     (told_by (is_cut at.ran) places.Replies old at.whole new at.ran at.rest at.replies)
     (told_by (is_fault at.rest) places.Report out_old at.out_whole out_new at.rest told at.report)

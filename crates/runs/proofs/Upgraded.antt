@@ -7,7 +7,7 @@ use Rattle.captures.specs.CaptureFaults.{is_unforeseen_kind, IsFirstFault}
 use Rattle.captures.specs.Upgrades.{IfCapture, Stops, Upgrades}
 use Rattle.replay.specs.Outcomes.{WhereKnown}
 use Rattle.runs.specs.declared.fault.Fault.{Fault}
-use Rattle.runs.specs.declared.fault.Fault.TheVariants.{Words, Settings, Snapshot, Replay, Upgrade, Open, Read, Write, Memory}
+use Rattle.runs.specs.declared.fault.Fault.TheVariants.{Words, Settings, Snapshot, Replay, Upgrade, Folder, Open, Read, Write, Memory}
 use Rattle.runs.specs.declared.place.Place.TheVariants.{Output}
 use Rattle.runs.specs.Upgrading.{IsCaptureOfSomeVersion, IsUpgradeFault, IsUpgradeFilesFault}
 
@@ -31,6 +31,7 @@ told_of_upgrade input ahead old new (Settings f) says = absurd says
 told_of_upgrade input ahead old new (Snapshot f) says = absurd says
 told_of_upgrade input ahead old new (Replay f) says = absurd says
 told_of_upgrade input ahead old new (Upgrade f) says = first_of_upgrade input ahead old new f says.stops
+told_of_upgrade input ahead old new (Folder f) says = absurd says
 told_of_upgrade input ahead old new (Open place) says = absurd says
 told_of_upgrade input ahead old new (Read place) says = absurd says
 told_of_upgrade input ahead old new (Write place) says = absurd says

@@ -11,7 +11,8 @@ use Rattle.captures.specs.CaptureFaults.{is_unforeseen_kind, IsFirstFault}
 use Rattle.replay.specs.declared.outcome.Outcome.{Outcome}
 use Rattle.replay.specs.declared.replay_fault.ReplayFault.{ReplayFault}
 use Rattle.replay.specs.Choices.{Terms, terms_of}
-use Rattle.replay.specs.Outcomes.{Answers, IfCapture, IfTooMany, IfCutShort, Stops, StopsFull, IsCutShort}
+use Rattle.replay.specs.Outcomes.{Answers, IfCapture, IfTooMany, IfCutShort, StopsTelling, StopsBeyond, IsCutOff}
+use Rattle.replay.specs.Telling.{Telling, replies_told}
 use Rattle.options.specs.SettingsTable.{default_choice}
 use Rattle.replay.specs.Outcomes as replays
 use Rattle.runs.specs.declared.fault.Fault.{Fault}
@@ -36,10 +37,10 @@ abbrev pub WritesAnswer : Option (List ℕ) → Option (List ℕ) → List File 
 WritesAnswer old new files capture = (outcome : Outcome) × Answers (default_terms files) (Some capture) old new outcome
 
 -- what a fault of the replay says of its capture, of what of it wasn't read, and of what was written
-pub record StopsAs (terms : Terms) (capture ahead old new : Option (List ℕ)) (f : ReplayFault) : Type 0 where
-  pub stops : IfCapture f (Stops terms capture ahead old new)
-  pub many : IfTooMany f (StopsFull terms capture old new)
-  pub part : IfCutShort f (IsCutShort terms capture old new)
+pub record StopsAs (t : Telling) (capture ahead old new : Option (List ℕ)) (f : ReplayFault) : Type 0 where
+  pub stops : IfCapture f (StopsTelling t capture ahead old new)
+  pub many : IfTooMany f (StopsBeyond t capture old new)
+  pub part : IfCutShort f (IsCutOff t capture old new)
 
 -- What a fault of the run says, with what of the input wasn't read, and the output's bytes and failures before and
 -- after. One of the snapshot is its first and nothing was written; one of the replay comes after a whole snapshot, and
@@ -50,7 +51,7 @@ abbrev pub IsBundleFault : Option (List ℕ) → Option (List ℕ) → Option (L
 IsBundleFault input ahead old new (Snapshot f) = IsForeseen IsFrontFault input f × (new ≡ old)
 IsBundleFault input ahead old new (Replay f) = is_some input ≡ true →
     BehindSnapshot (unwrap_or input [])
-    (λ files capture. StopsAs (default_terms files) (Some capture) ahead old.0 new.0 f)
+    (λ files capture. StopsAs (replies_told (default_terms files)) (Some capture) ahead old.0 new.0 f)
 IsBundleFault input ahead old new Memory = new ≡ old
 IsBundleFault input ahead old new other = ⊥
 

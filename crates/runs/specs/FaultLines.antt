@@ -1,5 +1,6 @@
 -- How a fault is told: the status that the program ends with, and the line on standard error.
-use Rattle.std.specs.Prelude.{ℕ, List, ◌++◌, codes, decimal, string_bytes, Option, Some, None, unwrap_or}
+use Rattle.std.specs.Prelude.{ℕ, ◌==◌, ◌||◌, List, ◌++◌, codes, decimal, nat_lt, string_bytes, Option, Some, None}
+use Rattle.std.specs.Prelude.{unwrap_or, if◌then◌else◌}
 use Rattle.paths.specs.declared.snapshot_fault.SnapshotFault.{SnapshotFault}
 use Rattle.paths.specs.declared.snapshot_fault.SnapshotFaultKind.{SnapshotFaultKind}
 use Rattle.paths.specs.declared.snapshot_fault.SnapshotFaultKind.TheVariants as entries
@@ -20,8 +21,10 @@ use Rattle.runs.specs.declared.place.Place.{Place}
 use Rattle.runs.specs.declared.place.Place.TheVariants as places
 use Rattle.runs.specs.declared.fault.Fault.{Fault}
 use Rattle.runs.specs.declared.fault.Fault.TheVariants as faults
+use Rattle.runs.specs.declared.file_fault.FileFault.{FileFault}
+use Rattle.runs.specs.declared.file_fault.FileFault.TheVariants as files
 use Rattle.runs.specs.declared.told.Told.{Told}
-use Rattle.runs.specs.declared.told.Told.TheVariants.{Usage, Engine, Settings, Entry, Record, TooMany, Open, Read}
+use Rattle.runs.specs.declared.told.Told.TheVariants.{Usage, Engine, Settings, Entry, Record, TooMany, File, Open, Read}
 use Rattle.runs.specs.declared.told.Told.TheVariants.{Write, Memory}
 
 -- a failed read or write and out of memory are told alike, whatever fault they stand in
@@ -46,6 +49,16 @@ told_upgrade (upgrades.Capture f) = told_record f.kind f
 told_upgrade upgrades.Write = Write places.Output
 told_upgrade upgrades.Memory = Memory
 
+abbrev pub told_file : FileFault → Told
+told_file files.Read = Read places.Folder
+told_file other = File other
+
+-- the fault of a run that writes rows, of one that writes replies
+abbrev pub of_rows : Fault → Fault
+of_rows (faults.Replay replays.Write) = faults.Write places.Messages
+of_rows (faults.Write places.Replies) = faults.Write places.Messages
+of_rows f = f
+
 abbrev pub told_words : WordFault → Told
 told_words (words.Words text) = Usage
 told_words words.Engine = Engine
@@ -61,6 +74,7 @@ told (faults.Settings f) = told_settings f.kind f
 told (faults.Snapshot f) = told_entry f.kind f
 told (faults.Replay f) = told_replay f
 told (faults.Upgrade f) = told_upgrade f
+told (faults.Folder f) = told_file f.fault
 told (faults.Open place) = Open place
 told (faults.Read place) = Read place
 told (faults.Write place) = Write place
@@ -74,6 +88,7 @@ status_of (Settings f) = 3
 status_of (Entry f) = 4
 status_of (Record f) = 5
 status_of (TooMany number) = 5
+status_of (File fault) = 4
 status_of (Open place) = 6
 status_of (Read place) = 6
 status_of (Write place) = 6
@@ -85,8 +100,22 @@ place_name places.Settings = codes "settings"
 place_name places.Snapshot = codes "snapshot"
 place_name places.Capture = codes "capture"
 place_name places.Replies = codes "replies"
+place_name places.Messages = codes "messages"
 place_name places.Report = codes "report"
 place_name places.Output = codes "output"
+place_name places.Folder = codes "folder"
+
+abbrev pub file_fault_name : FileFault → List ℕ
+file_fault_name files.Time = codes "Time"
+file_fault_name files.Size = codes "Size"
+file_fault_name files.Count = codes "Count"
+file_fault_name files.Name = codes "Name"
+file_fault_name files.Order = codes "Order"
+file_fault_name files.Conflict = codes "Conflict"
+file_fault_name files.Text = codes "Text"
+file_fault_name files.Link = codes "Link"
+file_fault_name files.Special = codes "Special"
+file_fault_name files.Read = codes "Read"
 
 abbrev pub snapshot_kind_name : SnapshotFaultKind → List ℕ
 snapshot_kind_name entries.Cut = codes "Cut"
@@ -127,6 +156,7 @@ text_of (Settings f) = codes "settings: " ++ fault_text f
 text_of (Entry f) = codes "snapshot: entry " ++ decimal f.entry ++ codes ": " ++ snapshot_kind_name f.kind
 text_of (Record f) = codes "capture: record " ++ decimal f.at ++ codes ": " ++ capture_kind_name f.kind
 text_of (TooMany number) = codes "capture: message " ++ decimal number ++ codes ": TooMany"
+text_of (File fault) = codes "folder: " ++ file_fault_name fault
 text_of (Open place) = codes "open: " ++ place_name place
 text_of (Read place) = codes "read: " ++ place_name place
 text_of (Write place) = codes "write: " ++ place_name place
@@ -134,6 +164,14 @@ text_of Memory = codes "memory"
 
 abbrev pub line_of : Told → List ℕ
 line_of t = codes "haboob: " ++ text_of t ++ codes "\n"
+
+-- the same with the name concerned
+abbrev pub named_line_of : Told → List ℕ → List ℕ
+named_line_of t name = codes "haboob: " ++ text_of t ++ codes " " ++ name ++ codes "\n"
+
+-- how a byte of a name stands in a line: a control character as a question mark
+abbrev pub shown_byte : ℕ → ℕ
+shown_byte b = if nat_lt b 32 || b == 127 then 63 else b
 
 -- what the command line says of words that it doesn't take
 abbrev pub usage_in : WordFault → Option (List ℕ)
@@ -145,6 +183,15 @@ abbrev pub usage_of : Fault → Option (List ℕ)
 usage_of (faults.Words f) = usage_in f
 usage_of other = None
 
--- what is written of a fault: that, or the line
+-- the line of what is told with its name
+abbrev pub named_line : Fault → Option (List ℕ)
+named_line (faults.Folder f) = Some (named_line_of (told_file f.fault) f.name.items)
+named_line other = None
+
+-- what is written of a fault: one of these, or its line
 abbrev pub text_told : Fault → List ℕ
-text_told f = unwrap_or (usage_of f) (line_of (told f))
+text_told f = unwrap_or (usage_of f) (unwrap_or (named_line f) (line_of (told f)))
+
+-- what is written of the number of those that were left out
+abbrev pub skipped_line : ℕ → List ℕ
+skipped_line count = codes "haboob: skipped " ++ decimal count ++ codes "\n"

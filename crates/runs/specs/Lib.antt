@@ -1,6 +1,9 @@
 pub mod FaultLines
+pub mod Wanted
 pub mod Bundles
 pub mod Buffers
 pub mod Devices
 pub mod Replays
 pub mod Upgrading
+pub mod Folders
+pub mod Inspecting

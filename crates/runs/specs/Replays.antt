@@ -9,10 +9,12 @@ use Rattle.captures.specs.CaptureFaults.{is_unforeseen_kind}
 use Rattle.captures.specs.CaptureFaults as captures
 use Rattle.replay.specs.declared.outcome.Outcome.{Outcome}
 use Rattle.replay.specs.Choices.{Choice, Terms, terms_of}
-use Rattle.replay.specs.Outcomes.{Answers, IfCapture, WhereKnown}
+use Rattle.replay.specs.Outcomes.{IfCapture, WhereKnown}
 use Rattle.replay.specs.Outcomes as replays
 use Rattle.report.specs.Reports.{report_text}
 use Rattle.runs.specs.Bundles.{StopsAs}
+use Rattle.runs.specs.Wanted.{HasWritten, wanted_of}
+use Rattle.runs.specs.declared.wanted.Wanted.{Wanted}
 use Rattle.runs.specs.declared.fault.Fault.{Fault}
 use Rattle.runs.specs.declared.fault.Fault.TheVariants.{Snapshot, Replay, Write, Memory}
 use Rattle.runs.specs.declared.place.Place.TheVariants.{Replies, Report}
@@ -26,10 +28,11 @@ pub record OfSnapshot (snapshot : List ℕ) (P : List File → Type 0) : Type 0 
 abbrev pub OfInput : Option (List ℕ) → (List File → Type 0) → Type 0
 OfInput snapshot P = is_some snapshot ≡ true → OfSnapshot (unwrap_or snapshot []) P
 
--- the answer of the reference server to the capture was written, and P holds of its outcome
-pub record AnswersAnd (terms : Terms) (capture old new : Option (List ℕ)) (P : Outcome → Type 0) : Type 0 where
+-- what is wanted of the capture was written, and P holds of its outcome
+pub record AnswersAnd (wanted : Wanted) (terms : Terms) (capture old new : Option (List ℕ))
+    (P : Outcome → Type 0) : Type 0 where
   pub outcome : Outcome
-  pub answer : Answers terms capture old new outcome
+  pub answer : HasWritten wanted terms capture old new outcome
   pub holds : P outcome
 
 -- a prefix of a text was written, and not all of it
@@ -46,19 +49,20 @@ IsReportFault text old new other = ⊥
 -- the report's output before and after. One of the snapshot is its first, and nothing was written. One of the replay
 -- comes after a whole snapshot, and says what it says of the capture; no report was written. Else the whole answer was
 -- written, and there was no memory for the report, or a prefix of it stands. None else comes.
-abbrev pub IsReplayFault : Choice → Option (List ℕ) → Option (List ℕ) → Option (List ℕ) → Option (List ℕ) × ℕ
+abbrev pub IsReplayFault : Wanted → Choice → Option (List ℕ) → Option (List ℕ) → Option (List ℕ) → Option (List ℕ) × ℕ
     → Option (List ℕ) × ℕ → Option (List ℕ) × ℕ → Option (List ℕ) × ℕ → Fault → Type 0
-IsReplayFault choice snapshot capture ahead old new out_old out_new (Snapshot f) =
+IsReplayFault wanted choice snapshot capture ahead old new out_old out_new (Snapshot f) =
     IsForeseen IsFirstFault snapshot f × (new ≡ old) × (out_new ≡ out_old)
-IsReplayFault choice snapshot capture ahead old new out_old out_new (Replay f) =
-    OfInput snapshot (λ files. StopsAs (terms_of files choice) capture ahead old.0 new.0 f) × (out_new ≡ out_old)
-IsReplayFault choice snapshot capture ahead old new out_old out_new (Write Report) =
-    OfInput snapshot (λ files. AnswersAnd (terms_of files choice) capture old.0 new.0
-    (λ outcome. WritesPart out_old.0 out_new.0 (report_text outcome)))
-IsReplayFault choice snapshot capture ahead old new out_old out_new Memory =
-    OfInput snapshot (λ files. AnswersAnd (terms_of files choice) capture old.0 new.0 (λ outcome. Unit {0}))
+IsReplayFault wanted choice snapshot capture ahead old new out_old out_new (Replay f) =
+    OfInput snapshot (λ files. StopsAs (wanted_of wanted (terms_of files choice)) capture ahead old.0 new.0 f)
     × (out_new ≡ out_old)
-IsReplayFault choice snapshot capture ahead old new out_old out_new other = ⊥
+IsReplayFault wanted choice snapshot capture ahead old new out_old out_new (Write Report) =
+    OfInput snapshot (λ files. AnswersAnd wanted (terms_of files choice) capture old.0 new.0
+    (λ outcome. WritesPart out_old.0 out_new.0 (report_text outcome)))
+IsReplayFault wanted choice snapshot capture ahead old new out_old out_new Memory =
+    OfInput snapshot (λ files. AnswersAnd wanted (terms_of files choice) capture old.0 new.0 (λ outcome. Unit {0}))
+    × (out_new ≡ out_old)
+IsReplayFault wanted choice snapshot capture ahead old new out_old out_new other = ⊥
 
 -- how often each device failed in a run that answered this fault (the replies' is `writer_failures` of Bundles)
 abbrev pub snapshot_failures : Fault → ℕ
@@ -87,11 +91,12 @@ IsFilesFault snapshot capture Memory = Unit {0}
 IsFilesFault snapshot capture other = ⊥
 
 -- what a run over files says of its inputs, and of what it was to leave at the devices of the replies and of the report
-abbrev pub FilesSays : Choice → Option (List ℕ) → Option (List ℕ) → Option (List ℕ) → Option (List ℕ)
+abbrev pub FilesSays : Wanted → Choice → Option (List ℕ) → Option (List ℕ) → Option (List ℕ) → Option (List ℕ)
     → Result Unit Fault → Option (List ℕ) → Option (List ℕ) → Type 0
-FilesSays choice snapshot capture old out_old ran whole out_whole = (ahead : Option (List ℕ)) × (count : ℕ)
+FilesSays wanted choice snapshot capture old out_old ran whole out_whole = (ahead : Option (List ℕ)) × (count : ℕ)
     × (out_count : ℕ) × MatchResult ran
     (λ done. OfInput snapshot
-    (λ files. AnswersAnd (terms_of files choice) capture old whole
+    (λ files. AnswersAnd wanted (terms_of files choice) capture old whole
     (λ outcome. Appends out_old out_whole (report_text outcome))))
-    (λ f. IsReplayFault choice snapshot capture ahead (old, 0) (whole, count) (out_old, 0) (out_whole, out_count) f)
+    (λ f. IsReplayFault wanted choice snapshot capture ahead
+    (old, 0) (whole, count) (out_old, 0) (out_whole, out_count) f)

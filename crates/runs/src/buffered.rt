@@ -9,7 +9,7 @@ use crate::fault::Fault;
 use crate::place::Place;
 use crate::program::{is_cut, write_rest};
 use crate::replaying::run_replay;
-use command_line::Engine;
+use crate::wanted::Wanted;
 use paths::{Input, Output};
 use replay::Settings;
 use std::alloc::Global;
@@ -38,49 +38,49 @@ fn run_files_behind<
     rt: &T,
     alloc: Global,
     settings: &Settings,
-    engine: Engine,
+    wanted: Wanted,
     snapshot: BufReader<S>,
     capture: BufReader<C>,
-    replies: W,
+    written: W,
     out: O,
     waiting: Vec<u8>,
     report_waiting: Vec<u8>,
 ) -> (Result<(), Fault>, W, O)
-    requires replies { W.contents replies ≡ M.stood }
+    requires written { W.contents written ≡ M.stood }
     requires out { O.contents out ≡ N.stood }
     requires waiting { waiting.items ≡ [] }
     requires report_waiting { report_waiting.items ≡ [] }
-    ensures { AtDevices (FilesSays settings.now (⟦<BufReader<S> as Read>⟧.remaining snapshot)
-        (⟦<BufReader<C> as Read>⟧.remaining capture) (W.contents replies) (O.contents out))
-        (W.contents replies) (W.contents result.1) (O.contents out) (O.contents result.2) result.0 }
+    ensures { AtDevices (FilesSays wanted settings.now (⟦<BufReader<S> as Read>⟧.remaining snapshot)
+        (⟦<BufReader<C> as Read>⟧.remaining capture) (W.contents written) (O.contents out))
+        (W.contents written) (W.contents result.1) (O.contents out) (O.contents result.2) result.0 }
 {
-    let mut replies = Output::new(Buffered::<M, W>::new(Device::new(replies), waiting));
+    let mut written = Output::new(Buffered::<M, W>::new(Device::new(written), waiting));
     let mut report = Output::new(Buffered::<N, O>::new(Device::new(out), report_waiting));
     let ran = run_replay(
         rt,
         alloc,
         settings,
-        engine,
+        wanted,
         &mut Input::new(snapshot),
         &mut Input::new(capture),
-        &mut replies,
+        &mut written,
         &mut report,
     );
     let cut = is_cut(&ran);
-    let (ran, replies) = write_rest(replies.into_writer(), Place::Replies, cut, ran);
+    let (ran, written) = write_rest(written.into_writer(), Place::Replies, cut, ran);
     let cut = is_fault(&ran);
     let (ran, out) = write_rest(report.into_writer(), Place::Report, cut, ran);
-    (ran, replies, out)
+    (ran, written, out)
 }
 
-/// Replays a capture against a snapshot, with a buffer in front of each device, writes the report to `out`, and gives
-/// both writers back.
+/// Replays a capture against a snapshot, with a buffer before each device, writes what is wanted of its messages, and
+/// the report to `out`, and gives both writers back.
 ///
 /// # Errors
 ///
 /// Those of [`run_replay`]; `Memory` where there is none for the buffers, and then nothing is written; `Write` of the
-/// replies or of the report where what its buffer held at the end couldn't be written. The replies were due before any
-/// other fault; after one, no more of the report is written.
+/// replies (or the rows) or of the report where what its buffer held at the end couldn't be written. The replies were
+/// due before any other fault; after one, no more of the report is written.
 pub fn run_files<
     T: Threads + Wait + Sync,
     S: Read + Drop,
@@ -91,17 +91,17 @@ pub fn run_files<
     rt: &T,
     alloc: Global,
     settings: &Settings,
-    engine: Engine,
+    wanted: Wanted,
     snapshot: S,
     capture: C,
-    replies: W,
+    written: W,
     out: O,
 ) -> (Result<(), Fault>, W, O)
-    ensures device { (Refused (W.contents replies) (W.contents result.1) result.0
+    ensures device { (Refused (W.contents written) (W.contents result.1) result.0
         × Refused (O.contents out) (O.contents result.2) result.0)
-        ⊎ AtDevices (FilesSays settings.now (S.remaining snapshot) (C.remaining capture)
-        (W.contents replies) (O.contents out))
-        (W.contents replies) (W.contents result.1) (O.contents out) (O.contents result.2) result.0 }
+        ⊎ AtDevices (FilesSays wanted settings.now (S.remaining snapshot) (C.remaining capture)
+        (W.contents written) (O.contents out))
+        (W.contents written) (W.contents result.1) (O.contents out) (O.contents result.2) result.0 }
     // Where the bytes of the inputs are known, they were a snapshot's text and a capture's, or a fault is their first.
     ensures ok { OnOk result.0 (OfInput (S.remaining snapshot)
         (λ files. WhereKnown (C.remaining capture) (HoldsCapture files))) }
@@ -111,22 +111,22 @@ pub fn run_files<
         Vec::with_capacity(alloc, ROOM),
         Vec::with_capacity(alloc, ROOM),
     ) else {
-        return (Err(Fault::Memory), replies, out);
+        return (Err(Fault::Memory), written, out);
     };
     let Ok(snapshot) = BufReader::with_capacity(alloc, ROOM, snapshot) else {
-        return (Err(Fault::Memory), replies, out);
+        return (Err(Fault::Memory), written, out);
     };
     let Ok(capture) = BufReader::with_capacity(alloc, ROOM, capture) else {
-        return (Err(Fault::Memory), replies, out);
+        return (Err(Fault::Memory), written, out);
     };
     run_files_behind::<Brand, Brand, T, S, C, W, O>(
         rt,
         alloc,
         settings,
-        engine,
+        wanted,
         snapshot,
         capture,
-        replies,
+        written,
         out,
         waiting,
         report_waiting,

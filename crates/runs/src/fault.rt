@@ -1,6 +1,7 @@
 ghost use Rattle.std.specs.Prelude.{◌≡◌};
-ghost use Rattle.runs.specs.FaultLines.{told, told_entry, told_record, status_of};
+ghost use Rattle.runs.specs.FaultLines.{told, told_entry, told_file, told_record, of_rows, status_of};
 
+use crate::file_fault::{FileFault, FolderFault};
 use crate::place::Place;
 use crate::told::Told;
 use captures::{CaptureFault, CaptureFaultKind, UpgradeFault};
@@ -23,6 +24,8 @@ pub enum Fault {
     Replay(ReplayFault),
     /// The upgrade came to no end.
     Upgrade(UpgradeFault),
+    /// What was found in a folder can't be taken into a snapshot.
+    Folder(FolderFault),
     /// A file couldn't be opened.
     Open(Place),
     /// A file couldn't be read.
@@ -115,6 +118,16 @@ fn told_record(fault: CaptureFault) -> Told
     }
 }
 
+/// What is told of what was found in a folder.
+pub(crate) fn told_file(fault: FileFault) -> Told
+    ensures { result ≡ told_file fault }
+{
+    match fault {
+        FileFault::Read => Told::Read(Place::Folder),
+        _ => Told::File(fault),
+    }
+}
+
 impl Fault {
     /// What is told of the fault.
     pub(crate) fn told(&self) -> Told
@@ -132,6 +145,7 @@ impl Fault {
             Fault::Replay(ReplayFault::TooMany(number)) => Told::TooMany(*number),
             Fault::Replay(ReplayFault::Write) => Told::Write(Place::Replies),
             Fault::Upgrade(UpgradeFault::Write) => Told::Write(Place::Output),
+            Fault::Folder(fault) => told_file(fault.fault),
             Fault::Open(place) => Told::Open(*place),
             Fault::Read(place) => Told::Read(*place),
             Fault::Write(place) => Told::Write(*place),
@@ -143,6 +157,18 @@ impl Fault {
         }
     }
 
+    /// The fault of a run that writes rows, of one that writes replies: what was to hold these is the messages' file.
+    pub fn of_rows(self) -> Fault
+        ensures { result ≡ of_rows self }
+    {
+        match self {
+            Fault::Replay(ReplayFault::Write) | Fault::Write(Place::Replies) => {
+                Fault::Write(Place::Messages)
+            }
+            other => other,
+        }
+    }
+
     /// The status that the program ends with, from 2 to 7.
     pub fn status(&self) -> u8
         ensures { result ≡ status_of (told self.now) }
@@ -150,7 +176,7 @@ impl Fault {
         match self.told() {
             Told::Usage | Told::Engine => 2,
             Told::Settings(_) => 3,
-            Told::Entry(_) => 4,
+            Told::Entry(_) | Told::File(_) => 4,
             Told::Record(_) | Told::TooMany(_) => 5,
             Told::Open(_) | Told::Read(_) | Told::Write(_) => 6,
             Told::Memory => 7,

@@ -1,35 +1,37 @@
-ghost use Rattle.std.specs.Prelude.{◌≡◌, ◌-◌, ◌+◌, ◌<◌, ◌≤◌, ◌^◌, ◌++◌, length, codes, decimal, option_map};
+ghost use Rattle.std.specs.Prelude.{◌≡◌, ◌-◌, ◌+◌, ◌<◌, ◌≤◌, ◌^◌, ◌++◌, ◌∷◌, [], length, codes, decimal, option_map};
 ghost use Rattle.responses.specs.Records.{WritesFront, CountsWrite};
-ghost use Rattle.runs.specs.FaultLines.{line_of, usage_of, text_told};
+ghost use Rattle.runs.specs.FaultLines.{line_of, named_line, named_line_of, skipped_line, text_of, text_told};
+ghost use Rattle.runs.specs.FaultLines.{told_file, usage_of};
 ghost use Rattle.arrayvec.specs.ArrayVec.{array_vec_len};
 ghost use Rattle.options.specs.ConfigFaults.{fault_text};
 ghost use Rattle.options.specs.Keys.{path_of};
 
-use crate::fault::Fault;
+use crate::fault::{Fault, told_file};
+use crate::file_fault::{FileFault, FolderFault};
 use crate::kind_names::{capture_kind_name, snapshot_kind_name};
 use crate::told::Told;
 use arrayvec::ArrayVec;
 use command_line::WordFault;
 use itoa::Buffer;
 use options::{ConfigFault, Key};
-use paths::Output;
+use paths::{Failed, Output};
 use responses::{Write, write_all};
 use std::io;
 
 /// Room for the longest line: `haboob: `, 17 bytes, a number of 64 bits, `: `, 12 bytes and a line feed.
 type Line = ArrayVec<u8, 60>;
 
-/// The line of a front and a name.
-fn plain_line(front: &str, name: &str) -> Line
+/// The line of a front and a name, or with another end what stands before that.
+fn plain_line(front: &str, name: &str, end: u8) -> Line
     requires front { length front.now ≤ 17 }
     requires name { length name.now ≤ 12 }
-    ensures { result.items ≡ codes "haboob: " ++ front.now ++ name.now ++ codes "\n" }
+    ensures { result.items ≡ codes "haboob: " ++ front.now ++ name.now ++ end ∷ [] }
 {
     let mut line = Line::new();
     line.try_extend_from_slice(b"haboob: ").unwrap();
     line.try_extend_from_slice(front.as_bytes()).unwrap();
     line.try_extend_from_slice(name.as_bytes()).unwrap();
-    line.push(b'\n');
+    line.push(end);
     line
 }
 
@@ -86,8 +88,8 @@ fn line_of(told: Told) -> Line
     ensures { result.items ≡ line_of told }
 {
     match told {
-        Told::Usage => plain_line("", "usage"),
-        Told::Engine => plain_line("", "engine"),
+        Told::Usage => plain_line("", "usage", b'\n'),
+        Told::Engine => plain_line("", "engine", b'\n'),
         Told::Settings(fault) => settings_line(fault),
         Told::Entry(fault) => {
             numbered_line(
@@ -100,11 +102,74 @@ fn line_of(told: Told) -> Line
             numbered_line("capture: record ", fault.at, capture_kind_name(fault.kind))
         }
         Told::TooMany(number) => numbered_line("capture: message ", number, "TooMany"),
-        Told::Open(place) => plain_line("open: ", place.name()),
-        Told::Read(place) => plain_line("read: ", place.name()),
-        Told::Write(place) => plain_line("write: ", place.name()),
-        Told::Memory => plain_line("", "memory"),
+        Told::File(fault) => plain_line("folder: ", fault.name(), b'\n'),
+        Told::Open(place) => plain_line("open: ", place.name(), b'\n'),
+        Told::Read(place) => plain_line("read: ", place.name(), b'\n'),
+        Told::Write(place) => plain_line("write: ", place.name(), b'\n'),
+        Told::Memory => plain_line("", "memory", b'\n'),
     }
+}
+
+/// What stands before the name in the line of what can't be taken.
+fn file_heading(fault: FileFault) -> Line
+    ensures { result.items ≡ codes "haboob: " ++ text_of (told_file fault) ++ codes " " }
+{
+    match fault {
+        FileFault::Read => plain_line("read: ", "folder", b' '),
+        _ => plain_line("folder: ", fault.name(), b' '),
+    }
+}
+
+/// Writes one text and then another.
+fn write_both<W: io::Write>(
+    writer: &mut Output<W>,
+    first: &[u8],
+    second: &[u8],
+) -> Result<(), Failed>
+    requires { writer.old.1 < 2 ^ 64 - 1 }
+    ensures text { WritesFront writer.old.0 writer.new.0 result (first.now ++ second.now) }
+    ensures count { CountsWrite writer.old.1 writer.new.1 result }
+{
+    match write_all(writer, first) {
+        Ok(()) => write_all(writer, second),
+        Err(failed) => Err(failed),
+    }
+}
+
+/// Writes the line of what can't be taken.
+fn write_named<W: io::Write>(writer: &mut Output<W>, fault: &FolderFault) -> Result<(), Failed>
+    requires { writer.old.1 < 2 ^ 64 - 1 }
+    ensures line { WritesFront writer.old.0 writer.new.0 result
+        (named_line_of (told_file fault.now.fault) fault.now.name.items) }
+    ensures count { CountsWrite writer.old.1 writer.new.1 result }
+{
+    match write_all(writer, file_heading(fault.fault).as_slice()) {
+        Ok(()) => write_both(writer, &fault.name, b"\n"),
+        Err(failed) => Err(failed),
+    }
+}
+
+/// Writes the one line that tells how many were left out. It takes no memory. At an `Err` the writer failed in this
+/// call, and a prefix of the line stands there.
+pub fn write_skipped<W: io::Write>(count: usize, writer: &mut Output<W>) -> Result<(), Write>
+    requires { writer.old.1 < 2 ^ 64 - 1 }
+    ensures line { WritesFront writer.old.0 writer.new.0 result (skipped_line count) }
+    ensures count { CountsWrite writer.old.1 writer.new.1 result }
+{
+    write_all(writer, skipped_line(count).as_slice())?;
+    Ok(())
+}
+
+fn skipped_line(count: usize) -> Line
+    ensures { result.items ≡ skipped_line count }
+{
+    let mut buffer = Buffer::new();
+    let mut line = Line::new();
+    line.try_extend_from_slice(b"haboob: skipped ").unwrap();
+    line.try_extend_from_slice(buffer.format(count).as_bytes())
+        .unwrap();
+    line.push(b'\n');
+    line
 }
 
 impl Fault {
@@ -118,6 +183,17 @@ impl Fault {
         }
     }
 
+    /// What can't be taken, where the fault is of that.
+    fn named(&self) -> Option<&FolderFault>
+        ensures { option_map (λ f. named_line_of (told_file f.now.fault) f.now.name.items) result
+            ≡ named_line self.now }
+    {
+        match self {
+            Fault::Folder(fault) => Some(fault),
+            _ => None,
+        }
+    }
+
     /// Writes the one line that tells of the fault, or the text of one on the command line. It takes no memory. At an
     /// `Err` the writer failed in this call, and a prefix of the line stands there.
     pub fn write_line<W: io::Write>(&self, writer: &mut Output<W>) -> Result<(), Write>
@@ -125,9 +201,12 @@ impl Fault {
         ensures line { WritesFront writer.old.0 writer.new.0 result (text_told self.now) }
         ensures count { CountsWrite writer.old.1 writer.new.1 result }
     {
-        match self.usage() {
-            Some(text) => write_all(writer, text.as_bytes())?,
-            None => write_all(writer, line_of(self.told()).as_slice())?,
+        if let Some(text) = self.usage() {
+            write_all(writer, text.as_bytes())?;
+        } else if let Some(fault) = self.named() {
+            write_named(writer, fault)?;
+        } else {
+            write_all(writer, line_of(self.told()).as_slice())?;
         }
         Ok(())
     }

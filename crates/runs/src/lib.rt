@@ -1,5 +1,5 @@
 //! The runs of the program over any readers and writers: the replay of a snapshot's capture, with and without a report,
-//! and the upgrade of a capture; each fault with its line and its status.
+//! what a capture holds, its upgrade, and the snapshot of a folder; each fault with its line and its status.
 //!
 //! The program `haboob` adds the command line and the files to these runs, and nothing else.
 #![tactic(auto)]
@@ -9,17 +9,28 @@ mod buffered;
 mod bundle;
 mod fault;
 mod fault_line;
+mod file_fault;
+mod folder;
+mod inspecting;
 mod kind_names;
 mod place;
 mod program;
 mod replaying;
+mod snapshotting;
 mod told;
 mod upgrading;
+mod wanted;
 
 pub use buffered::run_files;
 pub use bundle::run_bundle;
 pub use fault::Fault;
+pub use fault_line::write_skipped;
+pub use file_fault::{FileFault, FolderFault};
+pub use folder::{Contents, Folder, Found};
+pub use inspecting::{inspect_files, run_inspect};
 pub use place::Place;
 pub use program::run_program;
 pub use replaying::run_replay;
+pub use snapshotting::run_snapshot;
 pub use upgrading::{run_upgrade, upgrade_files};
+pub use wanted::Wanted;

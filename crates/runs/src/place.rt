@@ -8,8 +8,10 @@ pub enum Place {
     Snapshot,
     Capture,
     Replies,
+    Messages,
     Report,
     Output,
+    Folder,
 }
 
 impl Place {
@@ -23,8 +25,10 @@ impl Place {
             Place::Snapshot => "snapshot",
             Place::Capture => "capture",
             Place::Replies => "replies",
+            Place::Messages => "messages",
             Place::Report => "report",
             Place::Output => "output",
+            Place::Folder => "folder",
         }
     }
 }

@@ -1,18 +1,20 @@
 ghost use Rattle.std.specs.Prelude.{◌≡◌, ◌-◌, ◌<◌, ◌^◌, OnOk, IfOk, IfErr};
 ghost use Rattle.std.specs.Io.KnownBytes.{Appends};
 ghost use Rattle.replay.specs.Choices.{terms_of};
-ghost use Rattle.replay.specs.Outcomes.{Answers, IfCapture, IfTooMany, IfCutShort, IsCutShort, Stops, StopsFull};
+ghost use Rattle.replay.specs.Outcomes.{IfCapture, IfTooMany, IfCutShort, IsCutOff, StopsTelling, StopsBeyond};
 ghost use Rattle.replay.specs.Outcomes as replays;
 ghost use Rattle.report.specs.Reports.{report_text};
 ghost use Rattle.runs.specs.Bundles.{CountsBy, BlamedOnce, writer_failures};
 ghost use Rattle.runs.specs.Replays.{OfInput, AnswersAnd, IsReplayFault, IsReportFault, snapshot_failures};
 ghost use Rattle.runs.specs.Replays.{capture_failures, report_failures};
+ghost use Rattle.runs.specs.Wanted.{HasWritten, wanted_of};
 
 use crate::fault::Fault;
 use crate::place::Place;
+use crate::wanted::Wanted;
 use command_line::Engine;
 use paths::{Input, Output, Snapshot, Tree};
-use replay::{Outcome, ReplayFault, Settings, plain_replay, staged_replay};
+use replay::{Outcome, ReplayFault, Settings, explain_replay, plain_replay, staged_replay};
 use report::report;
 use responses::write_all;
 use stage_graph::NoGate;
@@ -40,41 +42,45 @@ fn write_report<O: Write>(
     }
 }
 
-/// Replays a capture against a snapshot on an engine.
-fn run_engine<F: Tree + Send + Sync, T: Threads + Wait + Sync, C: Read, W: Write>(
+/// Replays a capture against a snapshot, and writes what is wanted of its messages.
+fn run_wanted<F: Tree + Send + Sync, T: Threads + Wait + Sync, C: Read, W: Write>(
     rt: &T,
     alloc: Global,
-    engine: Engine,
+    wanted: Wanted,
     files: &Snapshot,
     settings: &Settings,
     capture: &mut Input<C>,
-    replies: &mut Output<W>,
+    written: &mut Output<W>,
 ) -> Result<Outcome, ReplayFault>
     requires files { files.now ≡ F.files }
     requires capture { capture.old.1 < 2 ^ 64 - 1 }
-    requires replies { replies.old.1 < 2 ^ 64 - 1 }
-    ensures stops { IfErr result (λ f. IfCapture f
-        (Stops (terms_of F.files settings.now) capture.old.0 capture.new.0 replies.old.0 replies.new.0)) }
-    ensures many { IfErr result (λ f. IfTooMany f
-        (StopsFull (terms_of F.files settings.now) capture.old.0 replies.old.0 replies.new.0)) }
-    ensures part { IfErr result (λ f. IfCutShort f
-        (IsCutShort (terms_of F.files settings.now) capture.old.0 replies.old.0 replies.new.0)) }
+    requires written { written.old.1 < 2 ^ 64 - 1 }
+    ensures stops { IfErr result (λ f. IfCapture f (StopsTelling (wanted_of wanted (terms_of F.files settings.now))
+        capture.old.0 capture.new.0 written.old.0 written.new.0)) }
+    ensures many { IfErr result (λ f. IfTooMany f (StopsBeyond (wanted_of wanted (terms_of F.files settings.now))
+        capture.old.0 written.old.0 written.new.0)) }
+    ensures part { IfErr result (λ f. IfCutShort f (IsCutOff (wanted_of wanted (terms_of F.files settings.now))
+        capture.old.0 written.old.0 written.new.0)) }
     ensures reads { replays.BlamedOnce replays.reader_failures capture.old.1 capture.new.1 result }
-    ensures writes { replays.CountsBy replays.writer_failures replies.old.1 replies.new.1 result }
-    ensures ok { IfOk result
-        (Answers (terms_of F.files settings.now) capture.old.0 replies.old.0 replies.new.0) }
+    ensures writes { replays.CountsBy replays.writer_failures written.old.1 written.new.1 result }
+    ensures ok { IfOk result (HasWritten wanted (terms_of F.files settings.now)
+        capture.old.0 written.old.0 written.new.0) }
 {
-    match engine {
-        Engine::Plain => plain_replay::<F, C, W>(alloc, files, settings, capture, replies),
-        Engine::Staged => {
+    match wanted {
+        Wanted::Replies(Engine::Plain) => {
+            plain_replay::<F, C, W>(alloc, files, settings, capture, written)
+        }
+        Wanted::Replies(Engine::Staged) => {
             staged_replay::<F, NoGate, T, C, W>(
-                rt, alloc, files, settings, &NoGate, capture, replies,
+                rt, alloc, files, settings, &NoGate, capture, written,
             )
         }
+        Wanted::Rows => explain_replay::<F, C, W>(alloc, files, settings, capture, written),
     }
 }
 
-/// Replays a capture against a snapshot on the engine of this name, and then writes the report of what it has come to.
+/// Replays a capture against a snapshot, writes what is wanted of its messages, and then the report of what it has come
+/// to.
 ///
 /// # Errors
 ///
@@ -85,32 +91,32 @@ pub fn run_replay<T: Threads + Wait + Sync, S: Read, C: Read, W: Write, O: Write
     rt: &T,
     alloc: Global,
     settings: &Settings,
-    engine: Engine,
+    wanted: Wanted,
     snapshot: &mut Input<S>,
     capture: &mut Input<C>,
-    replies: &mut Output<W>,
+    written: &mut Output<W>,
     out: &mut Output<O>,
 ) -> Result<(), Fault>
     requires snapshot { snapshot.old.1 < 2 ^ 64 - 1 }
     requires capture { capture.old.1 < 2 ^ 64 - 1 }
-    requires replies { replies.old.1 < 2 ^ 64 - 1 }
+    requires written { written.old.1 < 2 ^ 64 - 1 }
     requires out { out.old.1 < 2 ^ 64 - 1 }
     ensures ok { OnOk result (OfInput snapshot.old.0 (λ files.
-        AnswersAnd (terms_of files settings.now) capture.old.0 replies.old.0 replies.new.0
+        AnswersAnd wanted (terms_of files settings.now) capture.old.0 written.old.0 written.new.0
         (λ outcome. Appends out.old.0 out.new.0 (report_text outcome)))) }
     ensures fault { IfErr result
-        (IsReplayFault settings.now snapshot.old.0 capture.old.0 capture.new.0
-        replies.old replies.new out.old out.new) }
+        (IsReplayFault wanted settings.now snapshot.old.0 capture.old.0 capture.new.0
+        written.old written.new out.old out.new) }
     // A device is blamed only where it failed in this call. A read of the capture that failed may not be told: where
     // another fault comes before it.
     ensures reads_snapshot { CountsBy snapshot_failures snapshot.old.1 snapshot.new.1 result }
     ensures reads_capture { BlamedOnce capture_failures capture.old.1 capture.new.1 result }
-    ensures writes_replies { CountsBy writer_failures replies.old.1 replies.new.1 result }
+    ensures writes { CountsBy writer_failures written.old.1 written.new.1 result }
     ensures writes_report { CountsBy report_failures out.old.1 out.new.1 result }
 {
     let files = Snapshot::read(alloc, snapshot)?;
-    let outcome = run_engine::<Brand, T, C, W>(
-        rt, alloc, engine, &files, settings, capture, replies,
+    let outcome = run_wanted::<Brand, T, C, W>(
+        rt, alloc, wanted, &files, settings, capture, written,
     )?;
     write_report(alloc, &outcome, out)
 }

@@ -1,3 +1,4 @@
+use crate::file_fault::FileFault;
 use crate::place::Place;
 use captures::CaptureFault;
 use options::ConfigFault;
@@ -18,6 +19,8 @@ pub enum Told {
     Record(CaptureFault),
     /// The capture's message of this number is one too many.
     TooMany(usize),
+    /// What was found in a folder can't be taken.
+    File(FileFault),
     Open(Place),
     Read(Place),
     Write(Place),

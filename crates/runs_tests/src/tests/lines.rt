@@ -6,7 +6,8 @@ use options::{ConfigFault, ConfigFaultKind, Key, PolicyKey, PolicyTable};
 use paths::{Output, SnapshotFault, SnapshotFaultKind};
 use replay::ReplayFault;
 use responses::Write;
-use runs::{Fault, Place};
+use runs::{Fault, FileFault, FolderFault, Place, write_skipped};
+use std::alloc::AllocGlobal;
 use std::process::Abort;
 use std::test::Fail;
 
@@ -176,4 +177,55 @@ fn line_into_a_dead_writer(rt: HostRuntime) {
     let told = Fault::Memory.write_line(&mut Output::new(&mut text));
     assert_eq!(rt; told, Err(Write));
     assert_eq!(rt; text.text(), b"haboob:".as_slice());
+}
+
+fn check_file(
+    rt: &(impl Abort + AllocGlobal),
+    name: &str,
+    fault: FileFault,
+    status: u8,
+    line: &str,
+) -> Result<(), Fail> {
+    let name = Vec::from_slice(rt.alloc(), name.as_bytes())?;
+    let fault = Fault::Folder(FolderFault { name, fault });
+    check(rt, fault, status, line);
+    Ok(())
+}
+
+#[test]
+fn lines_of_a_folder(rt: HostRuntime) -> Result<(), Fail> {
+    use FileFault::{Conflict, Link, Read, Special};
+    check_file(&rt, "a/b c", Link, 4, "haboob: folder: Link a/b c\n")?;
+    check_file(&rt, "a", Special, 4, "haboob: folder: Special a\n")?;
+    check_file(&rt, "a/b", Conflict, 4, "haboob: folder: Conflict a/b\n")?;
+    check_file(&rt, "a", Read, 6, "haboob: read: folder a\n")?;
+    check(&rt, Fault::Open(Place::Folder), 6, "haboob: open: folder\n");
+    Ok(())
+}
+
+#[test]
+fn line_of_a_count(rt: HostRuntime) {
+    let mut text = Narrow::ample();
+    assert_eq!(rt; write_skipped(12, &mut Output::new(&mut text)), Ok(()));
+    assert_eq!(rt; text.text(), b"haboob: skipped 12\n".as_slice());
+    let mut text = Narrow::new(7, 1);
+    assert_eq!(rt; write_skipped(12, &mut Output::new(&mut text)), Err(Write));
+    assert_eq!(rt; text.text(), b"haboob:".as_slice());
+}
+
+/// A line with a name is written in three parts, and nothing after the one that fails.
+#[test]
+fn named_line_into_a_dead_writer(rt: HostRuntime) -> Result<(), Fail> {
+    let whole = "haboob: read: folder name\n";
+    for good in 0..3usize {
+        let name = Vec::from_slice(rt.alloc(), b"name")?;
+        let fault = Fault::Folder(FolderFault {
+            name,
+            fault: FileFault::Read,
+        });
+        let mut text = Narrow::new(1024, good);
+        assert_eq!(rt; fault.write_line(&mut Output::new(&mut text)), Err(Write));
+        assert!(rt; whole.as_bytes().starts_with(text.text()));
+    }
+    Ok(())
 }

@@ -5,7 +5,7 @@ use command_line::Engine;
 use options::read_settings;
 use paths::{SnapshotFault, SnapshotFaultKind};
 use replay::ReplayFault;
-use runs::{Fault, Place, run_files};
+use runs::{Fault, Place, Wanted, run_files};
 use std::alloc::{AllocGlobal, Global};
 use std::process::Abort;
 use std::sync::Wait;
@@ -286,7 +286,7 @@ fn run_buffered<T: Threads + Wait + Sync>(
         rt,
         alloc,
         &settings,
-        Engine::Staged,
+        Wanted::Replies(Engine::Staged),
         SNAPSHOT.as_bytes(),
         capture.as_bytes(),
         replies,

@@ -4,7 +4,7 @@ ghost use Rattle.std.specs.Prelude.{◌≤◌};
 use command_line::Engine;
 use options::read_settings;
 use paths::{Input, Output};
-use runs::{Fault, run_bundle, run_replay};
+use runs::{Fault, Wanted, run_bundle, run_replay};
 use std::alloc::Global;
 use std::io;
 use std::io::{Read, Write};
@@ -159,7 +159,7 @@ pub fn run_tight<T: Threads + Wait + Sync>(
         rt,
         alloc,
         &settings,
-        engine,
+        Wanted::Replies(engine),
         &mut Input::new(snapshot.as_bytes()),
         &mut Input::new(capture.as_bytes()),
         &mut Output::new(replies),

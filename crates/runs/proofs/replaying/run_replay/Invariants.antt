@@ -1,4 +1,4 @@
 use Rattle.runs.proofs.replaying.run_replay.Given as goal
 
-abbrev pub ghosts-run_engine : goal.ghosts-run_engine
-ghosts-run_engine g a = record { files = a.files.now }
+abbrev pub ghosts-run_wanted : goal.ghosts-run_wanted
+ghosts-run_wanted g a = record { files = a.files.now }

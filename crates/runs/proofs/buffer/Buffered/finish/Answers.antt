@@ -1,4 +1,3 @@
-use Rattle.std.proofs.Common.{rules}
 use Rattle.runs.proofs.Buffering.{part_stands}
 use Rattle.runs.proofs.buffer.Buffered.finish.Goals as goal
 

@@ -3,8 +3,8 @@ use Rattle.std.proofs.lemmas.Result.{IfOk-weaker}
 use Rattle.clap.specs.Words.{Rule, app_of, new_app, rule_of}
 use Rattle.clap.specs.declared.builder.Command.TheViews.{out-Command}
 use Rattle.command_line.specs.CommandLine.{option_of, required_of, replay_command}
-use Rattle.command_line.proofs.Commands.{added, still_local}
-use Rattle.command_line.proofs.words.replay_command.Goals as goal
+use Rattle.command_line.proofs.Clap.{added, still_local}
+use Rattle.command_line.proofs.commands.replay_command.Goals as goal
 
 pub returns-clause-app : goal.returns-clause-app
 unfolding replay_command

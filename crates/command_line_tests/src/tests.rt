@@ -1,4 +1,5 @@
-use crate::{Engine, Job, WordFault, read_words};
+//! What no clause says: the words of worked rows, and the texts for the user.
+use command_line::{Engine, Job, WordFault, read_words};
 use std::test::Fail;
 
 static NONE: [&str; 0] = [];
@@ -46,11 +47,35 @@ static NO_CAPTURE: [&str; 3] = ["upgrade", "--output", "n"];
 
 static REPLIES_OF_AN_UPGRADE: [&str; 3] = ["upgrade", "--replies", "o"];
 
+static SNAPSHOT: [&str; 5] = ["snapshot", "--folder", "f", "--output", "n"];
+
+static SKIPPING: [&str; 4] = ["snapshot", "--skip", "--output=n", "--folder=f"];
+
+static NO_FOLDER: [&str; 3] = ["snapshot", "--output", "n"];
+
+static INSPECT: [&str; 3] = ["inspect", "--capture", "c"];
+
+static EXPLAIN: [&str; 7] = [
+    "explain",
+    "--snapshot=s",
+    "--capture=c",
+    "--settings",
+    "t",
+    "--messages",
+    "m",
+];
+
 static HELP: [&str; 1] = ["--help"];
 
 static REPLAY_HELP: [&str; 2] = ["replay", "--help"];
 
 static UPGRADE_HELP: [&str; 2] = ["upgrade", "--help"];
+
+static SNAPSHOT_HELP: [&str; 2] = ["snapshot", "--help"];
+
+static INSPECT_HELP: [&str; 2] = ["inspect", "--help"];
+
+static EXPLAIN_HELP: [&str; 2] = ["explain", "--help"];
 
 #[test]
 fn no_words(rt: HostRuntime) {
@@ -102,6 +127,51 @@ fn upgrades(rt: HostRuntime) {
 }
 
 #[test]
+fn snapshots(rt: HostRuntime) {
+    for (words, skips) in [(SNAPSHOT.as_slice(), false), (SKIPPING.as_slice(), true)] {
+        match read_words(rt.alloc(), words) {
+            Ok(
+                Job::Snapshot {
+                    folder,
+                    output,
+                    skip,
+                },
+            ) => {
+                assert!(rt; folder == "f" && output == "n");
+                assert_eq!(rt; skip, skips);
+            }
+            _ => assert!(rt; false, "the words of a snapshot"),
+        }
+    }
+}
+
+#[test]
+fn inspections(rt: HostRuntime) {
+    match read_words(rt.alloc(), INSPECT.as_slice()) {
+        Ok(Job::Inspect { capture }) => assert_eq!(rt; capture, "c"),
+        _ => assert!(rt; false, "the words of an inspection"),
+    }
+}
+
+#[test]
+fn explanations(rt: HostRuntime) {
+    match read_words(rt.alloc(), EXPLAIN.as_slice()) {
+        Ok(
+            Job::Explain {
+                snapshot,
+                capture,
+                messages,
+                settings,
+            },
+        ) => {
+            assert!(rt; snapshot == "s" && capture == "c" && messages == "m");
+            assert!(rt; settings.unwrap_or("") == "t");
+        }
+        _ => assert!(rt; false, "the words of a table"),
+    }
+}
+
+#[test]
 fn another_engine(rt: HostRuntime) {
     assert!(rt;
         matches!(
@@ -116,9 +186,12 @@ static HELP_TEXT: &str = "Answers recorded requests for the files of a site, and
 Usage: haboob <COMMAND>
 
 Commands:
-  replay   Answers a capture's requests, and writes a report to standard output.
-  upgrade  Writes a capture of an older version as one of version 2.
-  help     Print this message or the help of the given subcommand(s)
+  replay    Answers a capture's requests, and writes a report to standard output.
+  upgrade   Writes a capture of an older version as one of version 2.
+  snapshot  Writes the files of a folder as a snapshot.
+  inspect   Tells what a capture holds.
+  explain   Tells of each message why it was admitted or turned away.
+  help      Print this message or the help of the given subcommand(s)
 
 Options:
   -h, --help  Print help
@@ -127,7 +200,10 @@ Without a command, a snapshot directly followed by a capture is read from standa
 input, and the replies are written to standard output, with default settings.
 
 Examples:
+  haboob snapshot --folder site --output site.snapshot
+  haboob inspect --capture day.capture
   haboob replay --snapshot site.snapshot --capture day.capture --replies day.replies
+  haboob explain --snapshot site.snapshot --capture day.capture --messages day.csv
   haboob upgrade --capture old.capture --output new.capture
 ";
 
@@ -163,6 +239,68 @@ records. A capture of version 2 is written as it is.
 
 Example:
   haboob upgrade --capture old.capture --output new.capture
+";
+
+static SNAPSHOT_HELP_TEXT: &str = "Writes the files of a folder as a snapshot.
+
+Usage: haboob snapshot [OPTIONS] --folder <FOLDER> --output <FILE>
+
+Options:
+      --folder <FOLDER>  The folder whose files are taken
+      --output <FILE>    Where the snapshot goes; a file of the folder isn't overwritten
+      --skip             Leave out what can't stand in a snapshot
+  -h, --help             Print help
+
+The files of the folder and of all folders in it are taken, and no links. What can't stand in
+a snapshot is a fault, or with --skip left out: links, pipes and devices, what can't be read,
+files above 16 MiB, names of more than 1024 bytes or that aren't UTF-8, and what is too much.
+
+Example:
+  haboob snapshot --folder site --output site.snapshot
+";
+
+static INSPECT_HELP_TEXT: &str = "Tells what a capture holds.
+
+Usage: haboob inspect --capture <FILE>
+
+Options:
+      --capture <FILE>  The capture to read
+  -h, --help            Print help
+
+Standard output tells what the capture holds: its records, connections and messages by kind,
+and the bytes that no reply answers, which are those after a message that closes its connection
+and those of messages that don't end. After a fault it tells what the records before it hold.
+
+Example:
+  haboob inspect --capture day.capture
+";
+
+static EXPLAIN_HELP_TEXT: &str = "Tells of each message why it was admitted or turned away.
+
+Usage: haboob explain [OPTIONS] --snapshot <FILE> --capture <FILE> --messages <FILE>
+
+Options:
+      --snapshot <FILE>  The files of the site
+      --capture <FILE>   The recorded requests
+      --messages <FILE>  Where the table goes, as CSV; a file that is there is overwritten
+      --settings <FILE>  Settings, as TOML; a key that is left out has its default
+  -h, --help             Print help
+
+Each message is decided on as by a replay, and gets a row of a table in place of a reply: its
+status, whether it was admitted, the credit and the rate that it found, and how long it waited.
+The report is that of the replay.
+
+Example:
+  haboob explain --snapshot site.snapshot --capture day.capture --messages day.csv \\
+    --settings tight.toml
+";
+
+static NO_FOLDER_TEXT: &str = "error: the following required arguments were not provided:
+  --folder <FOLDER>
+
+Usage: haboob snapshot --folder <FOLDER> --output <FILE>
+
+For more information, try '--help'.
 ";
 
 static NO_OUTPUT_TEXT: &str = "error: the following required arguments were not provided:
@@ -203,7 +341,11 @@ fn texts(rt: HostRuntime) -> Result<(), Fail> {
         (HELP.as_slice(), HELP_TEXT),
         (REPLAY_HELP.as_slice(), REPLAY_HELP_TEXT),
         (UPGRADE_HELP.as_slice(), UPGRADE_HELP_TEXT),
+        (SNAPSHOT_HELP.as_slice(), SNAPSHOT_HELP_TEXT),
+        (INSPECT_HELP.as_slice(), INSPECT_HELP_TEXT),
+        (EXPLAIN_HELP.as_slice(), EXPLAIN_HELP_TEXT),
         (SHORT.as_slice(), SHORT_TEXT),
+        (NO_FOLDER.as_slice(), NO_FOLDER_TEXT),
         (NO_OUTPUT.as_slice(), NO_OUTPUT_TEXT),
         (NO_CAPTURE.as_slice(), NO_CAPTURE_TEXT),
         (REPLIES_OF_AN_UPGRADE.as_slice(), UNEXPECTED_TEXT),
@@ -224,6 +366,8 @@ fn each_growth_refused(rt: HostRuntime) {
     assert!(rt; matches!(answer, Ok(Job::Replay { .. }) | Err(WordFault::Memory)));
     let upgrade = read_words(rt.alloc(), UPGRADE.as_slice());
     assert!(rt; matches!(upgrade, Ok(Job::Upgrade { .. }) | Err(WordFault::Memory)));
+    let snapshot = read_words(rt.alloc(), SKIPPING.as_slice());
+    assert!(rt; matches!(snapshot, Ok(Job::Snapshot { .. }) | Err(WordFault::Memory)));
     let refused = read_words(rt.alloc(), SHORT.as_slice());
     assert!(rt; matches!(refused, Err(WordFault::Words(_)) | Err(WordFault::Memory)));
 }

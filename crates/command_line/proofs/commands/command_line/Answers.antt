@@ -1,0 +1,21 @@
+use Rattle.std.proofs.Common.{◌≡◌, ◌∙◌, codes, ap, ap₂}
+use Rattle.std.proofs.lemmas.Result.{IfOk-weaker}
+use Rattle.clap.specs.Words.{App, app_of, new_app, with_subcommand}
+use Rattle.command_line.specs.CommandLine.{command_line, program_of}
+use Rattle.command_line.proofs.commands.command_line.Goals as goal
+
+pub returns : goal.returns
+unfolding command_line
+returns c =
+    let start : app_of c.after_help.result ≡ program_of (new_app (codes "haboob")) =
+    rw (c.after_help.ensures, c.about.ensures, c.subcommand_required.ensures, c.no_binary_name.ensures, c.in_ok-bin_name.ensures.0) (ap program_of c.new.ensures.app) in
+    let one = c.in_ok-subcommand.ensures.shape c.in_ok-replay.ensures.local
+    ∙ ap₂ with_subcommand start (ap (λ (a : App). a.top) c.in_ok-replay.ensures.app) in
+    let two = c.in_ok-subcommand-2.ensures.shape c.in_ok-upgrade.ensures.local
+    ∙ ap₂ with_subcommand one (ap (λ (a : App). a.top) c.in_ok-upgrade.ensures.app) in
+    let three = c.in_ok-subcommand-3.ensures.shape c.in_ok-snapshot.ensures.local
+    ∙ ap₂ with_subcommand two (ap (λ (a : App). a.top) c.in_ok-snapshot.ensures.app) in
+    let four = c.in_ok-subcommand-4.ensures.shape c.in_ok-inspect.ensures.local
+    ∙ ap₂ with_subcommand three (ap (λ (a : App). a.top) c.in_ok-inspect.ensures.app) in
+    IfOk-weaker c.subcommand-5.result _ _ (λ whole adds. adds.shape c.in_ok-explain.ensures.local
+    ∙ ap₂ with_subcommand four (ap (λ (a : App). a.top) c.in_ok-explain.ensures.app)) c.subcommand-5.ensures

@@ -1,0 +1,220 @@
+ghost use Rattle.std.specs.Prelude.{◌≡◌, false, IfOk};
+ghost use Rattle.clap.specs.Words.{app_of, rule_of};
+ghost use Rattle.clap.specs.declared.builder.Command.TheViews.{out-Command};
+ghost use Rattle.command_line.specs.CommandLine.{command_line, explain_command, flag_of, inspect_command, option_of};
+ghost use Rattle.command_line.specs.CommandLine.{replay_command, snapshot_command, upgrade_command};
+
+use clap::{Arg, ArgAction, Command};
+use std::alloc::{AllocError, Global};
+
+/// What help says after the commands.
+const PROGRAM_NOTES: &str =
+    "Without a command, a snapshot directly followed by a capture is read from standard
+input, and the replies are written to standard output, with default settings.
+
+Examples:
+  haboob snapshot --folder site --output site.snapshot
+  haboob inspect --capture day.capture
+  haboob replay --snapshot site.snapshot --capture day.capture --replies day.replies
+  haboob explain --snapshot site.snapshot --capture day.capture --messages day.csv
+  haboob upgrade --capture old.capture --output new.capture";
+
+/// What help says after the options of `replay`.
+const REPLAY_NOTES: &str = "Example:
+  haboob replay --snapshot site.snapshot --capture day.capture --replies day.replies \\
+    --settings tight.toml";
+
+/// What help says after the options of `upgrade`.
+const UPGRADE_NOTES: &str =
+    "A capture of version 1 is written as one of version 2, with the same start and the same
+records. A capture of version 2 is written as it is.
+
+Example:
+  haboob upgrade --capture old.capture --output new.capture";
+
+/// What help says after the options of `snapshot`.
+const SNAPSHOT_NOTES: &str =
+    "The files of the folder and of all folders in it are taken, and no links. What can't stand in
+a snapshot is a fault, or with --skip left out: links, pipes and devices, what can't be read,
+files above 16 MiB, names of more than 1024 bytes or that aren't UTF-8, and what is too much.
+
+Example:
+  haboob snapshot --folder site --output site.snapshot";
+
+/// What help says of the engines.
+const ENGINE_HELP: &str = "plain, on one thread, or staged, on many; both answer the same";
+
+/// What help says after the options of `inspect`.
+const INSPECT_NOTES: &str =
+    "Standard output tells what the capture holds: its records, connections and messages by kind,
+and the bytes that no reply answers, which are those after a message that closes its connection
+and those of messages that don't end. After a fault it tells what the records before it hold.
+
+Example:
+  haboob inspect --capture day.capture";
+
+/// What help says after the options of `explain`.
+const EXPLAIN_NOTES: &str =
+    "Each message is decided on as by a replay, and gets a row of a table in place of a reply: its
+status, whether it was admitted, the credit and the rate that it found, and how long it waited.
+The report is that of the replay.
+
+Example:
+  haboob explain --snapshot site.snapshot --capture day.capture --messages day.csv \\
+    --settings tight.toml";
+
+/// The command `haboob`, whose words are those after its name.
+pub(crate) fn command_line<'a>(alloc: Global) -> Result<Command<'a>, AllocError>
+    ensures { IfOk result (λ command. app_of command ≡ command_line) }
+{
+    let replay = replay_command(alloc)?;
+    let upgrade = upgrade_command(alloc)?;
+    let snapshot = snapshot_command(alloc)?;
+    let inspect = inspect_command(alloc)?;
+    let explain = explain_command(alloc)?;
+    Command::new(alloc, "haboob")
+        .bin_name("haboob")?
+        .no_binary_name(true)
+        .subcommand_required(true)
+        .about("Answers recorded requests for the files of a site, and reports the load.")
+        .after_help(PROGRAM_NOTES)
+        .subcommand(replay)?
+        .subcommand(upgrade)?
+        .subcommand(snapshot)?
+        .subcommand(inspect)?
+        .subcommand(explain)
+}
+
+fn replay_command<'a>(alloc: Global) -> Result<Command<'a>, AllocError>
+    ensures app { IfOk result (λ command. app_of command ≡ replay_command) }
+    ensures local { IfOk result (λ command. (out-Command command).has_globals ≡ false) }
+{
+    let snapshot = file_option(alloc, "snapshot", "The files of the site").required(true);
+    let capture = file_option(alloc, "capture", "The recorded requests").required(true);
+    let replies = file_option(
+        alloc,
+        "replies",
+        "Where the replies go; a file that is there is overwritten",
+    )
+    .required(true);
+    let settings = file_option(
+        alloc,
+        "settings",
+        "Settings, as TOML; a key that is left out has its default",
+    );
+    let engine = option(alloc, "engine", "ENGINE")
+        .help(ENGINE_HELP)
+        .default_value("staged");
+    Command::new(alloc, "replay")
+        .about("Answers a capture's requests, and writes a report to standard output.")
+        .after_help(REPLAY_NOTES)
+        .arg(snapshot)?
+        .arg(capture)?
+        .arg(replies)?
+        .arg(settings)?
+        .arg(engine)
+}
+
+fn upgrade_command<'a>(alloc: Global) -> Result<Command<'a>, AllocError>
+    ensures app { IfOk result (λ command. app_of command ≡ upgrade_command) }
+    ensures local { IfOk result (λ command. (out-Command command).has_globals ≡ false) }
+{
+    let capture = file_option(alloc, "capture", "The capture to read").required(true);
+    let output = file_option(
+        alloc,
+        "output",
+        "Where the new capture goes; another file that is there is overwritten",
+    )
+    .required(true);
+    Command::new(alloc, "upgrade")
+        .about("Writes a capture of an older version as one of version 2.")
+        .after_help(UPGRADE_NOTES)
+        .arg(capture)?
+        .arg(output)
+}
+
+fn snapshot_command<'a>(alloc: Global) -> Result<Command<'a>, AllocError>
+    ensures app { IfOk result (λ command. app_of command ≡ snapshot_command) }
+    ensures local { IfOk result (λ command. (out-Command command).has_globals ≡ false) }
+{
+    let folder = option(alloc, "folder", "FOLDER")
+        .help("The folder whose files are taken")
+        .required(true);
+    let output = file_option(
+        alloc,
+        "output",
+        "Where the snapshot goes; a file of the folder isn't overwritten",
+    )
+    .required(true);
+    let skip = flag(alloc, "skip", "Leave out what can't stand in a snapshot");
+    Command::new(alloc, "snapshot")
+        .about("Writes the files of a folder as a snapshot.")
+        .after_help(SNAPSHOT_NOTES)
+        .arg(folder)?
+        .arg(output)?
+        .arg(skip)
+}
+
+fn inspect_command<'a>(alloc: Global) -> Result<Command<'a>, AllocError>
+    ensures app { IfOk result (λ command. app_of command ≡ inspect_command) }
+    ensures local { IfOk result (λ command. (out-Command command).has_globals ≡ false) }
+{
+    let capture = file_option(alloc, "capture", "The capture to read").required(true);
+    Command::new(alloc, "inspect")
+        .about("Tells what a capture holds.")
+        .after_help(INSPECT_NOTES)
+        .arg(capture)
+}
+
+fn explain_command<'a>(alloc: Global) -> Result<Command<'a>, AllocError>
+    ensures app { IfOk result (λ command. app_of command ≡ explain_command) }
+    ensures local { IfOk result (λ command. (out-Command command).has_globals ≡ false) }
+{
+    let snapshot = file_option(alloc, "snapshot", "The files of the site").required(true);
+    let capture = file_option(alloc, "capture", "The recorded requests").required(true);
+    let messages = file_option(
+        alloc,
+        "messages",
+        "Where the table goes, as CSV; a file that is there is overwritten",
+    )
+    .required(true);
+    let settings = file_option(
+        alloc,
+        "settings",
+        "Settings, as TOML; a key that is left out has its default",
+    );
+    Command::new(alloc, "explain")
+        .about("Tells of each message why it was admitted or turned away.")
+        .after_help(EXPLAIN_NOTES)
+        .arg(snapshot)?
+        .arg(capture)?
+        .arg(messages)?
+        .arg(settings)
+}
+
+/// A flag, which has no value.
+fn flag<'a>(alloc: Global, name: &'a str, help: &'a str) -> Arg<'a>
+    ensures rule { rule_of result ≡ flag_of name.entry.now }
+    ensures local { result.global ≡ false }
+{
+    Arg::new(alloc, name)
+        .long(name)
+        .action(ArgAction::SetTrue)
+        .help(help)
+}
+
+/// An option whose value is the name of a file.
+fn file_option<'a>(alloc: Global, name: &'a str, help: &'a str) -> Arg<'a>
+    ensures rule { rule_of result ≡ option_of name.entry.now }
+    ensures local { result.global ≡ false }
+{
+    option(alloc, name, "FILE").help(help)
+}
+
+/// An option with one value.
+fn option<'a>(alloc: Global, name: &'a str, value: &'a str) -> Arg<'a>
+    ensures rule { rule_of result ≡ option_of name.entry.now }
+    ensures local { result.global ≡ false }
+{
+    Arg::new(alloc, name).long(name).value_name(value)
+}

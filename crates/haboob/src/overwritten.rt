@@ -1,0 +1,85 @@
+use runs::{Fault, Place};
+use std::fs::{File, Metadata, OpenOptions};
+use std::io;
+use std::io::Write;
+use std::os::unix::fs::MetadataExt;
+
+/// Which file this is, whatever its name: a node of a device.
+#[derive(Clone, Copy, PartialEq)]
+pub struct Node {
+    device: u64,
+    inode: u64,
+    /// Whether it is a file that keeps its bytes, and no pipe or device.
+    is_regular: bool,
+}
+
+impl Node {
+    /// The node of which this is known.
+    pub fn new(known: &Metadata) -> Node {
+        Node {
+            device: known.dev(),
+            inode: known.ino(),
+            is_regular: known.is_file(),
+        }
+    }
+
+    /// The node of an open file.
+    pub fn of(file: &File, place: Place) -> Result<Node, Fault> {
+        match file.metadata() {
+            Ok(known) => Ok(Node::new(&known)),
+            Err(_) => Err(Fault::Open(place)),
+        }
+    }
+}
+
+/// A file to be written. Where it is there it keeps its bytes until the first byte is written, and is emptied then.
+/// What can't be emptied, as a pipe, is written as it is.
+#[derive(Drop)]
+pub struct Overwritten {
+    file: File,
+    /// Whether it is still to be emptied.
+    is_to_be_emptied: bool,
+}
+
+impl Overwritten {
+    /// Opens a file to be written. A regular one that is among the inputs is refused, and keeps its bytes.
+    pub fn open(
+        rt: &HostRuntime,
+        name: &str,
+        place: Place,
+        inputs: &[Node],
+    ) -> Result<Overwritten, Fault> {
+        let opened = OpenOptions::new().write(true).create(true).open(rt, name);
+        let Ok(file) = opened else {
+            return Err(Fault::Open(place));
+        };
+        let node = Node::of(&file, place)?;
+        if node.is_regular && inputs.contains(&node) {
+            return Err(Fault::Open(place));
+        }
+        Ok(Overwritten {
+            file,
+            is_to_be_emptied: node.is_regular,
+        })
+    }
+
+    /// Empties the file, where that is still to be done.
+    pub fn empty(&mut self) -> io::Result<()> {
+        if self.is_to_be_emptied {
+            self.file.set_len(0)?;
+            self.is_to_be_emptied = false;
+        }
+        Ok(())
+    }
+}
+
+impl Write for Overwritten {
+    fn write(&mut self, bytes: &[u8]) -> io::Result<usize> {
+        self.empty()?;
+        self.file.write(bytes)
+    }
+
+    fn flush(&mut self) -> io::Result<()> {
+        self.file.flush()
+    }
+}
