@@ -1,6 +1,6 @@
 #!/usr/bin/env python3
-"""Compares the program's replays and upgrades with those of reference.py: status, line on standard error and what is
-written.
+"""Compares the program's replays, tables of decisions, inspections and upgrades with those of reference.py: status, line
+on standard error and what is written.
 
     checks/compare_replays.py PROGRAM [COUNT [FIRST]]
 
@@ -9,6 +9,8 @@ without it), made from the seeds FIRST (0 without it), FIRST + 1 and so on: the 
 a third of these have a fault. Each is run with both engines, and compared byte for byte. The cuts of the steps into
 stages, the workers, the capacities, the batch and the cache are drawn at random for each, but for the first, which has
 those of the default settings: nothing that is written may depend on them.
+
+Of each the table of decisions is compared too, with its report, and what its capture holds.
 
 The capture of each is also upgraded, and the upgraded text once more, which leaves it as it is. Where that text differs
 from the capture, it is replayed with both engines: replies and report are those of the capture. For each seed a capture
@@ -33,6 +35,8 @@ ENGINES = [["--engine", "plain"], []]
 OLD_REPLIES = b"old replies\n"
 PARTS = {
     "replay": ("status", "line", "replies", "report"),
+    "explain": ("status", "line", "table", "report"),
+    "inspect": ("status", "line", "capture", "inspection"),
     "upgrade": ("status", "line", "output", "standard output"),
 }
 START = 784111777
@@ -439,6 +443,13 @@ def limit_replays():
     records = [(0, 0, REQUEST)]
     head = b"POST / HTTP/1.1\r\nHost: a\r\nContent-Length: %d\r\n\r\n"
     costly = b"[costs]\nfile = 1000000\nkib = 1000000\n[policy]\nevery = 1\ntarget = 1000000000000\nlow = 100\nup = 1000000000\n"
+    open_policy = b"[policy]\ndepth = 1000000\nrate = 1000000000\nrate_max = 1000000000\n"
+    # More bytes of pages than the staged engine holds at a time, and of pieces than it takes into a batch.
+    pages = [(b"%d.txt" % number, START, b"%d" % number * 5_000_000) for number in range(4)]
+    asked = b"".join(b"GET /%d.txt HTTP/1.1\r\nHost: a\r\n\r\n" % (number % 4) for number in range(20))
+    yield "pages", pages, 1, START, [(0, 0, asked)], open_policy
+    bodies = [(number, number % 7, head % 65_000 + b"x" * 65_000) for number in range(300)]
+    yield "batch", FILES, 1, START, bodies, open_policy
     for past in (0, 1):
         yield "start", FILES, 1, reference.START_LIMIT + past, records, None
         yield "tick", FILES, 1, START, [(reference.TICK_LIMIT + past, 0, REQUEST)], None
@@ -484,6 +495,19 @@ def run_replay(program, engine, snapshot, capture, settings, seconds=SECONDS):
     return run_program(program, ["replay"] + engine, files, "replies", seconds)
 
 
+def run_explain(program, snapshot, capture, settings):
+    """Status, line on standard error, table of decisions and report."""
+    files = {"snapshot": snapshot, "capture": capture, "messages": OLD_REPLIES}
+    if settings is not None:
+        files["settings"] = settings
+    return run_program(program, ["explain"], files, "messages")
+
+
+def run_inspect(program, capture):
+    """Status, line on standard error, the capture, which stays as it is, and what it holds."""
+    return run_program(program, ["inspect"], {"capture": capture}, "capture")
+
+
 def run_upgrade(program, capture):
     """Status, line on standard error, output and standard output of an upgrade."""
     return run_program(program, ["upgrade"], {"capture": capture, "output": OLD_REPLIES}, "output")
@@ -504,7 +528,7 @@ class Comparison:
     """Runs the program, and counts the runs and those that answer otherwise than they should, which it prints."""
 
     def __init__(self, program):
-        self.program, self.replays, self.upgrades, self.wrong = program, 0, 0, 0
+        self.program, self.replays, self.tables, self.upgrades, self.wrong = program, 0, 0, 0, 0
 
     def judge(self, verb, name, wanted, got):
         """Prints where an answer is wrong."""
@@ -518,6 +542,15 @@ class Comparison:
         for engine in ENGINES:
             self.replays += 1
             self.judge("replay", " ".join([name] + engine), wanted, run_replay(self.program, engine, *texts))
+
+    def explain(self, name, snapshot, capture, settings):
+        """Compares the table of decisions, and what the capture holds."""
+        self.tables += 1
+        status, line, table, report = reference.explain(snapshot, capture, settings or b"")
+        wanted = status, line, OLD_REPLIES if table is None else table, report
+        self.judge("explain", name, wanted, run_explain(self.program, snapshot, capture, settings))
+        status, line, text = reference.inspect(capture)
+        self.judge("inspect", name, (status, line, capture, text), run_inspect(self.program, capture))
 
     def upgrade(self, name, capture):
         """Upgrades a capture, and the upgraded text once more; what is wanted then stands in the output."""
@@ -535,6 +568,7 @@ class Comparison:
         status, line, replies, report = reference.replay(snapshot, capture, settings or b"")
         wanted = status, line, OLD_REPLIES if replies is None else replies, report
         self.replay(name, wanted, snapshot, capture, settings)
+        self.explain(name, snapshot, capture, settings)
         ended, upgraded = self.upgrade(name, capture)
         if ended == 0 and upgraded != capture:
             self.replay(name + ", upgraded", wanted, snapshot, upgraded, settings)
@@ -553,7 +587,8 @@ def compare_limits(comparison, chance):
     count = 0
     for name, files, version, start, records, settings in limit_replays():
         texts = snapshot_text(None, files, False), capture_text(None, version, start, records, False)
-        comparison.compare("limit of " + name, *texts, with_floor(chance, settings, 1))
+        least = 65_536 if name == "batch" else 1
+        comparison.compare("limit of " + name, *texts, with_floor(chance, settings, least))
         count += 1
     print("%-30s %d replays" % ("limits", count), flush=True)
 
@@ -580,7 +615,8 @@ def main():
     compare_large(comparison, "hundred thousand, tight bucket", with_floor(chance, TIGHT, 1000))
     compare_limits(comparison, chance)
     compare_random(comparison, count, first)
-    print("%d replays, %d upgrades, %d wrong" % (comparison.replays, comparison.upgrades, comparison.wrong))
+    counts = comparison.replays, comparison.tables, comparison.upgrades, comparison.wrong
+    print("%d replays, %d tables and inspections, %d upgrades, %d wrong" % counts)
     return comparison.wrong != 0
 
 

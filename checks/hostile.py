@@ -6,8 +6,8 @@
 COUNT runs (100 without it) are made from the seeds FIRST (0 without it), FIRST + 1 and so on. Each takes a random replay
 of compare_replays.py, and damages its snapshot, its capture or both a few times: bytes are changed, cut out, doubled or
 put in, lines change places or come twice, numbers become others or stand at a limit. Each is run on both engines, with
-limits of time and memory. Exits with 1 where a run answers otherwise than the reference, hangs, is killed, or takes more
-memory than MEMORY.
+limits of time and memory; its table of decisions and what its capture holds are compared as well. Exits with 1 where a
+run answers otherwise than the reference, hangs, is killed, or takes more memory than MEMORY.
 """
 import os
 import random
@@ -137,6 +137,7 @@ def main():
     program = os.path.abspath(sys.argv[1])
     count, first = (int(word) for word in (sys.argv[2:] + ["100", "0"][len(sys.argv) - 2:]))
     wrong, most, ends = 0, 0, {}
+    comparison = compare_replays.Comparison(program)
     for seed in range(first, first + count):
         texts = hostile_replay(seed)
         status, line, replies, report = reference.replay(texts[0], texts[1], texts[2] or b"")
@@ -149,7 +150,9 @@ def main():
             if found or memory > MEMORY:
                 wrong += 1
                 print("seed %d %s: WRONG: %s" % (seed, " ".join(engine), found or "%d bytes of memory" % memory), flush=True)
+        comparison.explain("seed %d" % seed, *texts)
     text = ", ".join("%d with status %d" % (number, status) for status, number in sorted(ends.items()))
+    wrong += comparison.wrong
     print("%d damaged inputs (%s), %d MiB at most, %d wrong" % (count, text, most >> 20, wrong))
     return int(wrong > 0)
 

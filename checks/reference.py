@@ -1,11 +1,12 @@
 #!/usr/bin/env python3
 """Replays a capture as docs/RULES.md and docs/FORMATS.md say, slowly and plainly, to compare the program with.
 
-    checks/reference.py [--replies FILE] SNAPSHOT CAPTURE [SETTINGS]
+    checks/reference.py [--replies FILE | --messages FILE] SNAPSHOT CAPTURE [SETTINGS]
 
 It was written from the rules alone, and works on whole texts, without stages, threads, batches or a cache. Prints the
-report, and writes the replies to FILE. At a fault it prints the program's line on standard error, and exits with the
-program's status. Settings are read by Python's tomllib, which takes a little less than the program (TOML 1.0).
+report, and writes the replies, or the table of decisions, to FILE. At a fault it prints the program's line on standard
+error, and exits with the program's status. Settings are read by Python's tomllib, which takes a little less than the
+program (TOML 1.0).
 """
 import argparse
 import bisect
@@ -42,10 +43,15 @@ SETTINGS_LIMIT = 65_536
 TICKS_IN_SECOND = 10**6
 UNITS_IN_TOKEN = 10**9
 
+HEADING = "number,connection,tick,tier,status,decision,service,credit,rate,start,finish,waited,method,target"
+
 REASONS = {
     200: b"OK", 301: b"Moved Permanently", 304: b"Not Modified", 400: b"Bad Request", 404: b"Not Found",
     405: b"Method Not Allowed", 413: b"Content Too Large", 501: b"Not Implemented", 503: b"Service Unavailable",
 }
+
+# The kinds of a message that is no request, each with its status.
+FAULTS = {"TooLong": 400, "Block": 400, "Host": 400, "Coding": 501, "Length": 400, "BodySize": 413}
 
 MEDIA_TYPES = {
     b"html": b"text/html", b"htm": b"text/html", b"css": b"text/css", b"js": b"text/javascript", b"txt": b"text/plain",
@@ -116,8 +122,8 @@ class Refused(Exception):
 
 File = collections.namedtuple("File", "name time body")
 Piece = collections.namedtuple("Piece", "tick conn body tier")
-Bad = collections.namedtuple("Bad", "status")
-Request = collections.namedtuple("Request", "method target link modified_since length")
+Bad = collections.namedtuple("Bad", "kind")
+Request = collections.namedtuple("Request", "method target minor link modified_since length")
 Control = collections.namedtuple("Control", "instant percentile smoothed rate")
 
 
@@ -318,6 +324,67 @@ def upgrade(capture):
     return 0, b"", output + b"stop %d\n" % len(records)
 
 
+def rests(records):
+    """How many bytes came on each connection and how many after its last message, and whether that closed it
+    (docs/FORMATS.md, Inspection)."""
+    texts = collections.defaultdict(bytes)
+    for record in records:
+        if record.body:
+            texts[record.conn] += record.body
+    for text in texts.values():
+        end, last = ([(0, None)] + messages_of(text))[-1]
+        yield len(text), len(text) - end, isinstance(last, Bad) or (last is not None and last.link == b"close")
+
+
+def busiest(arrived):
+    """The second in which the most messages arrived, the first of equals, and how many (docs/FORMATS.md, Inspection)."""
+    counts = collections.Counter(piece.tick // TICKS_IN_SECOND for piece, _ in arrived)
+    return min(((-count, second) for second, count in counts.items()), default=(0, 0))
+
+
+def inspection_lines(version, start, records):
+    """The lines of an inspection between the first and the last (docs/FORMATS.md, Inspection)."""
+    pieces = [record for record in records if record.body]
+    tiers = [record for record in records if not record.body and record.tier is not None]
+    ticks = [record.tick for record in records if record.body or record.tier is None]
+    arrived = arrivals(records)
+    messages = [message for _, message in arrived]
+    requests = [message for message in messages if isinstance(message, Request)]
+    held = list(rests(records))
+    after_close = [rest for _, rest, closed in held if closed and rest]
+    unfinished = [rest for _, rest, closed in held if rest and not closed]
+    count, second = busiest(arrived)
+    methods = [request.method if request.method in (b"GET", b"HEAD") else b"other" for request in requests]
+    yield "version %d" % version
+    yield "start %d" % start
+    yield "records %d" % len(records)
+    yield "pieces %d" % len(pieces)
+    yield "ends %d" % (len(records) - len(pieces) - len(tiers))
+    yield "tiers %d" % len(tiers)
+    yield "first %s" % (ticks[0] if ticks else "-")
+    yield "last %s" % (ticks[-1] if ticks else "-")
+    yield "connections %d" % len(held)
+    yield "bytes %d" % sum(size for size, _, _ in held)
+    yield "messages %d" % len(messages)
+    yield "requests %d" % len(requests)
+    yield from ("method %s %d" % (name, methods.count(name.encode())) for name in ("GET", "HEAD", "other"))
+    yield from ("protocol HTTP/1.%d %d" % (minor, [r.minor for r in requests].count(minor)) for minor in (0, 1))
+    yield from ("fault %s %d" % (kind, messages.count(Bad(kind))) for kind in FAULTS)
+    yield "after-close %d %d" % (sum(after_close), len(after_close))
+    yield "unfinished %d %d" % (sum(unfinished), len(unfinished))
+    yield "busiest %d %d" % (second, -count)
+
+
+def inspect(capture):
+    """Status, line of a fault and text of an inspection (docs/FORMATS.md, Inspection)."""
+    start, records, fault = read_capture(capture)
+    if start is None:
+        return fault.status, fault.line, b""
+    lines = ["haboob-inspection 1", *inspection_lines(int(capture[15:16]), start, records), "end"]
+    text = "".join(line + "\n" for line in lines).encode()
+    return (fault.status, fault.line, text) if fault else (0, b"", text)
+
+
 def date_seconds(text):
     """The seconds since 1970 of a date in one of three formats, or None (RFC 9110, 5.6.7)."""
     found = next(filter(None, (form.fullmatch(text) for form in DATE_FORMATS)), None)
@@ -355,16 +422,16 @@ def values(fields, name):
 
 
 def head_fault(minor, fields):
-    """The status of the first fault of a head, or None (docs/RULES.md, Framing)."""
+    """The first fault of a head, or None (docs/RULES.md, Framing)."""
     hosts = values(fields, b"host")
     if len(hosts) > 1 or (minor == 1 and not hosts) or not all(HOST.fullmatch(host) for host in hosts):
-        return 400
+        return "Host"
     if values(fields, b"transfer-encoding"):
-        return 501
+        return "Coding"
     lengths = values(fields, b"content-length")
     if len(lengths) > 1 or not all(length.isdigit() for length in lengths):
-        return 400
-    return 413 if any(int(length) > BODY_LIMIT for length in lengths) else None
+        return "Length"
+    return "BodySize" if any(int(length) > BODY_LIMIT for length in lengths) else None
 
 
 def link_of(minor, fields):
@@ -390,13 +457,13 @@ def verdict(block):
     """What a block asks for, or its fault (docs/RULES.md, Framing)."""
     head = read_head(block)
     if head is None:
-        return Bad(400)
+        return Bad("Block")
     method, target, minor, fields = head
-    status = head_fault(minor, fields)
-    if status:
-        return Bad(status)
+    kind = head_fault(minor, fields)
+    if kind:
+        return Bad(kind)
     length = sum(int(length) for length in values(fields, b"content-length"))
-    return Request(method, target, link_of(minor, fields), modified_since_of(method, fields), length)
+    return Request(method, target, minor, link_of(minor, fields), modified_since_of(method, fields), length)
 
 
 def messages_of(text):
@@ -409,7 +476,7 @@ def messages_of(text):
             message = verdict(text[begin:found.end()])
             at = found.end() + (message.length if isinstance(message, Request) else 0)
         else:
-            message = Bad(400)
+            message = Bad("TooLong")
             at = begin + BLOCK_LIMIT
         if at > len(text):
             return messages
@@ -525,9 +592,18 @@ class Tier:
             passed += 1
         return units + (end - begin) * rate
 
+    def credit_at(self, tick):
+        """The units that a request finds which comes at a tick."""
+        return min(self.full, self.credit + self.accrued(self.tick, tick))
+
+    def rate_at(self, tick):
+        """The rate in force at a tick: a control's rate holds from its instant on."""
+        passed = [control.rate for control in self.controls if control.instant <= tick]
+        return passed[-1] if passed else self.policy["rate"]
+
     def takes(self, tick):
         """Whether a request that comes at a tick finds a token, which it takes."""
-        self.credit = min(self.full, self.credit + self.accrued(self.tick, tick))
+        self.credit = self.credit_at(tick)
         self.tick = tick
         if self.credit < UNITS_IN_TOKEN:
             self.rejected += 1
@@ -618,7 +694,7 @@ def answers(files, settings, start, arrived, admission):
     folders = {folder for name in files for folder in folders_of(name)}
     for piece, message in arrived:
         if isinstance(message, Bad):
-            status, what, head, link = message.status, None, False, b"close"
+            status, what, head, link = FAULTS[message.kind], None, False, b"close"
         else:
             status, what = answer_of(files, folders, message)
             head, link = message.method == b"HEAD", message.link
@@ -626,6 +702,31 @@ def answers(files, settings, start, arrived, admission):
                 status = 503
         date = start + piece.tick // TICKS_IN_SECOND
         yield status, reply_text(status, what, head, date, link, settings["page.retry_after"])
+
+
+def escaped(data):
+    """Bytes as a field of the table: visible ASCII but quote, percent sign and comma stands as it is."""
+    return "".join(chr(byte) if 0x21 <= byte <= 0x7E and byte not in b'"%,' else "%%%02X" % byte for byte in data)
+
+
+def rows(files, settings, arrived, admission):
+    """Status and row of each message, in the order of their numbers: what it found, and what became of it."""
+    folders = {folder for name in files for folder in folders_of(name)}
+    for number, (piece, message) in enumerate(arrived):
+        if isinstance(message, Bad):
+            status, fields = FAULTS[message.kind], ["bypassed"] + [""] * 8
+        else:
+            status, what = answer_of(files, folders, message)
+            cost = service(settings, message.method, status, what)
+            tier = admission.tiers[piece.tier]
+            found = [cost, tier.credit_at(piece.tick), tier.rate_at(piece.tick)]
+            waited = max(0, admission.finish - piece.tick)
+            if admission.offer(piece.tier, piece.tick, cost):
+                fields = ["admitted"] + found + [admission.finish - cost, admission.finish]
+            else:
+                status, fields = 503, ["rejected"] + found + ["", ""]
+            fields += [waited, escaped(message.method), escaped(message.target)]
+        yield status, ",".join(map(str, [number, piece.conn, piece.tick, piece.tier, status] + fields))
 
 
 def report_text(arrived, statuses, admission):
@@ -724,25 +825,47 @@ def replies_text(arrived, replies, fault):
     return b"".join(parts) + (b"" if fault else b"stop %d\n" % len(replies))
 
 
-def replay(snapshot, capture, settings=b""):
-    """Status, line of a fault, replies (None where the file stays as it was) and report (docs/FORMATS.md)."""
-    replies = None
+def tell_replies(files, settings, start, arrived, admission, fault):
+    """The statuses of the messages, and the text of their replies."""
+    answered = list(answers(files, settings, start, arrived, admission))
+    return [status for status, _ in answered], replies_text(arrived, [reply for _, reply in answered], fault)
+
+
+def tell_rows(files, settings, start, arrived, admission, fault):
+    """The statuses of the messages, and the table of decisions."""
+    told = list(rows(files, settings, arrived, admission))
+    lines = [HEADING] + [row for _, row in told]
+    return [status for status, _ in told], "".join(line + "\n" for line in lines).encode()
+
+
+def run(tell, snapshot, capture, settings):
+    """Status, line of a fault, what is told (None where the file stays as it was) and report (docs/FORMATS.md)."""
+    text = None
     try:
         settings = read_settings(settings)
         files = read_snapshot(snapshot)
-        replies = b""
+        text = b""
         start, pieces, fault = read_capture(capture)
         arrived = arrivals(pieces)
         if len(arrived) > MESSAGES_LIMIT:
             arrived, fault = arrived[:MESSAGES_LIMIT], Fault(5, "capture: message %d: TooMany" % MESSAGES_LIMIT)
         admission = Admission(settings)
-        answered = list(answers(files, settings, start, arrived, admission))
-        replies = replies_text(arrived, [reply for _, reply in answered], fault)
+        statuses, text = tell(files, settings, start, arrived, admission, fault)
         if fault:
             raise fault
-        return 0, b"", replies, report_text(arrived, [status for status, _ in answered], admission)
+        return 0, b"", text, report_text(arrived, statuses, admission)
     except Fault as fault:
-        return fault.status, fault.line, replies, b""
+        return fault.status, fault.line, text, b""
+
+
+def replay(snapshot, capture, settings=b""):
+    """Status, line of a fault, replies and report."""
+    return run(tell_replies, snapshot, capture, settings)
+
+
+def explain(snapshot, capture, settings=b""):
+    """Status, line of a fault, table of decisions and report."""
+    return run(tell_rows, snapshot, capture, settings)
 
 
 def contents(name):
@@ -753,16 +876,19 @@ def contents(name):
 
 def main():
     parser = argparse.ArgumentParser(description=__doc__.split("\n", 1)[0])
-    parser.add_argument("--replies", help="the file that the replies are written to")
+    told = parser.add_mutually_exclusive_group()
+    told.add_argument("--replies", help="the file that the replies are written to")
+    told.add_argument("--messages", help="the file that the table of decisions is written to")
     parser.add_argument("snapshot")
     parser.add_argument("capture")
     parser.add_argument("settings", nargs="?")
     words = parser.parse_args()
     settings = contents(words.settings) if words.settings is not None else b""
-    status, line, replies, report = replay(contents(words.snapshot), contents(words.capture), settings)
-    if words.replies is not None and replies is not None:
-        with open(words.replies, "wb") as file:
-            file.write(replies)
+    name, call = (words.replies, replay) if words.messages is None else (words.messages, explain)
+    status, line, text, report = call(contents(words.snapshot), contents(words.capture), settings)
+    if name is not None and text is not None:
+        with open(name, "wb") as file:
+            file.write(text)
     sys.stdout.buffer.write(report)
     sys.stderr.buffer.write(line)
     return status

@@ -3,9 +3,9 @@
 
 usage: refuse_memory.py PROGRAM
 
-For N = 1, 2, .. the Nth request is refused, until some runs make fewer. Each such run, a replay or an upgrade, says
-`haboob: memory`, with status 7, a prefix of the replies or of the upgraded capture that the run writes with ample
-memory, and no report; or it ends as with ample memory, where the program can do without. Then it counts the requests of
+For N = 1, 2, .. the Nth request is refused, until some runs make fewer. Each such run, a replay, an upgrade or a
+snapshot, says `haboob: memory`, with status 7, a prefix of the replies, of the upgraded capture or of the snapshot that
+the run writes with ample memory, and no report; or it ends as with ample memory, where the program can do without. Then it counts the requests of
 64 GETs of one file, with the cache of pages and without: each page that the cache spares is a request less, so a staged
 engine that goes round its cache shows. It needs a C compiler (CC, or cc) and the C library of GNU; without a compiler
 nothing is tried.
@@ -40,6 +40,10 @@ RUNS = [
     ("an upgrade from version 2", ["upgrade", "--capture", TIERS, "--output", "written"], os.devnull),
     ("an upgrade with a fault", ["upgrade", "--capture", CUT, "--output", "written"], os.devnull),
     ("an upgrade, too few words", ["upgrade", "--capture", BURST], os.devnull),
+    ("a snapshot", ["snapshot", "--folder", "tree/b", "--output", "written"], os.devnull),
+    ("a snapshot with a fault", ["snapshot", "--folder", "tree", "--output", "written"], os.devnull),
+    ("a snapshot, some left out", ["snapshot", "--folder", "tree", "--output", "written", "--skip"], os.devnull),
+    ("a snapshot of no folder", ["snapshot", "--folder", "none", "--output", "written"], os.devnull),
 ]
 
 
@@ -121,6 +125,15 @@ def builds_each_page(program, folder, refuser):
     return with_cache + 32 > without
 
 
+def make_tree(tree):
+    """A folder with files, folders and a link."""
+    os.makedirs(os.path.join(tree, "b", "d"))
+    for name in ("a", "b/a", "b/d/a", "b/d/b", "b/e", "d"):
+        with open(os.path.join(tree, name), "w", encoding="utf-8") as file:
+            file.write(name * 1000)
+    os.symlink("a", os.path.join(tree, "c"))
+
+
 def main():
     if len(sys.argv) != 2:
         sys.exit(__doc__)
@@ -133,6 +146,7 @@ def main():
         refuser = os.path.join(folder, "refuse_memory.so")
         source = os.path.join(TOP, "checks", "refuse_memory.c")
         subprocess.run([compiler, "-shared", "-fPIC", "-O1", "-o", refuser, source], check=True)
+        make_tree(os.path.join(folder, "tree"))
         with open(TIERS, "rb") as whole, open(os.path.join(folder, CUT), "wb") as cut:
             cut.writelines(whole.readlines()[:-1])
         wrong = sum(sweep(program, *it, folder, refuser) for it in RUNS)

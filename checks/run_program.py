@@ -6,6 +6,7 @@ usage: run_program.py PROGRAM
 """
 import os
 import resource
+import socket
 import subprocess
 import sys
 import tempfile
@@ -149,6 +150,39 @@ RUNS = [
     ("a device as an input and as replies", ["--snapshot", "/dev/null"] + GOOD[2:4] + ["--replies", "/dev/null"], 4, b"haboob: snapshot: entry 0: Cut\n", OLD, b""),
     ("replies into a full device", GOOD[:4] + ["--replies", "/dev/full"], 6, b"haboob: write: replies\n", OLD, b""),
 ]
+
+# The same of the other commands that read these files: the verb first. A table of decisions goes into the file of the
+# replies. With one token a second (1,000 units of 10^-9 token a microsecond) the bucket is empty after the first request.
+HEADING = b"number,connection,tick,tier,status,decision,service,credit,rate,start,finish,waited,method,target\n"
+TIGHT_TABLE = (
+    HEADING + b"0,0,0,0,200,admitted,201,1000000000,1000,0,201,0,GET,/a.txt\n1,0,0,0,503,rejected,201,0,1000,,,201,GET,/a.txt\n"
+    b"2,0,999999,0,503,rejected,201,999999000,1000,,,0,GET,/a.txt\n"
+    b"3,0,1000000,0,200,admitted,201,1000000000,1000,1000000,1000201,0,GET,/a.txt\n"
+)
+INSPECTION = (
+    b"haboob-inspection 1\nversion 1\nstart 784111777\nrecords 4\npieces 4\nends 0\ntiers 0\nfirst 0\nlast 1000000\n"
+    b"connections 1\nbytes 128\nmessages 4\nrequests 4\nmethod GET 4\nmethod HEAD 0\nmethod other 0\nprotocol HTTP/1.0 0\n"
+    b"protocol HTTP/1.1 4\nfault TooLong 0\nfault Block 0\nfault Host 0\nfault Coding 0\nfault Length 0\nfault BodySize 0\n"
+    b"after-close 0 0\nunfinished 0 0\nbusiest 0 3\nend\n"
+)
+TABLE_OF = ["--snapshot", "snapshot", "--capture", "capture", "--messages"]
+GOOD_TABLE = TABLE_OF + ["replies"]
+OTHER_RUNS = [
+    ("explain", "a bucket of one token", GOOD_TABLE + ["--settings", "settings"], 0, b"", TIGHT_TABLE, TIGHT_REPORT),
+    ("explain", "no file for the table", TABLE_OF[:4], 2, None, OLD, b""),
+    ("explain", "an engine", GOOD_TABLE + ["--engine", "plain"], 2, None, OLD, b""),
+    ("explain", "depth 0", GOOD_TABLE + ["--settings", "depth"], 3, b"haboob: settings: Range policy.depth\n", OLD, b""),
+    ("explain", "a snapshot as capture", GOOD_TABLE[:3] + ["snapshot"] + GOOD_TABLE[4:], 5, b"haboob: capture: record 0: Header\n", HEADING, b""),
+    ("explain", "the table into the capture", TABLE_OF + ["capture"], 6, b"haboob: open: messages\n", OLD, b""),
+    ("explain", "the table into a link to the snapshot", TABLE_OF + ["link"], 6, b"haboob: open: messages\n", OLD, b""),
+    ("explain", "the table into a folder", TABLE_OF + ["folder"], 6, b"haboob: open: messages\n", OLD, b""),
+    ("explain", "the table into a full device", TABLE_OF + ["/dev/full"], 6, b"haboob: write: messages\n", OLD, b""),
+    ("inspect", "a capture", ["--capture", "capture"], 0, b"", OLD, INSPECTION),
+    ("inspect", "no capture", [], 2, None, OLD, b""),
+    ("inspect", "a file that isn't there", ["--capture", "absent"], 6, b"haboob: open: capture\n", OLD, b""),
+    ("inspect", "a folder", ["--capture", "folder"], 6, b"haboob: read: capture\n", OLD, b""),
+    ("inspect", "a snapshot", ["--capture", "snapshot"], 5, b"haboob: capture: record 0: Header\n", OLD, b""),
+]
 FILES.update({
     "depth": b"[policy]\ndepth = 0\n",
     "unknown": b"[policy]\ndeep = 1\n",
@@ -188,6 +222,106 @@ UPGRADES = [
     ("no capture", OLDER, ["--output", "output"], 2, None, OLDEST),
     ("an option of replay", OLDER, UPGRADE + ["--engine", "plain"], 2, None, OLDEST),
     ("help", OLDER, ["--help"], 2, None, OLDEST),
+]
+
+TIME = 784111777
+
+
+def snapshot_text(files):
+    """The text of a snapshot of these files: each with a name and its bytes, and where it isn't TIME with its time."""
+    text = b"haboob-snapshot 1\n"
+    for name, data, *times in files:
+        text += b"file %d %d %d\n%s\n%s\n" % (times[0] if times else TIME, len(name), len(data), name, data)
+    return text + b"end %d\n" % len(files)
+
+
+def first_files(files):
+    """The same without its last line."""
+    return snapshot_text(files)[:-len(b"end %d\n" % len(files))]
+
+
+class Sparse:
+    """A file of so many bytes 0."""
+    def __init__(self, size):
+        self.size = size
+
+
+class Link:
+    """A symbolic link."""
+    def __init__(self, target):
+        self.target = target
+
+
+class Twin:
+    """A hard link."""
+    def __init__(self, target):
+        self.target = target
+
+
+class Closed:
+    """A file or a folder (where `data` is None) that may not be read."""
+    def __init__(self, data):
+        self.data = data
+
+
+PIPE, SOCKET, FOLDER = "a pipe", "a socket", "a folder"
+
+# What is in the folder `tree` (TIME is the time of each file where none is given).
+ORDERED = {b"a/b": b"slash", b"a.b": b"dot", b"a0": b"digit", b"a!c": b"", b"a/b.d/c": b"deep"}
+IN_ORDER = [(b"a!c", b""), (b"a.b", b"dot"), (b"a/b", b"slash"), (b"a/b.d/c", b"deep"), (b"a0", b"digit")]
+ODD = {b"with space": b"1", b"line\nfeed": b"2", "\u00e9\U0001f600".encode(): b"3", b".hidden": b"4", b"..a": b"5", b"back\\slash": b"6", b"-": b"7"}
+KINDS = {b"a": b"1", b"b": Link(b"a"), b"c": PIPE, b"d": SOCKET, b"e": Link(b"none"), b"f/g": Link(b".."), b"z": b"2"}
+LONGEST_FOLDERS = b"x" * 255 + b"/" + b"y" * 255 + b"/" + b"z" * 255 + b"/"
+LONGEST = LONGEST_FOLDERS + b"w" * 127 + b"/" + b"n" * 128
+TOO_LONG = LONGEST_FOLDERS + b"w" * 127 + b"/" + b"n" * 129
+TREE = ["--folder", "tree", "--output", "output"]
+SKIP = TREE + ["--skip"]
+DEEP = b"/".join([b"d" * 250] * 17)
+
+# What is in the folder, the words after `snapshot`, and then the status, the text on standard error (None: a text of the
+# command line), and what stands in the output, which held an older text.
+SNAPSHOTS = [
+    ("an order that isn't that of the folders", ORDERED, TREE, 0, b"", snapshot_text(IN_ORDER)),
+    ("the same, by a path with a slash", ORDERED, ["--folder", "./tree/", "--output", "output"], 0, b"", snapshot_text(IN_ORDER)),
+    ("the same, by a link", ORDERED, ["--folder", "linked", "--output", "output"], 0, b"", snapshot_text(IN_ORDER)),
+    ("the same, nothing to skip", ORDERED, SKIP, 0, b"haboob: skipped 0\n", snapshot_text(IN_ORDER)),
+    ("an empty folder", {}, TREE, 0, b"", snapshot_text([])),
+    ("empty folders in it", {b"a": FOLDER, b"b/c": FOLDER}, TREE, 0, b"", snapshot_text([])),
+    ("an empty file", {b"a": b""}, TREE, 0, b"", snapshot_text([(b"a", b"")])),
+    ("odd names", ODD, TREE, 0, b"", snapshot_text(sorted(ODD.items()))),
+    ("times", {b"a": (b"1", -1), b"b": (b"2", 0), b"c": (b"3", 4_000_000_000)}, TREE, 0, b"", snapshot_text([(b"a", b"1", 0), (b"b", b"2", 0), (b"c", b"3", 4_000_000_000)])),
+    ("a link", KINDS, TREE, 4, b"haboob: folder: Link b\n", first_files([(b"a", b"1")])),
+    ("links, a pipe and a socket, skipped", KINDS, SKIP, 0, b"haboob: skipped 5\n", snapshot_text([(b"a", b"1"), (b"z", b"2")])),
+    ("a pipe", {b"a": b"1", b"c/d": PIPE}, TREE, 4, b"haboob: folder: Special c/d\n", first_files([(b"a", b"1")])),
+    ("a socket", {b"c": SOCKET}, TREE, 4, b"haboob: folder: Special c\n", first_files([])),
+    ("a link with a line feed in its name", {b"c\nd": Link(b"a")}, TREE, 4, b"haboob: folder: Link c?d\n", first_files([])),
+    ("a name that is no UTF-8", {b"a": b"1", b"\xff": b"2", b"z": b"3"}, TREE, 4, b"haboob: folder: Name ./\n", first_files([])),
+    ("one in another folder", {b"a": b"1", b"b/\xff": b"2", b"b/c": b"3"}, TREE, 4, b"haboob: folder: Name b/\n", first_files([(b"a", b"1")])),
+    ("names that are no UTF-8, skipped", {b"a": b"1", b"\xff": b"2", b"b/\xfe\xff": b"2", b"b/c": b"3"}, SKIP, 0, b"haboob: skipped 2\n", snapshot_text([(b"a", b"1"), (b"b/c", b"3")])),
+    ("a name of 1024 bytes", {LONGEST: b"1"}, TREE, 0, b"", snapshot_text([(LONGEST, b"1")])),
+    ("a name of 1025 bytes", {TOO_LONG: b"1"}, TREE, 4, b"haboob: folder: Name %s\n" % TOO_LONG, first_files([])),
+    ("a name of 1025 bytes, skipped", {TOO_LONG: b"1", b"a": b"2"}, SKIP, 0, b"haboob: skipped 1\n", snapshot_text([(b"a", b"2")])),
+    ("folders that are too deep", {b"a": b"2", DEEP: FOLDER}, SKIP, 0, b"haboob: skipped 1\n", snapshot_text([(b"a", b"2")])),
+    ("a file of 16 MiB", {b"a": Sparse(16_777_216)}, TREE, 0, b"", snapshot_text([(b"a", bytes(16_777_216))])),
+    ("a file of a byte more", {b"a": b"1", b"b": Sparse(16_777_217), b"c": b"2"}, TREE, 4, b"haboob: folder: Size b\n", first_files([(b"a", b"1")])),
+    ("a file of a byte more, skipped", {b"a": b"1", b"b": Sparse(16_777_217), b"c": b"2"}, SKIP, 0, b"haboob: skipped 1\n", snapshot_text([(b"a", b"1"), (b"c", b"2")])),
+    ("a text past its limit", {b"%02d" % n: Sparse(16_777_216) for n in range(64)}, ["--folder", "tree", "--output", "/dev/null"], 4, b"haboob: folder: Text 63\n", OLDEST),
+    ("a file that may not be read", {b"a": b"1", b"b": Closed(b"2"), b"c": b"3"}, TREE, 6, b"haboob: read: folder b\n", first_files([(b"a", b"1")])),
+    ("a folder that may not be read", {b"a": b"1", b"b/c": Closed(None), b"c": b"3"}, TREE, 6, b"haboob: read: folder b/c/\n", first_files([(b"a", b"1")])),
+    ("both, skipped", {b"a": b"1", b"b": Closed(b"2"), b"d/e": Closed(None), b"z": b"3"}, SKIP, 0, b"haboob: skipped 2\n", snapshot_text([(b"a", b"1"), (b"z", b"3")])),
+    ("no such folder", {}, ["--folder", "none", "--output", "output"], 6, b"haboob: open: folder\n", OLDEST),
+    ("no name of a folder", {}, ["--folder", "", "--output", "output"], 6, b"haboob: open: folder\n", OLDEST),
+    ("a file as folder", {}, ["--folder", "output", "--output", "output"], 6, b"haboob: open: folder\n", OLDEST),
+    ("a folder that may not be read, and skip", {b"a": Closed(None)}, ["--folder", "tree/a", "--output", "output", "--skip"], 6, b"haboob: open: folder\n", OLDEST),
+    ("a file of the folder as output", {b"a": b"1", b"b": b"2"}, ["--folder", "tree", "--output", "tree/a"], 6, b"haboob: open: output\n", OLDEST),
+    ("the same by a link", {b"a": b"1", b"b": b"2"}, ["--folder", "tree", "--output", "to_a"], 6, b"haboob: open: output\n", OLDEST),
+    ("the same by a hard link", {b"a": b"1", b"b": Twin(b"output")}, TREE, 6, b"haboob: open: output\n", OLDEST),
+    ("no folder for the output", {}, ["--folder", "tree", "--output", "none/output"], 6, b"haboob: open: output\n", OLDEST),
+    ("a folder as output", {}, ["--folder", "tree", "--output", "tree"], 6, b"haboob: open: output\n", OLDEST),
+    ("a full device as output", {b"a": b"1"}, ["--folder", "tree", "--output", "/dev/full"], 6, b"haboob: write: output\n", OLDEST),
+    ("no folder named", {}, ["--output", "output"], 2, None, OLDEST),
+    ("no output named", {}, ["--folder", "tree"], 2, None, OLDEST),
+    ("help", {}, ["--help"], 2, None, OLDEST),
 ]
 
 
@@ -290,7 +424,7 @@ def little_memory(program):
     return child.returncode, child.stderr, child.stdout
 
 
-def replay(program, words, folder, out):
+def replay(program, words, folder, out, verb="replay"):
     """The status, the text on standard error, the replies and the report of one run over files, which keep their bytes."""
     os.mkdir(os.path.join(folder, "folder"))
     for name, data in [("replies", OLD), ("other", OLD), *FILES.items()]:
@@ -299,7 +433,7 @@ def replay(program, words, folder, out):
     os.symlink("snapshot", os.path.join(folder, "link"))
     os.link(os.path.join(folder, "settings"), os.path.join(folder, "same"))
     child = subprocess.run(
-        [os.path.abspath(program), "replay", *words], cwd=folder, stdin=subprocess.DEVNULL, stdout=out, stderr=subprocess.PIPE, timeout=SECONDS,
+        [os.path.abspath(program), verb, *words], cwd=folder, stdin=subprocess.DEVNULL, stdout=out, stderr=subprocess.PIPE, timeout=SECONDS,
     )
     for name, data in FILES.items():
         with open(os.path.join(folder, name), "rb") as file:
@@ -333,6 +467,158 @@ def upgrade(program, capture, words, folder):
     )
     with open(os.path.join(folder, "output"), "rb") as output, open(os.path.join(folder, "capture"), "rb") as kept:
         return child.returncode, child.stderr, output.read(), kept.read(), child.stdout
+
+
+def copy_of(program):
+    """A copy of the program that every user may run."""
+    handle, name = tempfile.mkstemp()
+    with os.fdopen(handle, "wb") as file:
+        file.write(contents(program))
+    os.chmod(name, 0o755)
+    return name
+
+
+def make(path, kind):
+    """Makes a file, or what else stands in a folder; its folders are there."""
+    if isinstance(kind, Link):
+        os.symlink(kind.target, path)
+    elif isinstance(kind, Twin):
+        os.link(kind.target, path)
+    elif kind == FOLDER or isinstance(kind, Closed) and kind.data is None:
+        os.mkdir(path)
+    elif kind == PIPE:
+        os.mkfifo(path)
+    elif kind == SOCKET:
+        socket.socket(socket.AF_UNIX).bind(path)
+    else:
+        data, when = kind if isinstance(kind, tuple) else (getattr(kind, "data", kind), TIME)
+        with open(path, "wb") as file:
+            if isinstance(data, Sparse):
+                file.truncate(data.size)
+            else:
+                file.write(data)
+        os.utime(path, (when, when))
+    if isinstance(kind, Closed):
+        os.chmod(path, 0)
+
+
+def make_tree(tree):
+    """Makes what is in a folder, which is the current one: by steps, since a path may be too long for the system."""
+    here = os.open(".", os.O_RDONLY)
+    for name, kind in tree.items():
+        *folders, last = name.split(b"/")
+        for folder in folders:
+            if not os.path.isdir(folder):
+                os.mkdir(folder)
+            os.chdir(folder)
+        make(last, kind)
+        os.fchdir(here)
+    os.close(here)
+
+
+def without_rights():
+    """As a user who may not read everything."""
+    if os.geteuid() == 0:
+        os.setgid(65534)
+        os.setuid(65534)
+
+
+def in_folder(folder, tree, output=OLDEST):
+    """Makes an output, a link to the folder `tree` and one to a file in it, and what is in that folder."""
+    back = os.getcwd()
+    os.chdir(folder)
+    with open("output", "wb") as file:
+        file.write(output)
+    os.symlink("tree", "linked")
+    os.symlink("tree/a", "to_a")
+    os.mkdir("tree")
+    os.chdir("tree")
+    make_tree({name: kind for name, kind in tree.items() if not isinstance(kind, Twin)})
+    os.chdir("..")
+    for name, kind in tree.items():
+        if isinstance(kind, Twin):
+            os.link(kind.target, os.path.join(b"tree", name))
+    os.chmod(".", 0o777)
+    os.chmod("output", 0o666)
+    os.chmod("tree", 0o777)
+    os.chdir(back)
+
+
+def remove(folder):
+    """Removes a folder, even one whose paths are too long or that may not be read."""
+    subprocess.run(["chmod", "-R", "u+rwX", folder], stderr=subprocess.DEVNULL)
+    subprocess.run(["rm", "-rf", folder], check=True)
+
+
+def command(program, words, folder):
+    """The status and the text on standard error of a command in a folder, as a user who may not read everything."""
+    child = subprocess.run(
+        [program, *words], cwd=folder, stdin=subprocess.DEVNULL, capture_output=True, timeout=SECONDS * 3, preexec_fn=without_rights,
+    )
+    return child.returncode, child.stderr + child.stdout
+
+
+def contents(name):
+    with open(name, "rb") as file:
+        return file.read()
+
+
+def snapshot(program, tree, words):
+    """The status, the text on standard error and the output of one snapshot; the folder's files keep their bytes."""
+    folder = tempfile.mkdtemp()
+    try:
+        in_folder(folder, tree)
+        got = command(program, ["snapshot", *words], folder)
+        for name, kind in tree.items():
+            if isinstance(kind, bytes) and kind not in (PIPE, SOCKET, FOLDER) and contents(os.path.join(folder.encode(), b"tree", name)) != kind:
+                return (*got, b"the file %s was changed" % name)
+        return (*got, contents(os.path.join(folder, "output")))
+    finally:
+        remove(folder)
+
+
+def output_inside(program):
+    """An output in the folder itself is none of its files; a second time it is one, and isn't overwritten."""
+    folder = tempfile.mkdtemp()
+    words = ["snapshot", "--folder", "tree", "--output", "tree/new"]
+    try:
+        in_folder(folder, {b"a": b"1", b"z": b"2"})
+        first = command(program, words, folder)
+        text = contents(os.path.join(folder, "tree/new"))
+        second = command(program, words, folder)
+        kept = contents(os.path.join(folder, "tree/new"))
+    finally:
+        remove(folder)
+    want = snapshot_text([(b"a", b"1"), (b"z", b"2")])
+    return (first, text, second, kept) == ((0, b""), want, (6, b"haboob: open: output\n"), want)
+
+
+def many_files(program):
+    """One file more than a snapshot may have is told, or left out."""
+    folder = tempfile.mkdtemp()
+    try:
+        in_folder(folder, {b"%05d" % number: b"" for number in range(65_537)})
+        told = command(program, ["snapshot", *TREE], folder)
+        skipped = command(program, ["snapshot", *SKIP], folder)
+        text = contents(os.path.join(folder, "output"))
+    finally:
+        remove(folder)
+    want = snapshot_text([(b"%05d" % number, b"") for number in range(65_536)])
+    return (told, skipped, text) == ((4, b"haboob: folder: Count 65536\n"), (0, b"haboob: skipped 1\n"), want)
+
+
+def round_trip(program):
+    """A folder's snapshot serves its file."""
+    folder = tempfile.mkdtemp()
+    try:
+        in_folder(folder, {b"a.txt": b"hi\n"})
+        with open(os.path.join(folder, "capture"), "wb") as file:
+            file.write(CAPTURE)
+        made = command(program, ["snapshot", "--folder", "tree", "--output", "snapshot"], folder)
+        played = command(program, ["replay", *GOOD], folder)
+        return (made, played, contents(os.path.join(folder, "replies"))) == ((0, b""), (0, OPEN_REPORT), OPEN_REPLIES)
+    finally:
+        remove(folder)
 
 
 def too_many(program, engine):
@@ -377,16 +663,25 @@ def main():
     got = little_memory(program)
     good = got == (7, b"haboob: memory\n", b"")
     wrong += report("little memory", good, "7 haboob: memory" if good else repr(got))
-    for name, words, status, line, replies, text in RUNS:
+    for verb, name, words, status, line, replies, text in [("replay", *row) for row in RUNS] + OTHER_RUNS:
         with tempfile.TemporaryDirectory() as folder:
-            got = replay(program, words, folder, subprocess.PIPE)
+            got = replay(program, words, folder, subprocess.PIPE, verb)
         good = (got[0], got[2], got[3]) == (status, replies, text) and (got[1] == line if line is not None else len(got[1]) > 20)
-        wrong += report("replay: " + name, good, "%d %s" % (got[0], got[1].decode().partition("\n")[0]) if good else repr(got))
+        wrong += report(verb + ": " + name, good, "%d %s" % (got[0], got[1].decode().partition("\n")[0]) if good else repr(got))
     for name, capture, words, status, line, output in UPGRADES:
         with tempfile.TemporaryDirectory() as folder:
             got = upgrade(program, capture, words, folder)
         good = (got[0], *got[2:]) == (status, output, capture, b"") and (got[1] == line if line is not None else len(got[1]) > 20)
         wrong += report("upgrade: " + name, good, "%d %s" % (got[0], got[1].decode().partition("\n")[0]) if good else repr(got))
+    alone = copy_of(program)
+    for name, tree, words, status, line, output in SNAPSHOTS:
+        got = snapshot(alone, tree, words)
+        good = (got[0], got[2]) == (status, output) and (got[1] == line if line is not None else len(got[1]) > 20)
+        wrong += report("snapshot: " + name, good, "%d %s" % (got[0], got[1][:40].decode().partition("\n")[0]) if good else repr((*got[:2], got[2][:2000])))
+    wrong += report("snapshot: an output in the folder", output_inside(alone), "as it must be")
+    wrong += report("snapshot: too many files", many_files(alone), "as it must be")
+    wrong += report("snapshot: a replay of it", round_trip(alone), "as it must be")
+    os.remove(alone)
     got = unwritten_report(program)
     good = got == (6, b"haboob: write: report\n", TIGHT_REPLIES)
     wrong += report("replay: a report into a full device", good, "6 haboob: write: report" if good else repr(got))
@@ -396,7 +691,7 @@ def main():
         good, got = too_many(program, engine)
         good = good and got == TOO_MANY
         wrong += report("replay: too many messages, " + engine, good, "%d %s" % (got[0], got[1].decode().strip()) if good else repr(got))
-    print("%d runs, %d wrong" % (len(TABLE) + len(RUNS) + len(UPGRADES) + 6, wrong))
+    print("%d runs, %d wrong" % (len(TABLE) + len(RUNS) + len(OTHER_RUNS) + len(UPGRADES) + len(SNAPSHOTS) + 9, wrong))
     sys.exit(wrong != 0)
 
 

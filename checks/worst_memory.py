@@ -15,10 +15,12 @@ The formula adds up what a run keeps at a time, in bytes. All runs:
 
 The staged engine besides:
 
-  the batch            its pieces, and 64 for each; 256 for each message that ends in them, also beyond the limit
-  a part of it         4,096 messages and those of one piece, at most: 2 KiB for each, and the page of each answer that
-                       the cache didn't hold, as often as it is asked for
-  the cache            its limit at most, and 160 for each file of the snapshot
+  the batch            its pieces, 16 MiB and a piece at most, and 64 for each; 256 for each message that ends in them,
+                       also beyond the limit
+  a part of it         4,096 messages and those of one piece, at most: 2 KiB for each; and their pages, as often as they
+                       are asked for, but no more than 32 MiB (96 with what the C library keeps of pages that are given
+                       back), where the cache can't hold those of all files
+  the cache            its limit at most, and 160 for each file of the snapshot; the largest file's page
   the threads          64 KiB for each worker, in both floors together
 
 An upgrade keeps what the program does, and no more. Peaks are those that the system tells of the process (ru_maxrss). A
@@ -62,6 +64,8 @@ UNEVEN = b"GET /a.tx HTTP/1.1\r\nHost: a\r\n\r\n"
 MOST_PIECE = 65_536
 MOST_MESSAGES = 1_048_576
 ENOUGH = 4_096
+MOST_BATCH = 16 * MIB + MOST_PIECE
+MOST_HELD = 96 * MIB
 
 # All are admitted, with a control at each; or all but the first are turned away.
 OPEN = b"[policy]\ndepth = 1000000\nrate = 1000000000\nrate_max = 1000000000\nrate_min = 1000000000\nevery = 1\n"
@@ -76,7 +80,7 @@ class Input:
         self.name, self.records, self.version, self.status = name, records, version, status
         self.files, self.settings = files, settings
         self.numbers = {"sent": 0, "tiers": 0, "blocks": 0, "heads": 0, "requests": 0, "controls": 0, "pieces": 0,
-                        "waiting": 0, "messages": 0, "unshared": 0, "cache": 0, "workers": DEFAULT_WORKERS, **numbers}
+                        "waiting": 0, "messages": 0, "page": 0, "unshared": 0, "cache": 0, "workers": DEFAULT_WORKERS, **numbers}
 
     def write(self, folder):
         """Writes the texts into the folder; the bytes of the snapshot."""
@@ -107,8 +111,9 @@ class Input:
         total += 24 * n["requests"] + 96 * n["controls"] + 2 * report
         if engine == STAGED:
             part = min(n["messages"], ENOUGH + MOST_PIECE // len(SHORTEST))
-            total += n["waiting"] + 64 * n["pieces"] + 256 * n["messages"]
-            total += 2048 * part + n["unshared"] + n["cache"] + 160 * files + MOST_PIECE * n["workers"]
+            total += min(n["waiting"], MOST_BATCH) + 64 * n["pieces"] + 256 * n["messages"]
+            total += 2048 * part + min(n["unshared"], MOST_HELD) + n["cache"] + 160 * files + n["page"]
+            total += MOST_PIECE * n["workers"]
         return total
 
 
@@ -157,6 +162,11 @@ def requests(request, count, service=0):
         yield piece(0, request * min(most, count - done), done * service)
 
 
+def in_batch(request, count):
+    """How many of so many requests end in the pieces of one batch, at most."""
+    return min(count, (MOST_BATCH // MOST_PIECE + 1) * (MOST_PIECE // len(request)))
+
+
 def many_files():
     """65,536 files of no bytes."""
     return ((b"%05d" % number, b"") for number in range(65_536))
@@ -167,6 +177,16 @@ def each_file():
     for first in range(0, 65_536, 2048):
         names = range(first, first + 2048)
         yield piece(0, b"".join(b"GET /%05d HTTP/1.1\r\nHost: a\r\n\r\n" % number for number in names))
+
+
+def large_files(count):
+    """Files of 16 MiB."""
+    return ((b"%02d.txt" % number, b"x" * 2**24) for number in range(count))
+
+
+def each_large_file(count, times):
+    """Requests for each of these files, so often, in turn."""
+    yield piece(0, b"".join(b"GET /%02d.txt HTTP/1.1\r\nHost: a\r\n\r\n" % number for number in range(count)) * times)
 
 
 def page_of(size):
@@ -181,7 +201,7 @@ SMALL_CACHE = b"[floor]\ncache = %d\n" % (PAGE - 1) + OPEN
 
 
 def inputs():
-    of_all = {"requests": MOST_MESSAGES, "messages": MOST_MESSAGES, "sent": 1, "pieces": 512}
+    of_all = {"requests": MOST_MESSAGES, "messages": in_batch(REQUEST, MOST_MESSAGES), "sent": 1, "pieces": 512}
     of_all["waiting"] = 512 * MOST_PIECE
     head = 8192
     yield Input("one request", lambda: requests(REQUEST, 1), sent=1, requests=1, pieces=1, waiting=32, messages=1)
@@ -207,13 +227,19 @@ def inputs():
                 controls=65_536, pieces=32, waiting=32 * MOST_PIECE, messages=65_536, cache=65_536 * 66)
     yield Input("a cache one byte too small", lambda: requests(REQUEST, 8192), files=page_of(100_000),
                 settings=SMALL_CACHE, sent=1, requests=8192, controls=8192, pieces=4, waiting=4 * MOST_PIECE,
-                messages=8192, cache=PAGE, unshared=ENOUGH * PAGE)
+                messages=8192, page=PAGE, cache=PAGE, unshared=ENOUGH * PAGE)
     yield Input("a batch of 3,354,624 messages", lambda: requests(SHORTEST, 1024 * 3276), status=5,
                 settings=LARGE_BATCH, sent=1, requests=MOST_MESSAGES, pieces=1024, waiting=1024 * MOST_PIECE,
-                messages=1024 * 3276)
+                messages=in_batch(SHORTEST, 1024 * 3276))
     yield Input("a batch of 2,164,736 messages", lambda: requests(UNEVEN, 1024 * 2114), status=5,
                 settings=LARGE_BATCH, sent=1, requests=MOST_MESSAGES, pieces=1024, waiting=1024 * MOST_PIECE,
-                messages=1024 * 2114)
+                messages=in_batch(UNEVEN, 1024 * 2114))
+    yield Input("12 files of 16 MiB, each asked for 6 times", lambda: each_large_file(12, 6), settings=OPEN,
+                files=lambda: large_files(12), sent=1, requests=72, controls=72, pieces=1, waiting=MOST_PIECE,
+                messages=72, page=2**24, unshared=72 * 2**24, cache=DEFAULT_CACHE)
+    yield Input("3 files of 16 MiB, each asked for 24 times", lambda: each_large_file(3, 24), settings=OPEN,
+                files=lambda: large_files(3), sent=1, requests=72, controls=72, pieces=1, waiting=MOST_PIECE,
+                messages=72, page=2**24, cache=DEFAULT_CACHE)
 
 
 def run(program, words, folder, bound):
