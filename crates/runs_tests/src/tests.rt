@@ -1,11 +1,11 @@
 //! What no clause says: that the runs succeed, the worked examples, and what becomes of devices that fail.
 mod devices;
 mod faults;
+mod folders;
 mod inspections;
 mod lines;
 mod memory;
 mod reports;
 mod rows;
 mod running;
-mod snapshots;
 mod upgrades;
