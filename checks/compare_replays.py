@@ -137,8 +137,8 @@ def random_target(chance, names):
     if chance.random() < 0.25:
         path = path.rpartition(b"/")[0]
     before = chance.choice([b"/"] * 20 + [b"//", b"/./", b"/x/../", b"http://h/", b"HTTP://h:80/", b"/x/%2e%2e/", b"/../", b""])
-    behind = chance.choice([b""] * 20 + [b"?q", b"?a/b?%", b"/", b"/", b"/.", b"/..", b"/x/..", b"#x", b"x", b"%2f", b"%00"])
-    return before + escaped(chance, path) + behind
+    after = chance.choice([b""] * 20 + [b"?q", b"?a/b?%", b"/", b"/", b"/.", b"/..", b"/x/..", b"#x", b"x", b"%2f", b"%00"])
+    return before + escaped(chance, path) + after
 
 
 def random_date(chance, seconds):
@@ -343,7 +343,7 @@ def random_floor(chance):
 
 
 def with_floor(chance, settings, least):
-    """The settings with a table `floor` drawn at random behind them, and this batch or more, where there is room for it."""
+    """The settings with a table `floor` drawn at random after them, and this batch or more, where there is room for it."""
     floor = random_floor(chance)
     floor["batch"] = max(floor["batch"], least)
     text = (settings or b"") + "".join(["[floor]\n"] + ["%s = %s\n" % pair for pair in floor.items()]).encode()

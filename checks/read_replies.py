@@ -80,7 +80,7 @@ class Unclosed(io.RawIOBase):
 
 
 def line_of(text, at):
-    """The line at a place, and the place behind it."""
+    """The line at a place, and the place after it."""
     end = text.find(b"\n", at)
     if end < 0:
         raise NoRepliesText("a line has no end at byte %d" % at)
@@ -98,14 +98,14 @@ def records_of(text):
         words = line.split(" ")
         if words[0] == "stop" and len(words) == 2:
             if words[1] != str(len(records)) or at != len(text):
-                raise NoRepliesText("the last line is %r, behind %d replies" % (line, len(records)))
+                raise NoRepliesText("the last line is %r, after %d replies" % (line, len(records)))
             return records
         if words[0] != "reply" or len(words) != 4 or words[1] != str(len(records)):
             raise NoRepliesText("reply %d begins with %r" % (len(records), line))
         size = int(words[3])
         reply = text[at:at + size]
         if len(reply) != size or text[at + size:at + size + 1] != b"\n":
-            raise NoRepliesText("reply %d does not end behind %d bytes" % (len(records), size))
+            raise NoRepliesText("reply %d does not end after %d bytes" % (len(records), size))
         records.append((len(records), int(words[2]), reply))
         at += size + 1
 

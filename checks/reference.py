@@ -149,7 +149,7 @@ class Text:
         return line
 
     def owed(self, count):
-        """The bytes that a line tells of, and whether an LF stands behind them (docs/FORMATS.md, Formats)."""
+        """The bytes that a line tells of, and whether an LF stands after them (docs/FORMATS.md, Formats)."""
         self.need(self.at + count < self.end)
         body, self.at = self.data[self.at:self.at + count], self.at + count + 1
         return body, self.data[self.at - 1:self.at] == b"\n"
@@ -167,7 +167,7 @@ def refuse_unless(condition, kind):
 
 
 def numbers(line, count):
-    """The decimals behind a line's first word (docs/FORMATS.md, Formats)."""
+    """The decimals after a line's first word (docs/FORMATS.md, Formats)."""
     fields = line.split(b" ")[1:]
     refuse_unless(len(fields) == count and all(DECIMAL.fullmatch(field) for field in fields), "Number")
     return [int(field) for field in fields]

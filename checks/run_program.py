@@ -62,16 +62,16 @@ TABLE = [
     ("another count of files", "pipe", b"haboob-snapshot 1\nfile 0 1 0\na\n\nend 2\n", "pipe", 4, b"haboob: snapshot: entry 2: Count\n", b""),
     ("a snapshot cut", "pipe", SNAPSHOT[:-1], "pipe", 4, b"haboob: snapshot: entry 2: Cut\n", b""),
     ("a long line", "pipe", b"x" * 65, "pipe", 4, b"haboob: snapshot: entry 0: Header\n", b""),
-    ("nothing behind the snapshot", "pipe", SNAPSHOT, "pipe", 5, b"haboob: capture: record 0: Cut\n", FIRST_LINE),
+    ("nothing after the snapshot", "pipe", SNAPSHOT, "pipe", 5, b"haboob: capture: record 0: Cut\n", FIRST_LINE),
     ("another capture", "pipe", SNAPSHOT + b"haboob-capture 3 0\n", "pipe", 5, b"haboob: capture: record 0: Header\n", FIRST_LINE),
     ("no last line", "file", SNAPSHOT + HEADER + PIECE, "file", 5, b"haboob: capture: record 2: Cut\n", ONE),
     ("another count of records", "pipe", SNAPSHOT + HEADER + PIECE + b"stop 2\n", "pipe", 5, b"haboob: capture: record 2: Count\n", ONE),
-    ("a byte behind", "pipe", FIRST_RUN + b".", "pipe", 5, b"haboob: capture: record 2: Trailing\n", ONE),
+    ("a byte after", "pipe", FIRST_RUN + b".", "pipe", 5, b"haboob: capture: record 2: Trailing\n", ONE),
     ("ticks that fall", "pipe", SNAPSHOT + HEADER + PIECE.replace(b"piece 0", b"piece 7") + PIECE, "pipe", 5, b"haboob: capture: record 2: Tick\n", ONE),
-    ("a piece behind an end", "pipe", SNAPSHOT + HEADER + b"end 0 0\n" + PIECE, "pipe", 5, b"haboob: capture: record 2: Ended\n", FIRST_LINE),
+    ("a piece after an end", "pipe", SNAPSHOT + HEADER + b"end 0 0\n" + PIECE, "pipe", 5, b"haboob: capture: record 2: Ended\n", FIRST_LINE),
     ("a connection too high", "pipe", SNAPSHOT + HEADER + b"piece 0 4096 1\nx\n", "pipe", 5, b"haboob: capture: record 1: Connection\n", FIRST_LINE),
     ("a tier too high", "pipe", SNAPSHOT + b"haboob-capture 2 0\ntier 0 4\n", "pipe", 5, b"haboob: capture: record 1: Tier\n", FIRST_LINE),
-    ("a tier behind a piece", "pipe", SNAPSHOT + HEADER.replace(b"capture 1", b"capture 2") + PIECE + b"tier 0 1\n", "pipe", 5, b"haboob: capture: record 2: Tier\n", ONE),
+    ("a tier after a piece", "pipe", SNAPSHOT + HEADER.replace(b"capture 1", b"capture 2") + PIECE + b"tier 0 1\n", "pipe", 5, b"haboob: capture: record 2: Tier\n", ONE),
     ("a tier in version 1", "pipe", SNAPSHOT + HEADER + b"tier 0 1\n", "pipe", 5, b"haboob: capture: record 1: Kind\n", FIRST_LINE),
     ("a piece of no bytes", "pipe", SNAPSHOT + HEADER + b"piece 0 0 0\n\n", "pipe", 5, b"haboob: capture: record 1: Length\n", FIRST_LINE),
     ("a directory as input", "directory", b"", "pipe", 6, b"haboob: read: snapshot\n", b""),
@@ -108,10 +108,10 @@ OPEN_REPORT = (
     + b"p50 201\np90 402\np99 402\ncontrols 0\nend\n"
 )
 
-FILES = {"snapshot": SNAPSHOT, "capture": CAPTURE, "settings": TIGHT, "empty": b"", "behind": SNAPSHOT + b"."}
+FILES = {"snapshot": SNAPSHOT, "capture": CAPTURE, "settings": TIGHT, "empty": b"", "longer": SNAPSHOT + b"."}
 GOOD = ["--snapshot", "snapshot", "--capture", "capture", "--replies", "replies"]
 
-# The words behind `replay`, in a folder with those files and a folder. Then the status, the line on standard error
+# The arguments after `replay`, in a folder with those files and a folder. Then the status, the line on standard error
 # (None: a longer text), the file of the replies (OLD: as it was) and the report.
 OLD = b"old replies\n"
 RUNS = [
@@ -139,7 +139,7 @@ RUNS = [
     ("replies into no folder", GOOD[:4] + ["--replies", "absent/replies"], 6, b"haboob: open: replies\n", OLD, b""),
     ("a folder as snapshot", ["--snapshot", "folder"] + GOOD[2:], 6, b"haboob: read: snapshot\n", OLD, b""),
     ("a folder as capture", GOOD[:2] + ["--capture", "folder"] + GOOD[4:], 6, b"haboob: read: capture\n", FIRST_LINE, b""),
-    ("a byte behind the snapshot", ["--snapshot", "behind"] + GOOD[2:], 4, b"haboob: snapshot: entry 2: Trailing\n", OLD, b""),
+    ("a byte after the snapshot", ["--snapshot", "longer"] + GOOD[2:], 4, b"haboob: snapshot: entry 2: Trailing\n", OLD, b""),
     ("an empty capture", GOOD[:2] + ["--capture", "empty"] + GOOD[4:], 5, b"haboob: capture: record 0: Cut\n", FIRST_LINE, b""),
     ("no replies before", GOOD[:4] + ["--replies", "new"], 0, b"", OLD, OPEN_REPORT),
     ("the capture as replies", GOOD[:4] + ["--replies", "capture"], 6, b"haboob: open: replies\n", OLD, b""),

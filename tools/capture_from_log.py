@@ -27,10 +27,10 @@ What a log can't tell, and what stands in its place:
                 has them, Referer, User-Agent, If-Modified-Since and If-None-Match. Without the last
                 two, no request is conditional.
   version       HTTP/2.0 and later are written as HTTP/1.1; an HTTP/1.0 request gets
-                Connection: keep-alive, since others come behind it under its number
+                Connection: keep-alive, since others follow under its number
   bodies        none: a POST comes without its body and without Content-Length
   connections   each request is one of its own, for --sample too. They get the numbers 0 to 65,535 in
-                turn; so in a long log several requests of one tier stand behind one another under
+                turn; so in a long log several requests of one tier follow one another under
                 one number, as over a connection that is kept alive.
   time          logs hold the second at which a request was answered (nginx) or came (Apache): the
                 requests of a second are spread evenly over it, in the log's order; a line that is

@@ -95,7 +95,7 @@ class Stream:
         self.first = sequence % SEQUENCES  # of the byte at place 0
         self.middle = middle  # whether the connection's begin was not seen
         self.place = 0  # of the next byte in order
-        self.waiting = []  # a heap of places and bytes behind the next byte
+        self.waiting = []  # a heap of places and bytes after the next byte
         self.waiting_bytes = 0
         self.end = None  # the place of the FIN
         self.number = None  # in the capture, or LEFT_OUT; None before the first bytes

@@ -66,7 +66,7 @@ class MessageCounter:
 
 
 def body_length(block):
-    """The bytes of the body behind a head: 0 without one sound Content-Length line of at most 65,536 or so."""
+    """The bytes of the body after a head: 0 without one sound Content-Length line of at most 65,536 or so."""
     lengths = CONTENT_LENGTH.findall(block)
     digits = lengths[0].lstrip(b"0") if len(lengths) == 1 else b""
     return int(digits) if 0 < len(digits) <= BODY_DIGITS else 0

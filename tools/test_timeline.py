@@ -14,7 +14,7 @@ sys.path.insert(0, os.path.dirname(os.path.abspath(__file__)))
 import timeline
 
 HEADING = "number,connection,tick,tier,status,decision,service,credit,rate,start,finish,waited,method,target\n"
-# Second 0: two admitted (response times 1,000 and 600,000), one turned away behind them, one that breaks a rule.
+# Second 0: two admitted (response times 1,000 and 600,000), one turned away after them, one that breaks a rule.
 # Second 1: nothing comes, and the server works until tick 1,100,000. Second 2: one of tier 1 is turned away while the
 # server is idle.
 TABLE = HEADING + (

@@ -59,7 +59,7 @@ def frame(data):
 
 
 def pcap(packets, order="<", ticks_in_second=10**6, link=1):
-    """A pcap of packets, each with its tick behind START; an IP packet is framed for link 1, raw for link 101."""
+    """A pcap of packets, each with its tick after START; an IP packet is framed for link 1, raw for link 101."""
     magic = 0xA1B2C3D4 if ticks_in_second == 10**6 else 0xA1B23C4D
     parts = [struct.pack(order + "IHHiIII", magic, 2, 4, 0, 0, 65535, link)]
     for tick, data in packets:
@@ -644,7 +644,7 @@ class Limits(unittest.TestCase):
         writer.piece(0, writer.connect(1), b"x")
         self.assertEqual((self.written(writer), writer.left_out.total()), ([], 2))
 
-    def test_nothing_comes_behind_what_is_left_out(self):
+    def test_nothing_comes_after_what_is_left_out(self):
         writer = capture_writer.CaptureWriter(self.file, START)
         writer.connect()
         writer.size = 2**30 - 32 - 20

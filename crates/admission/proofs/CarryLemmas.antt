@@ -7,7 +7,7 @@ use Rattle.token_bucket.specs.Accrual.{accrual}
 use Rattle.token_bucket.proofs.AccrualLemmas.{accrual-split}
 use Rattle.admission.specs.declared.control.Decision.TheVariants.{Admitted, Rejected}
 use Rattle.admission.specs.Rules.{Rules, rules_of}
-use Rattle.admission.specs.Requests.{Offer, Decided, Served, of_tier, is_admitted, served, last_finish, finish_behind}
+use Rattle.admission.specs.Requests.{Offer, Decided, Served, of_tier, is_admitted, served, last_finish, finish_after}
 use Rattle.admission.specs.Controls.{control_at, rate_at}
 use Rattle.admission.specs.Decisions.{least_balance, credit, decide, decided_next, decided_from, decided}
 use Rattle.admission.specs.Fits.{tick_from, AllCovered}
@@ -41,16 +41,16 @@ abbrev Runs : List Served → Type 0
 Runs requests = RunsTo 0 requests (last_finish (map (λ (r : Served). r.offer) requests))
 
 runs_next : (past : List Decided) (offer : Offer) (b : Bool) → Runs (served past)
-    → Runs (served (past ++ Chosen offer (finish_behind (served past) offer) b ∷ []))
+    → Runs (served (past ++ Chosen offer (finish_after (served past) offer) b ∷ []))
 runs_next past offer true runs =
-    let finish : ℕ = finish_behind (served past) offer in
+    let finish : ℕ = finish_after (served past) offer in
     let request : Served = record { offer = offer; finish = finish } in
     let last : last_finish (map (λ (r : Served). r.offer) (served past ++ request ∷ [])) ≡ finish =
     ap last_finish (map-append (λ (r : Served). r.offer) (served past) (request ∷ [])) in
     rw (served_admitted past offer finish, last)
     (runs-push 0 (last_finish (map (λ (r : Served). r.offer) (served past))) (served past) request runs
     (last_finish-push (map (λ (r : Served). r.offer) (served past)) offer))
-runs_next past offer false runs = rw (served_rejected past offer (finish_behind (served past) offer)) runs
+runs_next past offer false runs = rw (served_rejected past offer (finish_after (served past) offer)) runs
 
 runs_from : (policies : List Rules) (past : List Decided) (offers : List Offer) → Runs (served past)
     → Runs (served (decided_from policies past offers))
@@ -74,7 +74,7 @@ rate_chosen rules past offer finish u true some before =
 rate_chosen rules past offer finish u false some before = rw (served_rejected past offer finish) refl
 
 finish_later : (requests : List Served) (offer : Offer) (u : ℕ) → 1 ≤ offer.service → u ≤ offer.tick
-    → u < finish_behind requests offer
+    → u < finish_after requests offer
 finish_later requests offer u longer before =
     omega (arith, last_finish-push (map (λ (r : Served). r.offer) requests) offer)
 
@@ -94,7 +94,7 @@ chooses policies past offer = nat_le TOKEN (credit (rules_of policies offer.tier
 rate_own : (rules : Rules) (policies : List Rules) (past own : List Decided) (offer : Offer) (u : ℕ) → 0 < rules.every → 1 ≤ offer.service
     → u ≤ offer.tick → rate_at rules (served (own ++ decided_next policies past offer ∷ [])) u ≡ rate_at rules (served own) u
 rate_own rules policies past own offer u some longer before =
-    rate_chosen rules own offer (finish_behind (served past) offer) u (chooses policies past offer) some
+    rate_chosen rules own offer (finish_after (served past) offer) u (chooses policies past offer) some
     (finish_later (served past) offer u longer before)
 
 rate_next : (rules : Rules) (policies : List Rules) (past : List Decided) (offer : Offer) (tier u : ℕ) → 0 < rules.every → 1 ≤ offer.service
@@ -147,7 +147,7 @@ covered_own policies past offer some longer covered =
     let own : List Decided = of_tier offer.tier past in
     covered-push (rate_at rules (served own)) (rate_at rules (served (own ++ decided_next policies past offer ∷ []))) (rules.depth * TOKEN) offer.tick own
     (decided_next policies past offer) covered refl (λ u below. sym (rate_own rules policies past own offer u some longer (omega arith)))
-    (enough (credit rules own offer.tick) (finish_behind (served past) offer))
+    (enough (credit rules own offer.tick) (finish_after (served past) offer))
 
 covered_next : (policies : List Rules) (past : List Decided) (offer : Offer) (tier : ℕ) → 0 < (rules_of policies tier).every → 1 ≤ offer.service
     → Covers (rules_of policies tier) offer.tick (of_tier tier past)
@@ -225,5 +225,5 @@ credit_from_credit policies xs offer tick range offered later =
     (covered-later (rate_at rules (served own)) (rules.depth * TOKEN) (tick_from 0 xs) offer.tick own covered parts.1))
 
 pub accrual_splits_at_control : AccrualSplitsAtControl
-accrual_splits_at_control rules requests k s t before behind =
-    accrual-split (rate_at rules requests) s (control_at rules requests k).instant t before behind
+accrual_splits_at_control rules requests k s t before following =
+    accrual-split (rate_at rules requests) s (control_at rules requests k).instant t before following

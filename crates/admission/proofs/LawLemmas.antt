@@ -8,7 +8,7 @@ use Rattle.token_bucket.specs.Limits.{TOKEN}
 use Rattle.token_bucket.specs.Accrual.{accrual}
 use Rattle.admission.specs.declared.control.Decision.TheVariants.{Admitted, Rejected}
 use Rattle.admission.specs.Rules.{Rules, rules_of, IsInRange}
-use Rattle.admission.specs.Requests.{Offer, Decided, Served, of_tier, served, samples, finish_behind}
+use Rattle.admission.specs.Requests.{Offer, Decided, Served, of_tier, served, samples, finish_after}
 use Rattle.admission.specs.Controls.{smoothed_at, adjusted, rate_after, rate_at}
 use Rattle.admission.specs.Decisions.{least_balance, credit, decided_next, decided_from, decided}
 use Rattle.admission.specs.Laws.{DecisionsBegin, FinishRuns, OtherTiersLeave, RateBefore, RatesWithin, RejectedLeavesAll, and_rejected}
@@ -100,10 +100,10 @@ rejected_leaves_all policies past rejected offer tier tick = (
   served_rejected past rejected,
   served_of-rejected tier past rejected,
   credit_of-rejected (rules_of policies tier) tier past rejected tick,
-  ap (λ n. if nat_le TOKEN n then (Admitted (finish_behind (served (and_rejected past rejected)) offer)) else Rejected)
+  ap (λ n. if nat_le TOKEN n then (Admitted (finish_after (served (and_rejected past rejected)) offer)) else Rejected)
       (credit_of-rejected (rules_of policies offer.tier) offer.tier past rejected offer.tick)
       ∙ ap (λ (rs : List Served). if nat_le TOKEN (credit (rules_of policies offer.tier) (of_tier offer.tier past) offer.tick)
-      then (Admitted (finish_behind rs offer)) else Rejected) (served_rejected past rejected),
+      then (Admitted (finish_after rs offer)) else Rejected) (served_rejected past rejected),
 )
 
 -- ---- rates

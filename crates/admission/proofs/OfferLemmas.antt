@@ -189,7 +189,7 @@ pub tier_admitted : (t : TierStanding) (b next : bucket.Standing) (reached : ℕ
     → TierFits past free t → Stands t.rules past b reached → b.tick ≡ offer.tick → 0 < t.rules.every → offer.tick < finish → free < finish
     → FitsCalls calls b → FitsCalls (and_then calls (TryTake true)) next → TOKEN ≤ b.credit
     → TierFits (past ++ record { offer = offer; decision = Admitted finish } ∷ []) finish (when_admitted t next reached finish (finish - offer.tick))
-tier_admitted t b next reached calls past free offer finish fits stands at some later behind before now enough =
+tier_admitted t b next reached calls past free offer finish fits stands at some later following before now enough =
     let next_is : next ≡ after b (TryTake true) = standing_runs calls b next (TryTake true) before (omega arith) enough now in
     let request : Served = record { offer = offer; finish = finish } in
     let more : served (past ++ record { offer = offer; decision = Admitted finish } ∷ []) ≡ served past ++ request ∷ [] =
@@ -206,7 +206,7 @@ tier_admitted t b next reached calls past free offer finish fits stands at some 
           (let one = rejected_push past (record { offer = offer; decision = Admitted finish }) in let own = fits.rejected in omega (arith, one, own));
       admitted = rw more (ap (λ n. n + 1) fits.admitted ∙ sym (length-append (served past) (request ∷ [])));
       rising = rw (more, finishes-push (served past) request)
-          (rising-push 0 free finish (finishes (served past)) fits.rising behind);
+          (rising-push 0 free finish (finishes (served past)) fits.rising following);
       window = rw (more, samples-push (served past) request) window;
       controls =
           ap (λ (controls : List Control). with_due t.rules controls (with_sample t.window (finish - offer.tick)).samples (t.admitted + 1) finish) fits.controls

@@ -121,7 +121,7 @@ above-lo lo hi k [] rising within = absurd (omega arith)
 above-lo lo hi zero (x ∷ xs) rising within = rising.0
 above-lo lo hi (suc k) (x ∷ xs) rising within = omega (arith, rising.0, above-lo x hi k xs rising.1 (omega arith))
 
--- before a finish, at most those in front of it are done
+-- before a finish, at most those before it are done
 pub upto-before : (lo hi u k : ℕ) (xs : List ℕ) → IsRising lo hi xs → k < length xs → u < slice_index xs k
     → count_by (λ y. nat_le y u) xs ≤ k
 unfolding IsRising

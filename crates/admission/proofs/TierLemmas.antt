@@ -11,7 +11,7 @@ use Rattle.admission.specs.declared.control.Decision.{Decision}
 use Rattle.admission.specs.declared.control.Outlook.{Outlook}
 use Rattle.admission.specs.declared.control.Decision.TheVariants.{Admitted, Rejected}
 use Rattle.admission.specs.Rules.{Rules, no_rules, rules_of}
-use Rattle.admission.specs.Requests.{Offer, Decided, Served, of_tier, served, last_finish, finish_behind}
+use Rattle.admission.specs.Requests.{Offer, Decided, Served, of_tier, served, last_finish, finish_after}
 use Rattle.admission.specs.Controls.{controls_until}
 use Rattle.admission.specs.Decisions.{credit, decide, decided_from, decided, outlook}
 use Rattle.admission.specs.Standing.{TierStanding, Standing, policies_of, IsShare, IsSound}
@@ -74,7 +74,7 @@ pub decide_is : (c : Standing) (offers : List Offer) (offer : Offer) (t : TierSt
     ≡ decide (policies_of c) (decided (policies_of c) offers) offer
 decide_is c offers offer t fits at =
     let past : List Decided = decided (policies_of c) offers in
-    let finish : finish_behind (served past) offer ≡ max c.free offer.tick + offer.service =
+    let finish : finish_after (served past) offer ≡ max c.free offer.tick + offer.service =
     last_finish-push (map (λ (r : Served). r.offer) (served past)) offer
     ∙ ap (λ n. max n offer.tick + offer.service) (sym fits.free) in
     rw (rules_at c offer.tier t at, finish) refl

@@ -6,7 +6,7 @@ use Rattle.admission.specs.declared.control.Decision.{Decision}
 use Rattle.admission.specs.declared.control.Decision.TheVariants.{Admitted, Rejected}
 use Rattle.admission.specs.declared.control.Outlook.{Outlook}
 use Rattle.admission.specs.Rules.{Rules, rules_of}
-use Rattle.admission.specs.Requests.{Offer, Decided, served, of_tier, is_admitted, finish_behind, last_finish}
+use Rattle.admission.specs.Requests.{Offer, Decided, served, of_tier, is_admitted, finish_after, last_finish}
 use Rattle.admission.specs.Controls.{rate_at}
 
 -- a full bucket's units, with what accrues from the first of these requests up to `tick`, without the tokens that they
@@ -30,7 +30,7 @@ credit rules past tick = least_balance (rate_at rules (served past)) (rules.dept
 abbrev pub decide : List Rules → List Decided → Offer → Decision
 decide policies past offer =
     if nat_le TOKEN (credit (rules_of policies offer.tier) (of_tier offer.tier past) offer.tick)
-    then (Admitted (finish_behind (served past) offer)) else Rejected
+    then (Admitted (finish_after (served past) offer)) else Rejected
 
 abbrev pub decided_next : List Rules → List Decided → Offer → Decided
 decided_next policies past offer = record { offer = offer; decision = decide policies past offer }

@@ -4,13 +4,13 @@ use Rattle.token_bucket.specs.Limits.{TOKEN}
 use Rattle.admission.specs.declared.control.Decision.{Decision}
 use Rattle.admission.specs.declared.control.Decision.TheVariants.{Admitted, Rejected}
 use Rattle.admission.specs.Rules.{Rules, rules_of}
-use Rattle.admission.specs.Requests.{Offer, Decided, served, of_tier, finish_behind}
+use Rattle.admission.specs.Requests.{Offer, Decided, served, of_tier, finish_after}
 use Rattle.admission.specs.Decisions.{credit, decided}
 
 -- a request is admitted exactly where its credit holds a token
 abbrev pub decide_alone : Rules → List Decided → Offer → Decision
 decide_alone rules past offer =
-    if nat_le TOKEN (credit rules past offer.tick) then (Admitted (finish_behind (served past) offer)) else Rejected
+    if nat_le TOKEN (credit rules past offer.tick) then (Admitted (finish_after (served past) offer)) else Rejected
 
 abbrev pub decided_alone_next : Rules → List Decided → Offer → Decided
 decided_alone_next rules past offer = record { offer = offer; decision = decide_alone rules past offer }

@@ -48,8 +48,8 @@ last_finish [] = 0
 last_finish (offer ∷ offers) = max (offer.tick + sum_by (λ o. o.service) (offer ∷ offers)) (last_finish offers)
 
 -- the offered request's finish, where it is served after these
-abbrev pub finish_behind : List Served → Offer → ℕ
-finish_behind requests offer = last_finish (map (λ r. r.offer) requests ++ offer ∷ [])
+abbrev pub finish_after : List Served → Offer → ℕ
+finish_after requests offer = last_finish (map (λ r. r.offer) requests ++ offer ∷ [])
 
 abbrev pub finishes : List Served → List ℕ
 finishes requests = map (λ r. r.finish) requests

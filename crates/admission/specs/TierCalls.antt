@@ -30,7 +30,7 @@ abbrev pub StaysBeside : TierStanding → ℕ → ℕ → Decision → TierStand
 StaysBeside t free tick decision next =
     (offers : ℕ) → IsShare offers free tick t → IsShare (offers + 1) (free_after free decision) tick next
 
--- the bucket of the tier at a later tick, where it has taken on so many controls
+-- the bucket of the tier at a later tick, where it has taken on n controls
 abbrev pub Passes : TierStanding → bucket.Standing → ℕ → Type 0
 Passes t b reached = (past : List Decided) (free : ℕ) → TierFits past free t → BucketFits t.rules past b reached
 

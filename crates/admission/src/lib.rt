@@ -1,7 +1,7 @@
 //! Adaptive admission control on virtual time.
 //!
 //! One virtual server takes the admitted requests of four tiers one after another. Each tier has a
-//! policy and a token bucket of its own. At every so many of its admitted requests a control compares
+//! policy and a token bucket of its own. At every n of its admitted requests a control compares
 //! the smoothed 90th percentile of their response times with a target, and raises the rate of its
 //! bucket by addition or lowers it by division. A request is admitted where the bucket of its tier has
 //! a token when it is offered. All times are ticks of one microsecond.

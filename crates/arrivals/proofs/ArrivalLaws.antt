@@ -77,9 +77,9 @@ follows : (all : List Record) (n : ℕ) (x : Arrival) (xs : List Arrival) → St
 follows all n x xs h = λ k d lt. (h.with (suc k) d (omega (arith, lt)), h.order 0 (suc k) d (omega arith) (omega (arith, lt)))
 
 -- where a connection's first message in a list is this arrival's, the arrival is after the list's first
-first_behind : (all : List Record) (n : ℕ) (x y : Arrival) (xs : List Arrival) (ms : List Message) → Stand all n (x ∷ xs) → ArrivesWith all y
+first_after : (all : List Record) (n : ℕ) (x y : Arrival) (xs : List Arrival) (ms : List Message) → Stand all n (x ∷ xs) → ArrivesWith all y
     → messages_of y.origin.conn xs ≡ y.message ∷ ms → Precedes x y
-first_behind all n x y xs ms h with_y e =
+first_after all n x y xs ms h with_y e =
     let a = first_of (λ a. ArrivesWith all a × Precedes x a) y.origin.conn xs y.message ms (follows all n x xs h) e in
     subst (Precedes x) (same_arrival all a.0 y a.1.0 with_y a.2 a.3) a.1.1
 
@@ -101,7 +101,7 @@ comes_again all n x y xs ns rest h with_y early late e = go (messages_of y.origi
         let same : m.end ≡ y.message.end = ap (λ x. x.end) (head_same m y.message rest ns e) in
         let end = early_end all n y with_y early in
         absurd (omega (arith, late, same, end))
-    go (m ∷ ms) rest f late e = first_behind all n x y xs ms h with_y (f ∙ ap (λ x. x ∷ ms) (head_same m y.message (ms ++ rest) ns e))
+    go (m ∷ ms) rest f late e = first_after all n x y xs ms h with_y (f ∙ ap (λ x. x ∷ ms) (head_same m y.message (ms ++ rest) ns e))
 
 -- both lists begin with the same arrival
 same_first : (all : List Record) (n k : ℕ) (x y : Arrival) (xs ys : List Arrival) → Stand all n (x ∷ xs) → Stand all k (y ∷ ys) → Goes all n (x ∷ xs) (y ∷ ys) → x ≡ y
@@ -118,7 +118,7 @@ same_first all n k x y xs ys g h goes =
       | inr other ↦
           (let own = goes x.origin.conn in
           let its = goes y.origin.conn in
-          let after : Precedes y x = first_behind all k y x ys (messages_of x.origin.conn xs ++ own.0) h with_x
+          let after : Precedes y x = first_after all k y x ys (messages_of x.origin.conn xs ++ own.0) h with_x
           (sym (other_first x.origin.conn y ys (λ e. other.1 (sym e))) ∙ own.1 ∙ ap (λ ms. ms ++ own.0) (own_first x.origin.conn x xs refl)) in
           let first : x.place < n = g.before 0 x (omega arith) in
           let le = precedes_by y x after in
@@ -185,7 +185,7 @@ stays records more a h =
       bytes = h.bytes;
       piece = get_first records more a.place (Piece a.origin.tick a.origin.conn h.bytes) h.piece;
       tier = rw front h.tier;
-      behind = rw front h.behind;
+      after = rw front h.after;
       within = rw front h.within;
     }
 

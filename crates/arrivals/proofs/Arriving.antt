@@ -90,20 +90,20 @@ arrived_stays records r a h =
       bytes = h.bytes;
       piece = get_front records (r ∷ []) a.place (Piece a.origin.tick a.origin.conn h.bytes) h.piece;
       tier = rw front h.tier;
-      behind = rw front h.behind;
+      after = rw front h.after;
       within = rw front h.within;
     }
 
 arrives_now : (records : List Record) (tier tick conn : ℕ) (bytes : List ℕ) (m : Message) → tier ≡ tier_of conn records → length (text_of conn records) < m.end
     → m.end ≤ length (text_of conn records) + length bytes
     → ArrivesWith (records ++ Piece tick conn bytes ∷ []) (record { origin = from_piece tier tick conn; place = length records; message = m })
-arrives_now records tier tick conn bytes m own behind within =
+arrives_now records tier tick conn bytes m own following within =
     let front : take (length records) (records ++ Piece tick conn bytes ∷ []) ≡ records = take-append_seam records (Piece tick conn bytes ∷ []) in
     record {
       bytes = bytes;
       piece = get_seam records (Piece tick conn bytes);
       tier = rw front own;
-      behind = rw front behind;
+      after = rw front following;
       within = rw front within;
     }
 

@@ -34,7 +34,7 @@ pub record ArrivesWith (records : List Record) (a : Arrival) : Type 0 where
   pub bytes : List ℕ
   pub piece : slice_get records a.place ≡ Some (Piece a.origin.tick a.origin.conn bytes)
   pub tier : a.origin.tier ≡ tier_of a.origin.conn (take a.place records)
-  pub behind : length (text_of a.origin.conn (take a.place records)) < a.message.end
+  pub after : length (text_of a.origin.conn (take a.place records)) < a.message.end
   pub within : a.message.end ≤ length (text_of a.origin.conn (take a.place records)) + length bytes
 
 -- the first arrives before the second: with an earlier record, or earlier in the same

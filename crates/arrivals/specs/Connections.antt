@@ -17,7 +17,7 @@ HasRead Silent text ms = (text ≡ []) × (ms ≡ [])
 HasRead (Open cutter) text ms = Fits text ms cutter
 HasRead Closed text ms = (more : List ℕ) → MessagesOf (text ++ more) ms
 
--- the connection may read so many bytes more
+-- the connection may read n bytes more
 abbrev pub HasRoom : Connection → ℕ → Type 0
 HasRoom Silent n = n ≤ longest_text
 HasRoom (Open cutter) n = cutter.read + n ≤ longest_text

@@ -74,7 +74,7 @@ fn take_record(
     }
 }
 
-/// Reads the next batch: so many pieces, with the other records between them, or fewer where their bytes are enough, or
+/// Reads the next batch: n pieces, with the other records between them, or fewer where their bytes are enough, or
 /// those before the end of the capture or its fault.
 pub fn read_batch<'a, R: Read>(
     alloc: Global,

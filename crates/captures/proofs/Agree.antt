@@ -10,7 +10,7 @@ use Rattle.paths.specs.Texts.{Ahead}
 use Rattle.paths.proofs.Inverse.{ok_is}
 use Rattle.captures.specs.Captures.{Past, feed, first_line, record_text, text_before_stop, longest_text, latest_start, is_end_of, is_use_of, connection_of, LetsFollow, tick_of, ticks_of, IsRecord, IsCapture, IsCaptureText, past_of, Follows}
 use Rattle.captures.specs.declared.version.Version.{Version}
-use Rattle.captures.specs.CaptureFaults.{header_at, record_at, FaultsBehind, IsHeaderFault, IsFirstFault}
+use Rattle.captures.specs.CaptureFaults.{header_at, record_at, FaultsAfter, IsHeaderFault, IsFirstFault}
 use Rattle.captures.specs.declared.record.Record.{Record}
 use Rattle.captures.specs.declared.record.Record.TheVariants.{Piece, End, Tier}
 use Rattle.captures.specs.declared.capture_fault.CaptureFault.{CaptureFault}
@@ -126,14 +126,14 @@ same_start v w s t x y hs ht h =
     (ap (λ (p : (Version × ℕ) × Ahead). p.0.0) e, ap (λ (p : (Version × ℕ) × Ahead). p.0.1) e, ap (λ (p : (Version × ℕ) × Ahead). p.1.bytes) e)
 
 -- a text up to the last line, and what is after it
-behind : (v : Version) (start : ℕ) (rs : List Record) (rest bytes : List ℕ) → bytes ≡ text_before_stop v start rs ++ rest → bytes ≡ header_text v start ++ (flat_map record_text rs ++ rest)
-behind v start rs rest bytes h = h ∙ append_assoc (header_text v start) (flat_map record_text rs) rest
+following : (v : Version) (start : ℕ) (rs : List Record) (rest bytes : List ℕ) → bytes ≡ text_before_stop v start rs ++ rest → bytes ≡ header_text v start ++ (flat_map record_text rs ++ rest)
+following v start rs rest bytes h = h ∙ append_assoc (header_text v start) (flat_map record_text rs) rest
 
 -- the two versions and the two starts are one, and what is after them too
 starts_agree : (v w : Version) (s t : ℕ) (rs ss : List Record) (x y bytes : List ℕ) → s ≤ latest_start → t ≤ latest_start
     → bytes ≡ text_before_stop v s rs ++ x → bytes ≡ text_before_stop w t ss ++ y → (v ≡ w) × (s ≡ t) × (flat_map record_text rs ++ x ≡ flat_map record_text ss ++ y)
 starts_agree v w s t rs ss x y bytes hs ht a b =
-    same_start v w s t (flat_map record_text rs ++ x) (flat_map record_text ss ++ y) hs ht (sym (behind v s rs x bytes a) ∙ behind w t ss y bytes b)
+    same_start v w s t (flat_map record_text rs ++ x) (flat_map record_text ss ++ y) hs ht (sym (following v s rs x bytes a) ∙ following w t ss y bytes b)
 
 -- what begins with a record's text doesn't begin with a last line
 no_stop : (n : ℕ) (r : Record) (more : List Record) (y : List ℕ) → stop_text n ≡ flat_map record_text (r ∷ more) ++ y → ⊥
@@ -170,7 +170,7 @@ header_good v bytes s rest f in_time size is fault =
     not_both _ f.kind (header_at (record { bytes = header_text v s ++ rest; left = longest_text })) good (sym (ap (λ w. header_at (record { bytes = w; left = longest_text })) is) ∙ fault.1)
 
 -- nor after records where one more stands
-record_good : (v : Version) (bytes : List ℕ) (t : ℕ) (ss : List Record) (f : CaptureFault) (rest : List ℕ) (q : Record) (z : List ℕ) → FaultsBehind v bytes t ss f rest
+record_good : (v : Version) (bytes : List ℕ) (t : ℕ) (ss : List Record) (f : CaptureFault) (rest : List ℕ) (q : Record) (z : List ℕ) → FaultsAfter v bytes t ss f rest
     → rest ≡ record_text q ++ z → Follows v (past_of ss) q → length (text_before_stop v t ss) + length (record_text q) ≤ longest_text → ⊥
 record_good v bytes t ss f rest q z fault is follows size =
     let l = longest_text - length (text_before_stop v t ss) in
@@ -178,7 +178,7 @@ record_good v bytes t ss f rest q z fault is follows size =
     not_both _ f.kind (record_at v (past_of ss) (record { bytes = record_text q ++ z; left = l })) good (sym (ap (λ w. record_at v (past_of ss) (record { bytes = w; left = l })) is) ∙ fault.kind)
 
 -- nor where the last line stands
-stop_good : (v : Version) (bytes : List ℕ) (t : ℕ) (ss : List Record) (f : CaptureFault) (rest : List ℕ) → FaultsBehind v bytes t ss f rest
+stop_good : (v : Version) (bytes : List ℕ) (t : ℕ) (ss : List Record) (f : CaptureFault) (rest : List ℕ) → FaultsAfter v bytes t ss f rest
     → rest ≡ stop_text (length ss) → length ss < 2 ^ 64 - 1 → length (text_before_stop v t ss) + length (stop_text (length ss)) ≤ longest_text → ⊥
 stop_good v bytes t ss f rest fault is small size =
     let l = longest_text - length (text_before_stop v t ss) in
@@ -195,8 +195,8 @@ one_more_text v t ss more q =
 header_below : (v : Version) (t : ℕ) (ss : List Record) → length (header_text v t) ≤ length (text_before_stop v t ss)
 header_below v t ss = omega (arith, length-append (header_text v t) (flat_map record_text ss))
 
-behind_good : (v : Version) (bytes : List ℕ) (s t : ℕ) (rs ss : List Record) (f : CaptureFault) (rest : List ℕ) → length rs < 2 ^ 64 - 1 → IsCaptureText v bytes s rs → FaultsBehind v bytes t ss f rest → ⊥
-behind_good v bytes s t rs ss f rest small c fault =
+after_good : (v : Version) (bytes : List ℕ) (s t : ℕ) (rs ss : List Record) (f : CaptureFault) (rest : List ℕ) → length rs < 2 ^ 64 - 1 → IsCaptureText v bytes s rs → FaultsAfter v bytes t ss f rest → ⊥
+after_good v bytes s t rs ss f rest small c fault =
     let both = starts_agree v v s t rs ss (stop_text (length rs)) rest bytes c.rules.in_time fault.rules.in_time c.text fault.whole in
     let long = ap length c.text in
     let size = c.size in
@@ -207,7 +207,7 @@ behind_good v bytes s t rs ss f rest small c fault =
     ]
   where
     shorter : s ≡ t → length (text_before_stop v s rs) + length (stop_text (length rs)) ≤ longest_text → (more : List Record) → rs ≡ ss ++ more
-        → rest ≡ flat_map record_text more ++ stop_text (length rs) → FaultsBehind v bytes t ss f rest → ⊥
+        → rest ≡ flat_map record_text more ++ stop_text (length rs) → FaultsAfter v bytes t ss f rest → ⊥
     shorter same all [] e g fault =
         let is : rs ≡ ss = e ∙ append-nil ss in
         let size = subst (λ (p : ℕ × List Record). length (text_before_stop v p.0 p.1) + length (stop_text (length p.1)) ≤ longest_text) (λ i. (same i, is i)) all in
@@ -225,10 +225,10 @@ no_fault bytes v s rs f small c (inl first) =
     let long = ap length c.text in
     let size = c.size in
     header_good v bytes s (flat_map record_text rs ++ stop_text (length rs)) f c.rules.in_time (omega (arith, header_below v s rs, length-append (text_before_stop v s rs) (stop_text (length rs))))
-    (behind v s rs (stop_text (length rs)) bytes c.text) first
+    (following v s rs (stop_text (length rs)) bytes c.text) first
 no_fault bytes v s rs f small c (inr (w, t, ss, (rest, fault))) =
     let same = (starts_agree v w s t rs ss (stop_text (length rs)) rest bytes c.rules.in_time fault.rules.in_time c.text fault.whole).0 in
-    behind_good v bytes s t rs ss f rest small c (subst (λ (x : Version). FaultsBehind x bytes t ss f rest) (sym same) fault)
+    after_good v bytes s t rs ss f rest small c (subst (λ (x : Version). FaultsAfter x bytes t ss f rest) (sym same) fault)
 
 same_fault : (f g : CaptureFault) → f.at ≡ g.at → f.kind ≡ g.kind → f ≡ g
 same_fault f g a k = λ i. record { at = a i; kind = k i }
@@ -237,7 +237,7 @@ same_kind : {A : Type 0} (r : Result A CaptureFaultKind) (j k : CaptureFaultKind
 same_kind r j k a b = cc
 
 -- of two faults one stands after fewer records: then another record stands there
-fewer : (v : Version) (bytes : List ℕ) (t u : ℕ) (ss rs : List Record) (f g : CaptureFault) (x y : List ℕ) (more : List Record) → FaultsBehind v bytes t ss f x → FaultsBehind v bytes u rs g y
+fewer : (v : Version) (bytes : List ℕ) (t u : ℕ) (ss rs : List Record) (f g : CaptureFault) (x y : List ℕ) (more : List Record) → FaultsAfter v bytes t ss f x → FaultsAfter v bytes u rs g y
     → u ≡ t → rs ≡ ss ++ more → x ≡ flat_map record_text more ++ y → f ≡ g
 fewer v bytes t u ss rs f g x y [] a b same e h =
     let is : ss ≡ rs = sym (e ∙ append-nil ss) in
@@ -249,8 +249,8 @@ fewer v bytes t u ss rs f g x y (q ∷ more) a b same e h =
     absurd (record_good v bytes t ss f x q (flat_map record_text more ++ y) a (h ∙ append_assoc (record_text q) (flat_map record_text more) y)
     (follows_front v t ss more q rules) (omega (arith, one_more_text v t ss more q)))
 
-behind_same : (v : Version) (bytes : List ℕ) (s t : ℕ) (rs ss : List Record) (f g : CaptureFault) (x y : List ℕ) → FaultsBehind v bytes s rs f x → FaultsBehind v bytes t ss g y → f ≡ g
-behind_same v bytes s t rs ss f g x y a b =
+following_same : (v : Version) (bytes : List ℕ) (s t : ℕ) (rs ss : List Record) (f g : CaptureFault) (x y : List ℕ) → FaultsAfter v bytes s rs f x → FaultsAfter v bytes t ss g y → f ≡ g
+following_same v bytes s t rs ss f g x y a b =
     let both = starts_agree v v s t rs ss x y bytes a.rules.in_time b.rules.in_time a.whole b.whole in
     elim (agree v rs ss x y a.rules.each b.rules.each both.2) [
       | inl c ↦ fewer v bytes s t rs ss f g x y c.0 a b (sym both.1) c.1 c.2
@@ -262,13 +262,13 @@ pub one_fault : (bytes : List ℕ) (f g : CaptureFault) → IsFirstFault bytes f
 one_fault bytes f g (inl a) (inl b) = same_fault f g (a.0 ∙ sym b.0) (same_kind _ f.kind g.kind a.1 b.1)
 one_fault bytes f g (inl a) (inr (w, t, ss, (y, b))) =
     let size = b.size in
-    absurd (header_good w bytes t (flat_map record_text ss ++ y) f b.rules.in_time (omega (arith, header_below w t ss)) (behind w t ss y bytes b.whole) a)
+    absurd (header_good w bytes t (flat_map record_text ss ++ y) f b.rules.in_time (omega (arith, header_below w t ss)) (following w t ss y bytes b.whole) a)
 one_fault bytes f g (inr (v, s, rs, (x, a))) (inl b) =
     let size = a.size in
-    absurd (header_good v bytes s (flat_map record_text rs ++ x) g a.rules.in_time (omega (arith, header_below v s rs)) (behind v s rs x bytes a.whole) b)
+    absurd (header_good v bytes s (flat_map record_text rs ++ x) g a.rules.in_time (omega (arith, header_below v s rs)) (following v s rs x bytes a.whole) b)
 one_fault bytes f g (inr (v, s, rs, (x, a))) (inr (w, t, ss, (y, b))) =
     let same = (starts_agree v w s t rs ss x y bytes a.rules.in_time b.rules.in_time a.whole b.whole).0 in
-    behind_same v bytes s t rs ss f g x y a (subst (λ (u : Version). FaultsBehind u bytes t ss g y) (sym same) b)
+    following_same v bytes s t rs ss f g x y a (subst (λ (u : Version). FaultsAfter u bytes t ss g y) (sym same) b)
 
 -- there are fewer records than bytes
 pub few_records : (v : Version) (bytes : List ℕ) (s : ℕ) (rs : List Record) → IsCaptureText v bytes s rs → length rs < 2 ^ 64 - 1
@@ -294,10 +294,10 @@ no_last_line n r y h = stop_apart n r [] y (append-nil (stop_text n) ∙ h)
 pub no_header_fault : (v : Version) (bytes : List ℕ) (s : ℕ) (rs : List Record) (rest : List ℕ) (f : CaptureFault) → IsCapture v s rs
     → bytes ≡ text_before_stop v s rs ++ rest → length (text_before_stop v s rs) ≤ longest_text → IsHeaderFault bytes f → ⊥
 no_header_fault v bytes s rs rest f rules is size fault =
-    header_good v bytes s (flat_map record_text rs ++ rest) f rules.in_time (omega (arith, size, header_below v s rs)) (behind v s rs rest bytes is) fault
+    header_good v bytes s (flat_map record_text rs ++ rest) f rules.in_time (omega (arith, size, header_below v s rs)) (following v s rs rest bytes is) fault
 
 -- nor any after the first of records that stand whole, within the limit
-pub no_fault_among : (v w : Version) (bytes : List ℕ) (s t : ℕ) (rs ss : List Record) (f : CaptureFault) (x y : List ℕ) (q : Record) (more : List Record) → FaultsBehind v bytes s rs f x
+pub no_fault_among : (v w : Version) (bytes : List ℕ) (s t : ℕ) (rs ss : List Record) (f : CaptureFault) (x y : List ℕ) (q : Record) (more : List Record) → FaultsAfter v bytes s rs f x
     → IsCapture w t ss → length (text_before_stop w t ss) ≤ longest_text → v ≡ w → s ≡ t → ss ≡ rs ++ q ∷ more → x ≡ flat_map record_text (q ∷ more) ++ y → ⊥
 no_fault_among v w bytes s t rs ss f x y q more fault rules size same start is rest =
     let whole : IsCapture v s (rs ++ q ∷ more) = subst (λ (p : Version × (ℕ × List Record)). IsCapture p.0 p.1.0 p.1.1) (λ i. (sym same i, (sym start i, is i))) rules in

@@ -2,7 +2,7 @@
 use Rattle.std.proofs.Common.{◌≡◌, ℕ, true, List, [], ◌∷◌, ◌++◌, Option, Some, None, Ok, is_some, unwrap_or, inl, inr, subst, sym}
 use Rattle.captures.specs.Captures.{IsCaptureText}
 use Rattle.captures.specs.declared.version.Version.{Version}
-use Rattle.captures.specs.CaptureFaults.{IsForeseen, IsHeaderFault, IsFaultBehind, IsFirstFault}
+use Rattle.captures.specs.CaptureFaults.{IsForeseen, IsHeaderFault, IsFaultAfter, IsFirstFault}
 use Rattle.captures.specs.Readers.{Fits, Gave}
 use Rattle.captures.specs.declared.record.Record.{Record}
 use Rattle.captures.specs.declared.progress.Progress.{Progress}
@@ -21,9 +21,9 @@ pub gave_all : (v : Version) (text now : Option (List ℕ)) (start : ℕ) (recor
 gave_all v text now start records p x is h = subst (λ (o : Option Record). Gave v text start records (Ok o) p now) is h
 
 -- a fault
-pub first_behind : (v : Version) (text : Option (List ℕ)) (start : ℕ) (records : List Record) (f : CaptureFault)
-    → IsForeseen (λ bytes. IsFaultBehind v bytes start records) text f → IsForeseen IsFirstFault text f
-first_behind v text start records f h = λ known foreseen. inr (v, start, records, h known foreseen)
+pub first_after : (v : Version) (text : Option (List ℕ)) (start : ℕ) (records : List Record) (f : CaptureFault)
+    → IsForeseen (λ bytes. IsFaultAfter v bytes start records) text f → IsForeseen IsFirstFault text f
+first_after v text start records f h = λ known foreseen. inr (v, start, records, h known foreseen)
 
 pub first_of_all : (text : Option (List ℕ)) (f : CaptureFault) → IsForeseen IsHeaderFault text f → IsForeseen IsFirstFault text f
 first_of_all text f h = λ known foreseen. inl (h known foreseen)

@@ -15,7 +15,7 @@ use Rattle.captures.proofs.Fitting.{rules_more, rules_none, sizes_below}
 abbrev pub Read : List ℕ → Type 0
 Read bytes = ((v : Version) × (start : ℕ) × (records : List Record) × IsCaptureText v bytes start records) ⊎ ((f : CaptureFault) × IsFirstFault bytes f)
 
--- from so many records on, with what is left of the text
+-- from n records on, with what is left of the text
 reads_on : (v : Version) (bytes : List ℕ) (fuel start : ℕ) (rs : List Record) (rest : List ℕ) (l : ℕ) → IsCapture v start rs
     → bytes ≡ text_before_stop v start rs ++ rest → longest_text ≡ length (text_before_stop v start rs) + l → l < fuel → Read bytes
 reads_on v bytes zero start rs rest l rules whole left more = absurd (omega arith)

@@ -12,7 +12,7 @@ use Rattle.paths.specs.Texts.{ahead_of}
 use Rattle.paths.proofs.Inverse.{TakesAhead}
 use Rattle.captures.specs.Captures.{Past, feed, first_line, record_text, text_before_stop, longest_text, latest_start, is_end_of, is_use_of, connection_of, LetsFollow, tick_of, ticks_of, IsRecord, IsCapture, IsCaptureText, past_of, Follows, size_of, sizes_of}
 use Rattle.captures.specs.declared.version.Version.{Version}
-use Rattle.captures.specs.CaptureFaults.{header_at, record_at, is_unforeseen_kind, IsForeseen, IsFaultBehind}
+use Rattle.captures.specs.CaptureFaults.{header_at, record_at, is_unforeseen_kind, IsForeseen, IsFaultAfter}
 use Rattle.captures.specs.Readers.{seen, after, Fits}
 use Rattle.captures.specs.declared.record.Record.{Record}
 use Rattle.captures.specs.declared.record.Record.TheVariants.{Piece, End, Tier}
@@ -164,7 +164,7 @@ fits_ends v text now new start new_left records p x none f h k =
 
 pub fits_faults : (v : Version) (text now : Option (List ℕ)) (start at : ℕ) (records : List Record) (p : Progress) (kind : CaptureFaultKind) → at ≡ length records + 1 → Fits v text start records p now
     → (is_some now ≡ true → is_unforeseen_kind kind ≡ false → record_at p.version (seen p.so_far) (ahead_of now p.left) ≡ Err kind)
-    → IsForeseen (λ bytes. IsFaultBehind v bytes start records) text (record { at = at; kind = kind })
+    → IsForeseen (λ bytes. IsFaultAfter v bytes start records) text (record { at = at; kind = kind })
 fits_faults v text now start at records p kind is f h = λ k foreseen.
     let left : p.left ≡ longest_text - length (text_before_stop v start records) = let all = f.left k in omega arith in (
       unwrap_or now [],

@@ -9,7 +9,7 @@ use Rattle.paths.specs.declared.stop.Stop.{Stop}
 use Rattle.paths.specs.declared.stop.Stop.TheVariants as stops
 use Rattle.paths.proofs.Taking.{Takes}
 use Rattle.paths.proofs.Inverse.{line_inverse}
-use Rattle.paths.proofs.PartLemmas.{none_behind, part_behind, no_byte, run_alone, run_takes, line_alone}
+use Rattle.paths.proofs.PartLemmas.{none_after, part_after, no_byte, run_alone, run_takes, line_alone}
 use Rattle.captures.specs.Captures.{last_connection, has_tiers, Past, feed, longest_text, latest_tick, last_tier, text_before_stop, past_of}
 use Rattle.captures.specs.declared.version.Version.{Version}
 use Rattle.captures.specs.CaptureFaults.{kind_of, named, ◌>>=◌, two_numbers, piece_heading, end_heading, tier_heading, stop_heading, heading_of, open_connection, allowed, tier_record, body_at, announced, record_at, IsUnfinished, failures_of}
@@ -54,7 +54,7 @@ pub body_fails : (n : ℕ) (o m p : Option (List ℕ)) (l ml pl : ℕ) (bytes : 
     → TookPart (λ part. body_at n (record { bytes = part; left = l }) ≡ Err Cut) o l p pl
 body_fails n o m p l ml pl bytes is run h k =
     let t = run_takes n o m l ml bytes run in
-    none_behind (λ part. body_at n (record { bytes = part; left = l }) ≡ Err Cut) o m p l ml pl bytes t
+    none_after (λ part. body_at n (record { bytes = part; left = l }) ≡ Err Cut) o m p l ml pl bytes t
     (λ known. body_cut n l ml bytes is (let e = t.count known in omega (arith, e, is))) h k
 
 open_kinds : (v : Version) (past : Past) (conn : ℕ) (kind : CaptureFaultKind) → open_connection v past conn ≡ Err kind → (kind ≡ Connection) ⊎ (kind ≡ Ended)
@@ -120,7 +120,7 @@ heading_counts v line kind h = elim (heading_kinds v line kind h) [ inl number �
 
 -- a read failed in what a line announced
 pub record_fails : (v : Version) (past : Past) (o m p : Option (List ℕ)) (l ml pl : ℕ) (line : List ℕ) (heading : Heading) → heading_of v line ≡ Ok heading
-    → (is_some o ≡ true → (behind : Ahead) × (line_at (ahead_of o l) ≡ Ok (line, behind)) × (is_some m ≡ true) × ((h : Heading) → heading_of v line ≡ Ok h → behind ≡ ahead_of m ml))
+    → (is_some o ≡ true → (following : Ahead) × (line_at (ahead_of o l) ≡ Ok (line, following)) × (is_some m ≡ true) × ((h : Heading) → heading_of v line ≡ Ok h → following ≡ ahead_of m ml))
     → (is_some m ≡ true → TookPart (λ part. IsUnfinished (announced v past heading (record { bytes = part; left = ml }))) m ml p pl) → is_some o ≡ true
     → TookPart (λ part. IsUnfinished (record_at v past (record { bytes = part; left = l }))) o l p pl
 record_fails v past o m p l ml pl line heading is read h k =
@@ -130,7 +130,7 @@ record_fails v past o m p l ml pl line heading is read h k =
       count = λ known. (line_inverse (ahead_of o l) (ahead_of m ml) line (got known)).left;
       known = λ known. (read known).2;
     } in
-    part_behind (λ part. IsUnfinished (announced v past heading (record { bytes = part; left = ml }))) (λ part. IsUnfinished (record_at v past (record { bytes = part; left = l }))) o m p l ml pl (line ++ feed ∷ []) t
+    part_after (λ part. IsUnfinished (announced v past heading (record { bytes = part; left = ml }))) (λ part. IsUnfinished (record_at v past (record { bytes = part; left = l }))) o m p l ml pl (line ++ feed ∷ []) t
     (λ part left unfinished.
     let all : Ahead = record { bytes = (line ++ feed ∷ []) ++ part; left = l } in
     let mid : Ahead = record { bytes = part; left = ml } in

@@ -17,7 +17,7 @@ use Rattle.captures.specs.declared.capture_fault.CaptureFaultKind.{CaptureFaultK
 use Rattle.captures.specs.declared.capture_fault.CaptureFaultKind.TheVariants.{Tick, Connection, Ended, Tier as LateTier, Length, Count, Trailing}
 use Rattle.captures.proofs.Lines.{bind_ok, named_ok, piece_line_inverse, end_line_inverse, tier_line_inverse, stop_line_inverse, heading_has, few_connections}
 
--- the last line after so many records
+-- the last line after n records
 abbrev pub stop_text : ℕ → List ℕ
 stop_text count = (codes "stop " ++ decimal count) ++ feed ∷ []
 

@@ -137,10 +137,10 @@ more_prefix start records r old mid new before h =
 pub stops_first : (text rest old : Option (List ℕ)) (f : CaptureFault) → f.at ≡ 0 → IsForeseen IsHeaderFault text f → is_some text ≡ true → Stops (unwrap_or text []) rest old old f
 stops_first text rest old f at h known = inl (record { at = at; written = refl; fault = λ foreseen. h known foreseen })
 
-pub stops_behind : (v : Version) (text now rest old new : Option (List ℕ)) (start : ℕ) (records : List Record) (p q : Progress) (f : CaptureFault) → Fits v text start records p now
+pub stops_after : (v : Version) (text now rest old new : Option (List ℕ)) (start : ℕ) (records : List Record) (p q : Progress) (f : CaptureFault) → Fits v text start records p now
     → Appends old new (text_before_stop Two start records) → Gave v text start records (Err f) q rest → FailsNext v text start records (Err f) rest → is_some text ≡ true
     → Stops (unwrap_or text []) rest old new f
-stops_behind v text now rest old new start records p q f fits written gave fails known = inr (record {
+stops_after v text now rest old new start records p q f fits written gave fails known = inr (record {
   version = v;
   start = start;
   records = records;

@@ -119,7 +119,7 @@ allowed v past tick conn =
     if nat_lt latest_tick tick || nat_lt tick past.tick then Err Tick
     else open_connection v past conn
 
--- the bytes of a piece, so many
+-- the bytes of a piece, n
 abbrev pub body_at : ℕ → Ahead → Result (List ℕ × Ahead) CaptureFaultKind
 body_at n a = do
   bytes ← named kind_of (run_at n a)
@@ -179,8 +179,8 @@ is_unforeseen_kind _ = false
 abbrev pub IsUnfinished : Result (Option Record × Ahead) CaptureFaultKind → Type 0
 IsUnfinished r = (r ≡ Err Cut) ⊎ ((left : ℕ) × (r ≡ Ok (None, record { bytes = []; left = left })))
 
--- The fault of the record after these, whose texts stand whole in front of it. (The last line is a record here too.)
-pub record FaultsBehind (v : Version) (text : List ℕ) (start : ℕ) (records : List Record) (f : CaptureFault)
+-- The fault of the record after these, whose texts stand whole before it. (The last line is a record here too.)
+pub record FaultsAfter (v : Version) (text : List ℕ) (start : ℕ) (records : List Record) (f : CaptureFault)
     (rest : List ℕ) : Type 0 where
   pub whole : text ≡ text_before_stop v start records ++ rest
   pub rules : IsCapture v start records
@@ -194,12 +194,12 @@ pub record FaultsBehind (v : Version) (text : List ℕ) (start : ℕ) (records :
 abbrev pub IsHeaderFault : List ℕ → CaptureFault → Type 0
 IsHeaderFault text f = (f.at ≡ 0) × (header_at (record { bytes = text; left = longest_text }) ≡ Err f.kind)
 
-abbrev pub IsFaultBehind : Version → List ℕ → ℕ → List Record → CaptureFault → Type 0
-IsFaultBehind v text start records f = (rest : List ℕ) × FaultsBehind v text start records f rest
+abbrev pub IsFaultAfter : Version → List ℕ → ℕ → List Record → CaptureFault → Type 0
+IsFaultAfter v text start records f = (rest : List ℕ) × FaultsAfter v text start records f rest
 
 abbrev pub IsFirstFault : List ℕ → CaptureFault → Type 0
 IsFirstFault text f = IsHeaderFault text f
-    ⊎ ((v : Version) × (start : ℕ) × (records : List Record) × IsFaultBehind v text start records f)
+    ⊎ ((v : Version) × (start : ℕ) × (records : List Record) × IsFaultAfter v text start records f)
 
 -- where the bytes of the input are known, and the fault is none that comes where it happens, it is the one of the text
 abbrev pub IsForeseen : (List ℕ → CaptureFault → Type 0) → Option (List ℕ) → CaptureFault → Type 0

@@ -41,7 +41,7 @@ longest_text = 1073741824
 abbrev pub last_tier : ℕ
 last_tier = 3
 
--- the line in front of a piece, the line of an end and of a tier, the first and the last line, without their line feeds
+-- the line before a piece, the line of an end and of a tier, the first and the last line, without their line feeds
 abbrev pub piece_line : ℕ → ℕ → ℕ → List ℕ
 piece_line tick conn len = codes "piece " ++ decimal tick ++ codes " " ++ decimal conn ++ codes " " ++ decimal len
 

@@ -4,7 +4,7 @@ use Rattle.std.specs.Prelude.{Option, Some, None, Result, Ok, Err, MatchResult, 
 use Rattle.std.specs.Prelude.{unwrap_or}
 use Rattle.std.specs.Int.{bit_at}
 use Rattle.captures.specs.Captures.{Past, past_of, longest_text, text_before_stop, IsCapture, IsCaptureText, sizes_of}
-use Rattle.captures.specs.CaptureFaults.{IsFaultBehind, IsForeseen, IsUnfinished, record_at, failures_of}
+use Rattle.captures.specs.CaptureFaults.{IsFaultAfter, IsForeseen, IsUnfinished, record_at, failures_of}
 use Rattle.captures.specs.declared.version.Version.{Version}
 use Rattle.captures.specs.declared.record.Record.{Record}
 use Rattle.captures.specs.declared.record.Record.TheVariants.{Piece, End, Tier}
@@ -55,7 +55,7 @@ abbrev pub Gave : Version → Option (List ℕ) → ℕ → List Record → Resu
 Gave v text start records (Ok (Some r)) p now = Fits v text start (records ++ r ∷ []) p now
 Gave v text start records (Ok None) p now = is_some text ≡ true → IsCaptureText v (unwrap_or text []) start records
 Gave v text start records (Err f) p now = (f.at ≡ length records + 1)
-    × IsForeseen (λ bytes. IsFaultBehind v bytes start records) text f
+    × IsForeseen (λ bytes. IsFaultAfter v bytes start records) text f
 
 -- how far a reader has come by this answer
 abbrev pub stage_after : Result (Option Record) CaptureFault → Stage

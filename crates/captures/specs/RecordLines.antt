@@ -9,6 +9,6 @@ use Rattle.captures.specs.declared.heading.Heading.{Heading}
 -- The call gave the next line. Where that announces something in this version, what follows the line is ahead now.
 abbrev pub GivesLine : Version → Option (List ℕ) → ℕ → Option (List ℕ) → ℕ → Result (List ℕ) Stop → Type 0
 GivesLine v old left new left_new r = is_some old ≡ true → MatchResult r
-    (λ line. (behind : Ahead) × (line_at (ahead_of old left) ≡ Ok (line, behind)) × (is_some new ≡ true)
-    × ((h : Heading) → heading_of v line ≡ Ok h → behind ≡ ahead_of new left_new))
+    (λ line. (following : Ahead) × (line_at (ahead_of old left) ≡ Ok (line, following)) × (is_some new ≡ true)
+    × ((h : Heading) → heading_of v line ≡ Ok h → following ≡ ahead_of new left_new))
     (λ e. is_unforeseen e ≡ false → line_at (ahead_of old left) ≡ Err e)

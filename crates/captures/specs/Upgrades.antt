@@ -10,7 +10,7 @@ use Rattle.captures.specs.declared.capture_fault.CaptureFaultKind.TheVariants as
 use Rattle.captures.specs.declared.upgrade_fault.UpgradeFault.{UpgradeFault}
 use Rattle.captures.specs.declared.upgrade_fault.UpgradeFault.TheVariants.{Capture, Memory, Write as Unwritten}
 use Rattle.captures.specs.Captures.{text_before_stop, capture_text, IsCapture, IsCaptureText}
-use Rattle.captures.specs.CaptureFaults.{is_unforeseen_kind, IsHeaderFault, IsFaultBehind, failures_of}
+use Rattle.captures.specs.CaptureFaults.{is_unforeseen_kind, IsHeaderFault, IsFaultAfter, failures_of}
 use Rattle.captures.specs.Readers.{FailsInRecord}
 use Rattle.captures.specs.Writing.{AppendsPrefix}
 
@@ -39,7 +39,7 @@ pub record StopsFirst (input : List ℕ) (old new : Option (List ℕ)) (f : Capt
 -- The upgrade stopped after these records, which stand whole before the fault, at the record that comes next: it has
 -- written the first line and these records, and no last line. Where a read failed, this rest is still ahead of the
 -- reader, and no whole record more was taken.
-pub record StopsBehind (input : List ℕ) (rest : Option (List ℕ)) (old new : Option (List ℕ))
+pub record StopsAfter (input : List ℕ) (rest : Option (List ℕ)) (old new : Option (List ℕ))
     (f : CaptureFault) : Type 0 where
   pub version : Version
   pub start : ℕ
@@ -49,13 +49,13 @@ pub record StopsBehind (input : List ℕ) (rest : Option (List ℕ)) (old new : 
   pub rules : IsCapture version start records
   pub at : f.at ≡ length records + 1
   pub written : Appends old new (text_before_stop Two start records)
-  pub fault : is_unforeseen_kind f.kind ≡ false → IsFaultBehind version input start records f
+  pub fault : is_unforeseen_kind f.kind ≡ false → IsFaultAfter version input start records f
   pub failed : f.kind ≡ kinds.Read → (part : List ℕ)
       × FailsInRecord version input start records part (unwrap_or rest [])
 
 -- a fault of the capture that isn't a failed read is its first
 abbrev pub Stops : List ℕ → Option (List ℕ) → Option (List ℕ) → Option (List ℕ) → CaptureFault → Type 0
-Stops input rest old new f = StopsFirst input old new f ⊎ StopsBehind input rest old new f
+Stops input rest old new f = StopsFirst input old new f ⊎ StopsAfter input rest old new f
 
 -- A prefix was written of the first line and these records, with which the input begins.
 pub record StopsAmong (input : List ℕ) (old new : Option (List ℕ)) : Type 0 where

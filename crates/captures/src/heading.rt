@@ -1,4 +1,4 @@
-/// The line in front of a piece: its tick, its connection, and how many bytes follow. A number past 64 bits stands as
+/// The line before a piece: its tick, its connection, and how many bytes follow. A number past 64 bits stands as
 /// the greatest of 64 bits, which is past every limit.
 #[derive(Clone, Copy, Debug)]
 pub struct PieceLine {

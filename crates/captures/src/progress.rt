@@ -1,7 +1,7 @@
 ghost use Rattle.std.specs.Prelude.{◌≡◌, ◌+◌, ◌<◌, ◌≤◌, ◌-◌, ◌^◌, [], ℕ, List, Option, IfNone, IfOk, IfErr, IfSome};
 ghost use Rattle.std.specs.Prelude.{◌≢◌};
 ghost use Rattle.captures.specs.Captures.{IsRecord, size_of};
-ghost use Rattle.captures.specs.CaptureFaults.{IsForeseen, IsHeaderFault, IsFaultBehind, CountsFault, CountsKind};
+ghost use Rattle.captures.specs.CaptureFaults.{IsForeseen, IsHeaderFault, IsFaultAfter, CountsFault, CountsKind};
 ghost use Rattle.captures.specs.Readers.{Fits, Gave, GaveKind, FailsNext, FailsNextKind, stage_after, Repeats};
 ghost use Rattle.captures.specs.Readers.{CountsNext};
 ghost use Rattle.captures.specs.declared.record.Record.{Record as ARecord};
@@ -34,8 +34,8 @@ pub struct Progress {
 }
 
 /// How many bytes records may bring after this one, where it may come.
-fn room_behind(room: usize, next: &Record) -> Option<usize>
-    ensures some { IfSome result (λ behind. size_of next.now + 1 + behind ≡ room) }
+fn room_after(room: usize, next: &Record) -> Option<usize>
+    ensures some { IfSome result (λ following. size_of next.now + 1 + following ≡ room) }
     ensures none { IfNone result (room ≤ size_of next.now) }
 {
     let size = next.size();
@@ -94,7 +94,7 @@ impl Progress {
         ensures count { CountsKind input.old.1 input.new.1 result }
     {
         match read_record(alloc, input, &mut self.left, self.version, &self.so_far) {
-            Ok(Some(record)) => match room_behind(self.room, &record) {
+            Ok(Some(record)) => match room_after(self.room, &record) {
                 Some(room) => {
                     self.room = room;
                     self.so_far.add(&record);

@@ -1,6 +1,6 @@
 ghost use Rattle.std.specs.Prelude.{◌≡◌, ◌<◌, ◌≤◌, ◌-◌, ◌^◌, length, IfOk, IfErr, IfSome, ◌≢◌};
 ghost use Rattle.paths.specs.Texts.{Counts, Gives, line_at};
-ghost use Rattle.paths.specs.Parts.{FailsAtOnce, FailsBehind, FailsWithin};
+ghost use Rattle.paths.specs.Parts.{FailsAtOnce, FailsAfter, FailsWithin};
 ghost use Rattle.captures.specs.Captures.{Follows};
 ghost use Rattle.captures.specs.CaptureFaults.{CountsKind, IsUnfinished, IsHeadingOf, is_unforeseen_kind, header_at};
 ghost use Rattle.captures.specs.CaptureFaults.{body_at, piece_at, close_at, announced, record_at};
@@ -41,7 +41,7 @@ pub(crate) fn read_header<R: Read>(
     }
 }
 
-/// Reads the bytes of a piece, so many.
+/// Reads the bytes of a piece, n.
 fn read_body<R: Read>(
     alloc: Global,
     input: &mut Input<R>,
@@ -125,7 +125,7 @@ fn read_announced<R: Read>(
     ensures record { Gives is_unforeseen_kind
         (announced version (seen so_far.now) heading) input.old.0 left.old input.new.0 left.new result }
     // Where a read failed, no whole record had been taken.
-    ensures part { FailsBehind CaptureFaultKind.Read
+    ensures part { FailsAfter CaptureFaultKind.Read
         (λ part. IsUnfinished (announced version (seen so_far.now) heading (record { bytes = part; left = left.old })))
         input.old.0 left.old input.new.0 left.new result }
     ensures fits { IfOk result (λ next. IfSome next (Follows version (seen so_far.now))) }
@@ -189,7 +189,7 @@ pub(crate) fn read_record<R: Read>(
     ensures record { Gives is_unforeseen_kind
         (record_at version (seen so_far.now)) input.old.0 left.old input.new.0 left.new result }
     // Where a read failed, no whole record had been taken.
-    ensures part { FailsBehind CaptureFaultKind.Read
+    ensures part { FailsAfter CaptureFaultKind.Read
         (λ part. IsUnfinished (record_at version (seen so_far.now) (record { bytes = part; left = left.old })))
         input.old.0 left.old input.new.0 left.new result }
     ensures fits { IfOk result (λ next. IfSome next (Follows version (seen so_far.now))) }

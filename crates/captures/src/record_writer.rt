@@ -61,14 +61,14 @@ pub(crate) fn write_first_line<W: Write>(
     }
 }
 
-/// The line in front of the bytes of a piece.
+/// The line before the bytes of a piece.
 fn piece_line(alloc: Global, tick: u64, conn: u16, len: usize) -> Result<String, AllocError>
     ensures { IfOk result (λ line. string_bytes line ≡ piece_line tick conn len ++ 10 ∷ []) }
 {
     format!(in alloc; "piece {tick} {conn} {len}\n")
 }
 
-/// The line of a record, or the one in front of its bytes.
+/// The line of a record, or the one before its bytes.
 fn record_line(alloc: Global, next: &Record) -> Result<String, AllocError>
     ensures { IfOk result (λ line. string_bytes line ≡ line_of next.now) }
 {
@@ -128,7 +128,7 @@ pub(crate) fn write_record<W: Write>(
     }
 }
 
-/// Writes the last line of a capture of so many records.
+/// Writes the last line of a capture of n records.
 pub(crate) fn write_last_line<W: Write>(
     alloc: Global,
     output: &mut Output<W>,

@@ -13,7 +13,7 @@ mod records;
 mod tiers;
 mod upgrades;
 
-/// A reader over memory that gives at most so many bytes a read, fails at one of its reads, and counts them all. The
+/// A reader over memory that gives at most n bytes a read, fails at one of its reads, and counts them all. The
 /// failure is an interruption: what tries a read again does so at that kind of failure first.
 #[derive(Drop)]
 pub struct Flaky<'a> {

@@ -64,7 +64,7 @@ step_whole rest q len v x f says is fits =
 
 -- ---- the count so far
 
--- the messages that end before a place are so many, and those of the rest follow them
+-- the messages that end before a place are n, and those of the rest follow them
 pub record Counts (text : List ℕ) (at count : ℕ) : Type 0 where
   pub within : at ≤ length text
   pub few : count ≤ at

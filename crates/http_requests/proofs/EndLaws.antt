@@ -5,7 +5,7 @@ use Rattle.std.proofs.Math.Seq.{drop-cons}
 use Rattle.std.proofs.lemmas.Grind.{common_steps}
 use Rattle.std.proofs.lemmas.Bool.{cases_lt}
 use Rattle.http_requests.specs.Framing.{ends_at, EndsAt, IsBlock}
-use Rattle.http_requests.specs.Ends.{IsBlockEnd, EndsBehind, IsShortestBlock}
+use Rattle.http_requests.specs.Ends.{IsBlockEnd, EndsAfter, IsShortestBlock}
 use Rattle.http_requests.proofs.FrontLemmas.{ends_within}
 
 -- the bytes that the test looks at
@@ -21,9 +21,9 @@ two_ways true false true false f h = absurd (let x : ⊥ = grind (arith, h) in x
 two_ways true false false d f h = absurd (let x : ⊥ = grind (arith, h) in x)
 two_ways false b c d f h = absurd (let x : ⊥ = grind (arith, h) in x)
 
-behind_and : (a b : Bool) → IsTrue (a && b) → IsTrue b
-behind_and true b h = h
-behind_and false b h = absurd (let x : ⊥ = grind (arith, h) in x)
+after_and : (a b : Bool) → IsTrue (a && b) → IsTrue b
+after_and true b h = h
+after_and false b h = absurd (let x : ⊥ = grind (arith, h) in x)
 
 is_byte : (x c : ℕ) → IsTrue (x == c) → x ≡ c
 is_byte x c h = grind arith
@@ -34,7 +34,7 @@ at_least n e h = grind arith
 tested : (s : List ℕ) (e : ℕ) → EndsAt s e → Test s e
 unfolding ends_at
 tested s e h =
-    let rest = behind_and (nat_le e (length s)) _ (behind_and (nat_le 2 e) _ h) in
+    let rest = after_and (nat_le e (length s)) _ (after_and (nat_le 2 e) _ h) in
     elim (two_ways (slice_index s (e - 1) == 10) (slice_index s (e - 2) == 10) (nat_le 3 e) (slice_index s (e - 2) == 13) (slice_index s (e - 3) == 10) rest) [
       | inl w ↦ inl (is_byte _ 10 w.0, is_byte _ 10 w.1)
       | inr w ↦ inr (at_least 3 e w.1, is_byte _ 10 w.0, is_byte _ 13 w.2, is_byte _ 10 w.3)
@@ -50,8 +50,8 @@ split s n end after h = sym (take-append-drop n s) ∙ ap (λ w. take n s ++ w) 
 taken : (s : List ℕ) (n : ℕ) → n ≤ length s → length (take n s) ≡ n
 taken s n le = grind (arith, common_steps)
 
-pub ends_behind : (s : List ℕ) (e : ℕ) → EndsAt s e → EndsBehind s e
-ends_behind s e h =
+pub ends_after : (s : List ℕ) (e : ℕ) → EndsAt s e → EndsAfter s e
+ends_after s e h =
     let w = ends_within s e h in
     elim (tested s e h) [
       | inl t ↦ (let a : drop (e - 2) s ≡ 10 ∷ drop (e - 1) s = (let k : e - 2 + 1 ≡ e - 1 = omega (arith, w.0) in rw (next s (e - 2) 10 (omega (arith, w.0, w.1)) t.1, k) refl) in
@@ -100,25 +100,25 @@ long_end before after e is =
     let len = length-append before tail in
     grind (arith, last, middle, first, len, is)
 
-behind_end : (s before end after : List ℕ) (e : ℕ) → IsBlockEnd end → s ≡ before ++ (end ++ after) → e ≡ length before + length end → EndsAt s e
-behind_end s before end after e (inl is) text place =
+after_end : (s before end after : List ℕ) (e : ℕ) → IsBlockEnd end → s ≡ before ++ (end ++ after) → e ≡ length before + length end → EndsAt s e
+after_end s before end after e (inl is) text place =
     rw (text, is) (short_end before after e (place ∙ ap (λ (w : List ℕ). length before + length w) is))
-behind_end s before end after e (inr is) text place =
+after_end s before end after e (inr is) text place =
     rw (text, is) (long_end before after e (place ∙ ap (λ (w : List ℕ). length before + length w) is))
 
-pub behind_ends : (s : List ℕ) (e : ℕ) → EndsBehind s e → EndsAt s e
-behind_ends s e h = behind_end s h.before h.end h.after e h.is h.text h.place
+pub after_ends : (s : List ℕ) (e : ℕ) → EndsAfter s e → EndsAt s e
+after_ends s e h = after_end s h.before h.end h.after e h.is h.text h.place
 
 pub shortest : (s : List ℕ) (e : ℕ) → IsBlock s e → IsShortestBlock s e
 shortest s e h = record {
-  ends = ends_behind s e h.ends;
-  shortest = λ k ends. elim (cases_lt k e) [ inl lt ↦ absurd (h.first k lt (behind_ends s k ends)) | inr ge ↦ ge ];
+  ends = ends_after s e h.ends;
+  shortest = λ k ends. elim (cases_lt k e) [ inl lt ↦ absurd (h.first k lt (after_ends s k ends)) | inr ge ↦ ge ];
   limit = h.short;
 }
 
 pub in_front : (s : List ℕ) (e : ℕ) → IsShortestBlock s e → IsBlock s e
 in_front s e h = record {
-  ends = behind_ends s e h.ends;
-  first = λ k lt ends. let le = h.shortest k (ends_behind s k ends) in omega (arith, le, lt);
+  ends = after_ends s e h.ends;
+  first = λ k lt ends. let le = h.shortest k (ends_after s k ends) in omega (arith, le, lt);
   short = h.limit;
 }

@@ -1,4 +1,4 @@
--- What was found in front of a text, and the messages of that text.
+-- What was found at the start of a text, and the messages of that text.
 use Rattle.std.proofs.Common.{◌≡◌, ℕ, ◌+◌, ◌-◌, ◌<◌, ◌≤◌, inl, inr, List, [], ◌++◌, length, take, drop, refl, ◌∙◌, ap, arith, length-append, length-drop, append_assoc}
 use Rattle.std.proofs.lemmas.List.{take-append-le, drop-append-le, take-append-drop}
 use Rattle.std.proofs.Math.Seq.{take-length}
@@ -166,7 +166,7 @@ held_short held t q len s f =
 pub short_held : (held text b : List ℕ) (n q len : ℕ) → IsFront held → b ≡ held ++ take n text → IsFound b (Whole q len) → length held < q + len
 short_held held text b n q len s bis f = held_short held (take n text) q len s (rw bis at f)
 
--- what was held has no end, and so has none in front of what was joined
+-- what was held has no end, and so has none before what was joined
 pub no_end_joined : (held text b : List ℕ) (n : ℕ) → IsFront held → b ≡ held ++ take n text → NoEndIn (length held) b
 no_end_joined held text b n s bis e le ends =
     let i = s.2 in

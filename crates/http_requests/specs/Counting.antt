@@ -7,11 +7,11 @@ use Rattle.http_requests.specs.declared.counting.Step.{Step}
 use Rattle.http_requests.specs.declared.counting.Step.TheVariants.{Missing, Last, Over}
 use Rattle.http_requests.specs.Framing.{IsNext, closes}
 
--- how a message goes on behind its block, by the block's verdict
+-- how a message goes on after its block, by the block's verdict
 abbrev pub IsExtent : Verdict → Extent → Type 0
 IsExtent verdict extent = (extent.closes ≡ closes verdict.what) × (extent.length ≡ verdict.length)
 
--- the rest of a text has no message; or one that ends the connection; or one that doesn't, of so many bytes
+-- the rest of a text has no message; or one that ends the connection; or one that doesn't, of n bytes
 abbrev pub IsStep : List ℕ → Step → Type 0
 IsStep rest Missing = (what : What) (k : ℕ) → IsNext rest what k → ⊥
 IsStep rest Last = (what : What) × (k : ℕ) × IsNext rest what k × (closes what ≡ true)

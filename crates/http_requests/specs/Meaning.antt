@@ -25,7 +25,7 @@ pub record IsReadFrom
   pub since_is : IsModifiedSince head.method (lines_of head) since
   pub body_is : length body ≡ body_length (values_of (codes "content-length") (lines_of head))
 
--- what a block and the body behind it make: a request, a block that is cut at the limit, or a block
+-- what a block and the body after it make: a request, a block that is cut at the limit, or a block
 -- with a fault; only a request has a body
 abbrev pub Means : What → List ℕ → List ℕ → Type 0
 Means (Request method target version closing since) block body =

@@ -1,4 +1,4 @@
--- What stands in front of a text.
+-- What stands at the start of a text.
 use Rattle.std.specs.Prelude.{◌≡◌, ℕ, ◌+◌, ◌<◌, ◌≤◌, List, length, drop}
 use Rattle.http_requests.specs.declared.scanning.Found.{Found}
 use Rattle.http_requests.specs.declared.scanning.Found.TheVariants.{Wait, Over, Whole}
@@ -8,7 +8,7 @@ use Rattle.http_requests.specs.Framing.{EndsAt, NoBlock, IsBlock, blank_len}
 abbrev pub NoEndIn : ℕ → List ℕ → Type 0
 NoEndIn n s = (e : ℕ) → e ≤ n → EndsAt s e → ⊥
 
--- what was found in front of a text
+-- what was found at the start of a text
 abbrev pub IsFound : List ℕ → Found → Type 0
 IsFound r (Wait q) = (q ≡ blank_len r) × (q ≤ length r) × NoBlock (drop q r) × (length r < q + 8192)
 IsFound r (Over k) = (k ≡ blank_len r + 8192) × NoBlock (drop (blank_len r) r) × (k ≤ length r)

@@ -7,7 +7,7 @@ ghost use Rattle.http_requests.specs.Counting.{IsStep};
 use crate::heads::measure_block;
 use crate::scanning::{Found, find};
 
-/// What stands in front of the rest of a text.
+/// What stands at the start of the rest of a text.
 #[derive(Clone, Copy)]
 pub enum Step {
     /// No message is whole.

@@ -272,7 +272,7 @@ fn read_head(
     })
 }
 
-/// How a message goes on behind its block.
+/// How a message goes on after its block.
 #[derive(Clone, Copy)]
 pub struct Extent {
     /// Whether the message ends the connection.

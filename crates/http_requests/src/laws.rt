@@ -2,7 +2,7 @@
 ghost use Rattle.std.specs.Prelude.{◌≡◌, ◌++◌, ◌≤◌, ℕ, List, length, map, IfOk};
 ghost use Rattle.http_requests.specs.declared.messages.Message.{Message as AMessage};
 ghost use Rattle.http_requests.specs.Framing.{MessagesOf, EndsAt, IsBlock};
-ghost use Rattle.http_requests.specs.Ends.{EndsBehind, IsShortestBlock};
+ghost use Rattle.http_requests.specs.Ends.{EndsAfter, IsShortestBlock};
 ghost use Rattle.http_requests.specs.Meaning.{LieInOrder};
 ghost use Rattle.http_requests.specs.Cutting.{joined};
 
@@ -10,12 +10,12 @@ use crate::cutting::Cutter;
 use crate::messages::Message;
 use std::alloc::{AllocError, Global};
 
-/// A block ends where the scan looks for its end: behind LF LF or LF CR LF.
+/// A block ends where the scan looks for its end: after LF LF or LF CR LF.
 pub fn block_ends()
-    ensures { (s : List ℕ) (e : ℕ) → (EndsAt s e → EndsBehind s e) × (EndsBehind s e → EndsAt s e) }
+    ensures { (s : List ℕ) (e : ℕ) → (EndsAt s e → EndsAfter s e) × (EndsAfter s e → EndsAt s e) }
 {}
 
-/// The block in front of a text is its shortest prefix that ends so, within the limit.
+/// The block at the start of a text is its shortest prefix that ends so, within the limit.
 pub fn block_in_front()
     ensures { (s : List ℕ) (e : ℕ) → (IsBlock s e → IsShortestBlock s e) × (IsShortestBlock s e → IsBlock s e) }
 {}

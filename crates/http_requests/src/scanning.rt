@@ -1,4 +1,4 @@
-//! The empty lines and the block in front of a text.
+//! The empty lines and the block at the start of a text.
 ghost use Rattle.std.specs.Prelude.{◌≡◌, ◌≤◌, length, IfSome, IfNone};
 ghost use Rattle.http_requests.specs.Framing.{ends_at, NoBlock, IsBlock, blank_len};
 ghost use Rattle.http_requests.specs.Scanning.{IsFound, NoEndIn};
@@ -8,7 +8,7 @@ use memchr::memchr;
 /// The most bytes that a block may have. A longer one is a fault.
 pub const BLOCK_LIMIT: usize = 8192;
 
-/// What stands in front of a text.
+/// What stands at the start of a text.
 #[derive(Clone, Copy)]
 pub enum Found {
     /// No block is whole: how many bytes of empty lines stand in front.
@@ -71,7 +71,7 @@ fn block_end(s: &[u8], seen: usize) -> Option<usize>
     None
 }
 
-/// What stands in front of a text, where no block ends in its first `seen` bytes. Only the bytes
+/// What stands at the start of a text, where no block ends in its first `seen` bytes. Only the bytes
 /// after those are looked at, and a few before.
 #[tactic(auto, using(crate::proofs::FrontLemmas::ends_within))]
 pub fn find(r: &[u8], seen: usize) -> Found

@@ -142,7 +142,7 @@ bytes_after_close text ms = if some_closes ms then bytes_after text ms else 0
 abbrev pub bytes_unfinished : List ℕ → List Message → ℕ
 bytes_unfinished text ms = if some_closes ms then 0 else bytes_after text ms
 
--- so many bytes on each, summed up; and on how many there are some
+-- n bytes on each, summed up; and on how many there are some
 abbrev pub share_over : {X : Type 0} → (X → ℕ) → List X → Share
 share_over bytes_on xs = record {
   bytes = sum_by bytes_on xs;
@@ -167,7 +167,7 @@ abbrev pub unfinished : List Record → List Arrival → Share
 unfinished records arrivals =
     share_over (λ c. bytes_unfinished (text_of c records) (messages_of c arrivals)) every_connection
 
--- a second has so many ticks
+-- a second has n ticks
 abbrev pub ticks_of_a_second : ℕ
 ticks_of_a_second = 1000000
 

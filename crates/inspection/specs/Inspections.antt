@@ -6,7 +6,7 @@ use Rattle.captures.specs.declared.capture_fault.CaptureFault.{CaptureFault}
 use Rattle.captures.specs.declared.capture_fault.CaptureFaultKind.{CaptureFaultKind}
 use Rattle.captures.specs.declared.capture_fault.CaptureFaultKind.TheVariants as kinds
 use Rattle.captures.specs.Captures.{IsCapture, IsCaptureText, longest_text, text_before_stop}
-use Rattle.captures.specs.CaptureFaults.{is_unforeseen_kind, IsHeaderFault, IsFaultBehind, failures_of}
+use Rattle.captures.specs.CaptureFaults.{is_unforeseen_kind, IsHeaderFault, IsFaultAfter, failures_of}
 use Rattle.captures.specs.Readers.{FailsNext}
 use Rattle.arrivals.specs.Arrivals.{Arrival, AreArrivals}
 use Rattle.inspection.specs.declared.inspection.Inspection.{Inspection}
@@ -41,7 +41,7 @@ pub record HoldsBefore (input ahead : Option (List ℕ)) (i : Inspection) (f : C
   pub figures : AreFigures records arrivals i
   pub at : f.at ≡ length records + 1
   pub fault : is_unforeseen_kind f.kind ≡ false
-      → WhereKnown input (λ bytes. IsFaultBehind i.version bytes i.start records f)
+      → WhereKnown input (λ bytes. IsFaultAfter i.version bytes i.start records f)
   pub failed : FailsNext i.version input i.start records (Err f) ahead
 
 -- The inspection stopped at the first line.

@@ -142,7 +142,7 @@ rest_unfinished t = if t.closed then 0 else rest_of t
 abbrev pub FewBytes : Tail → Type 0
 FewBytes t = t.bytes ≤ longest_text
 
--- a share with so many bytes of one more connection
+-- a share with n bytes of one more connection
 abbrev pub with_bytes : Share → ℕ → Share
 with_bytes share bytes = record {
   bytes = share.bytes + bytes;
@@ -170,7 +170,7 @@ pub record IsFound (records : List Record) (arrivals : List Arrival) (f : Found)
   pub tails : AreTails records arrivals f.tails
   pub few : length arrivals ≤ sizes_of records
 
--- a piece of so many bytes was taken, in which these messages end
+-- a piece of n bytes was taken, in which these messages end
 pub record TookPiece (tick conn bytes : ℕ) (ms : List Message) (old new : Found) : Type 0 where
   pub counts : new.records ≡ with_piece old.records
   pub first_tick : new.first_tick ≡ Some (unwrap_or old.first_tick tick)

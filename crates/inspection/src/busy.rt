@@ -33,7 +33,7 @@ fn busier(earlier: Second, later: Second) -> Second
 }
 
 impl Busy {
-    /// So many messages arrived in this second.
+    /// n messages arrived in this second.
     pub(crate) fn note(&mut self, number: u64, count: u64)
         requires { self.old.now.messages + count < 2 ^ 64 }
         ensures now { self.new.now.number ≡ number }

@@ -111,7 +111,7 @@ impl Found {
         self.records.note_tier();
     }
 
-    /// A piece of so many bytes came on a connection, and these messages ended in it.
+    /// A piece of n bytes came on a connection, and these messages ended in it.
     pub(crate) fn take_piece(
         &mut self,
         tick: u64,

@@ -21,7 +21,7 @@ const NOTHING: Share = Share {
 };
 
 impl Share {
-    /// A share with so many bytes of one more connection.
+    /// A share with n bytes of one more connection.
     fn with(self, bytes: u64) -> Share
         requires bytes { self.bytes + bytes < 2 ^ 64 }
         requires connections { self.connections + 1 < 2 ^ 64 }

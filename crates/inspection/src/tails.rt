@@ -49,7 +49,7 @@ fn end_of(before: u64, messages: &[Message]) -> u64
 }
 
 impl Tail {
-    /// So many bytes more came, and these messages ended in them.
+    /// n bytes more came, and these messages ended in them.
     fn after(self, bytes: usize, messages: &[Message]) -> Tail
         requires { self.bytes + bytes < 2 ^ 64 }
         ensures { (text piece : List ℕ) (ms : List AMessage) → self ≡ tail_of text ms → length piece ≡ bytes
@@ -134,7 +134,7 @@ impl Tails {
         Ok(())
     }
 
-    /// So many bytes came on a connection, and these messages ended in them.
+    /// n bytes came on a connection, and these messages ended in them.
     pub(crate) fn take(
         &mut self,
         conn: u16,

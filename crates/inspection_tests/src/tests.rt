@@ -11,7 +11,7 @@ mod memory;
 mod rows;
 mod texts;
 
-/// A reader over memory that gives at most so many bytes a read, and fails at one of its reads. The failure is an
+/// A reader over memory that gives at most n bytes a read, and fails at one of its reads. The failure is an
 /// interruption: what tries a read again does so at that kind of failure first.
 #[derive(Drop)]
 pub struct Flaky<'a> {

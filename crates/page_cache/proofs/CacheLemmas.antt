@@ -100,7 +100,7 @@ take_all zero (x ∷ xs) h = absurd (omega (arith, h))
 take_all (suc n) [] h = refl
 take_all (suc n) (x ∷ xs) h = ap (λ ys. x ∷ ys) (take_all n xs (omega (arith, h)))
 
--- a new page in a list that isn't full goes in front of all that were there
+-- a new page in a list that isn't full goes before all that were there
 pub put_new : {X : Type 0} (k : ℕ) (v : X) (m : LruCache ℕ X) → has k (keys_of m.entries) ≡ false → length m.entries < m.cap → put_entries nat_eq m k v ≡ (k, v) ∷ m.entries
 put_new k v m new room = elim (by_entry k m.entries) [
   | inl none ↦ rw none.0 (ap (λ es. (k, v) ∷ es) (take_all (m.cap - 1) m.entries (omega (arith, room))))

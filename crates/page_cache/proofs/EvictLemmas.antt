@@ -36,7 +36,7 @@ fitting_push files room (y ∷ ys) x h = (elim (nat_le (page_size files y) room)
   | false ↦ λ t. refl
 ]) refl
 
--- The new page stands in front; the others have so many bytes, and what of them will fit is what of the old ones did.
+-- The new page stands in front; the others have n bytes, and what of them will fit is what of the old ones did.
 pub record Evicts {X : Type 0} (files : List File) (file room : ℕ) (old : List ℕ) (es : List (ℕ × X)) (bytes : ℕ) : Type 0 where
   pub others : List ℕ
   pub shape : keys_of es ≡ file ∷ others

@@ -12,16 +12,16 @@ abbrev pub dot : ℕ
 dot = 46
 
 -- what stands after the last such byte of a text, where it has one
-unfoldable pub behind_last : ℕ → List ℕ → Option (List ℕ)
-behind_last mark [] = None
-behind_last mark (b ∷ text) = option_or (behind_last mark text) (if b == mark then Some text else None)
+unfoldable pub after_last : ℕ → List ℕ → Option (List ℕ)
+after_last mark [] = None
+after_last mark (b ∷ text) = option_or (after_last mark text) (if b == mark then Some text else None)
 
 -- the last part of a name, and what stands after its last dot, where it has one
 abbrev pub last_part : List ℕ → List ℕ
-last_part name = unwrap_or (behind_last slash name) name
+last_part name = unwrap_or (after_last slash name) name
 
 abbrev pub extension : List ℕ → Option (List ℕ)
-extension name = behind_last dot (last_part name)
+extension name = after_last dot (last_part name)
 
 -- the media type of an extension in lower case
 abbrev pub media_by_extension : List ℕ → MediaType

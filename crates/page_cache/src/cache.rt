@@ -36,7 +36,7 @@ impl<F: Tree> Model for PageCache<F> {
 }
 
 impl<F: Tree> PageCache<F> {
-    /// A cache without pages, for at most so many bytes. Room in its table is reserved here for a page of each file, of
+    /// A cache without pages, for at most n bytes. Room in its table is reserved here for a page of each file, of
     /// which a snapshot has at most 65,536. A page that is kept takes memory for its own entry alone.
     pub fn new(alloc: Global, limit: usize, files: usize) -> Result<PageCache<F>, AllocError>
         requires { length F.files ≤ files }

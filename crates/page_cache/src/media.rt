@@ -1,7 +1,7 @@
 ghost use Rattle.std.specs.Prelude.{◌≡◌, IfOk, string_bytes, map, unwrap_or};
 ghost use Rattle.std.specs.Option.{option_map};
 ghost use Rattle.std.specs.Char.{to_ascii_lowercase};
-ghost use Rattle.page_cache.specs.Media.{behind_last, last_part, media_by_extension, media_of, media_text};
+ghost use Rattle.page_cache.specs.Media.{after_last, last_part, media_by_extension, media_of, media_text};
 ghost use Rattle.page_cache.specs.Media.{entity_fields};
 
 use itoa::Buffer;
@@ -29,7 +29,7 @@ impl MediaType {
     pub fn of(name: &[u8]) -> MediaType
         ensures { result ≡ media_of name.now }
     {
-        match behind_last(last_part(name), b'.') {
+        match after_last(last_part(name), b'.') {
             Some(extension) => MediaType::by_extension(extension),
             None => MediaType::OctetStream,
         }
@@ -83,8 +83,8 @@ impl MediaType {
 }
 
 /// What stands after the last such byte of a text, where it has one.
-fn behind_last(text: &[u8], mark: u8) -> Option<&[u8]>
-    ensures { option_map (λ rest. rest.now) result ≡ behind_last mark text.now }
+fn after_last(text: &[u8], mark: u8) -> Option<&[u8]>
+    ensures { option_map (λ rest. rest.now) result ≡ after_last mark text.now }
 {
     match text.iter().rposition(|byte| *byte == mark) {
         Some(at) => Some(&text[at + 1..]),
@@ -96,7 +96,7 @@ fn behind_last(text: &[u8], mark: u8) -> Option<&[u8]>
 fn last_part(name: &[u8]) -> &[u8]
     ensures { result.now ≡ last_part name.now }
 {
-    match behind_last(name, b'/') {
+    match after_last(name, b'/') {
         Some(part) => part,
         None => name,
     }
@@ -113,17 +113,17 @@ pub fn entity_fields(alloc: Global, media: MediaType, len: usize) -> Result<Stri
     entity_fields_before(alloc, media, len, 0)
 }
 
-/// The fields of a content, in a text that has room for so many bytes after them.
+/// The fields of a content, in a text that has room for n bytes after them.
 #[tactic(auto, unfolding(crate::specs::Media::entity_fields))]
 pub(crate) fn entity_fields_before(
     alloc: Global,
     media: MediaType,
     len: usize,
-    behind: usize,
+    after: usize,
 ) -> Result<String, AllocError>
     ensures { IfOk result (λ text. string_bytes text ≡ entity_fields media len) }
 {
-    let mut text = String::with_capacity(alloc, FIELDS_ROOM.saturating_add(behind))?;
+    let mut text = String::with_capacity(alloc, FIELDS_ROOM.saturating_add(following))?;
     text.push_str("Content-Type: ")?;
     text.push_str(media.text())?;
     text.push_str("\r\nContent-Length: ")?;

@@ -128,7 +128,7 @@ ends bytes fs [] rules is size =
 ends bytes fs (b ∷ rest) rules is size =
     inr (record { entry = length fs + 1; kind = Trailing }, inr (fs, b, rest, record { whole = is; rules = rules; size = size; entry = refl; kind = refl }))
 
--- from so many files on, with what is left of the text; there is room for so many more
+-- from n files on, with what is left of the text; there is room for n more
 reads_on : (bytes : List ℕ) (fuel : ℕ) (fs : List File) (rest : List ℕ) (l : ℕ) → IsSnapshot fs
     → bytes ≡ text_before_end fs ++ rest → longest_text ≡ length (text_before_end fs) + l → most_files < fuel + length fs → Either bytes
 reads_on bytes zero fs rest l c whole left more = let few = c.count in absurd (omega arith)

@@ -13,15 +13,15 @@ use Rattle.paths.specs.Snapshots.{slash}
 use Rattle.paths.specs.Resolution.{is_unreserved, location_byte, joined, slash_before}
 
 -- one more segment after others
-joined_behind : (x : List ℕ) (xs : List (List ℕ)) (y : List ℕ) → joined ((x ∷ xs) ++ y ∷ []) ≡ joined (x ∷ xs) ++ (slash ∷ y)
-joined_behind x [] y = refl
-joined_behind x (z ∷ xs) y = ap (λ v. x ++ (slash ∷ v)) (joined_behind z xs y) ∙ sym (append_assoc x (slash ∷ joined (z ∷ xs)) (slash ∷ y))
+joined_after : (x : List ℕ) (xs : List (List ℕ)) (y : List ℕ) → joined ((x ∷ xs) ++ y ∷ []) ≡ joined (x ∷ xs) ++ (slash ∷ y)
+joined_after x [] y = refl
+joined_after x (z ∷ xs) y = ap (λ v. x ++ (slash ∷ v)) (joined_after z xs y) ∙ sym (append_assoc x (slash ∷ joined (z ∷ xs)) (slash ∷ y))
 
 pub joined_push : (xs : List (List ℕ)) (first : Bool) (y : List ℕ) → first ≡ (length xs == 0) → joined (xs ++ y ∷ []) ≡ joined xs ++ (slash_before first ++ y)
 joined_push [] first y h = ap (λ b. slash_before b ++ y) (sym h)
 joined_push (x ∷ xs) first y h =
     let no : (length (x ∷ xs) == 0) ≡ false = ne_eqb (length (x ∷ xs)) 0 (λ e. omega arith) in
-    joined_behind x xs y ∙ ap (λ b. joined (x ∷ xs) ++ (slash_before b ++ y)) (sym no ∙ sym h)
+    joined_after x xs y ∙ ap (λ b. joined (x ∷ xs) ++ (slash_before b ++ y)) (sym no ∙ sym h)
 
 pub joined_more : (segments : List (List ℕ)) (at : ℕ) (item segment name new : List ℕ) → at < length segments → item ≡ get_or segments at item → segment ≡ item
     → name ≡ joined (take at segments) → new ≡ name ++ (slash_before (at == 0) ++ segment) → new ≡ joined (take (at + 1) segments)
@@ -73,9 +73,9 @@ location_more segments at item segment old new lt read same_item before is =
     ∙ flat_map_more (λ s. slash ∷ flat_map location_byte s) [] (take at segments) segment
     ∙ ap (flat_map (λ s. slash ∷ flat_map location_byte s)) (ap (λ v. take at segments ++ v ∷ []) (same_item ∙ read) ∙ sym (take_more segments at item lt))
 
-pub encoded_behind : (old mid new segment : List ℕ) → ((i : ℕ) → get_or segment i 0 < 256) → mid ≡ old ++ slash ∷ [] → new ≡ mid ++ percent_encode RESERVED segment
+pub encoded_after : (old mid new segment : List ℕ) → ((i : ℕ) → get_or segment i 0 < 256) → mid ≡ old ++ slash ∷ [] → new ≡ mid ++ percent_encode RESERVED segment
     → new ≡ old ++ (slash ∷ flat_map location_byte segment)
-encoded_behind old mid new segment small pushed is =
+encoded_after old mid new segment small pushed is =
     is ∙ ap (λ v. v ++ percent_encode RESERVED segment) pushed ∙ append_assoc old (slash ∷ []) (percent_encode RESERVED segment)
     ∙ ap (λ v. old ++ (slash ∷ v)) (encoded segment (all_small segment small))
   where

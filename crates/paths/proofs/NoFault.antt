@@ -15,9 +15,9 @@ use Rattle.paths.specs.declared.file.Heading.TheVariants as headings
 use Rattle.paths.specs.declared.snapshot_fault.SnapshotFault.{SnapshotFault}
 use Rattle.paths.specs.declared.snapshot_fault.SnapshotFaultKind.{SnapshotFaultKind}
 use Rattle.paths.specs.Snapshots.{feed, file_line, file_text, first_line, last_line, text_before_end, snapshot_text, latest_time, longest_name, most_bytes, most_files, longest_text, is_name, comes_before, lies_in, IsFile, IsSnapshot, IsSnapshotText, Follows}
-use Rattle.paths.specs.SnapshotFaults.{kind_of, header_kind_of, named, ◌>>=◌, header_at, end_heading, heading_of, name_at, body_at, file_at, entry_at, FaultsBehind, IsFrontFault, IsFirstFault}
+use Rattle.paths.specs.SnapshotFaults.{kind_of, header_kind_of, named, ◌>>=◌, header_at, end_heading, heading_of, name_at, body_at, file_at, entry_at, FaultsAfter, IsFrontFault, IsFirstFault}
 use Rattle.paths.proofs.Taking.{line_whole}
-use Rattle.paths.proofs.OneList.{meet, number_again, decimal_passes, passes_append, file_is_line, digits_short, announces, heading_again, behind, file_then, split, same_file, end_text, end_apart, header, parts, one_list}
+use Rattle.paths.proofs.OneList.{meet, number_again, decimal_passes, passes_append, file_is_line, digits_short, announces, heading_again, following, file_then, split, same_file, end_text, end_apart, header, parts, one_list}
 
 pub bind_is : {A B : Type 0} (r : Result A SnapshotFaultKind) (f : A → Result B SnapshotFaultKind) (x : A) → r ≡ Ok x → (r >>= f) ≡ f x
 bind_is r f x h = ap (λ (q : Result _ SnapshotFaultKind). q >>= f) h
@@ -69,7 +69,7 @@ name_again files f t l nl h left =
     ∙ (pass (not (list_all (λ g. comes_before g.name f.name) files)) _ _ (ap not h.order) ∙ pass (list_any (λ g. lies_in g.name f.name) files) _ _ h.apart)))
 
 file_again : (files : List File) (f : File) (t : List ℕ) (l nl : ℕ) → Follows files f → l ≡ length f.name + (1 + (length f.bytes + (1 + nl)))
-    → file_at files (announces f) (record { bytes = behind f t; left = l }) ≡ Ok (f, record { bytes = t; left = nl })
+    → file_at files (announces f) (record { bytes = following f t; left = l }) ≡ Ok (f, record { bytes = t; left = nl })
 file_again files f t l nl h left =
     let start : Ahead = record { bytes = f.name ++ feed ∷ (f.bytes ++ feed ∷ t); left = l } in
     let mid : Ahead = record { bytes = f.bytes ++ feed ∷ t; left = length f.bytes + (1 + nl) } in
@@ -93,12 +93,12 @@ entry_again files f t l nl h left =
     let is = file_is_line f.mtime (length f.name) (length f.bytes) h.file.mtime h.file.short h.file.bytes in
     let last : Ahead = record { bytes = t; left = nl } in
     let ml = length f.name + (1 + (length f.bytes + (1 + nl))) in
-    let mid : Ahead = record { bytes = behind f t; left = ml } in
+    let mid : Ahead = record { bytes = following f t; left = ml } in
     let sizes : l ≡ length (file_line f) + (1 + ml) =
     omega (arith, length-append (file_line f) (feed ∷ (f.name ++ feed ∷ (f.bytes ++ feed ∷ []))), length-append f.name (feed ∷ (f.bytes ++ feed ∷ [])), length-append f.bytes (feed ∷ [])) in
-    let read : line_at (record { bytes = file_line f ++ feed ∷ behind f t; left = l }) ≡ Ok (file_line f, mid) = line_whole (file_line f) (behind f t) l ml is.feeds is.short sizes in
+    let read : line_at (record { bytes = file_line f ++ feed ∷ following f t; left = l }) ≡ Ok (file_line f, mid) = line_whole (file_line f) (following f t) l ml is.feeds is.short sizes in
     ap (λ w. entry_at files (record { bytes = w; left = l })) (file_then f t)
-    ∙ (bind_is (named kind_of (line_at (record { bytes = file_line f ++ feed ∷ behind f t; left = l }))) _ (file_line f, mid) (named_is kind_of _ (file_line f, mid) read)
+    ∙ (bind_is (named kind_of (line_at (record { bytes = file_line f ++ feed ∷ following f t; left = l }))) _ (file_line f, mid) (named_is kind_of _ (file_line f, mid) read)
     ∙ (bind_is (heading_of (file_line f)) _ _ (heading_again f h.file) ∙ bind_is (file_at files (announces f) mid) _ (f, last) (file_again files f t ml nl h refl)))
 
 -- the last line is read as the end
@@ -211,8 +211,8 @@ prefix_good fs x f rules size (inr (gs, rest, fault)) =
         not_both _ f.kind (entry_at gs (record { bytes = file_text q ++ t; left = l })) (entry_again gs q t l (l - length (file_text q)) follows (omega (arith, one_more_text gs more q)))
         (sym (ap (λ w. entry_at gs (record { bytes = w; left = l })) here) ∙ fault.kind)
 
-nothing_behind : (xs : List ℕ) (b : ℕ) (rest : List ℕ) → [] ≡ b ∷ rest → ⊥
-nothing_behind xs b rest h = absurd cc
+nothing_after : (xs : List ℕ) (b : ℕ) (rest : List ℕ) → [] ≡ b ∷ rest → ⊥
+nothing_after xs b rest h = absurd cc
 
 -- nor is the whole text
 pub no_fault : (bytes : List ℕ) (fs : List File) (f : SnapshotFault) → IsSnapshotText bytes fs → IsFirstFault bytes f → ⊥
@@ -221,7 +221,7 @@ no_fault bytes fs f t (inl fault) =
     prefix_good fs [] f t.rules (let s = t.size in omega (arith, ap length t.text)) (subst (λ (w : List ℕ). IsFrontFault w f) is fault)
 no_fault bytes fs f t (inr (gs, b, rest, trailing)) =
     let is : snapshot_text fs ++ [] ≡ snapshot_text gs ++ b ∷ rest = append-nil (snapshot_text fs) ∙ (sym t.text ∙ trailing.whole) in
-    nothing_behind [] b rest (one_list fs gs [] (b ∷ rest) t.rules trailing.rules is).1
+    nothing_after [] b rest (one_list fs gs [] (b ∷ rest) t.rules trailing.rules is).1
 
 -- ---- one first fault
 
@@ -240,7 +240,7 @@ header_good bytes gs rest k is fault =
     (sym (ap (λ w. header_at (record { bytes = w; left = longest_text })) here) ∙ fault)
 
 -- of two faults one stands after fewer files: then another file stands there
-fewer : (bytes : List ℕ) (gs hs : List File) (f g : SnapshotFault) (x y : List ℕ) (more : List File) → FaultsBehind bytes f gs x → FaultsBehind bytes g hs y
+fewer : (bytes : List ℕ) (gs hs : List File) (f g : SnapshotFault) (x y : List ℕ) (more : List File) → FaultsAfter bytes f gs x → FaultsAfter bytes g hs y
     → hs ≡ gs ++ more → x ≡ flat_map file_text more ++ y → f ≡ g
 fewer bytes gs hs f g x y [] a b e h =
     let is : gs ≡ hs = sym (e ∙ append-nil gs) in

@@ -124,10 +124,10 @@ heading_again f h =
 -- ---- a file
 
 -- what stands after a file's line
-abbrev pub behind : File → List ℕ → List ℕ
-behind f x = f.name ++ feed ∷ (f.bytes ++ feed ∷ x)
+abbrev pub following : File → List ℕ → List ℕ
+following f x = f.name ++ feed ∷ (f.bytes ++ feed ∷ x)
 
-pub file_then : (f : File) (x : List ℕ) → file_text f ++ x ≡ file_line f ++ feed ∷ behind f x
+pub file_then : (f : File) (x : List ℕ) → file_text f ++ x ≡ file_line f ++ feed ∷ following f x
 file_then f x =
     append_assoc (file_line f) (feed ∷ (f.name ++ feed ∷ (f.bytes ++ feed ∷ []))) x
     ∙ ap (λ w. file_line f ++ feed ∷ w) (append_assoc f.name (feed ∷ (f.bytes ++ feed ∷ [])) x ∙ ap (λ w. f.name ++ feed ∷ w) (append_assoc f.bytes (feed ∷ []) x))
@@ -138,15 +138,15 @@ split n a b c d p q h = (sym (take_at a c n p) ∙ (ap (take n) h ∙ take_at b 
 same_heading : (a b : FileLine) → (let r : Result Heading SnapshotFaultKind = Ok (headings.File a) in r) ≡ Ok (headings.File b) → a ≡ b
 same_heading a b h = cc
 
-same_line : (f g : File) (x y : List ℕ) → IsFile f → IsFile g → file_text f ++ x ≡ file_text g ++ y → (file_line f ≡ file_line g) × (behind f x ≡ behind g y)
+same_line : (f g : File) (x y : List ℕ) → IsFile f → IsFile g → file_text f ++ x ≡ file_text g ++ y → (file_line f ≡ file_line g) × (following f x ≡ following g y)
 same_line f g x y hf hg h =
     let l = length (file_line f) + (1 + (length (file_line g) + 1)) in
     let lf = file_is_line f.mtime (length f.name) (length f.bytes) hf.mtime hf.short hf.bytes in
     let lg = file_is_line g.mtime (length g.name) (length g.bytes) hg.mtime hg.short hg.bytes in
-    let a = line_whole (file_line f) (behind f x) l (length (file_line g) + 1) lf.feeds lf.short refl in
-    let b = line_whole (file_line g) (behind g y) l (length (file_line f) + 1) lg.feeds lg.short (omega arith) in
-    let text : file_line f ++ feed ∷ behind f x ≡ file_line g ++ feed ∷ behind g y = sym (file_then f x) ∙ (h ∙ file_then g y) in
-    let e : (file_line f, record { bytes = behind f x; left = length (file_line g) + 1 }) ≡ (file_line g, record { bytes = behind g y; left = length (file_line f) + 1 }) =
+    let a = line_whole (file_line f) (following f x) l (length (file_line g) + 1) lf.feeds lf.short refl in
+    let b = line_whole (file_line g) (following g y) l (length (file_line f) + 1) lg.feeds lg.short (omega arith) in
+    let text : file_line f ++ feed ∷ following f x ≡ file_line g ++ feed ∷ following g y = sym (file_then f x) ∙ (h ∙ file_then g y) in
+    let e : (file_line f, record { bytes = following f x; left = length (file_line g) + 1 }) ≡ (file_line g, record { bytes = following g y; left = length (file_line f) + 1 }) =
     ok_is {A = List ℕ × Ahead} {E = Stop} _ _ _ _ a b (ap (λ w. line_at (record { bytes = w; left = l })) text) in
     (ap (λ (p : List ℕ × Ahead). p.0) e, ap (λ (p : List ℕ × Ahead). p.1.bytes) e)
 

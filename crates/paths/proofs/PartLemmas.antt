@@ -16,7 +16,7 @@ use Rattle.paths.specs.Numbers.{number_of, three_numbers}
 use Rattle.paths.specs.Texts.{Ahead, ahead_of, byte_at, run_at, line_at, line_front, front, ended}
 use Rattle.paths.specs.Snapshots.{feed, text_before_end, longest_text, latest_time, most_bytes, longest_name, most_files, is_name, comes_before, lies_in, IsSnapshot}
 use Rattle.paths.specs.SnapshotFaults.{kind_of, named, ◌>>=◌, file_heading, end_heading, heading_of, name_at, body_at, file_at, announced, entry_at}
-use Rattle.paths.specs.Parts.{TookPart, FailsInSnapshot, NamesBehind}
+use Rattle.paths.specs.Parts.{TookPart, FailsInSnapshot, NamesAfter}
 use Rattle.paths.proofs.Taking.{Takes, TakesLine, line_whole, line_ends, ended_past}
 use Rattle.paths.proofs.Inverse.{unless_ok, ok_is, line_inverse, run_inverse, name_inverse}
 use Rattle.paths.proofs.NoFault.{bind_is, named_is, pass, neither, byte_again, run_again}
@@ -25,9 +25,9 @@ use Rattle.paths.proofs.FilesOrFault.{name_fits}
 -- ---- a part after what was taken
 
 -- a read failed after what was taken, and took nothing
-pub none_behind : (Q : List ℕ → Type 0) (o n m : Option (List ℕ)) (l nl ml : ℕ) (taken : List ℕ) → Takes o l n nl taken → (is_some o ≡ true → Q taken)
+pub none_after : (Q : List ℕ → Type 0) (o n m : Option (List ℕ)) (l nl ml : ℕ) (taken : List ℕ) → Takes o l n nl taken → (is_some o ≡ true → Q taken)
     → (is_some n ≡ true → TookPart (λ part. part ≡ []) n nl m ml) → is_some o ≡ true → TookPart Q o l m ml
-none_behind Q o n m l nl ml taken t q h k =
+none_after Q o n m l nl ml taken t q h k =
     let none = h (t.known k) in
     let same : none.part ≡ [] = none.holds in
     record {
@@ -39,10 +39,10 @@ none_behind Q o n m l nl ml taken t q h k =
     }
 
 -- it took a part
-pub part_behind : (P Q : List ℕ → Type 0) (o n m : Option (List ℕ)) (l nl ml : ℕ) (taken : List ℕ) → Takes o l n nl taken
+pub part_after : (P Q : List ℕ → Type 0) (o n m : Option (List ℕ)) (l nl ml : ℕ) (taken : List ℕ) → Takes o l n nl taken
     → ((t : List ℕ) → l ≡ length taken + nl → P t → Q (taken ++ t))
     → (is_some n ≡ true → TookPart P n nl m ml) → is_some o ≡ true → TookPart Q o l m ml
-part_behind P Q o n m l nl ml taken t q h k =
+part_after P Q o n m l nl ml taken t q h k =
     let more = h (t.known k) in
     record {
       part = taken ++ more.part;
@@ -83,7 +83,7 @@ pub line_fails : (o n m : Option (List ℕ)) (l nl ml : ℕ) (line : List ℕ) �
     → (is_some n ≡ true → TookPart (λ part. part ≡ []) n nl m ml) → is_some o ≡ true
     → TookPart (λ part. line_at (record { bytes = part; left = l }) ≡ Err stops.Cut) o l m ml
 line_fails o n m l nl ml line t short h k =
-    none_behind (λ part. line_at (record { bytes = part; left = l }) ≡ Err stops.Cut) o n m l nl ml line t.takes
+    none_after (λ part. line_at (record { bytes = part; left = l }) ≡ Err stops.Cut) o n m l nl ml line t.takes
     (λ known. line_cut line l nl t.feeds short (t.takes.count known)) h k
 
 -- ---- what was read is read again before any text
@@ -172,7 +172,7 @@ pub body_fails : (n : ℕ) (o m p : Option (List ℕ)) (l ml pl : ℕ) (bytes : 
     → TookPart (λ part. body_at n (record { bytes = part; left = l }) ≡ Err Cut) o l p pl
 body_fails n o m p l ml pl bytes is run h k =
     let t = run_takes n o m l ml bytes run in
-    none_behind (λ part. body_at n (record { bytes = part; left = l }) ≡ Err Cut) o m p l ml pl bytes t
+    none_after (λ part. body_at n (record { bytes = part; left = l }) ≡ Err Cut) o m p l ml pl bytes t
     (λ known. body_cut n l ml bytes is (let e = t.count known in omega (arith, e, is))) h k
 
 -- after those of a name
@@ -182,7 +182,7 @@ pub name_fails : (files : List File) (n : ℕ) (o m p : Option (List ℕ)) (l ml
     → TookPart (λ part. name_at files n (record { bytes = part; left = l }) ≡ Err Cut) o l p pl
 name_fails files n o m p l ml pl name is run h k =
     let t = run_takes n o m l ml name run in
-    none_behind (λ part. name_at files n (record { bytes = part; left = l }) ≡ Err Cut) o m p l ml pl name t
+    none_after (λ part. name_at files n (record { bytes = part; left = l }) ≡ Err Cut) o m p l ml pl name t
     (λ known. name_cut files n l ml name is (let e = t.count known in omega (arith, e, is))) h k
 
 -- in the bytes of a file whose name was read
@@ -202,7 +202,7 @@ file_fails files line o m p l ml pl name in_time size room some short read h k =
     let c : nat_le most_files (length files) ≡ false = grind (arith, nat_tests) in
     let d : nat_lt longest_name line.name_len ≡ false = grind (arith, nat_tests) in
     let e : (line.name_len == 0) ≡ false = ne_eqb line.name_len 0 (λ same. omega arith) in
-    part_behind (λ part. body_at line.len (record { bytes = part; left = ml }) ≡ Err Cut) (λ part. file_at files line (record { bytes = part; left = l }) ≡ Err Cut) o m p l ml pl (name ++ feed ∷ []) t
+    part_after (λ part. body_at line.len (record { bytes = part; left = ml }) ≡ Err Cut) (λ part. file_at files line (record { bytes = part; left = l }) ≡ Err Cut) o m p l ml pl (name ++ feed ∷ []) t
     (λ part left cut.
     let all : Ahead = record { bytes = (name ++ feed ∷ []) ++ part; left = l } in
     let mid : Ahead = record { bytes = part; left = ml } in
@@ -230,7 +230,7 @@ heading_not_read line kind h is = elim (heading_kinds line kind h) [ inl number 
 
 -- a read failed in what a line announced
 pub entry_fails : (files : List File) (o m p : Option (List ℕ)) (l ml pl : ℕ) (line : List ℕ) (heading : Heading) → heading_of line ≡ Ok heading
-    → (is_some o ≡ true → (behind : Ahead) × (line_at (ahead_of o l) ≡ Ok (line, behind)) × (is_some m ≡ true) × ((h : Heading) → heading_of line ≡ Ok h → behind ≡ ahead_of m ml))
+    → (is_some o ≡ true → (following : Ahead) × (line_at (ahead_of o l) ≡ Ok (line, following)) × (is_some m ≡ true) × ((h : Heading) → heading_of line ≡ Ok h → following ≡ ahead_of m ml))
     → (is_some m ≡ true → TookPart (λ part. announced files heading (record { bytes = part; left = ml }) ≡ Err Cut) m ml p pl) → is_some o ≡ true
     → TookPart (λ part. entry_at files (record { bytes = part; left = l }) ≡ Err Cut) o l p pl
 entry_fails files o m p l ml pl line heading is read h k =
@@ -240,7 +240,7 @@ entry_fails files o m p l ml pl line heading is read h k =
       count = λ known. (line_inverse (ahead_of o l) (ahead_of m ml) line (got known)).left;
       known = λ known. (read known).2;
     } in
-    part_behind (λ part. announced files heading (record { bytes = part; left = ml }) ≡ Err Cut) (λ part. entry_at files (record { bytes = part; left = l }) ≡ Err Cut) o m p l ml pl (line ++ feed ∷ []) t
+    part_after (λ part. announced files heading (record { bytes = part; left = ml }) ≡ Err Cut) (λ part. entry_at files (record { bytes = part; left = l }) ≡ Err Cut) o m p l ml pl (line ++ feed ∷ []) t
     (λ part left cut.
     let all : Ahead = record { bytes = (line ++ feed ∷ []) ++ part; left = l } in
     let mid : Ahead = record { bytes = part; left = ml } in
@@ -269,5 +269,5 @@ front_fails o n m nl ml entry files kind rules is t h k =
 -- memory ran out for that entry
 pub front_lacks : (o n : Option (List ℕ)) (nl entry : ℕ) (files : List File) (kind : SnapshotFaultKind) → IsSnapshot files → entry ≡ length files + 1
     → Takes o longest_text n nl (text_before_end files) → is_some o ≡ true
-    → (fs : List File) × (rest : List ℕ) × NamesBehind (unwrap_or o []) (record { entry = entry; kind = kind }) fs rest
+    → (fs : List File) × (rest : List ℕ) × NamesAfter (unwrap_or o []) (record { entry = entry; kind = kind }) fs rest
 front_lacks o n nl entry files kind rules is t k = (files, unwrap_or n [], record { whole = t.bytes k; rules = rules; entry = is })

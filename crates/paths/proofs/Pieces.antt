@@ -122,7 +122,7 @@ piece_more o n m l nl ml count line came after room r t came_is within left byte
 pub piece_ends : (least longer : ℕ) (kind : List ℕ) (o n m : Option (List ℕ)) (l nl ml count owed : ℕ) (line came after room : List ℕ) (r : Bool) → TakesLine o l n nl line → came ≡ take count room
     → count ≤ length room → nl ≡ count + ml → Came n nl m ml count room → after ≡ line ++ before_first (λ b. b == 10) came
     → r ≡ nat_lt (length (before_first (λ b. b == 10) came)) (length came) → r ≡ true → length line + count ≤ 65 → count ≤ owed → IsOwed least kind longer line owed
-    → is_some o ≡ true → (behind : Ahead) × (line_at (ahead_of o l) ≡ Ok (after, behind)) × (is_some m ≡ true) × (IsLong least kind longer after → behind ≡ ahead_of m ml)
+    → is_some o ≡ true → (following : Ahead) × (line_at (ahead_of o l) ≡ Ok (after, following)) × (is_some m ≡ true) × (IsLong least kind longer after → following ≡ ahead_of m ml)
 piece_ends least longer kind o n m l nl ml count owed line came after room r t came_is within left bytes after_is found some short in_owed owes k =
     let p = prefix_len (λ b. not (b == 10)) came in
     let below : p ≤ length came = prefix_len-le-length (λ b. not (b == 10)) came in
@@ -143,12 +143,12 @@ piece_ends least longer kind o n m l nl ml count owed line came after room r t c
     t.takes.bytes k ∙ ap (λ v. line ++ v) ((bytes kn).0 ∙ ap (λ v. v ++ ahead) (sym came_is ∙ cut) ∙ append_assoc (take p came) (10 ∷ rest) ahead)
     ∙ sym (append_assoc line (take p came) (10 ∷ (rest ++ ahead))) in
     let rest_size : length rest ≡ count - (p + 1) = omega (arith, length-drop (p + 1) came) in
-    let behind : Ahead = record { bytes = rest ++ ahead; left = length rest + ml } in
-    let whole : line_at (record { bytes = (line ++ take p came) ++ 10 ∷ (rest ++ ahead); left = l }) ≡ Ok (line ++ take p came, behind) =
+    let following : Ahead = record { bytes = rest ++ ahead; left = length rest + ml } in
+    let whole : line_at (record { bytes = (line ++ take p came) ++ 10 ∷ (rest ++ ahead); left = l }) ≡ Ok (line ++ take p came, following) =
     line_whole (line ++ take p came) (rest ++ ahead) l (length rest + ml) (feeds_on line (take p came) t.feeds feeds)
     (omega (arith, length-append line (take p came))) (omega (arith, length-append line (take p came), t.takes.count k)) in (
-      behind,
-      ap (λ v. line_at (record { bytes = v; left = l })) text ∙ whole ∙ ap (λ (v : List ℕ). let w : Result (List ℕ × Ahead) Stop = Ok (v, behind) in w) (sym after_is),
+      following,
+      ap (λ v. line_at (record { bytes = v; left = l })) text ∙ whole ∙ ap (λ (v : List ℕ). let w : Result (List ℕ × Ahead) Stop = Ok (v, following) in w) (sym after_is),
       (bytes kn).1,
       λ long.
           let owed_is : owed ≤ length (take p came) + 1 = owes (take p came) (subst (λ (v : List ℕ). IsLong least kind longer v) after_is long) in

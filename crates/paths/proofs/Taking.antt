@@ -10,7 +10,7 @@ use Rattle.paths.specs.declared.stop.Stop.TheVariants.{TooLong, Cut, TooLarge}
 use borrow.Rule.Slice.PartMut.{put_mid, post_of}
 use Rattle.paths.specs.Texts.{is_unforeseen, Ahead, ahead_of, byte_at, line_at, line_front, front, past, ended}
 
--- so many bytes of the text were taken, and where the bytes of the input are known, just these
+-- n bytes of the text were taken, and where the bytes of the input are known, just these
 pub record Takes (old : Option (List ℕ)) (left : ℕ) (new : Option (List ℕ)) (new_left : ℕ) (taken : List ℕ) : Type 0 where
   pub bytes : is_some old ≡ true → unwrap_or old [] ≡ taken ++ unwrap_or new []
   pub count : is_some old ≡ true → left ≡ length taken + new_left

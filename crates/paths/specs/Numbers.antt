@@ -20,7 +20,7 @@ abbrev pub ◌>>=◌ : {A B : Type 0} → Option A → (A → Option B) → Opti
 None >>= f = None
 (Some x) >>= f = f x
 
--- the number in front of the first space, and what follows the space
+-- the number before the first space, and what follows the space
 abbrev pub number_and_rest : List ℕ → Option (ℕ × List ℕ)
 number_and_rest text = do
   space ← position (λ b. b == 32) text

@@ -19,13 +19,13 @@ IsOwed least kind longer front n = (rest : List ℕ) → IsLong least kind longe
 -- The call gave the next line. Where that is so long, what follows the line is ahead now.
 abbrev pub GivesLongLine : ℕ → List ℕ → ℕ → Option (List ℕ) → ℕ → Option (List ℕ) → ℕ → Result (List ℕ) Stop → Type 0
 GivesLongLine least kind longer old left new left_new r = is_some old ≡ true → MatchResult r
-    (λ line. (behind : Ahead) × (line_at (ahead_of old left) ≡ Ok (line, behind)) × (is_some new ≡ true)
-    × (IsLong least kind longer line → behind ≡ ahead_of new left_new))
+    (λ line. (following : Ahead) × (line_at (ahead_of old left) ≡ Ok (line, following)) × (is_some new ≡ true)
+    × (IsLong least kind longer line → following ≡ ahead_of new left_new))
     (λ e. is_unforeseen e ≡ false → line_at (ahead_of old left) ≡ Err e)
 
 -- The call gave the next line. Where that announces something, what follows the line is ahead now.
 abbrev pub GivesLine : Option (List ℕ) → ℕ → Option (List ℕ) → ℕ → Result (List ℕ) Stop → Type 0
 GivesLine old left new left_new r = is_some old ≡ true → MatchResult r
-    (λ line. (behind : Ahead) × (line_at (ahead_of old left) ≡ Ok (line, behind)) × (is_some new ≡ true)
-    × ((h : Heading) → heading_of line ≡ Ok h → behind ≡ ahead_of new left_new))
+    (λ line. (following : Ahead) × (line_at (ahead_of old left) ≡ Ok (line, following)) × (is_some new ≡ true)
+    × ((h : Heading) → heading_of line ≡ Ok h → following ≡ ahead_of new left_new))
     (λ e. is_unforeseen e ≡ false → line_at (ahead_of old left) ≡ Err e)

@@ -18,19 +18,19 @@ pub record TookPart (Holds : List ℕ → Type 0) (old : Option (List ℕ)) (lef
   pub holds : Holds part
 
 -- where the bytes of the input are known and the fault is a failed read, this holds of what the call had taken
-abbrev pub FailsBehind : {Y E : Type 0} → E → (List ℕ → Type 0) → Option (List ℕ) → ℕ → Option (List ℕ) → ℕ → Result Y E
+abbrev pub FailsAfter : {Y E : Type 0} → E → (List ℕ → Type 0) → Option (List ℕ) → ℕ → Option (List ℕ) → ℕ → Result Y E
     → Type 0
-FailsBehind failed Holds old left new left_new r = IfErr r
+FailsAfter failed Holds old left new left_new r = IfErr r
     (λ e. e ≡ failed → is_some old ≡ true → TookPart Holds old left new left_new)
 
 -- it is nothing
 abbrev pub FailsAtOnce : {Y E : Type 0} → E → Option (List ℕ) → ℕ → Option (List ℕ) → ℕ → Result Y E → Type 0
-FailsAtOnce failed old left new left_new r = FailsBehind failed (λ part. part ≡ []) old left new left_new r
+FailsAtOnce failed old left new left_new r = FailsAfter failed (λ part. part ≡ []) old left new left_new r
 
 -- f finds it cut: nothing whole of what f reads had been taken
 abbrev pub FailsWithin : {X Y E : Type 0} → E → E → (Ahead → Result (X × Ahead) E) → Option (List ℕ) → ℕ
     → Option (List ℕ) → ℕ → Result Y E → Type 0
-FailsWithin failed cut f old left new left_new r = FailsBehind failed
+FailsWithin failed cut f old left new left_new r = FailsAfter failed
     (λ part. f (record { bytes = part; left = left }) ≡ Err cut) old left new left_new r
 
 -- A read failed in the entry after these files: their texts were taken whole, and of the entry itself only a part,
@@ -62,7 +62,7 @@ pub record FailsAtEnd (text : List ℕ) (f : SnapshotFault) (files : List File) 
   pub entry : f.entry ≡ length files + 1
 
 -- The fault names the entry after these files, whose texts stand whole before it.
-pub record NamesBehind (text : List ℕ) (f : SnapshotFault) (files : List File) (rest : List ℕ) : Type 0 where
+pub record NamesAfter (text : List ℕ) (f : SnapshotFault) (files : List File) (rest : List ℕ) : Type 0 where
   pub whole : text ≡ text_before_end files ++ rest
   pub rules : IsSnapshot files
   pub entry : f.entry ≡ length files + 1
@@ -70,7 +70,7 @@ pub record NamesBehind (text : List ℕ) (f : SnapshotFault) (files : List File)
 -- where the bytes of the input are known, it does so where memory ran out
 abbrev pub NamesLacking : Option (List ℕ) → SnapshotFault → Type 0
 NamesLacking old f = f.kind ≡ Memory → is_some old ≡ true → (files : List File) × (rest : List ℕ)
-    × NamesBehind (unwrap_or old []) f files rest
+    × NamesAfter (unwrap_or old []) f files rest
 
 -- where the bytes of the input are known and the fault is a failed read
 abbrev pub NamesFailed : (List ℕ → List ℕ → SnapshotFault → Type 0) → Option (List ℕ) → Option (List ℕ) → SnapshotFault

@@ -67,7 +67,7 @@ heading_of line =
     else if starts_with nat_eq line (codes "end ") then end_heading (number_of (drop 4 line))
     else Err Kind
 
--- the name of so many bytes of a file after these files
+-- the name of n bytes of a file after these files
 abbrev pub name_at : List File → ℕ → Ahead → Result (List ℕ × Ahead) SnapshotFaultKind
 name_at files n a = do
   name ← named kind_of (run_at n a)
@@ -77,7 +77,7 @@ name_at files n a = do
       else if list_any (λ f. lies_in f.name name.0) files then Err Conflict
       else Ok (name.0, end.1)
 
--- the bytes of a file, so many
+-- the bytes of a file, n
 abbrev pub body_at : ℕ → Ahead → Result (List ℕ × Ahead) SnapshotFaultKind
 body_at n a = do
   bytes ← named kind_of (run_at n a)
@@ -126,7 +126,7 @@ CountsKind old new r = MatchResult r (λ _. new ≡ old) (λ k. new ≡ old + fa
 
 -- The first fault of bytes of which no front is a snapshot text: the first line's, or that of the entry after the files
 -- whose texts stand whole before it. Entry 0 is the first line.
-pub record FaultsBehind (text : List ℕ) (f : SnapshotFault) (files : List File) (rest : List ℕ) : Type 0 where
+pub record FaultsAfter (text : List ℕ) (f : SnapshotFault) (files : List File) (rest : List ℕ) : Type 0 where
   pub whole : text ≡ text_before_end files ++ rest
   pub rules : IsSnapshot files
   pub size : length (text_before_end files) ≤ longest_text
@@ -135,7 +135,7 @@ pub record FaultsBehind (text : List ℕ) (f : SnapshotFault) (files : List File
 
 abbrev pub IsFrontFault : List ℕ → SnapshotFault → Type 0
 IsFrontFault text f = ((f.entry ≡ 0) × (header_at (record { bytes = text; left = longest_text }) ≡ Err f.kind))
-    ⊎ ((files : List File) × (rest : List ℕ) × FaultsBehind text f files rest)
+    ⊎ ((files : List File) × (rest : List ℕ) × FaultsAfter text f files rest)
 
 -- the same of bytes that are no snapshot text: a text with a byte after it has one more fault
 pub record HasTrailing (text : List ℕ) (f : SnapshotFault) (files : List File) (b : ℕ) (rest : List ℕ) : Type 0 where

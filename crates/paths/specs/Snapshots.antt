@@ -30,7 +30,7 @@ latest_time = 253402300799
 abbrev pub longest_text : ℕ
 longest_text = 1073741824
 
--- the line in front of a file
+-- the line before a file
 abbrev pub file_line : File → List ℕ
 file_line f = codes "file " ++ decimal f.mtime ++ codes " " ++ decimal (length f.name) ++ codes " "
     ++ decimal (length f.bytes)
@@ -106,7 +106,7 @@ no_file = record { name = []; mtime = 0; bytes = [] }
 abbrev pub file_of : List File → ℕ → File
 file_of files n = slice_index_or files n no_file
 
--- the name, of so many bytes, may stand after those of these files
+-- the name, of n bytes, may stand after those of these files
 pub record FitsName (files : List File) (len : ℕ) (name : List ℕ) : Type 0 where
   pub length_is : length name ≡ len
   pub is : is_name name ≡ true

@@ -22,8 +22,8 @@ is_known method = list_any (bytes_eq method)
 abbrev pub is_authority_end : ℕ → Bool
 is_authority_end b = b == slash || b == 63
 
-abbrev pub behind_authority : List ℕ → Option (List ℕ)
-behind_authority rest =
+abbrev pub after_authority : List ℕ → Option (List ℕ)
+after_authority rest =
     if position_or_len is_authority_end rest == 0 then None
     else Some (drop (position_or_len is_authority_end rest) rest)
 
@@ -34,7 +34,7 @@ path_of target =
     if list_any (λ b. b == 35) target then None
     else if starts_with nat_eq target (codes "/") then Some (before_first (λ b. b == 63) target)
     else if bytes_eq (map to_ascii_lowercase (take 7 target)) (codes "http://")
-    then option_map (before_first (λ b. b == 63)) (behind_authority (drop 7 target))
+    then option_map (before_first (λ b. b == 63)) (after_authority (drop 7 target))
     else None
 
 -- two hexadecimal digits stand in front

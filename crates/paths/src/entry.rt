@@ -79,7 +79,7 @@ pub(crate) fn read_header<R: Read>(
     }
 }
 
-/// Reads a name of so many bytes that may stand after those of the snapshot.
+/// Reads a name of n bytes that may stand after those of the snapshot.
 fn read_name<R: Read>(
     alloc: Global,
     input: &mut Input<R>,
@@ -109,7 +109,7 @@ fn read_name<R: Read>(
     Ok(name)
 }
 
-/// Reads the bytes of a file, so many.
+/// Reads the bytes of a file, n.
 fn read_body<R: Read>(
     alloc: Global,
     input: &mut Input<R>,

@@ -10,7 +10,7 @@ pub struct File {
     pub bytes: Bytes,
 }
 
-/// The line in front of a file: its time, and how many bytes its name and the file itself have. A number past 64 bits
+/// The line before a file: its time, and how many bytes its name and the file itself have. A number past 64 bits
 /// stands as the greatest of 64 bits, which is past every limit.
 #[derive(Clone, Copy, Debug, PartialEq, Eq)]
 pub struct FileLine {
@@ -19,7 +19,7 @@ pub struct FileLine {
     pub len: u64,
 }
 
-/// What a line of a snapshot announces: a file, or the end after so many files.
+/// What a line of a snapshot announces: a file, or the end after n files.
 #[derive(Clone, Copy, Debug, PartialEq, Eq)]
 pub enum Heading {
     File(FileLine),

@@ -30,7 +30,7 @@ fn first_space(text: &[u8]) -> Option<usize>
     text.iter().position(|byte| *byte == b' ')
 }
 
-/// The number in front of the first space, and what follows that space.
+/// The number before the first space, and what follows that space.
 pub fn number_and_rest(text: &[u8]) -> Option<(u64, &[u8])>
     ensures { option_map (λ found. (found.0, found.1.now)) result ≡ number_and_rest text.now }
 {

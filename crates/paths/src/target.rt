@@ -7,7 +7,7 @@ ghost use Rattle.paths.specs.Snapshots.{slash};
 ghost use Rattle.paths.specs.Steps.{after_step};
 ghost use Rattle.paths.specs.Targets.{is_served, is_known, path_of, begins_hexadecimal, has_good_escapes, is_nameless};
 ghost use Rattle.paths.specs.Targets.{is_here, is_up, walked, asked_by, asked, segments_of, is_authority_end};
-ghost use Rattle.paths.specs.Targets.{behind_authority, parts_of};
+ghost use Rattle.paths.specs.Targets.{after_authority, parts_of};
 
 use crate::bytes::is_text;
 use crate::step::Step;
@@ -81,8 +81,8 @@ fn authority_end(text: &[u8]) -> Option<usize>
 }
 
 /// What stands after the authority, where this is not empty.
-fn behind_authority(text: &[u8]) -> Option<&[u8]>
-    ensures { option_map (λ p. p.now) result ≡ behind_authority text.now }
+fn after_authority(text: &[u8]) -> Option<&[u8]>
+    ensures { option_map (λ p. p.now) result ≡ after_authority text.now }
 {
     match authority_end(text) {
         Some(0) => None,
@@ -110,7 +110,7 @@ fn path_of(target: &[u8]) -> Option<&[u8]>
         return Some(without_query(target));
     }
     if target.len() >= 7 && target[..7].eq_ignore_ascii_case(b"http://") {
-        return match behind_authority(&target[7..]) {
+        return match after_authority(&target[7..]) {
             Some(path) => Some(without_query(path)),
             None => None,
         };

@@ -36,7 +36,7 @@ use Rattle.replay.specs.declared.summary.Summary.{Summary}
 use Rattle.arrivals.specs.Arrivals.{Arrival, text_of, messages_of, ArrivesWith, Precedes, AreArrivals}
 use Rattle.replay.specs.Choices.{Terms}
 use Rattle.replay.specs.Answers.{given}
-use Rattle.replay.specs.Offers.{Handled, offer_at, offers_of, rejects, is_turned_away, handled_next, handled_behind, handled}
+use Rattle.replay.specs.Offers.{Handled, offer_at, offers_of, rejects, is_turned_away, handled_next, handled_after, handled}
 use Rattle.replay.specs.Replies.{reply_of, replies_of, replies_text}
 use Rattle.replay.specs.Counting.{status_for, counts_of, bypassed_of, breaks_a_rule, rejected_of, samples_of, tally_of, tallies_of, summary_of}
 use Rattle.replay.specs.Outcomes.{Answers, most_messages}
@@ -100,8 +100,8 @@ turned_same terms earlier a lowest at =
     go (Bad fault) = refl
 
 handled_same : (terms : Terms) (earlier arrivals : List Arrival) → AreLowest earlier → AreLowest arrivals
-    → handled_behind terms earlier arrivals ≡ handled_after_alone (former_terms terms) earlier arrivals
-unfolding handled_behind handled_after_alone
+    → handled_after terms earlier arrivals ≡ handled_after_alone (former_terms terms) earlier arrivals
+unfolding handled_after handled_after_alone
 handled_same terms earlier [] before lowest = refl
 handled_same terms earlier (a ∷ arrivals) before lowest =
     let at = All-head (λ a. a.origin.tier ≡ 0) a arrivals lowest in
@@ -316,7 +316,7 @@ lowest_of records arrivals each arrived k d lt =
 
 was_with : (records : List Record) (a : Arrival) → ArrivesWith records a → ArrivedWith records a
 was_with records a with =
-    record { bytes = with.bytes; piece = with.piece; behind = with.behind; within = with.within }
+    record { bytes = with.bytes; piece = with.piece; after = with.after; within = with.within }
 
 were_arrivals : (records : List Record) (arrivals : List Arrival) → AreArrivals records arrivals
     → WereArrivals records arrivals
@@ -459,7 +459,7 @@ lowered_with records a each with = record {
   bytes = with.bytes;
   piece = with.piece;
   tier = sym (tiers_of_version_one a.origin.conn (take a.place records) (All-take (IsRecord One) a.place records each));
-  behind = with.behind;
+  after = with.after;
   within = with.within;
 }
 

@@ -2,7 +2,7 @@
 use Rattle.std.proofs.Common.{◌≡◌, ℕ, zero, suc, List, [], ◌∷◌, ◌++◌, map, take, refl, ap, ◌∙◌}
 use Rattle.std.proofs.lemmas.List.{map-append}
 use Rattle.arrivals.proofs.ArrivalLaws.{arrivals_begin}
-use Rattle.replay.specs.Offers.{handled, handled_behind}
+use Rattle.replay.specs.Offers.{handled, handled_after}
 use Rattle.replay.specs.Outcomes.{most_messages}
 use Rattle.replay.specs.Replies.{reply_of, replies_of}
 use Rattle.replay.specs.Laws.{FloorsChangeNothing, HandledBegin, DueBegin}
@@ -12,7 +12,7 @@ pub floors_change_nothing : FloorsChangeNothing
 floors_change_nothing files c d input old new outcome costs rules retry h = rw (← costs, ← rules, ← retry) h
 
 pub handled_begin : HandledBegin
-handled_begin terms arrivals more = (handled_behind terms arrivals more, handled_more terms [] arrivals more)
+handled_begin terms arrivals more = (handled_after terms arrivals more, handled_more terms [] arrivals more)
 
 -- the first n of a longer list begin with the first n of the shorter
 take_begins : {A : Type 0} (n : ℕ) (xs ys : List A) → (rest : List A) × (take n (xs ++ ys) ≡ take n xs ++ rest)

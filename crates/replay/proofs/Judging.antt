@@ -32,11 +32,11 @@ use Rattle.replay.specs.Outcomes.{IfCutShort, IfTooMany}
 use Rattle.arrivals.specs.declared.origin.Origin.{Origin}
 use Rattle.replay.specs.declared.replay_fault.ReplayFault.{ReplayFault}
 use Rattle.replay.specs.declared.replay_fault.ReplayFault.TheVariants.{Capture, TooMany, Memory, Write as Unwritten}
-use Rattle.replay.specs.Offers.{is_unmodified_file, length_given, offer_at, offers_of, is_turned_away, handled_next, handled_behind, handled}
+use Rattle.replay.specs.Offers.{is_unmodified_file, length_given, offer_at, offers_of, is_turned_away, handled_next, handled_after, handled}
 use Rattle.replay.specs.Counting.{bypassed_of, samples_of, tally_of, breaks_a_rule, AreBelow}
 use Rattle.replay.specs.Totals.{no_counts, totals_of, noted}
 use Rattle.replay.specs.Deciding.{decided_totals, Decides}
-use Rattle.replay.specs.Serving.{Stands, AreBy, records_behind}
+use Rattle.replay.specs.Serving.{Stands, AreBy, records_after}
 use Rattle.http_requests.specs.declared.messages.Message.{Message}
 use Rattle.arrivals.specs.Connections.{arrivals_with}
 use Rattle.std.proofs.lemmas.List.Elements.{All-nil, All-cons, All-append}
@@ -170,7 +170,7 @@ stands_more terms arrivals a away old mid new status stands decides told same co
 
 pub stands_none : (terms : Terms) (desk : Desk) → (policies_of desk.controller) ≡ terms.policies → Fits [] desk.controller
     → desk.totals ≡ record { answered = 0; counts = no_counts; bypassed = 0; rejected = []; samples = [] } → Stands terms [] desk
-unfolding offers_of samples_of handled_behind served decided_from
+unfolding offers_of samples_of handled_after served decided_from
 stands_none terms desk rules fits totals = record { policies = rules; fits = fits; totals = totals; few = omega arith }
 
 -- ---- what the desk's calls ask
@@ -237,7 +237,7 @@ slip_is X terms start arrivals a origin what old mid told conn head link slip st
 
 -- what a message's reply has written
 pub reply_written : (X : Type 0) (terms : Terms) (start : ℕ) (arrivals : List Arrival) (a : Arrival) (slip : Slip X) (r : ℕ × ℕ × List ℕ) → slip ≡ slip_of terms start (handled_next terms arrivals a)
-    → r ≡ (slip.number, slip.conn, reply_text terms.files slip) → record_text r ≡ records_behind terms start arrivals (a ∷ [])
+    → r ≡ (slip.number, slip.conn, reply_text terms.files slip) → record_text r ≡ records_after terms start arrivals (a ∷ [])
 reply_written X terms start arrivals a slip r slips told = ap record_text (reply_is terms start (handled_next terms arrivals a) slip r slips told) ∙ sym (records_one terms start arrivals a)
 
 -- ---- faults

@@ -9,14 +9,14 @@ use Rattle.http_requests.specs.declared.messages.What.TheVariants.{Request, Bad}
 use Rattle.admission.specs.declared.control.Decision.{Decision}
 use Rattle.admission.specs.declared.control.Decision.TheVariants.{Admitted, Rejected}
 use Rattle.admission.specs.Rules.{Rules}
-use Rattle.admission.specs.Requests.{Offer, Decided, served, as_served, finish_behind}
+use Rattle.admission.specs.Requests.{Offer, Decided, served, as_served, finish_after}
 use Rattle.admission.specs.Decisions.{decide, decided, decided_next}
 use Rattle.admission.specs.Fits.{tick_from}
 use Rattle.admission.proofs.RequestLemmas.{decided_from-push, served-push, last_finish-push}
 use Rattle.replay.specs.Choices.{Terms}
 use Rattle.arrivals.specs.Arrivals.{Arrival}
 use Rattle.arrivals.specs.declared.origin.Origin.{Origin}
-use Rattle.replay.specs.Offers.{offer_at, offers_of, rejects, handled_next, handled_behind, handled}
+use Rattle.replay.specs.Offers.{offer_at, offers_of, rejects, handled_next, handled_after, handled}
 use Rattle.replay.specs.Counting.{samples_of}
 use Rattle.replay.specs.Serving.{AreBy}
 
@@ -99,27 +99,27 @@ finish_is false own finish e = ap (finish_or own) e
 -- a request is finished no earlier than it came
 pub finish_late : (policies : List Rules) (past : List Decided) (offer : Offer) (finish : ℕ) → Admitted finish ≡ decide policies past offer → offer.tick ≤ finish
 finish_late policies past offer finish e =
-    let is : finish ≡ finish_behind (served past) offer = finish_is _ _ _ e in
+    let is : finish ≡ finish_after (served past) offer = finish_is _ _ _ e in
     let late = last_finish-push (map (λ r. r.offer) (served past)) offer in
     omega (arith, is, late)
 
 -- ---- messages
 
-pub handled_more : (terms : Terms) (earlier first more : List Arrival) → handled_behind terms earlier (first ++ more) ≡ handled_behind terms earlier first ++ handled_behind terms (earlier ++ first) more
-unfolding handled_behind
+pub handled_more : (terms : Terms) (earlier first more : List Arrival) → handled_after terms earlier (first ++ more) ≡ handled_after terms earlier first ++ handled_after terms (earlier ++ first) more
+unfolding handled_after
 handled_more terms earlier [] more = rw (append-nil earlier) refl
 handled_more terms earlier (a ∷ first) more =
     let e : (earlier ++ a ∷ []) ++ first ≡ earlier ++ a ∷ first = append_assoc earlier (a ∷ []) first in
-    ap (λ hs. handled_next terms earlier a ∷ hs) (handled_more terms (earlier ++ a ∷ []) first more ∙ ap (λ past. handled_behind terms (earlier ++ a ∷ []) first ++ handled_behind terms past more) e)
+    ap (λ hs. handled_next terms earlier a ∷ hs) (handled_more terms (earlier ++ a ∷ []) first more ∙ ap (λ past. handled_after terms (earlier ++ a ∷ []) first ++ handled_after terms past more) e)
 
-pub handled_one : (terms : Terms) (earlier : List Arrival) (a : Arrival) → handled_behind terms earlier (a ∷ []) ≡ handled_next terms earlier a ∷ []
-unfolding handled_behind
+pub handled_one : (terms : Terms) (earlier : List Arrival) (a : Arrival) → handled_after terms earlier (a ∷ []) ≡ handled_next terms earlier a ∷ []
+unfolding handled_after
 handled_one terms earlier a = refl
 
 pub handled_push : (terms : Terms) (arrivals : List Arrival) (a : Arrival) → handled terms (arrivals ++ a ∷ []) ≡ handled terms arrivals ++ handled_next terms arrivals a ∷ []
 handled_push terms arrivals a = handled_more terms [] arrivals (a ∷ []) ∙ ap (λ hs. handled terms arrivals ++ hs) (handled_one terms arrivals a)
 
-pub handled_count : (terms : Terms) (earlier arrivals : List Arrival) → length (handled_behind terms earlier arrivals) ≡ length arrivals
-unfolding handled_behind
+pub handled_count : (terms : Terms) (earlier arrivals : List Arrival) → length (handled_after terms earlier arrivals) ≡ length arrivals
+unfolding handled_after
 handled_count terms earlier [] = refl
 handled_count terms earlier (a ∷ arrivals) = ap (λ n. suc n) (handled_count terms (earlier ++ a ∷ []) arrivals)

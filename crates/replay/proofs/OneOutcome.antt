@@ -6,7 +6,7 @@ use Rattle.captures.specs.declared.record.Record.{Record}
 use Rattle.captures.specs.declared.version.Version.{Version}
 use Rattle.captures.specs.declared.capture_fault.CaptureFault.{CaptureFault}
 use Rattle.captures.specs.Captures.{record_text, longest_text, IsCapture, text_before_stop as records_text}
-use Rattle.captures.specs.CaptureFaults.{is_unforeseen_kind, IsFirstFault, FaultsBehind}
+use Rattle.captures.specs.CaptureFaults.{is_unforeseen_kind, IsFirstFault, FaultsAfter}
 use Rattle.captures.proofs.Records.{stop_text}
 use Rattle.captures.proofs.Agree.{Agrees, no_fault, few_records, one_fault as one_first_fault, agree_on, no_last_line, no_header_fault, no_fault_among}
 use Rattle.arrivals.specs.Arrivals.{Arrival, AreArrivals}
@@ -68,7 +68,7 @@ answered_not_full terms others input old new before after outcome number known a
     ]
 
 -- records that go on after a fault
-go_on : (v w : Version) (bytes : List ℕ) (s t : ℕ) (rs ss : List Record) (f : CaptureFault) (x y : List ℕ) (xs ys : List Arrival) (more : List Record) → FaultsBehind v bytes s rs f x
+go_on : (v w : Version) (bytes : List ℕ) (s t : ℕ) (rs ss : List Record) (f : CaptureFault) (x y : List ℕ) (xs ys : List Arrival) (more : List Record) → FaultsAfter v bytes s rs f x
     → AreArrivals rs xs → length xs ≤ most_messages → AreArrivals ss ys → most_messages < length ys → IsCapture w t ss → length (records_text w t ss) ≤ longest_text
     → v ≡ w → s ≡ t → ss ≡ rs ++ more → x ≡ flat_map record_text more ++ y → ⊥
 go_on v w bytes s t rs ss f x y xs ys [] fault a few b beyond rules size same start is rest =
@@ -78,9 +78,9 @@ go_on v w bytes s t rs ss f x y xs ys [] fault a few b beyond rules size same st
 go_on v w bytes s t rs ss f x y xs ys (q ∷ more) fault a few b beyond rules size same start is rest =
     no_fault_among v w bytes s t rs ss f x y q more fault rules size same start is rest
 
-behind_not_full : (terms others : Terms) (input ahead old new before after : Option (List ℕ)) (f : CaptureFault) (number : ℕ) → is_some input ≡ true → is_unforeseen_kind f.kind ≡ false
+after_not_full : (terms others : Terms) (input ahead old new before after : Option (List ℕ)) (f : CaptureFault) (number : ℕ) → is_some input ≡ true → is_unforeseen_kind f.kind ≡ false
     → StopsAfter (replies_told terms) input ahead old new f → StopsFull others input before after number → ⊥
-behind_not_full terms others input ahead old new before after f number known foreseen stop full =
+after_not_full terms others input ahead old new before after f number known foreseen stop full =
     let bytes = unwrap_or input [] in
     let r = stop.taken in
     let t = full.taken in
@@ -102,7 +102,7 @@ faulty_not_full terms others input ahead old new before after f number known for
     let t = full.taken in
     no_header_fault t.version (unwrap_or input []) t.start t.records t.rest f t.rules (t.begins known) (t.size known) (first.fault foreseen known)
 faulty_not_full terms others input ahead old new before after f number known foreseen (inr stop) full =
-    behind_not_full terms others input ahead old new before after f number known foreseen stop full
+    after_not_full terms others input ahead old new before after f number known foreseen stop full
 
 -- ---- what is written
 
@@ -116,7 +116,7 @@ same_records rs ss x y e (inr b) =
     let n = ap (λ (l : List Record). length l) b.2 in
     absurd (omega (arith, n, e, length-append ss (b.0 ∷ b.1)))
 
--- of two lists of records in front of the same bytes, with messages beyond the limit, those within it are the same
+-- of two lists of records before the same bytes, with messages beyond the limit, those within it are the same
 same_limit : (n : ℕ) (rs ss : List Record) (x y : List ℕ) (xs ys : List Arrival) → AreArrivals rs xs → AreArrivals ss ys → n < length xs → n < length ys → Agrees rs x ss y
     → take n xs ≡ take n ys
 same_limit n rs ss x y xs ys a b g h (inl c) = sym (same_first n rs ss c.0 xs ys c.1 a b g)
@@ -136,9 +136,9 @@ one_limit terms input old new other number another known given a b =
       a.is_number ∙ sym b.is_number,
     )
 
-same_after : (terms : Terms) (input ahead behind old new other : Option (List ℕ)) (f g : CaptureFault) → is_some input ≡ true → is_some old ≡ true → f ≡ g
-    → StopsAfter (replies_told terms) input ahead old new f → StopsAfter (replies_told terms) input behind old other g → new ≡ other
-same_after terms input ahead behind old new other f g known given same a b =
+same_after : (terms : Terms) (input ahead following old new other : Option (List ℕ)) (f g : CaptureFault) → is_some input ≡ true → is_some old ≡ true → f ≡ g
+    → StopsAfter (replies_told terms) input ahead old new f → StopsAfter (replies_told terms) input following old other g → new ≡ other
+same_after terms input ahead following old new other f g known given same a b =
     let r = a.taken in
     let t = b.taken in
     let both = agree_on (unwrap_or input []) r.version t.version r.start t.start r.records t.records r.rest t.rest r.rules t.rules (r.begins known) (t.begins known) in
@@ -149,22 +149,22 @@ same_after terms input ahead behind old new other f g known given same a b =
     let arrivals = one_list_of_arrivals t.records r.arrivals t.arrivals (subst (λ (l : List Record). AreArrivals l r.arrivals) records r.arrived) t.arrived in
     grows_once old new other _ _ given (same_text terms r.start t.start r.arrivals t.arrivals both.1 arrivals) a.written b.written
 
-same_written : (terms : Terms) (input ahead behind old new other : Option (List ℕ)) (f g : CaptureFault) → is_some input ≡ true → is_some old ≡ true → f ≡ g
-    → Stops terms input ahead old new f → Stops terms input behind old other g → new ≡ other
-same_written terms input ahead behind old new other f g known given same (inl a) (inl b) = grows_once old new other first_line first_line given refl a.written b.written
-same_written terms input ahead behind old new other f g known given same (inl a) (inr b) =
+same_written : (terms : Terms) (input ahead following old new other : Option (List ℕ)) (f g : CaptureFault) → is_some input ≡ true → is_some old ≡ true → f ≡ g
+    → Stops terms input ahead old new f → Stops terms input following old other g → new ≡ other
+same_written terms input ahead following old new other f g known given same (inl a) (inl b) = grows_once old new other first_line first_line given refl a.written b.written
+same_written terms input ahead following old new other f g known given same (inl a) (inr b) =
     let place = ap (λ (k : CaptureFault). k.at) same in
     let i = a.at in
     let j = b.at in
     absurd (omega (arith, place, i, j))
-same_written terms input ahead behind old new other f g known given same (inr a) (inl b) =
+same_written terms input ahead following old new other f g known given same (inr a) (inl b) =
     let place = ap (λ (k : CaptureFault). k.at) same in
     let i = a.at in
     let j = b.at in
     absurd (omega (arith, place, i, j))
-same_written terms input ahead behind old new other f g known given same (inr a) (inr b) = same_after terms input ahead behind old new other f g known given same a b
+same_written terms input ahead following old new other f g known given same (inr a) (inr b) = same_after terms input ahead following old new other f g known given same a b
 
 pub one_fault : OneFault
-one_fault terms input ahead behind old new other f g known given foreseen expected a b =
-    let same = one_first_fault (unwrap_or input []) f g (first_fault terms input ahead old new f known foreseen a) (first_fault terms input behind old other g known expected b) in
-    (same_written terms input ahead behind old new other f g known given same a b, same)
+one_fault terms input ahead following old new other f g known given foreseen expected a b =
+    let same = one_first_fault (unwrap_or input []) f g (first_fault terms input ahead old new f known foreseen a) (first_fault terms input following old other g known expected b) in
+    (same_written terms input ahead following old new other f g known given same a b, same)

@@ -16,7 +16,7 @@ use Rattle.http_requests.specs.declared.messages.What.TheVariants.{Request, Bad}
 use Rattle.admission.specs.declared.control.Outlook.{Outlook}
 use Rattle.admission.specs.declared.control.Decision.TheVariants.{Admitted, Rejected}
 use Rattle.admission.specs.Rules.{Rules}
-use Rattle.admission.specs.Requests.{Offer, served, last_finish, finish_behind, is_rejected}
+use Rattle.admission.specs.Requests.{Offer, served, last_finish, finish_after, is_rejected}
 use Rattle.admission.specs.Decisions.{decide, decided, outlook}
 use Rattle.admission.specs.Fits.{Fits}
 use Rattle.admission.specs.Standing.{policies_of}
@@ -35,7 +35,7 @@ use Rattle.replay.specs.Replies.{slip_of}
 use Rattle.replay.specs.Fronts.{sight_of}
 use Rattle.replay.specs.Serving.{Stands}
 use Rattle.replay.specs.Telling.{IsTelling}
-use Rattle.replay.specs.Explaining.{first_offered, row_of, method_of, target_of, row_behind, rows_behind, table, rows_told}
+use Rattle.replay.specs.Explaining.{first_offered, row_of, method_of, target_of, row_after, rows_after, table, rows_told}
 use Rattle.replay.specs.Rowing.{service_in, turns_away, offered_with}
 use Rattle.replay.specs.declared.desk.Desk.{Desk}
 use Rattle.replay.specs.declared.sight.Sight.{Sight}
@@ -45,27 +45,27 @@ use Rattle.replay.proofs.Offering.{finish_is}
 
 -- ---- rows after rows
 
-rows_more : (terms : Terms) (earlier first more : List Arrival) → rows_behind terms earlier (first ++ more) ≡ rows_behind terms earlier first ++ rows_behind terms (earlier ++ first) more
-unfolding rows_behind
+rows_more : (terms : Terms) (earlier first more : List Arrival) → rows_after terms earlier (first ++ more) ≡ rows_after terms earlier first ++ rows_after terms (earlier ++ first) more
+unfolding rows_after
 rows_more terms earlier [] more = rw (append-nil earlier) refl
 rows_more terms earlier (a ∷ first) more =
     let e : (earlier ++ a ∷ []) ++ first ≡ earlier ++ a ∷ first = append_assoc earlier (a ∷ []) first in
-    ap (λ v. row_behind terms earlier a ++ v) (rows_more terms (earlier ++ a ∷ []) first more ∙ ap (λ past. rows_behind terms (earlier ++ a ∷ []) first ++ rows_behind terms past more) e)
-    ∙ sym (append_assoc (row_behind terms earlier a) (rows_behind terms (earlier ++ a ∷ []) first) (rows_behind terms (earlier ++ a ∷ first) more))
+    ap (λ v. row_after terms earlier a ++ v) (rows_more terms (earlier ++ a ∷ []) first more ∙ ap (λ past. rows_after terms (earlier ++ a ∷ []) first ++ rows_after terms past more) e)
+    ∙ sym (append_assoc (row_after terms earlier a) (rows_after terms (earlier ++ a ∷ []) first) (rows_after terms (earlier ++ a ∷ first) more))
 
-rows_none : (terms : Terms) (earlier : List Arrival) → rows_behind terms earlier [] ≡ []
-unfolding rows_behind
+rows_none : (terms : Terms) (earlier : List Arrival) → rows_after terms earlier [] ≡ []
+unfolding rows_after
 rows_none terms earlier = refl
 
-rows_one : (terms : Terms) (earlier : List Arrival) (a : Arrival) → rows_behind terms earlier (a ∷ []) ≡ row_behind terms earlier a
-unfolding rows_behind
-rows_one terms earlier a = append-nil (row_behind terms earlier a)
+rows_one : (terms : Terms) (earlier : List Arrival) (a : Arrival) → rows_after terms earlier (a ∷ []) ≡ row_after terms earlier a
+unfolding rows_after
+rows_one terms earlier a = append-nil (row_after terms earlier a)
 
 -- the rows are told from the heading on
 pub rows_laws : (terms : Terms) → IsTelling (rows_told terms)
 rows_laws terms = record {
   begins = λ start. ap (λ v. heading ++ v) (rows_none terms []) ∙ append-nil heading;
-  goes_on = λ start arrivals more. ap (λ v. heading ++ v) (rows_more terms [] arrivals more) ∙ sym (append_assoc heading (rows_behind terms [] arrivals) (rows_behind terms arrivals more));
+  goes_on = λ start arrivals more. ap (λ v. heading ++ v) (rows_more terms [] arrivals more) ∙ sym (append_assoc heading (rows_after terms [] arrivals) (rows_after terms arrivals more));
   none = λ start. rows_none terms;
   more = λ start. rows_more terms;
   ends = λ start arrivals. sym (append-nil (table terms arrivals));
@@ -144,8 +144,8 @@ pub foreseen : (terms : Terms) (arrivals : List Arrival) (desk : Desk) (found : 
 foreseen terms arrivals desk found tier tick stands finds = rw stands.policies at (finds (offers_of terms arrivals) stands.fits)
 
 pub row_written : (terms : Terms) (arrivals : List Arrival) (a : Arrival) (row : Row) (what : Meaning) (method target : List ℕ) → row ≡ row_of terms arrivals a → a.message.what ≡ what
-    → method ≡ method_of what → target ≡ target_of what → row_text row method target ≡ rows_behind terms arrivals (a ∷ [])
-unfolding row_behind
+    → method ≡ method_of what → target ≡ target_of what → row_text row method target ≡ rows_after terms arrivals (a ∷ [])
+unfolding row_after
 row_written terms arrivals a row what method target is meaning methods targets =
     ap (λ r. row_text r method target) is ∙ ap (λ m. row_text (row_of terms arrivals a) m target) (methods ∙ ap method_of (sym meaning))
     ∙ ap (λ t. row_text (row_of terms arrivals a) (method_of a.message.what) t) (targets ∙ ap target_of (sym meaning)) ∙ sym (rows_one terms arrivals a)
@@ -172,8 +172,8 @@ pub starts_once_free : StartsOnceFree
 starts_once_free terms earlier offer finish admitted =
     let past = decided terms.policies (offers_of terms earlier) in
     let free = last_finish (map (λ r. r.offer) (served past)) in
-    let is : finish ≡ finish_behind (served past) offer = finish_is _ _ _ (sym admitted) in
-    let runs : finish_behind (served past) offer ≡ max free offer.tick + offer.service = last_finish-push (map (λ r. r.offer) (served past)) offer in
+    let is : finish ≡ finish_after (served past) offer = finish_is _ _ _ (sym admitted) in
+    let runs : finish_after (served past) offer ≡ max free offer.tick + offer.service = last_finish-push (map (λ r. r.offer) (served past)) offer in
     begins free offer.tick offer.service finish (is ∙ runs)
   where
     begins : (free tick service finish : ℕ) → finish ≡ max free tick + service → finish - service ≡ tick + (free - tick)

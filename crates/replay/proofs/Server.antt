@@ -16,7 +16,7 @@ use Rattle.captures.specs.declared.progress.Progress.{Progress}
 use Rattle.captures.specs.declared.capture_fault.CaptureFault.{CaptureFault}
 use Rattle.captures.specs.declared.capture_fault.CaptureFaultKind.{CaptureFaultKind}
 use Rattle.captures.specs.declared.capture_fault.CaptureFaultKind.TheVariants as kinds
-use Rattle.captures.specs.CaptureFaults.{IsForeseen, IsHeaderFault, IsFaultBehind, failures_of}
+use Rattle.captures.specs.CaptureFaults.{IsForeseen, IsHeaderFault, IsFaultAfter, failures_of}
 use Rattle.captures.specs.declared.version.Version.{Version}
 use Rattle.captures.specs.Captures.{tier_of, IsCapture, IsRecord, IsCaptureText, size_of, sizes_of, tick_of, ticks_of}
 use Rattle.captures.specs.Readers.{Fits, Gave, FailsNext}
@@ -453,7 +453,7 @@ taken v input now start records arrivals p fits arrived = record {
 
 pub halts_after : (t : Telling) (terms : Terms) (v : Version) (input now ahead left old new : Option (List ℕ)) (start : ℕ) (records : List Record) (arrivals : List Arrival) (p : Progress) (connections : List Connection) (desk : Desk)
     (f : CaptureFault) → Fits v input start records p now → Serves terms records arrivals connections desk → Appends old new (t.so_far start arrivals)
-    → (f.at ≡ length records + 1) × IsForeseen (λ bytes. IsFaultBehind v bytes start records) input f → FailsNext v input start records (Err f) left
+    → (f.at ≡ length records + 1) × IsForeseen (λ bytes. IsFaultAfter v bytes start records) input f → FailsNext v input start records (Err f) left
     → ahead ≡ left → StopsTelling t input ahead old new f
 halts_after t terms v input now ahead left old new start records arrivals p connections desk f fits serves written fault failed same = inr (record {
   taken = taken v input now start records arrivals p fits serves.arrived;
@@ -464,11 +464,11 @@ halts_after t terms v input now ahead left old new start records arrivals p conn
   failed = subst (λ w. FailsNext v input start records (Err f) w) (sym same) failed;
 })
 
--- a fault of the reader that was told
+-- a fault of the reader that was reported
 pub halts_told : (t : Telling) (terms : Terms) (v : Version) (input now ahead left old new : Option (List ℕ)) (start : ℕ) (records : List Record) (arrivals : List Arrival) (p : Progress) (connections : List Connection) (desk : Desk)
     (f : CaptureFault) (r : ReplayFault) → r ≡ capture_fault f
     → Fits v input start records p now → Serves terms records arrivals connections desk → Appends old new (t.so_far start arrivals)
-    → (f.at ≡ length records + 1) × IsForeseen (λ bytes. IsFaultBehind v bytes start records) input f → FailsNext v input start records (Err f) left
+    → (f.at ≡ length records + 1) × IsForeseen (λ bytes. IsFaultAfter v bytes start records) input f → FailsNext v input start records (Err f) left
     → ahead ≡ left → IfCapture r (StopsTelling t input ahead old new)
 halts_told t terms v input now ahead left old new start records arrivals p connections desk f r is fits serves written fault failed same =
     rw is
@@ -519,7 +519,7 @@ own_capture (faults.TooMany n) P h = tt
 own_capture faults.Write P h = tt
 own_capture faults.Memory P h = tt
 
--- a reader that failed is told, and at most once
+-- a reader that failed is reported, and at most once
 pub blamed_told : (old new : ℕ) (f : CaptureFault) (r : ReplayFault) → r ≡ capture_fault f → new ≡ old + failures_of f.kind → (old + reader_failures r ≤ new) × (new ≤ old + 1)
 blamed_told old new f r is count =
     let same : reader_failures r ≡ failures_of f.kind = ap reader_failures is ∙ told_reads f in
@@ -542,7 +542,7 @@ blamed_told old new f r is count =
     once kinds.TooLarge = omega arith
     once kinds.Memory = omega arith
 
--- ---- where the replies are told
+-- ---- where the replies are reported
 
 pub first_written : (terms : Terms) (start : ℕ) (old new : Option (List ℕ)) → Appends old new first_line → Appends old new (text_before_stop (replies_of terms start (handled terms [])))
 first_written terms start old new h = text_begun (replies_told terms) start old new (replies_laws terms) h
@@ -591,7 +591,7 @@ stops_first terms input ahead old new f written at fault = halts_first (replies_
 pub stops_told : (terms : Terms) (v : Version) (input now ahead left old new : Option (List ℕ)) (start : ℕ) (records : List Record) (arrivals : List Arrival) (p : Progress) (connections : List Connection) (desk : Desk)
     (f : CaptureFault) (r : ReplayFault) → r ≡ capture_fault f
     → Fits v input start records p now → Serves terms records arrivals connections desk → Appends old new (text_before_stop (replies_of terms start (handled terms arrivals)))
-    → (f.at ≡ length records + 1) × IsForeseen (λ bytes. IsFaultBehind v bytes start records) input f → FailsNext v input start records (Err f) left
+    → (f.at ≡ length records + 1) × IsForeseen (λ bytes. IsFaultAfter v bytes start records) input f → FailsNext v input start records (Err f) left
     → ahead ≡ left → IfCapture r (Stops terms input ahead old new)
 stops_told terms v input now ahead left old new start records arrivals p connections desk f r is fits serves written fault failed same =
     halts_told (replies_told terms) terms v input now ahead left old new start records arrivals p connections desk f r is fits serves written fault failed same

@@ -14,12 +14,12 @@ told_none t start earlier old laws = rw (laws.none start earlier) (appends_none 
 pub told_more : (t : Telling) (start : ℕ) (earlier first more : List Arrival) (old mid new : Option (List ℕ)) → IsTelling t → Told t start earlier first old mid
     → Told t start (earlier ++ first) more mid new → Told t start earlier (first ++ more) old new
 told_more t start earlier first more old mid new laws before after =
-    rw (laws.more start earlier first more) (appends_then old mid new (t.behind start earlier first) (t.behind start (earlier ++ first) more) before after)
+    rw (laws.more start earlier first more) (appends_then old mid new (t.after start earlier first) (t.after start (earlier ++ first) more) before after)
 
 pub told_part : (t : Telling) (start : ℕ) (earlier first more : List Arrival) (old mid new : Option (List ℕ)) → IsTelling t → Told t start earlier first old mid
     → ToldInPart t start (earlier ++ first) more mid new → ToldInPart t start earlier (first ++ more) old new
 told_part t start earlier first more old mid new laws before after =
-    rw (laws.more start earlier first more) (part_then old mid new (t.behind start earlier first) (t.behind start (earlier ++ first) more) before after)
+    rw (laws.more start earlier first more) (part_then old mid new (t.after start earlier first) (t.after start (earlier ++ first) more) before after)
 
 -- ---- the whole text
 
@@ -29,12 +29,12 @@ text_begun t start old new laws h = rw (laws.begins start) h
 pub text_told : (t : Telling) (start : ℕ) (arrivals more : List Arrival) (old mid new : Option (List ℕ)) → IsTelling t → Appends old mid (t.so_far start arrivals)
     → Told t start arrivals more mid new → Appends old new (t.so_far start (arrivals ++ more))
 text_told t start arrivals more old mid new laws before after =
-    rw (laws.goes_on start arrivals more) (appends_then old mid new (t.so_far start arrivals) (t.behind start arrivals more) before after)
+    rw (laws.goes_on start arrivals more) (appends_then old mid new (t.so_far start arrivals) (t.after start arrivals more) before after)
 
 pub text_part : (t : Telling) (start : ℕ) (arrivals more : List Arrival) (old mid new : Option (List ℕ)) → IsTelling t → Appends old mid (t.so_far start arrivals)
     → ToldInPart t start arrivals more mid new → AppendsInPart old new (t.so_far start (arrivals ++ more))
 text_part t start arrivals more old mid new laws before after =
-    rw (laws.goes_on start arrivals more) (part_then old mid new (t.so_far start arrivals) (t.behind start arrivals more) before after)
+    rw (laws.goes_on start arrivals more) (part_then old mid new (t.so_far start arrivals) (t.after start arrivals more) before after)
 
 pub text_ended : (t : Telling) (start count : ℕ) (arrivals : List Arrival) (old mid new : Option (List ℕ)) → IsTelling t → count ≡ length arrivals
     → Appends old mid (t.so_far start arrivals) → Appends mid new (t.last count) → Appends old new (t.whole start arrivals)

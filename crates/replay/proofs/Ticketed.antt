@@ -6,7 +6,7 @@ use Rattle.paths.specs.declared.file.File.{File}
 use Rattle.cost_model.specs.Services.{CostTable}
 use Rattle.replay.specs.Choices.{Terms}
 use Rattle.arrivals.specs.Arrivals.{Arrival}
-use Rattle.replay.specs.Offers.{handled_next, handled_behind}
+use Rattle.replay.specs.Offers.{handled_next, handled_after}
 use Rattle.replay.specs.Replies.{slip_of}
 use Rattle.replay.specs.Serving.{Stands, AreBy}
 use Rattle.replay.specs.Fronts.{front_value, sight_of}
@@ -26,7 +26,7 @@ pub record Settled {X : Type 0} (files : List File) (terms : Terms) (costs : Cos
   pub rest_is : rest ≡ drop k sights
   pub stands : (arrivals more : List Arrival) → Stands terms arrivals old → AreSighted files costs more sights → Stands terms (arrivals ++ take k more) now
   pub slips : (arrivals more : List Arrival) → Stands terms arrivals old → AreSighted files costs more sights
-      → map slip_of_ticket tickets ≡ map (slip_of terms old.start) (handled_behind terms arrivals (take k more))
+      → map slip_of_ticket tickets ≡ map (slip_of terms old.start) (handled_after terms arrivals (take k more))
   pub ready : list_all (λ t. is_back files (Waits t)) tickets ≡ true
   pub start : now.start ≡ old.start
 
@@ -131,7 +131,7 @@ settled_more {X} files terms costs sights old now next rest after tickets t k s 
         here.taken,
         handled_more terms arrivals (take k more) (here.one ∷ []),
         handled_one terms (arrivals ++ take k more) here.one,
-        map-append (slip_of {X = X} terms old.start) (handled_behind terms arrivals (take k more)) (handled_next terms (arrivals ++ take k more) here.one ∷ []),
+        map-append (slip_of {X = X} terms old.start) (handled_after terms arrivals (take k more)) (handled_next terms (arrivals ++ take k more) here.one ∷ []),
         map-append (slip_of_ticket {X = X}) tickets (t ∷ []),
         settled.slips arrivals more begun sighted,
         own,
@@ -160,7 +160,7 @@ settled_all (x ∷ xs) (suc k) e (y ∷ m) l = ap (λ ys. y ∷ ys) (settled_all
 -- nothing is decided on yet
 pub settled_none : {X : Type 0} (files : List File) (terms : Terms) (costs : CostTable) (sights : List Sighted) (old : Desk) (rest : List Sighted) (tickets : List (Ticket X)) (k : ℕ)
     → tickets ≡ [] → k ≡ 0 → rest ≡ sights → Settled files terms costs sights old old rest tickets k
-unfolding handled_behind
+unfolding handled_after
 settled_none {X} files terms costs sights old rest tickets k none start all = rw (none, start) (record {
   count = refl;
   rest_is = all;

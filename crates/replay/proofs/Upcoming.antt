@@ -12,7 +12,7 @@ use Rattle.replay.specs.Choices.{Terms}
 use Rattle.arrivals.specs.Arrivals.{Arrival}
 use Rattle.replay.specs.Offers.{Handled}
 use Rattle.replay.specs.Replies.{slip_of, replies_of, reply_of}
-use Rattle.replay.specs.Serving.{Stands, records_behind, Written, WrittenInPart}
+use Rattle.replay.specs.Serving.{Stands, records_after, Written, WrittenInPart}
 use Rattle.replay.specs.Fronts.{front_value}
 use Rattle.replay.specs.Backs.{slip_of_ticket, reply_to}
 use Rattle.arrivals.specs.Batches.{joined}
@@ -197,7 +197,7 @@ err_more (Err f) P Q more h = more h
 pub unwritten : {T : Type 0} (r : Result T ReplayFault) (terms : Terms) (messages : List Incoming) (desk : Desk) (old : Option (List ℕ))
     → OnErr r ((arrivals more : List Arrival) → Upcoming terms arrivals more messages desk → WrittenInPart terms desk.start arrivals more old old)
 unwritten (Ok x) terms messages desk old = tt
-unwritten (Err f) terms messages desk old = λ arrivals more up. part_none old (records_behind terms desk.start arrivals more)
+unwritten (Err f) terms messages desk old = λ arrivals more up. part_none old (records_after terms desk.start arrivals more)
 
 pub no_messages : (n : ℕ) (xs : List Incoming) → n ≡ length xs → (n == 0) ≡ true → xs ≡ []
 no_messages n [] e t = refl
@@ -225,29 +225,29 @@ served_none terms messages old before rest e = record {
 }
 
 -- what comes next of the messages
-pub next_come : (terms : Terms) (messages part : List Incoming) (old now : Desk) (before after : Option (List ℕ)) (rest behind : List (List Incoming)) (arrivals more : List Arrival)
-    → (s : Served terms messages old now before after rest) → rest ≡ part ∷ behind → Upcoming terms arrivals more messages old
+pub next_come : (terms : Terms) (messages part : List Incoming) (old now : Desk) (before after : Option (List ℕ)) (rest following : List (List Incoming)) (arrivals more : List Arrival)
+    → (s : Served terms messages old now before after rest) → rest ≡ part ∷ following → Upcoming terms arrivals more messages old
     → Upcoming terms (arrivals ++ take s.count more) (take (length part) (drop s.count more)) part now
-next_come terms messages part old now before after rest behind arrivals more s steps up = record {
+next_come terms messages part old now before after rest following arrivals more s steps up = record {
   stands = s.stands arrivals more up;
-  are = map_take incoming_of (length part) (drop s.count more) ∙ ap (take (length part)) (map_drop incoming_of s.count more ∙ ap (drop s.count) up.are ∙ sym s.rest_is ∙ ap joined steps) ∙ take-append_seam part (joined behind);
+  are = map_take incoming_of (length part) (drop s.count more) ∙ ap (take (length part)) (map_drop incoming_of s.count more ∙ ap (drop s.count) up.are ∙ sym s.rest_is ∙ ap joined steps) ∙ take-append_seam part (joined following);
   timely = in_time_take (arrivals ++ take s.count more) (drop s.count more) (length part) (in_time_drop arrivals more s.count up.timely);
 }
 
-pub next_come_as : (terms : Terms) (messages taken part : List Incoming) (old now : Desk) (before after : Option (List ℕ)) (rest behind : List (List Incoming)) (arrivals more : List Arrival)
-    → (s : Served terms messages old now before after rest) → rest ≡ part ∷ behind → taken ≡ part → Upcoming terms arrivals more messages old
+pub next_come_as : (terms : Terms) (messages taken part : List Incoming) (old now : Desk) (before after : Option (List ℕ)) (rest following : List (List Incoming)) (arrivals more : List Arrival)
+    → (s : Served terms messages old now before after rest) → rest ≡ part ∷ following → taken ≡ part → Upcoming terms arrivals more messages old
     → Upcoming terms (arrivals ++ take s.count more) (take (length part) (drop s.count more)) taken now
-next_come_as terms messages taken part old now before after rest behind arrivals more s steps same up =
-    let next = next_come terms messages part old now before after rest behind arrivals more s steps up in
+next_come_as terms messages taken part old now before after rest following arrivals more s steps same up =
+    let next = next_come terms messages part old now before after rest following arrivals more s steps up in
     record { stands = next.stands; are = next.are ∙ sym same; timely = next.timely }
 
 -- how many they are
-part_fits : (messages part : List Incoming) (rest behind : List (List Incoming)) (k : ℕ) → k ≤ length messages → joined rest ≡ drop k messages → rest ≡ part ∷ behind → k + length part ≤ length messages
-part_fits messages part rest behind k below e steps =
-    let all : part ++ joined behind ≡ drop k messages = ap joined (sym steps) ∙ e in
-    let len = length-append part (joined behind) in
+part_fits : (messages part : List Incoming) (rest following : List (List Incoming)) (k : ℕ) → k ≤ length messages → joined rest ≡ drop k messages → rest ≡ part ∷ following → k + length part ≤ length messages
+part_fits messages part rest following k below e steps =
+    let all : part ++ joined following ≡ drop k messages = ap joined (sym steps) ∙ e in
+    let len = length-append part (joined following) in
     let cut = length_drop k messages below in
-    let same : length (part ++ joined behind) ≡ length (drop k messages) = ap length all in
+    let same : length (part ++ joined following) ≡ length (drop k messages) = ap length all in
     omega (arith, len, cut, same, below)
   where
     length_drop : (k : ℕ) (xs : List Incoming) → k ≤ length xs → k + length (drop k xs) ≡ length xs
@@ -256,21 +256,21 @@ part_fits messages part rest behind k below e steps =
     length_drop (suc k) (x ∷ xs) le = let h = length_drop k xs (omega (arith, le)) in omega (arith, h)
 
 -- how many are answered
-pub answered_now : (terms : Terms) (messages part : List Incoming) (old now : Desk) (before after : Option (List ℕ)) (rest behind : List (List Incoming)) (arrivals more : List Arrival)
-    → (s : Served terms messages old now before after rest) → rest ≡ part ∷ behind → Upcoming terms arrivals more messages old
+pub answered_now : (terms : Terms) (messages part : List Incoming) (old now : Desk) (before after : Option (List ℕ)) (rest following : List (List Incoming)) (arrivals more : List Arrival)
+    → (s : Served terms messages old now before after rest) → rest ≡ part ∷ following → Upcoming terms arrivals more messages old
     → (now.totals.answered ≡ old.totals.answered + s.count) × (s.count + length part ≤ length messages)
-answered_now terms messages part old now before after rest behind arrivals more s steps up =
+answered_now terms messages part old now before after rest following arrivals more s steps up =
     let first = answered_is terms arrivals old up.stands in
     let later = answered_is terms (arrivals ++ take s.count more) now (s.stands arrivals more up) in
     let len = length-append arrivals (take s.count more) in
     let counted = come_count terms arrivals more messages old up in
     let below = s.below in
     let short : length (take s.count more) ≡ s.count = length-take-le s.count more (omega (arith, below, counted)) in
-    (omega (arith, first, later, len, short), part_fits messages part rest behind s.count s.below s.rest_is steps)
+    (omega (arith, first, later, len, short), part_fits messages part rest following s.count s.below s.rest_is steps)
 
 -- a prefix of what comes next, after what was served
-pub taken_behind : (k n m : ℕ) (more : List Arrival) → m ≤ n → take (k + m) more ≡ take k more ++ take m (take n (drop k more))
-taken_behind k n m more le = take_add k m more ∙ ap (λ xs. take k more ++ xs) (sym (take_take m n (drop k more) le))
+pub taken_after : (k n m : ℕ) (more : List Arrival) → m ≤ n → take (k + m) more ≡ take k more ++ take m (take n (drop k more))
+taken_after k n m more le = take_add k m more ∙ ap (λ xs. take k more ++ xs) (sym (take_take m n (drop k more) le))
   where
     take_take : (m n : ℕ) (xs : List Arrival) → m ≤ n → take m (take n xs) ≡ take m xs
     take_take zero n xs le = refl
@@ -278,22 +278,22 @@ taken_behind k n m more le = take_add k m more ∙ ap (λ xs. take k more ++ xs)
     take_take (suc m) (suc n) [] le = refl
     take_take (suc m) (suc n) (x ∷ xs) le = ap (λ ys. x ∷ ys) (take_take m n xs (omega (arith, le)))
 
-pub served_more : (terms : Terms) (messages part : List Incoming) (old now next : Desk) (before after later : Option (List ℕ)) (rest behind : List (List Incoming))
-    → Served terms messages old now before after rest → rest ≡ part ∷ behind → next.start ≡ now.start
+pub served_more : (terms : Terms) (messages part : List Incoming) (old now next : Desk) (before after later : Option (List ℕ)) (rest following : List (List Incoming))
+    → Served terms messages old now before after rest → rest ≡ part ∷ following → next.start ≡ now.start
     → ((arrivals more : List Arrival) → Upcoming terms arrivals more part now → Stands terms (arrivals ++ more) next)
     → ((arrivals more : List Arrival) → Upcoming terms arrivals more part now → Written terms now.start arrivals more after later)
-    → Served terms messages old next before later behind
-served_more terms messages part old now next before after later rest behind s steps start stands written =
+    → Served terms messages old next before later following
+served_more terms messages part old now next before after later rest following s steps start stands written =
     let n = length part in record {
       count = s.count + n;
-      below = part_fits messages part rest behind s.count s.below s.rest_is steps;
-      rest_is = sym (drop-append_seam part (joined behind)) ∙ ap (drop n) (ap joined (sym steps) ∙ s.rest_is) ∙ drop-drop n s.count messages;
+      below = part_fits messages part rest following s.count s.below s.rest_is steps;
+      rest_is = sym (drop-append_seam part (joined following)) ∙ ap (drop n) (ap joined (sym steps) ∙ s.rest_is) ∙ drop-drop n s.count messages;
       stands = λ arrivals more up.
           rw (take_add s.count n more, ← append_assoc arrivals (take s.count more) (take n (drop s.count more)))
-          (stands (arrivals ++ take s.count more) (take n (drop s.count more)) (next_come terms messages part old now before after rest behind arrivals more s steps up));
+          (stands (arrivals ++ take s.count more) (take n (drop s.count more)) (next_come terms messages part old now before after rest following arrivals more s steps up));
       written = λ arrivals more up.
           rw (take_add s.count n more) (written_more terms old.start arrivals (take s.count more) (take n (drop s.count more)) before after later (s.written arrivals more up)
-          (rw s.start at (written (arrivals ++ take s.count more) (take n (drop s.count more)) (next_come terms messages part old now before after rest behind arrivals more s steps up))));
+          (rw s.start at (written (arrivals ++ take s.count more) (take n (drop s.count more)) (next_come terms messages part old now before after rest following arrivals more s steps up))));
       start = start ∙ s.start;
     }
 

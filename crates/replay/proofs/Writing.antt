@@ -10,11 +10,11 @@ use Rattle.arrivals.specs.declared.origin.Origin.{Origin}
 use Rattle.replay.specs.Choices.{Terms}
 use Rattle.arrivals.specs.Arrivals.{Arrival}
 use Rattle.arrivals.specs.Connections.{arrivals_with}
-use Rattle.replay.specs.Offers.{handled_next, handled_behind, handled}
+use Rattle.replay.specs.Offers.{handled_next, handled_after, handled}
 use Rattle.replay.specs.Replies.{reply_of, replies_of, first_line, last_line, text_before_stop}
 use Rattle.replay.specs.Outcomes.{AppendsInPart}
 use Rattle.replay.specs.Telling.{IsTelling, replies_told}
-use Rattle.replay.specs.Serving.{records_behind, Written, WrittenInPart}
+use Rattle.replay.specs.Serving.{records_after, Written, WrittenInPart}
 use Rattle.replay.proofs.Offering.{handled_more, handled_one, handled_count}
 
 -- ---- bytes
@@ -33,16 +33,16 @@ appends_then (Some x) (Some y) (Some z) a b first second = second ∙ ap (λ v. 
 pub part_none : (old : Option (List ℕ)) (text : List ℕ) → AppendsInPart old old text
 part_none old text = (0, appends_none old)
 
-pub part_front : (old new : Option (List ℕ)) (front behind : List ℕ) → Appends old new front → AppendsInPart old new (front ++ behind)
-part_front old new front behind h =
-    let e : take (length front + 0) (front ++ behind) ≡ front = take-append-add front behind 0 ∙ append-nil front in
+pub part_front : (old new : Option (List ℕ)) (front following : List ℕ) → Appends old new front → AppendsInPart old new (front ++ following)
+part_front old new front following h =
+    let e : take (length front + 0) (front ++ following) ≡ front = take-append-add front following 0 ∙ append-nil front in
     (length front + 0, rw e h)
 
 pub part_all : (old new : Option (List ℕ)) (text : List ℕ) → Appends old new text → AppendsInPart old new text
 part_all old new text h = rw (append-nil text) at (part_front old new text [] h)
 
-pub part_then : (old mid new : Option (List ℕ)) (front behind : List ℕ) → Appends old mid front → AppendsInPart mid new behind → AppendsInPart old new (front ++ behind)
-part_then old mid new front behind before part = (length front + part.0, rw (take-append-add front behind part.0) (appends_then old mid new front (take part.0 behind) before part.1))
+pub part_then : (old mid new : Option (List ℕ)) (front following : List ℕ) → Appends old mid front → AppendsInPart mid new following → AppendsInPart old new (front ++ following)
+part_then old mid new front following before part = (length front + part.0, rw (take-append-add front following part.0) (appends_then old mid new front (take part.0 following) before part.1))
 
 -- ---- messages
 
@@ -53,19 +53,19 @@ arrivals_step place origin ms i d lt =
     rw (e, take-suc ms i d lt) (map-append (λ m. record { origin = origin; place = place; message = m }) (take i ms) (get_or ms i d ∷ []))
 
 pub records_more : (terms : Terms) (start : ℕ) (earlier first more : List Arrival)
-    → records_behind terms start earlier (first ++ more) ≡ records_behind terms start earlier first ++ records_behind terms start (earlier ++ first) more
+    → records_after terms start earlier (first ++ more) ≡ records_after terms start earlier first ++ records_after terms start (earlier ++ first) more
 records_more terms start earlier first more =
     rw (
       handled_more terms earlier first more,
-      map-append (reply_of terms start) (handled_behind terms earlier first) (handled_behind terms (earlier ++ first) more),
+      map-append (reply_of terms start) (handled_after terms earlier first) (handled_after terms (earlier ++ first) more),
     )
-    (flat_map-append record_text (replies_of terms start (handled_behind terms earlier first)) (replies_of terms start (handled_behind terms (earlier ++ first) more)))
+    (flat_map-append record_text (replies_of terms start (handled_after terms earlier first)) (replies_of terms start (handled_after terms (earlier ++ first) more)))
 
-pub records_none : (terms : Terms) (start : ℕ) (earlier : List Arrival) → records_behind terms start earlier [] ≡ []
-unfolding handled_behind
+pub records_none : (terms : Terms) (start : ℕ) (earlier : List Arrival) → records_after terms start earlier [] ≡ []
+unfolding handled_after
 records_none terms start earlier = refl
 
-pub records_one : (terms : Terms) (start : ℕ) (earlier : List Arrival) (a : Arrival) → records_behind terms start earlier (a ∷ []) ≡ record_text (reply_of terms start (handled_next terms earlier a))
+pub records_one : (terms : Terms) (start : ℕ) (earlier : List Arrival) (a : Arrival) → records_after terms start earlier (a ∷ []) ≡ record_text (reply_of terms start (handled_next terms earlier a))
 records_one terms start earlier a = rw (handled_one terms earlier a) (append-nil (record_text (reply_of terms start (handled_next terms earlier a))))
 
 pub written_none : (terms : Terms) (start : ℕ) (earlier : List Arrival) (old : Option (List ℕ)) → Written terms start earlier [] old old
@@ -74,23 +74,23 @@ written_none terms start earlier old = rw (records_none terms start earlier) (ap
 pub written_more : (terms : Terms) (start : ℕ) (earlier first more : List Arrival) (old mid new : Option (List ℕ)) → Written terms start earlier first old mid
     → Written terms start (earlier ++ first) more mid new → Written terms start earlier (first ++ more) old new
 written_more terms start earlier first more old mid new before after =
-    rw (records_more terms start earlier first more) (appends_then old mid new (records_behind terms start earlier first) (records_behind terms start (earlier ++ first) more) before after)
+    rw (records_more terms start earlier first more) (appends_then old mid new (records_after terms start earlier first) (records_after terms start (earlier ++ first) more) before after)
 
 pub part_more : (terms : Terms) (start : ℕ) (earlier first more : List Arrival) (old mid new : Option (List ℕ)) → Written terms start earlier first old mid
     → WrittenInPart terms start (earlier ++ first) more mid new → WrittenInPart terms start earlier (first ++ more) old new
 part_more terms start earlier first more old mid new before after =
-    rw (records_more terms start earlier first more) (part_then old mid new (records_behind terms start earlier first) (records_behind terms start (earlier ++ first) more) before after)
+    rw (records_more terms start earlier first more) (part_then old mid new (records_after terms start earlier first) (records_after terms start (earlier ++ first) more) before after)
 
 -- ---- the whole text
 
 pub text_none : (terms : Terms) (start : ℕ) → text_before_stop (replies_of terms start (handled terms [])) ≡ first_line
-unfolding handled_behind
+unfolding handled_after
 text_none terms start = append-nil first_line
 
 pub text_more : (terms : Terms) (start : ℕ) (arrivals more : List Arrival)
-    → text_before_stop (replies_of terms start (handled terms (arrivals ++ more))) ≡ text_before_stop (replies_of terms start (handled terms arrivals)) ++ records_behind terms start arrivals more
+    → text_before_stop (replies_of terms start (handled terms (arrivals ++ more))) ≡ text_before_stop (replies_of terms start (handled terms arrivals)) ++ records_after terms start arrivals more
 text_more terms start arrivals more =
-    rw (records_more terms start [] arrivals more) (sym (append_assoc first_line (records_behind terms start [] arrivals) (records_behind terms start arrivals more)))
+    rw (records_more terms start [] arrivals more) (sym (append_assoc first_line (records_after terms start [] arrivals) (records_after terms start arrivals more)))
 
 pub replies_count : (terms : Terms) (start : ℕ) (arrivals : List Arrival) → length (replies_of terms start (handled terms arrivals)) ≡ length arrivals
 replies_count terms start arrivals = length-map (handled terms arrivals) (reply_of terms start) ∙ handled_count terms [] arrivals

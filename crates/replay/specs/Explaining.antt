@@ -20,8 +20,8 @@ use Rattle.replay.specs.Outcomes.{WhereKnown, most_messages}
 use Rattle.replay.specs.declared.outcome.Outcome.{Outcome}
 
 -- an offer after those of the earlier messages: what it finds, and the decision on it
-abbrev pub offered_behind : Terms → List Arrival → Offer → Offered
-offered_behind terms earlier offer = record {
+abbrev pub offered_after : Terms → List Arrival → Offer → Offered
+offered_after terms earlier offer = record {
   service = offer.service;
   found = outlook terms.policies (decided terms.policies (offers_of terms earlier)) offer.tier offer.tick;
   decision = decide terms.policies (decided terms.policies (offers_of terms earlier)) offer;
@@ -30,7 +30,7 @@ offered_behind terms earlier offer = record {
 -- the offer that a message makes, if it makes one
 abbrev pub first_offered : Terms → List Arrival → List Offer → Option Offered
 first_offered terms earlier [] = None
-first_offered terms earlier (offer ∷ offers) = Some (offered_behind terms earlier offer)
+first_offered terms earlier (offer ∷ offers) = Some (offered_after terms earlier offer)
 
 -- what the row of a message after the earlier ones says, besides its method and its target
 abbrev pub row_of : Terms → List Arrival → Arrival → Row
@@ -52,24 +52,24 @@ target_of (Request method target version closing since) = target
 target_of (Bad fault) = []
 
 -- the row
-unfoldable pub row_behind : Terms → List Arrival → Arrival → List ℕ
-row_behind terms earlier a = row_text (row_of terms earlier a) (method_of a.message.what) (target_of a.message.what)
+unfoldable pub row_after : Terms → List Arrival → Arrival → List ℕ
+row_after terms earlier a = row_text (row_of terms earlier a) (method_of a.message.what) (target_of a.message.what)
 
 -- the rows of these messages after the earlier ones, each in turn
-unfoldable pub rows_behind : Terms → List Arrival → List Arrival → List ℕ
-rows_behind terms earlier [] = []
-rows_behind terms earlier (a ∷ arrivals) = row_behind terms earlier a ++ rows_behind terms (earlier ++ a ∷ []) arrivals
+unfoldable pub rows_after : Terms → List Arrival → List Arrival → List ℕ
+rows_after terms earlier [] = []
+rows_after terms earlier (a ∷ arrivals) = row_after terms earlier a ++ rows_after terms (earlier ++ a ∷ []) arrivals
 
 -- the heading, and the rows of all messages in their order
 abbrev pub table : Terms → List Arrival → List ℕ
-table terms arrivals = heading ++ rows_behind terms [] arrivals
+table terms arrivals = heading ++ rows_after terms [] arrivals
 
 -- the table has no last line
 abbrev pub rows_told : Terms → Telling
 rows_told terms = record {
   first = heading;
   so_far = λ start arrivals. table terms arrivals;
-  behind = λ start earlier arrivals. rows_behind terms earlier arrivals;
+  after = λ start earlier arrivals. rows_after terms earlier arrivals;
   last = λ count. [];
   whole = λ start arrivals. table terms arrivals;
 }

@@ -48,7 +48,7 @@ pub record FormerTerms : Type 0 where
 pub record ArrivedWith (records : List Record) (a : Arrival) : Type 0 where
   pub bytes : List ℕ
   pub piece : slice_get records a.place ≡ Some (Piece a.origin.tick a.origin.conn bytes)
-  pub behind : length (text_of a.origin.conn (take a.place records)) < a.message.end
+  pub after : length (text_of a.origin.conn (take a.place records)) < a.message.end
   pub within : a.message.end ≤ length (text_of a.origin.conn (take a.place records)) + length bytes
 
 -- the messages of each connection's text, each with the piece that holds its last byte, in the order of their pieces
@@ -105,7 +105,7 @@ former_handled terms arrivals = handled_after_alone terms [] arrivals
 
 -- ---- the replies
 
--- what a message was told: a request that was turned away might come again in so many seconds; each other message was
+-- what a message was reported: a request that was turned away might come again in n seconds; each other message was
 -- answered
 abbrev pub formerly_given : {X : Type 0} → FormerTerms → Bool → Meaning → Given X
 formerly_given terms true what = Plain (ServiceUnavailable terms.retry_after)

@@ -16,7 +16,7 @@ use Rattle.replay.specs.declared.summary.Tally.{Tally}
 use Rattle.arrivals.specs.Arrivals.{Arrival, AreArrivals}
 use Rattle.replay.specs.Choices.{Choice, Terms, terms_of}
 use Rattle.replay.specs.Offers.{Handled, handled, handled_next}
-use Rattle.replay.specs.Explaining.{offered_behind, row_of}
+use Rattle.replay.specs.Explaining.{offered_after, row_of}
 use Rattle.replay.specs.Outcomes.{Answers, Stops, StopsFull, most_messages}
 use Rattle.replay.specs.Replies.{replies_of}
 use Rattle.replay.specs.Former.{FormerTerms, FormerOutcome, FormerAnswers}
@@ -51,9 +51,9 @@ FaultyNotFull = (terms others : Terms) (input ahead old new before after : Optio
 
 -- such a fault is one, and so is what is written to a device of known bytes
 abbrev pub OneFault : Type 0
-OneFault = (terms : Terms) (input ahead behind old new other : Option (List ℕ)) (f g : CaptureFault)
+OneFault = (terms : Terms) (input ahead following old new other : Option (List ℕ)) (f g : CaptureFault)
     → is_some input ≡ true → is_some old ≡ true → is_unforeseen_kind f.kind ≡ false → is_unforeseen_kind g.kind ≡ false
-    → Stops terms input ahead old new f → Stops terms input behind old other g → (new ≡ other) × (f ≡ g)
+    → Stops terms input ahead old new f → Stops terms input following old other g → (new ≡ other) × (f ≡ g)
 
 -- what is written up to the limit is one too
 abbrev pub OneLimit : Type 0
@@ -91,8 +91,8 @@ RowsAgree = (terms : Terms) (earlier : List Arrival) (a : Arrival)
 -- the service of an admitted request begins when it came, or once it has waited as long as its row says
 abbrev pub StartsOnceFree : Type 0
 StartsOnceFree = (terms : Terms) (earlier : List Arrival) (offer : Offer) (finish : ℕ)
-    → (offered_behind terms earlier offer).decision ≡ Admitted finish
-    → finish - offer.service ≡ offer.tick + ((offered_behind terms earlier offer).found.free - offer.tick)
+    → (offered_after terms earlier offer).decision ≡ Admitted finish
+    → finish - offer.service ≡ offer.tick + ((offered_after terms earlier offer).found.free - offer.tick)
 
 -- ---- one policy and four
 

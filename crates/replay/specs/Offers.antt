@@ -71,10 +71,10 @@ handled_next terms earlier a = record {
 }
 
 -- these messages after the earlier ones, each in turn, as those before it decide
-unfoldable pub handled_behind : Terms → List Arrival → List Arrival → List Handled
-handled_behind terms earlier [] = []
-handled_behind terms earlier (a ∷ arrivals) = handled_next terms earlier a
-    ∷ handled_behind terms (earlier ++ a ∷ []) arrivals
+unfoldable pub handled_after : Terms → List Arrival → List Arrival → List Handled
+handled_after terms earlier [] = []
+handled_after terms earlier (a ∷ arrivals) = handled_next terms earlier a
+    ∷ handled_after terms (earlier ++ a ∷ []) arrivals
 
 abbrev pub handled : Terms → List Arrival → List Handled
-handled terms arrivals = handled_behind terms [] arrivals
+handled terms arrivals = handled_after terms [] arrivals

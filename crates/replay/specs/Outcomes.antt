@@ -8,7 +8,7 @@ use Rattle.captures.specs.declared.capture_fault.CaptureFaultKind.{CaptureFaultK
 use Rattle.captures.specs.declared.capture_fault.CaptureFaultKind.TheVariants as kinds
 use Rattle.captures.specs.declared.version.Version.{Version}
 use Rattle.captures.specs.Captures.{IsCapture, IsCaptureText, longest_text, text_before_stop as records_text}
-use Rattle.captures.specs.CaptureFaults.{is_unforeseen_kind, IsHeaderFault, IsFaultBehind, failures_of}
+use Rattle.captures.specs.CaptureFaults.{is_unforeseen_kind, IsHeaderFault, IsFaultAfter, failures_of}
 use Rattle.captures.specs.Readers.{FailsNext}
 use Rattle.replay.specs.declared.replay_fault.ReplayFault.{ReplayFault}
 use Rattle.replay.specs.declared.replay_fault.ReplayFault.TheVariants.{Capture, TooMany, Memory, Write as Unwritten}
@@ -110,7 +110,7 @@ pub record StopsAfter (t : Telling) (input ahead old new : Option (List ℕ)) (f
   pub few : length taken.arrivals ≤ most_messages
   pub written : Appends old new (t.so_far taken.start taken.arrivals)
   pub fault : is_unforeseen_kind f.kind ≡ false
-      → WhereKnown input (λ bytes. IsFaultBehind taken.version bytes taken.start taken.records f)
+      → WhereKnown input (λ bytes. IsFaultAfter taken.version bytes taken.start taken.records f)
   pub failed : FailsNext taken.version input taken.start taken.records (Err f) ahead
 
 -- a fault of the capture that isn't a failed read is its first; `ahead` is what of the input wasn't read

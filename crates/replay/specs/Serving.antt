@@ -11,7 +11,7 @@ use Rattle.admission.specs.Standing.{policies_of}
 use Rattle.replay.specs.Choices.{Terms}
 use Rattle.arrivals.specs.Arrivals.{Arrival, AreArrivals}
 use Rattle.arrivals.specs.Connections.{HaveRead}
-use Rattle.replay.specs.Offers.{offers_of, handled, handled_behind}
+use Rattle.replay.specs.Offers.{offers_of, handled, handled_after}
 use Rattle.replay.specs.Counting.{rejected_of, summary_of}
 use Rattle.replay.specs.Outcomes.{most_messages, WhereKnown}
 use Rattle.replay.specs.Replies.{replies_of}
@@ -39,17 +39,17 @@ IsLater (End tick conn) arrivals = Unit {0}
 IsLater (Tier conn tier) arrivals = Unit {0}
 
 -- the records of the replies to these messages, which come after the earlier ones
-abbrev pub records_behind : Terms → ℕ → List Arrival → List Arrival → List ℕ
-records_behind terms start earlier arrivals = flat_map record_text
-    (replies_of terms start (handled_behind terms earlier arrivals))
+abbrev pub records_after : Terms → ℕ → List Arrival → List Arrival → List ℕ
+records_after terms start earlier arrivals = flat_map record_text
+    (replies_of terms start (handled_after terms earlier arrivals))
 
 -- they were written, and a prefix of them was
 abbrev pub Written : Terms → ℕ → List Arrival → List Arrival → Option (List ℕ) → Option (List ℕ) → Type 0
-Written terms start earlier arrivals old new = Appends old new (records_behind terms start earlier arrivals)
+Written terms start earlier arrivals old new = Appends old new (records_after terms start earlier arrivals)
 
 abbrev pub WrittenInPart : Terms → ℕ → List Arrival → List Arrival → Option (List ℕ) → Option (List ℕ) → Type 0
 WrittenInPart terms start earlier arrivals old new = (n : ℕ)
-    × Appends old new (take n (records_behind terms start earlier arrivals))
+    × Appends old new (take n (records_after terms start earlier arrivals))
 
 -- these records were read, and the messages that arrived with them were answered
 pub record Serves (terms : Terms) (records : List Record) (arrivals : List Arrival) (connections : List Connection)
@@ -89,7 +89,7 @@ pub record TellsInPart (t : Telling) (start : ℕ) (records : List Record) (arri
   pub few : length arrivals + within ≤ most_messages
   pub written : ToldInPart t start arrivals (take within more) old new
 
--- the same, where the replies are told
+-- the same, where the replies are reported
 abbrev pub ServesMore : Terms → List Record → List Arrival → List Record → List Connection → Desk → Option (List ℕ)
     → Option (List ℕ) → Type 0
 ServesMore terms records arrivals rs connections desk old new =
@@ -104,7 +104,7 @@ abbrev pub ServesInPart : Terms → ℕ → List Record → List Arrival → Lis
 ServesInPart terms start records arrivals rs old new =
     TellsInPart (replies_told terms) start records arrivals rs old new
 
--- these records were all of a capture, and its messages were told of: as `Answers`, whatever is told
+-- these records were all of a capture, and its messages were told of: as `Answers`, whatever is reported
 pub record HasTold (t : Telling) (terms : Terms) (input old new : Option (List ℕ)) (outcome : Outcome) : Type 0 where
   pub version : Version
   pub start : ℕ

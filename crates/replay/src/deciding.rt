@@ -3,7 +3,7 @@ ghost use Rattle.std.specs.List.{list_all};
 ghost use Rattle.captures.specs.Captures.{latest_start};
 ghost use Rattle.replay.specs.Choices.{terms_of};
 ghost use Rattle.arrivals.specs.Arrivals.{Arrival};
-ghost use Rattle.replay.specs.Offers.{handled_next, handled_behind};
+ghost use Rattle.replay.specs.Offers.{handled_next, handled_after};
 ghost use Rattle.replay.specs.Outcomes.{most_messages};
 ghost use Rattle.replay.specs.Replies.{slip_of};
 ghost use Rattle.replay.specs.Serving.{Stands, AreBy};
@@ -89,7 +89,7 @@ pub(crate) fn decide_all<F: Tree>(
         → AreSighted F.files settings.now.costs more sights.items
         → map slip_of_ticket v.items
         ≡ map (slip_of (terms_of F.files settings.now) desk.old.start)
-        (handled_behind (terms_of F.files settings.now) arrivals more)) }
+        (handled_after (terms_of F.files settings.now) arrivals more)) }
     ensures ready { IfOk result (λ v. list_all (λ t. is_back F.files (Waits t)) v.items ≡ true) }
     ensures start { OnOk result (desk.new.start ≡ desk.old.start) }
 {

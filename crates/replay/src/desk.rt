@@ -55,7 +55,7 @@ impl Desk {
         }
     }
 
-    /// What a message that was looked into is to be told. The admission control is asked where it is a request.
+    /// What a message that was looked into is to be reported. The admission control is asked where it is a request.
     pub(crate) fn decide<F: Tree>(
         &mut self,
         snapshot: &Snapshot,

@@ -34,7 +34,7 @@ use responses::write_all;
 use std::alloc::{AllocError, Global};
 use std::io::{Read, Write};
 
-/// Writes the line in front of the replies.
+/// Writes the line before the replies.
 pub(crate) fn write_first_line<W: Write>(writer: &mut Output<W>) -> Result<(), ReplayFault>
     requires { writer.old.1 < 2 ^ 64 - 1 }
     ensures written { OnOk result (Appends writer.old.0 writer.new.0 first_line) }
@@ -46,7 +46,7 @@ pub(crate) fn write_first_line<W: Write>(writer: &mut Output<W>) -> Result<(), R
     Ok(())
 }
 
-/// Writes the line after so many replies.
+/// Writes the line after n replies.
 pub(crate) fn write_last_line<W: Write>(
     alloc: Global,
     writer: &mut Output<W>,

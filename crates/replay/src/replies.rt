@@ -10,7 +10,7 @@ use paths::{Output, Snapshot, Tree};
 use std::alloc::Global;
 use std::io::Write;
 
-/// The replies are told.
+/// The replies are reported.
 pub(crate) struct Replies;
 
 impl Tells for Replies {

@@ -1,6 +1,6 @@
 ghost use Rattle.std.specs.Prelude.{◌≡◌, ◌≤◌, ◌+◌, ◌*◌, ℕ, List, IfSome};
 ghost use Rattle.std.specs.Option.{option_map};
-ghost use Rattle.responses.specs.Replies.{status_of, plain_status};
+ghost use Rattle.responses.specs.Replies.{status_of};
 ghost use Rattle.admission.specs.Decisions.{decided, outlook};
 ghost use Rattle.arrivals.specs.Arrivals.{Arrival};
 ghost use Rattle.replay.specs.Choices.{Terms};
@@ -38,19 +38,6 @@ fn service_in(sight: &Sight) -> Option<u64>
     }
 }
 
-fn plain_status(status: Status) -> u16
-    ensures { result ≡ plain_status status }
-{
-    match status {
-        Status::BadRequest => 400,
-        Status::NotFound => 404,
-        Status::MethodNotAllowed => 405,
-        Status::ContentTooLarge => 413,
-        Status::NotImplemented => 501,
-        Status::ServiceUnavailable { .. } => 503,
-    }
-}
-
 /// The status that a message is answered with.
 fn status_of<F: Tree>(due: &Due<F>) -> u16
     ensures { result ≡ status_of (told due.now) }
@@ -59,7 +46,7 @@ fn status_of<F: Tree>(due: &Due<F>) -> u16
         Due::Page { .. } | Due::Told(What::Page { .. } | What::Known { .. }) => 200,
         Due::Told(What::Moved { .. }) => 301,
         Due::Told(What::Unmodified { .. }) => 304,
-        Due::Told(What::Plain { status }) => plain_status(*status),
+        Due::Told(What::Plain { status }) => status.code(),
     }
 }
 
@@ -151,7 +138,7 @@ fn target_of(what: &Meaning) -> &[u8]
     }
 }
 
-/// The rows of a table are told.
+/// The rows of a table are reported.
 pub(crate) struct Rows;
 
 impl Tells for Rows {

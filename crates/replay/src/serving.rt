@@ -74,7 +74,7 @@ fn answer_group<F: Tree + Send + Sync, G: Gate + Sync, T: Threads + Wait + Sync,
         Some(ticket) => ticket.number,
         None => return Ok(()),
     };
-    let behind = Shifted {
+    let following = Shifted {
         gate,
         stages: settings.front.stages(),
         first,
@@ -86,7 +86,7 @@ fn answer_group<F: Tree + Send + Sync, G: Gate + Sync, T: Threads + Wait + Sync,
         snapshot,
         cache,
         group,
-        &behind,
+        &following,
     )?;
     write_replies(&replies, writer)
 }

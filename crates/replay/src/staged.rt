@@ -109,7 +109,7 @@ pub fn staged_replay<
     // After a failed write and out of memory, a prefix of what was due stands.
     ensures part { IfErr result (λ f. IfCutShort f
         (IsCutShort (terms_of F.files settings.now) reader.old.0 writer.old.0 writer.new.0)) }
-    // A device is blamed only where it failed in this call. A read that failed may not be told: where the messages
+    // A device is blamed only where it failed in this call. A read that failed may not be reported: where the messages
     // before it are too many, where they can't be written, and where memory runs out.
     ensures reads { BlamedOnce reader_failures reader.old.1 reader.new.1 result }
     ensures writes { CountsBy writer_failures writer.old.1 writer.new.1 result }

@@ -68,7 +68,7 @@ pub(crate) trait Tells {
         ensures failures { CountsBy writer_failures writer.old.1 writer.new.1 result }
         ensures own { IfErr result IsWriteOrMemory };
 
-    /// Writes what stands after so many messages, where no other comes.
+    /// Writes what stands after n messages, where no other comes.
     fn finish<W: Write>(
         alloc: Global,
         writer: &mut Output<W>,

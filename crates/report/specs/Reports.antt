@@ -42,7 +42,7 @@ status_line status count = codes "status " ++ decimal status ++ codes " " ++ dec
 abbrev pub status_lines : Counts → List ℕ
 status_lines counts = flat_map (λ entry. status_line entry.0 entry.1) (by_status counts)
 
--- the rank of a percentile of m samples, counted from 1: so many hundredths of m, rounded up
+-- the rank of a percentile of m samples, counted from 1: n hundredths of m, rounded up
 abbrev pub rank : ℕ → ℕ → ℕ
 rank percent m = (percent * m + 99) / 100
 

@@ -13,7 +13,7 @@ pub(crate) fn sorted(alloc: Global, samples: &[u64]) -> Result<Vec<u64>, AllocEr
     Ok(ordered)
 }
 
-/// The rank of a percentile of so many samples, counted from 1: `ceil(percent * count / 100)`.
+/// The rank of a percentile of n samples, counted from 1: `ceil(percent * count / 100)`.
 fn rank(percent: u8, count: usize) -> usize
     requires { percent ≤ 100 }
     ensures nearest { result ≡ rank percent count }

@@ -20,7 +20,7 @@ use Rattle.responses.specs.Replies.{status_words, status_of, content_type, conte
 use Rattle.responses.proofs.Bytes.{Good, passes, decimal_value, media_value, location_value}
 use Rattle.responses.proofs.DateLemmas.{good_imf_date}
 
--- a field, where it has a value, in front of others
+-- a field, where it has a value, before others
 abbrev pub add_field : List ℕ → Option (List ℕ) → List Field → List Field
 add_field name None fields = fields
 add_field name (Some value) fields = record { name = name; raw = 32 ∷ value; end = crlf } ∷ fields

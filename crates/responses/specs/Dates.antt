@@ -5,7 +5,7 @@ use Rattle.httpdate.specs.Calendar.{days_in_year, days_in_month, weekday}
 use Rattle.httpdate.specs.Text.{imf_fixdate}
 
 -- A day, counted from the first of this year: the year in which it falls, and the day counted from that year's first.
--- At most so many years are passed.
+-- At most n years are passed.
 unfoldable pub year_from : ℕ → ℕ → ℕ → ℕ × ℕ
 year_from zero year day = (year, day)
 year_from (suc more) year day =

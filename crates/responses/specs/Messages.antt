@@ -43,7 +43,7 @@ pub record Reads (head : Bool) (bytes : List ℕ) (h : ResponseHead) (body rest 
   pub grammar : ReadsResponse bytes h (body ++ rest)
   pub told : body_length head h ≡ Some (length body)
 
--- a head of HTTP/1.1 with this status, and nothing in front of it
+-- a head of HTTP/1.1 with this status, and nothing before it
 pub record IsHead (code : ℕ) (h : ResponseHead) : Type 0 where
   pub blank : h.blank ≡ []
   pub minor : h.minor ≡ 1

@@ -2,7 +2,7 @@
 use Rattle.std.specs.Prelude.{◌≡◌, ℕ, ◌+◌, ◌<◌, List, ◌++◌, length, take, codes, decimal, Option, Result, MatchResult}
 use Rattle.std.specs.Io.KnownBytes.{Appends}
 
--- the line in front of a reply of so many bytes
+-- the line before a reply of n bytes
 abbrev pub record_line : ℕ → ℕ → ℕ → List ℕ
 record_line number conn len = codes "reply " ++ decimal number ++ codes " " ++ decimal conn ++ codes " " ++ decimal len
     ++ codes "\n"

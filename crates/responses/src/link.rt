@@ -3,7 +3,7 @@
 pub enum Link {
     /// It ends after this reply.
     Close,
-    /// It goes on, which a client of HTTP/1.0 has to be told.
+    /// It goes on, which a client of HTTP/1.0 has to be reported.
     KeepAlive,
     /// It goes on, as HTTP/1.1 does without a word.
     Silent,

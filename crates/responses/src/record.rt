@@ -24,7 +24,7 @@ fn push_number(line: &mut Line, number: usize, end: u8)
     line.push(end);
 }
 
-/// The line in front of a reply of so many bytes.
+/// The line before a reply of n bytes.
 fn record_line(number: usize, conn: usize, len: usize) -> Line
     ensures { result.items ≡ record_line number conn len }
 {

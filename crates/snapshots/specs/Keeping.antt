@@ -28,7 +28,7 @@ pub record IsSoFar (files : List File) (s : SoFar) : Type 0 where
   pub last : s.names.last.items ≡ last_name files
   pub lengths : s.names.lengths.items ≡ lengths_within files (last_name files)
 
--- how many bytes there are with so many more: a sum past 64 bits stands as the greatest of 64 bits, which is past the
+-- how many bytes there are with n more: a sum past 64 bits stands as the greatest of 64 bits, which is past the
 -- limit
 abbrev pub more : ℕ → ℕ → ℕ
 more size n = min (size + n) (2 ^ 64 - 1)
@@ -46,7 +46,7 @@ broken_by s f =
     (more s.size (length (file_text f))) then Some Text
     else None
 
--- what is kept with one more name, and so many bytes of text more
+-- what is kept with one more name, and n bytes of text more
 pub record Grown (s : SoFar) (name : List ℕ) (n : ℕ) (next : SoFar) : Type 0 where
   pub count : next.count ≡ more s.count 1
   pub size : next.size ≡ more s.size n

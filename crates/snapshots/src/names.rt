@@ -42,7 +42,7 @@ impl Names {
         }
     }
 
-    /// So many bytes of the last name.
+    /// n bytes of the last name.
     fn front(&self, len: usize) -> &[u8]
         ensures { result.now ≡ take len self.now.last.items }
     {

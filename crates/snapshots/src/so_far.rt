@@ -114,7 +114,7 @@ impl SoFar {
         None
     }
 
-    /// The files with one more, whose text has so many bytes.
+    /// The files with one more, whose text has n bytes.
     pub(crate) fn then(
         &self,
         alloc: Global,

@@ -14,7 +14,7 @@ mod writing;
 /// A name, a time and the bytes.
 pub type Entry = (&'static str, u64, &'static str);
 
-/// A writer over memory that takes at most so many bytes a write, fails after so many writes, and counts them all. The
+/// A writer over memory that takes at most n bytes a write, fails after n writes, and counts them all. The
 /// failure is an interruption: what tries a write again does so at that kind of failure first.
 #[derive(Drop)]
 pub struct Slow<'a> {

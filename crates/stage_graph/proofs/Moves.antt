@@ -50,11 +50,11 @@ give_allowed p n h w number steps known none =
 
 module _ {X : Type 0} (mark : X → ℕ × ℕ) (p : Layout) (n : ℕ) (h : List Event) where
   -- a number is put after the queue of a stage, as an item is
-  joined_behind : (f : Parts X) (s : State) (k : ℕ) (x : X) (v : List X × ℕ) (number : ℕ)
+  joined_after : (f : Parts X) (s : State) (k : ℕ) (x : X) (v : List X × ℕ) (number : ℕ)
       → k < length f.queues → k < length s.queues → v ≡ get_or f.queues k ([], 0) → mark x ≡ (number, cut_before p k)
       → ((j : ℕ) → j < stages p → map mark (items_at f j) ≡ map (with_steps (cut_before p j)) (queue_at s j)) → k < stages p
       → (j : ℕ) → j < stages p → map mark (get_or (set f.queues k (v.0 ++ x ∷ [], v.1)) j ([], 0)).0 ≡ map (with_steps (cut_before p j)) (get_or (set s.queues k (queue_at s k ++ number ∷ [])) j [])
-  joined_behind f s k x v number in-f in-s at is all in-p =
+  joined_after f s k x v number in-f in-s at is all in-p =
       by_place-set (λ j a b. map mark a.0 ≡ map (with_steps (cut_before p j)) b) f.queues s.queues ([], 0) [] (stages p) k (v.0 ++ x ∷ [], v.1) (queue_at s k ++ number ∷ [])
       in-f in-s
       (map-append mark v.0 (x ∷ []) ∙ (rw at (rw (all k in-p, is) (sym (map-append (with_steps (cut_before p k)) (queue_at s k) (number ∷ []))))))
@@ -86,7 +86,7 @@ module _ {X : Type 0} (mark : X → ℕ × ℕ) (p : Layout) (n : ℕ) (h : List
         legal = legal-snoc p n h (Feed (mark x).0) stands.legal (feed_allowed f x rest at none stands);
         backlog_is = rw e (map-tails mark (with_steps 0) x rest s.backlog tops);
         stages_are = simp length-set stands.stages_are;
-        queues_are = rw e (joined_behind f s 0 x v (mark x).0 (omega (arith, stands.stages_are)) (omega (arith, sized.queues)) is marked stands.queues_are some);
+        queues_are = rw e (joined_after f s 0 x v (mark x).0 (omega (arith, stands.stages_are)) (omega (arith, sized.queues)) is marked stands.queues_are some);
         capacities_are = rooms_stay f 0 (v.0 ++ x ∷ []) v (omega (arith, stands.stages_are)) is stands.capacities_are some;
         hands_are = rw e stands.hands_are;
         slots_are = rw e stands.slots_are;
@@ -165,7 +165,7 @@ module _ {X : Type 0} (mark : X → ℕ × ℕ) (p : Layout) (n : ℕ) (h : List
         legal = legal-snoc p n h ev stands.legal (give_allowed p n h w (mark x).0 (mark x).1 known none);
         backlog_is = rw e stands.backlog_is;
         stages_are = simp length-set stands.stages_are;
-        queues_are = rw e (joined_behind f s (k + 1) x v (mark x).0 (omega (arith, stands.stages_are)) (omega (arith, sized.queues)) is steps stands.queues_are in-p');
+        queues_are = rw e (joined_after f s (k + 1) x v (mark x).0 (omega (arith, stands.stages_are)) (omega (arith, sized.queues)) is steps stands.queues_are in-p');
         capacities_are = rooms_stay f (k + 1) (v.0 ++ x ∷ []) v (omega (arith, stands.stages_are)) is stands.capacities_are in-p';
         hands_are = rw (e, stands.hands_are) refl;
         slots_are = rw e stands.slots_are;
@@ -271,9 +271,9 @@ module _ {X : Type 0} (mark : X → ℕ × ℕ) (p : Layout) (n : ℕ) (h : List
       }
 
   -- the queue that code has at hand, of a stage with room
-  pub room_behind : (f : Parts X) (k : ℕ) (v : List X × ℕ) → k < stages p → v ≡ get_or f.queues k v → nat_le (capacity_at p k) (length (queue_at (standing p n h) k)) ≡ false → Stands mark p n h f
+  pub room_after : (f : Parts X) (k : ℕ) (v : List X × ℕ) → k < stages p → v ≡ get_or f.queues k v → nat_le (capacity_at p k) (length (queue_at (standing p n h) k)) ≡ false → Stands mark p n h f
       → (v ≡ get_or f.queues k ([], 0)) × (nat_le v.1 (length v.0) ≡ false)
-  room_behind f k v in-p at room stands =
+  room_after f k v in-p at room stands =
       let is : v ≡ get_or f.queues k ([], 0) = get_or_read f.queues k v (omega (arith, stands.stages_are)) at ([], 0) in
       let a : v.1 ≡ capacity_at p k = ap (λ u. u.1) is ∙ stands.capacities_are k in-p in
       let b : length v.0 ≡ length (queue_at (standing p n h) k) = ap (λ u. length u.0) is ∙ length-maps mark (with_steps (cut_before p k)) (items_at f k) (queue_at (standing p n h) k) (stands.queues_are k in-p) in

@@ -37,7 +37,7 @@ capacity_at p k = slice_index p.capacities k
 abbrev pub is_last : Layout → ℕ → Bool
 is_last p k = nat_eq (k + 1) (stages p)
 
--- The stage of each worker, where stage k, k + 1, .. have so many. Workers are numbered through the stages.
+-- The stage of each worker, where stage k, k + 1, .. have n. Workers are numbered through the stages.
 abbrev pub posts_of : ℕ → List ℕ → List ℕ
 posts_of k [] = []
 posts_of k (w ∷ ws) = replicate w k ++ posts_of (suc k) ws

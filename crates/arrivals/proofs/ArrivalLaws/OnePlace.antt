@@ -38,9 +38,9 @@ not_earlier : (all : List Record) (a b : Arrival) → ArrivesWith all a → Arri
 not_earlier all a b g h c m lt =
     let past = text_past a.origin.conn a.origin.tick a.place b.place g.bytes all g.piece lt in
     let within = g.within in
-    let behind : length (text_of a.origin.conn (take b.place all)) < b.message.end = rw c h.behind in
+    let following : length (text_of a.origin.conn (take b.place all)) < b.message.end = rw c h.after in
     let e = ap (λ x. x.end) m in
-    omega (arith, past, within, behind, e)
+    omega (arith, past, within, following, e)
 
 pub tick_or : ℕ → Record → ℕ
 tick_or other (Piece tick conn bytes) = tick

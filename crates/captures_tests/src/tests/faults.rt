@@ -88,7 +88,7 @@ fn first_lines(rt: HostRuntime) {
         (b"haboob-capture 1 0 0\nstop 0\n", Kind::Number),
         (b"haboob-capture 1 00\nstop 0\n", Kind::Number),
         (
-            b"haboob-capture 1 0 with so much behind it that the line can hold no more\n",
+            b"haboob-capture 1 0 with so much after it that the line can hold no more\n",
             Kind::Header,
         ),
     ];
@@ -145,7 +145,7 @@ fn malformed_lines(rt: HostRuntime) {
 
 /// What comes after the end of a connection.
 #[test]
-fn behind_an_end(rt: HostRuntime) {
+fn after_an_end(rt: HostRuntime) {
     let table: [(&[u8], Option<CaptureFault>); 4] = [
         (
             b"haboob-capture 1 0\nend 5 3\nend 5 3\nstop 2\n",

@@ -15,7 +15,7 @@ static NEW: &str =
 static TIERS: &str =
     "haboob-capture 2 4102444800\nend 7 0\ntier 65535 3\npiece 1000000000000000 65535 7\nstop 0\n\nstop 3\n";
 
-/// A writer over memory that takes at most so many bytes a write, and fails after so many writes.
+/// A writer over memory that takes at most n bytes a write, and fails after n writes.
 #[derive(Drop)]
 struct Slow<'a> {
     taken: &'a mut Vec<u8>,
@@ -127,7 +127,7 @@ fn faults_of_upgrades(rt: HostRuntime) {
     }
 }
 
-/// How many bytes of the new text stand where the old text ends after so many: those of the whole records.
+/// How many bytes of the new text stand where the old text ends after n: those of the whole records.
 fn whole_before(end: usize) -> (usize, usize) {
     if end < 27 {
         (0, 0)

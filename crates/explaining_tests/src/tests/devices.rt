@@ -11,7 +11,7 @@ use std::io::{Read, Write};
 use std::process::Abort;
 use std::test::Fail;
 
-/// A reader over memory that gives at most 16 bytes a read, and fails after so many reads.
+/// A reader over memory that gives at most 16 bytes a read, and fails after n reads.
 #[derive(Drop)]
 struct Flaky<'a> {
     bytes: &'a [u8],
@@ -31,7 +31,7 @@ impl<'a> Read for Flaky<'a> {
     }
 }
 
-/// A writer over memory that takes at most 5 bytes a write, and fails after so many writes.
+/// A writer over memory that takes at most 5 bytes a write, and fails after n writes.
 #[derive(Drop)]
 struct Slow<'a> {
     taken: &'a mut Vec<u8>,
@@ -58,7 +58,7 @@ static WANT: &str =
     "number,connection,tick,tier,status,decision,service,credit,rate,start,finish,waited,method,target\n\
      0,0,0,0,200,admitted,201,100000000000,1000000,0,201,0,GET,/a.txt\n";
 
-/// Explains with devices that fail after so many calls; whether the call came to its end.
+/// Explains with devices that fail after n calls; whether the call came to its end.
 fn ends(
     rt: &(impl Abort + AllocGlobal),
     settings: &Settings,

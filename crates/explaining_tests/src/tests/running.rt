@@ -36,7 +36,7 @@ pub fn default_policy() -> Option<Policy> {
     .ok()
 }
 
-/// So many tokens, and one more each second.
+/// n tokens, and one more each second.
 pub fn tight(depth: u64) -> Option<Policy> {
     Policy::new(
         100, 100, 700, 1000, 1000, 1000, 2000, 120, 100_000, 90, depth,

@@ -101,7 +101,7 @@ static TEXTS: [(&str, &str); 16] = [
     ),
 ];
 
-/// The text has these messages, in pieces of each of some sizes, and so many.
+/// The text has these messages, in pieces of each of some sizes, and n.
 fn check(rt: &(impl Abort + AllocGlobal), text: &[u8], want: &str) -> Result<(), Fail> {
     assert!(rt; text.len() <= 100_000);
     for size in [1, 2, 3, 7, 31, 4096, 8191, 8192, 8193, 100_000] {

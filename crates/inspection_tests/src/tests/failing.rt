@@ -9,7 +9,7 @@ use paths::Input;
 static CAPTURE: &str =
     "haboob-capture 2 0\ntier 9 1\npiece 0 9 18\nGET / HTTP/1.0\r\n\r\n\npiece 5 8 2\nab\nend 7 9\nstop 4\n";
 
-/// How many records stand whole in so many bytes.
+/// How many records stand whole in n bytes.
 fn whole_in(bytes: usize) -> u64
     ensures { result ≤ 4 }
 {

@@ -61,7 +61,7 @@ fn inspect_piece(alloc: Global, bytes: &str) -> Option<Inspection> {
     }
 }
 
-/// So many bytes of one connection, or none.
+/// n bytes of one connection, or none.
 fn share(bytes: u64) -> Share {
     Share {
         bytes,

@@ -20,7 +20,7 @@ enum Step {
     Keep(usize, Keeping),
     /// A look at this file finds a page, or none.
     Look(usize, bool),
-    /// The pages have so many bytes, and there are so many.
+    /// The pages have n bytes, and there are n.
     Holds(usize, usize),
 }
 

@@ -4,7 +4,7 @@ use paths::{Failed, Input, Output};
 use std::io;
 use std::io::{ErrorKind, Write};
 
-/// A writer that takes so many bytes at once, fails at its second write, and counts its writes.
+/// A writer that takes n bytes at once, fails at its second write, and counts its writes.
 #[derive(Drop)]
 struct Narrow {
     size: usize,

@@ -102,7 +102,7 @@ fn snapshot_faults(rt: HostRuntime) -> Result<(), Fail> {
 static HEADERS: [(&str, Kind); 3] = [
     ("haboob-snapshot 2\nend 0\n", Kind::Header),
     (
-        "haboob-snapshot 1 with so much behind it that the line can hold no more\n",
+        "haboob-snapshot 1 with so much after it that the line can hold no more\n",
         Kind::Header,
     ),
     ("haboob-snapshot", Kind::Cut),
@@ -198,7 +198,7 @@ fn longest_name_and_largest_file(rt: HostRuntime) -> Result<(), Fail> {
 }
 
 /// The first fault of a text of 65,536 files that goes on so.
-fn fault_behind_most(alloc: Global, rest: &str) -> Result<Option<SnapshotFault>, AllocError> {
+fn fault_after_most(alloc: Global, rest: &str) -> Result<Option<SnapshotFault>, AllocError> {
     let mut text = String::from_str(alloc, "haboob-snapshot 1\n")?;
     for n in 0..65_536u32 {
         let file = format!(in alloc; "file 0 5 0\n{n:05}\n\n")?;
@@ -211,9 +211,9 @@ fn fault_behind_most(alloc: Global, rest: &str) -> Result<Option<SnapshotFault>,
 /// 65,536 files are read, and one more is too large, whatever its line says of it.
 #[test]
 fn most_files(rt: HostRuntime) -> Result<(), Fail> {
-    let whole = fault_behind_most(rt.alloc(), "end 65536\n")?;
+    let whole = fault_after_most(rt.alloc(), "end 65536\n")?;
     assert_eq!(rt; whole, None);
-    let longer = fault_behind_most(rt.alloc(), "file 0 0 0\n")?;
+    let longer = fault_after_most(rt.alloc(), "file 0 0 0\n")?;
     assert_eq!(rt; longer, fault(65_537, Kind::TooLarge));
     Ok(())
 }

@@ -14,7 +14,7 @@ use std::sync::Wait;
 use std::test::Fail;
 use std::thread::Threads;
 
-/// A reader over memory that gives at most 16 bytes a read, and fails after so many reads.
+/// A reader over memory that gives at most 16 bytes a read, and fails after n reads.
 #[derive(Drop)]
 struct Flaky<'a> {
     bytes: &'a [u8],
@@ -34,7 +34,7 @@ impl<'a> Read for Flaky<'a> {
     }
 }
 
-/// A writer over memory that takes at most 16 bytes a write, and fails after so many writes.
+/// A writer over memory that takes at most 16 bytes a write, and fails after n writes.
 #[derive(Drop)]
 struct Slow<'a> {
     taken: &'a mut Vec<u8>,
@@ -69,7 +69,7 @@ static WANT: &str = "haboob-replies 1\n\
      \n\
      stop 1\n";
 
-/// Replays with devices that fail after so many calls; whether the replay came to its end.
+/// Replays with devices that fail after n calls; whether the replay came to its end.
 fn ends(
     rt: &(impl Abort + AllocGlobal + Threads + Wait + Sync),
     engine: Engine,

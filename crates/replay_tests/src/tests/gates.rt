@@ -16,7 +16,7 @@ use std::test::Fail;
 use std::thread::Threads;
 use std::time::{Clock, Duration};
 
-/// Settings of the default stages with batches of so many pieces.
+/// Settings of the default stages with batches of n pieces.
 fn in_batches(rt: &(impl Abort + AllocGlobal), batch: usize) -> Settings {
     let costs = default_costs().expect(rt, "costs");
     let policy = default_policy().expect(rt, "a policy");
@@ -79,7 +79,7 @@ impl<R: Clock + Drop> Gate for Hold<R> {
     }
 }
 
-/// Replays two requests in batches of so many pieces, with a gate that holds the first of them or doesn't.
+/// Replays two requests in batches of n pieces, with a gate that holds the first of them or doesn't.
 fn check<R: Abort + AllocGlobal + Threads + Wait + Sync + Clock + Drop>(
     rt: &R,
     clock: R,

@@ -140,7 +140,7 @@ fn missing_host(rt: HostRuntime) -> Result<(), Fail> {
     Ok(())
 }
 
-/// A request with a field of so many letters, and this end.
+/// A request with a field of n letters, and this end.
 fn request_of(alloc: Global, letters: usize, end: &str) -> Result<String, AllocError> {
     let mut text = format!(in alloc; "GET /a.txt HTTP/1.1\r\nHost: a\r\nX: ")?;
     for _ in 0..letters {

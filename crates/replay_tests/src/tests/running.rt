@@ -68,7 +68,7 @@ pub static DEFAULT_SHAPE: Shape<'static> = Shape {
     cache: 67_108_864,
 };
 
-/// The plan of these cuts, each stage with so many workers and so much room.
+/// The plan of these cuts, each stage with n workers and so much room.
 fn plan_of(alloc: Global, cuts: &[usize], workers: usize, capacity: usize) -> Option<Plan> {
     let stages = cuts.len().min(3);
     Plan::new(

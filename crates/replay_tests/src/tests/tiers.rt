@@ -16,7 +16,7 @@ fn deeper() -> Option<Policy> {
     Policy::new(100, 100, 700, 1000, 1000, 1000, 2000, 120, 100_000, 90, 2).ok()
 }
 
-/// Replays a capture on both engines, with these policies and so many pieces in a batch.
+/// Replays a capture on both engines, with these policies and n pieces in a batch.
 fn run_tiers<T: Abort + AllocGlobal + Threads + Wait + Sync>(
     rt: &T,
     batch: usize,

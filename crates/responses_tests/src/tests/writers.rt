@@ -6,7 +6,7 @@ use std::io;
 use std::marker::Brand;
 use std::test::Fail;
 
-/// A writer over memory that takes at most one byte a write, and fails after so many writes.
+/// A writer over memory that takes at most one byte a write, and fails after n writes.
 #[derive(Drop)]
 struct Slow<'a> {
     taken: &'a mut Vec<u8>,

@@ -25,7 +25,7 @@ impl Write for Counted {
     }
 }
 
-/// Writes so many files with these bytes, and then one with those.
+/// Writes n files with these bytes, and then one with those.
 fn write_numbered<W: Write>(
     alloc: Global,
     output: &mut Output<W>,
@@ -44,7 +44,7 @@ fn write_numbered<W: Write>(
     writer.finish(output)
 }
 
-/// What the writing of so many files of this size and then one of that comes to, and how many bytes were written.
+/// What the writing of n files of this size and then one of that comes to, and how many bytes were written.
 fn written(
     alloc: Global,
     count: u32,
@@ -67,7 +67,7 @@ fn answer(alloc: Global, name: &[u8]) -> Result<(), WriteFault> {
     writer.add(&mut output, name, 0, b"")
 }
 
-/// The same of a file with a name of so many bytes.
+/// The same of a file with a name of n bytes.
 fn answer_of(alloc: Global, len: usize) -> Result<(), WriteFault> {
     let name = vec![in alloc; b'a'; len]?;
     answer(alloc, &name)

@@ -27,7 +27,7 @@ impl Sleepers {
         self.notified.wait(rt, lock)
     }
 
-    // Chooses sleepers that no notification is on its way to, at most so many. Tells how many.
+    // Chooses sleepers that no notification is on its way to, at most n. Tells how many.
     pub(super) fn choose(&self, most: usize) -> usize {
         let chosen = self.unchosen.load(Ordering::SeqCst).min(most);
         self.unchosen.fetch_sub(chosen, Ordering::SeqCst);

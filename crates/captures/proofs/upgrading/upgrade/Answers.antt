@@ -1,6 +1,6 @@
 use Rattle.std.proofs.Common.{◌≡◌, ◌∙◌, ◌++◌, ◌∷◌, [], ℕ, List, Option, true, refl, arith, is_some, unwrap_or, rules}
 use Rattle.captures.specs.Upgrades.{Stops, IfCapture, upgrade_fault}
-use Rattle.captures.proofs.UpgradeLemmas.{told, told_short, told_unless, told_memory, told_reads, told_writes, own_capture, passed_on, fits_own, gave_more, first_written, first_prefix, more_written, more_prefix, stops_first, stops_behind, short_among, all_read, moved, own_errs, short_errs, part_end, ok_end}
+use Rattle.captures.proofs.UpgradeLemmas.{told, told_short, told_unless, told_memory, told_reads, told_writes, own_capture, passed_on, fits_own, gave_more, first_written, first_prefix, more_written, more_prefix, stops_first, stops_after, short_among, all_read, moved, own_errs, short_errs, part_end, ok_end}
 use Rattle.captures.proofs.WritingLemmas.{prefix_all}
 use Rattle.std.proofs.lemmas.List.{length_push}
 use Rattle.captures.proofs.upgrading.upgrade.Goals as goal
@@ -52,7 +52,7 @@ returns-in-Err-next_record-clause-stops g c =
     let inv = c.loop-next.invariant.0 in
     rw c.from-in-Err-next_record.ensures
     (moved (λ (w : Option (List ℕ)). IfCapture (upgrade_fault c.in-Err-next_record.fault) (λ fault. is_some c.args.reader.now.0 ≡ true → Stops (unwrap_or c.args.reader.now.0 []) w c.args.writer.now.0 c.loop-next.writer.0 fault)) _ c.next_record.new.self.input.now.0
-    (told c.in-Err-next_record.fault _ (λ known. stops_behind _ _ _ _ _ _ _ inv.0 _ c.next_record.new.self.progress _ inv.1 inv.2 (c.in-Err-next_record.ensures.next _ _ _ _ inv.1) (c.in-Err-next_record.ensures.failed _ _ _ _ inv.1) known)) (search rules))
+    (told c.in-Err-next_record.fault _ (λ known. stops_after _ _ _ _ _ _ _ inv.0 _ c.next_record.new.self.progress _ inv.1 inv.2 (c.in-Err-next_record.ensures.next _ _ _ _ inv.1) (c.in-Err-next_record.ensures.failed _ _ _ _ inv.1) known)) (search rules))
 
 pub returns-in-Err-next_record-clause-part : goal.returns-in-Err-next_record-clause-part
 returns-in-Err-next_record-clause-part g c =

@@ -2,7 +2,7 @@ use Rattle.std.proofs.Common.{◌≡◌, ◌≤◌, ◌+◌, ◌∙◌, ◌++◌
 use Rattle.replay.proofs.Judging.{passed_on, on_many, on_cut}
 use Rattle.replay.proofs.Writing.{written_more, part_more}
 use Rattle.arrivals.proofs.Laid.{none_left}
-use Rattle.replay.proofs.Upcoming.{served_none, next_come_as, answered_now, served_more, served_all, taken_behind}
+use Rattle.replay.proofs.Upcoming.{served_none, next_come_as, answered_now, served_more, served_all, taken_after}
 use Rattle.replay.proofs.serving.serve_parts.Goals as goal
 
 pub loop-part-init : goal.loop-part-init
@@ -42,7 +42,7 @@ returns-in_err-serve_part-clause-many g c =
           let same : length c.into_vec.result.items ≡ length part = ap length c.into_vec.ensures in
           let lt = full.2 in
           let below : full.1 ≤ length part = omega (arith, lt, same) in
-          rw (taken_behind served.count (length part) full.1 more below)
+          rw (taken_after served.count (length part) full.1 more below)
           (written_more _ c.args.desk.now.start arrivals (take served.count more) (take full.1 (take (length part) (drop served.count more))) _ _ _ (served.written arrivals more up)
           (rw served.start at (full.4 (arrivals ++ take served.count more) (take (length part) (drop served.count more)) up_next)))),
     ))
@@ -66,7 +66,7 @@ returns-in_err-serve_part-clause-part g c =
       (let few = short.2 in omega (arith, counted, few)),
       λ arrivals more up.
           (let up_next = next_come_as _ _ _ part _ _ _ _ _ _ arrivals more served steps c.into_vec.ensures up in
-          rw (taken_behind served.count (length part) short.0 more (let below = short.1 in let same : length c.into_vec.result.items ≡ length part = ap length c.into_vec.ensures in omega (arith, below, same)))
+          rw (taken_after served.count (length part) short.0 more (let below = short.1 in let same : length c.into_vec.result.items ≡ length part = ap length c.into_vec.ensures in omega (arith, below, same)))
           (part_more _ c.args.desk.now.start arrivals (take served.count more) (take short.0 (take (length part) (drop served.count more))) _ _ _ (served.written arrivals more up)
           (rw served.start at (short.3 (arrivals ++ take served.count more) (take (length part) (drop served.count more)) up_next)))),
     ))

@@ -15,8 +15,8 @@ loop-piece-preserved c =
     let lt : i < length pieces = rw same c.loop-piece-test.true in
     let at : get_or pieces i p ≡ p = rw same (sym c.piece-item.is) in
     let front : take (i + 1) pieces ≡ take i pieces ++ p ∷ [] = take_more pieces i p lt ∙ ap (λ x. take i pieces ++ x ∷ []) at in
-    let behind : drop i pieces ≡ p ∷ drop (i + 1) pieces = drop_more pieces i p lt ∙ ap (λ x. x ∷ drop (i + 1) pieces) at in
+    let following : drop i pieces ≡ p ∷ drop (i + 1) pieces = drop_more pieces i p lt ∙ ap (λ x. x ∷ drop (i + 1) pieces) at in
     let reads : Reads c.loop-piece.connection p c.from_vec.result c.in_ok-connection.connection = rw (← c.as_slice.ensures, c.from_vec.ensures) c.in_ok-connection.ensures in (
       rw (front, c.in_ok-push.ensures.items) (reads_push c.args.self.connection c.loop-piece.connection c.in_ok-connection.connection (take i pieces) p c.loop-piece.lists.items c.from_vec.result inv.0 reads),
-      can_read_more c.loop-piece.connection c.in_ok-connection.connection p (drop (i + 1) pieces) c.from_vec.result (rw behind at inv.1) reads,
+      can_read_more c.loop-piece.connection c.in_ok-connection.connection p (drop (i + 1) pieces) c.from_vec.result (rw following at inv.1) reads,
     )

@@ -1,5 +1,5 @@
 use Rattle.std.proofs.Common.{ℕ, Option, Ok, arith, subst, ◌≡◌, ◌+◌, length}
-use Rattle.captures.specs.CaptureFaults.{IsForeseen, IsFaultBehind}
+use Rattle.captures.specs.CaptureFaults.{IsForeseen, IsFaultAfter}
 use Rattle.captures.specs.Readers.{GaveKind}
 use Rattle.captures.specs.declared.record.Record.{Record as ARecord}
 use Rattle.captures.proofs.Fitting.{fits_at}
@@ -17,4 +17,4 @@ pub returns-in-Err-clause-next : goal.returns-in-Err-clause-next
 returns-in-Err-clause-next g c = λ v text start records f.
     let here = fits_at v text _ start records c.args.self.now f in
     let at : length records + 1 ≡ c.saturating_add-at.result = let sum = c.saturating_add-at.ensures in let count = here.0 in let most = here.1 in omega arith in
-    subst (λ (n : ℕ). (n ≡ length records + 1) × IsForeseen (λ bytes. IsFaultBehind v bytes start records) text (record { at = n; kind = c.in-Err.kind })) at (c.in-Err.ensures.next v text start records f)
+    subst (λ (n : ℕ). (n ≡ length records + 1) × IsForeseen (λ bytes. IsFaultAfter v bytes start records) text (record { at = n; kind = c.in-Err.kind })) at (c.in-Err.ensures.next v text start records f)

@@ -1,5 +1,5 @@
 use Rattle.std.proofs.Common.{◌∙◌}
-use Rattle.captures.proofs.Callers.{gave_record, gave_all, first_behind, first_of_all}
+use Rattle.captures.proofs.Callers.{gave_record, gave_all, first_after, first_of_all}
 use Rattle.captures_tests.proofs.tests.collecting.collect.Goals as goal
 
 pub returns-in-Err-clause-fault : goal.returns-in-Err-clause-fault
@@ -16,4 +16,4 @@ pub returns-in-Ok-None-clause-ok : goal.returns-in-Ok-None-clause-ok
 returns-in-Ok-None-clause-ok g c = gave_all _ _ _ _ _ _ _ c.in-Ok-None.field-0-is (c.in-Ok-None.ensures.next _ _ _ _ c.loop-record.invariant.0)
 
 pub returns-in-Err-next_record-clause-fault : goal.returns-in-Err-next_record-clause-fault
-returns-in-Err-next_record-clause-fault g c = first_behind _ _ _ _ _ (c.in-Err-next_record.ensures.next _ _ _ _ c.loop-record.invariant.0).1
+returns-in-Err-next_record-clause-fault g c = first_after _ _ _ _ _ (c.in-Err-next_record.ensures.next _ _ _ _ c.loop-record.invariant.0).1

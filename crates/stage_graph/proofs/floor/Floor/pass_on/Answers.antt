@@ -4,7 +4,7 @@ use Rattle.stage_graph.specs.Floors.{standing, give_cause}
 use Rattle.stage_graph.proofs.Causes.{may_give}
 use Rattle.stage_graph.proofs.Sound.{room_for}
 use Rattle.stage_graph.specs.declared.event.Event.TheVariants.{Give}
-use Rattle.stage_graph.proofs.Moves.{give_allowed, give_next_stands, room_behind, next_in}
+use Rattle.stage_graph.proofs.Moves.{give_allowed, give_next_stands, room_after, next_in}
 use Rattle.stage_graph.proofs.floor.Floor.pass_on.Goals as goal
 
 pub put-requires : goal.put-requires
@@ -17,7 +17,7 @@ put-requires g c =
     let stands = c.self.invariant.0 in
     let at : c.stage-next.result ≡ stage_at p c.args.worker = c.stage-next.ensures.stage ∙ ap (λ q. stage_at q c.args.worker) c.self.invariant.1 in
     let is : c.index_mut.result.now ≡ get_or c.self.inside.queues.items (stage_at p c.args.worker + 1) c.index_mut.result.now = rw (← at) c.index_mut.ensures.value in
-    (room_behind _ p n h _ (stage_at p c.args.worker + 1) c.index_mut.result.now (next_in p c.args.worker stands.plan c.requires.worker c.requires.more) is (may_give p (standing p n h) c.args.worker m _ none c.requires.more) stands).1
+    (room_after _ p n h _ (stage_at p c.args.worker + 1) c.index_mut.result.now (next_in p c.args.worker stands.plan c.requires.worker c.requires.more) is (may_give p (standing p n h) c.args.worker m _ none c.requires.more) stands).1
 
 pub push_reserved-requires : goal.push_reserved-requires
 push_reserved-requires g c =
@@ -40,7 +40,7 @@ invariant_of-self g c =
     let at : c.stage-next.result ≡ stage_at p c.args.worker = c.stage-next.ensures.stage ∙ ap (λ q. stage_at q c.args.worker) c.self.invariant.1 in
     let v = c.index_mut.result.now in
     let is : v ≡ get_or c.self.inside.queues.items (stage_at p c.args.worker + 1) v = rw (← at) c.index_mut.ensures.value in
-    let room = room_behind _ p n h _ (stage_at p c.args.worker + 1) v (next_in p c.args.worker stands.plan c.requires.worker c.requires.more) is (may_give p (standing p n h) c.args.worker m _ none c.requires.more) stands in
+    let room = room_after _ p n h _ (stage_at p c.args.worker + 1) v (next_in p c.args.worker stands.plan c.requires.worker c.requires.more) is (may_give p (standing p n h) c.args.worker m _ none c.requires.more) stands in
     let next = give_next_stands _ p n h _ c.args.worker c.args.item v c.requires.worker c.requires.more room.0 none stands in (
       rw (c.push_reserved.ensures.items, c.put.ensures, c.number-number.ensures, at) next,
       c.self.invariant.1,
