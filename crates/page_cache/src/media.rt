@@ -119,7 +119,7 @@ pub(crate) fn entity_fields_before(
     alloc: Global,
     media: MediaType,
     len: usize,
-    after: usize,
+    following: usize,
 ) -> Result<String, AllocError>
     ensures { IfOk result (λ text. string_bytes text ≡ entity_fields media len) }
 {
