@@ -4,8 +4,8 @@
 usage: documents.py PROGRAM
 
 A command stands in an indented block after `$ `, on one or more lines; the lines up to the next command are its output. A
-line `..` in it stands for any lines. The commands of a document run one after another in one folder, which has the folder
-`examples` and the program as `haboob`.
+line `..` in it stands for any lines. The commands of a document run one after another in one folder, which has the folders
+`examples` and `tools` and the program as `haboob`. A command that names a tool is left out where its libraries aren't there.
 """
 import os
 import re
@@ -17,6 +17,8 @@ DOCUMENTS = ["README.md"] + [os.path.join("docs", name) for name in ("WALK.md", 
 INDENT = "    "
 PROMPT = INDENT + "$ "
 SECONDS = 60
+TOOLS = "tools/"
+LIBRARIES = ["/usr/bin/python3", "-c", "import matplotlib, tqdm"]
 
 
 def commands_of(text):
@@ -56,13 +58,22 @@ def run(command, folder):
     return ran.stdout.decode()
 
 
-def check(top, program, document):
-    """How many commands of a document there are, and how many print something else than it shows."""
+def has_libraries():
+    """Whether the tools can run."""
+    try:
+        return subprocess.run(LIBRARIES, stderr=subprocess.DEVNULL).returncode == 0
+    except FileNotFoundError:
+        return False
+
+
+def check(top, program, document, with_tools):
+    """How many commands of a document were run, and how many print something else than it shows."""
     with open(os.path.join(top, document)) as file:
-        commands = commands_of(file.read())
+        commands = [shown for shown in commands_of(file.read()) if with_tools or TOOLS not in shown[0]]
     wrong = 0
     with tempfile.TemporaryDirectory() as folder:
-        os.symlink(os.path.join(top, "examples"), os.path.join(folder, "examples"))
+        for name in ("examples", "tools"):
+            os.symlink(os.path.join(top, name), os.path.join(folder, name))
         os.symlink(program, os.path.join(folder, "haboob"))
         for command, shown in commands:
             output = run(command, folder)
@@ -77,9 +88,12 @@ def main():
         sys.exit(__doc__)
     top = os.path.dirname(os.path.dirname(os.path.abspath(__file__)))
     program = os.path.abspath(sys.argv[1])
+    with_tools = has_libraries()
+    if not with_tools:
+        print("the libraries of the tools aren't there: commands that name a tool are left out")
     all_wrong = 0
     for document in DOCUMENTS:
-        count, wrong = check(top, program, document)
+        count, wrong = check(top, program, document, with_tools)
         print("%s: %d commands, %d wrong" % (document, count, wrong))
         all_wrong += wrong + (count == 0)
     sys.exit(all_wrong != 0)
