@@ -66,6 +66,18 @@ class Timeline(unittest.TestCase):
         status, _, texts = self.run_on(HEADING)
         self.assertEqual((status, texts["seconds"].count("\n")), (0, 1))
 
+    def test_marks(self):
+        nothing, many = float("nan"), timeline.FEW_SECONDS + 1
+        self.assertEqual(timeline.marked([1.0, nothing, 3.0]), [0, 1, 2])
+        self.assertEqual(timeline.marked([1.0] * many), [])
+        alone = [5.0, nothing] + [1.0] * many + [nothing, 2.0, nothing, nothing, 4.0]
+        self.assertEqual(timeline.marked(alone), [0, many + 3, many + 6])
+
+    def test_same_page(self):
+        seconds, targets = timeline.gather(timeline.rows_of(TABLE.splitlines(keepends=True)))
+        pages = [timeline.page_of("a", timeline.columns_of(seconds), targets) for _ in range(2)]
+        self.assertEqual(pages[0], pages[1])
+
     def test_another_file(self):
         status, error, texts = self.run_on("haboob-report 1\n")
         self.assertEqual((status, error, texts), (1, "timeline: this is no table of decisions\n", {}))

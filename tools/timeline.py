@@ -5,12 +5,16 @@ import collections
 import csv
 import html
 import io
+import math
 import sys
+
+from decision_tables import Fault, rows_of
 
 TOOL = "timeline"
 try:
     import matplotlib
     matplotlib.use("svg")
+    matplotlib.rcParams["svg.hashsalt"] = TOOL  # so that ids within a page are the same each time
     from matplotlib import pyplot, ticker
 except ImportError:
     print(TOOL + ": needs matplotlib: apt-get install python3-matplotlib", file=sys.stderr)
@@ -33,7 +37,6 @@ example:
   tools/timeline.py --output day.html --csv day.seconds.csv day.csv
 """
 
-HEADING = "number connection tick tier status decision service credit rate start finish waited method target".split()
 TICKS_IN_SECOND = 1_000_000
 UNITS_IN_TOKEN = 10**9
 PERCENTS = (50, 90, 99)
@@ -42,10 +45,14 @@ MOST_TARGETS = 20
 STYLES = ("-", "--", ":", "-.")
 MARKERS = ("o", "s", "^", "x")
 FEW_SECONDS = 60  # so few have a mark each
-
-
-class Fault(Exception):
-    """What is wrong with the input or the output."""
+AXES = (0.08, 0.17, 0.74, 0.72)  # left, bottom, width and height within a picture; the legend stands at the right
+STYLE = """\
+body { font-family: sans-serif; max-width: 60em; margin: auto }
+svg { width: 100%; height: auto }
+table { border-collapse: collapse; display: block; overflow-x: auto; font-size: 85% }
+th { text-align: left; font-weight: normal; border-bottom: 1px solid }
+th, td { padding-right: 0.8em }
+"""
 
 
 class Second:
@@ -74,17 +81,6 @@ class Second:
 def ranked(samples, percent):
     """The sample at rank ceil(percent * m / 100) of m sorted ones, as in the report; None of none."""
     return samples[-(-percent * len(samples) // 100) - 1] if samples else None
-
-
-def rows_of(file):
-    """The rows of a table of decisions."""
-    reader = csv.DictReader(file)
-    if reader.fieldnames != HEADING:
-        raise Fault("this is no table of decisions")
-    for row in reader:
-        if None in row or None in row.values():
-            raise Fault("line %d: not as many fields as the heading has" % reader.line_num)
-        yield row
 
 
 def note_service(seconds, start, finish):
@@ -137,30 +133,64 @@ def scaled(values, divisor):
     return [float("nan") if value is None else value / divisor for value in values]
 
 
+def svg_of(figure, **options):
+    """A figure, which is then closed, as SVG for a page; the same text for the same figure."""
+    text = io.StringIO()
+    figure.savefig(text, format="svg", metadata={"Date": None}, **options)
+    pyplot.close(figure)
+    return text.getvalue()[text.getvalue().index("<svg"):]
+
+
+def html_page(title, body):
+    """A page with a title, which isn't escaped yet, and a body of HTML."""
+    return (
+        "<!DOCTYPE html>\n<html lang=\"en\">\n<head><meta charset=\"utf-8\"><title>%s</title>\n"
+        "<style>\n%s</style>\n</head>\n<body>\n<h1>%s</h1>\n%s\n</body>\n</html>\n"
+    ) % (html.escape(title), STYLE, html.escape(title), body)
+
+
+def greatest(lines):
+    """The greatest value of lines; 0 of none."""
+    return max((value for _, values in lines for value in values if not math.isnan(value)), default=0)
+
+
+def marked(values):
+    """The places that have a mark: all of few, of many those that no line shows since there is nothing beside them."""
+    if len(values) <= FEW_SECONDS:
+        return list(range(len(values)))
+    absent = [True, *map(math.isnan, values), True]
+    return [place for place in range(len(values)) if absent[place:place + 3] == [True, False, True]]
+
+
 def picture(seconds, title, unit, lines):
-    """A picture of lines over the seconds, as SVG. Lines differ by their strokes, not by colour alone."""
-    figure, axes = pyplot.subplots(figsize=(10, 3))
-    for place, (label, values) in enumerate(lines):
-        marker = MARKERS[place % len(MARKERS)] if len(seconds) <= FEW_SECONDS else None
-        axes.plot(seconds, values, STYLES[place % len(STYLES)], label=label, marker=marker, linewidth=1 + place // len(STYLES))
+    """A picture of lines over the seconds, as SVG. Lines differ by their strokes, not by colour alone.
+
+    All pictures have the same place for their axes, so that a second stands below itself.
+    """
+    figure = pyplot.figure(figsize=(10, 3))
+    axes = figure.add_axes(AXES)
+    size, width = (6, 1.5) if len(seconds) <= FEW_SECONDS else (3, 0.8)
+    for (label, values), style, marker in zip(lines, STYLES, MARKERS):
+        axes.plot(seconds, values, style, label=label, marker=marker, markevery=marked(values), markersize=size,
+                  linewidth=width, clip_on=False)
     axes.set_title(title)
     axes.set_xlabel("second of the capture")
     axes.set_ylabel(unit)
-    axes.set_ylim(bottom=0)
-    axes.xaxis.set_major_locator(ticker.MaxNLocator(integer=True))
-    axes.legend(loc="upper left", bbox_to_anchor=(1, 1))
-    text = io.StringIO()
-    figure.savefig(text, format="svg", bbox_inches="tight")
-    pyplot.close(figure)
-    return text.getvalue()[text.getvalue().index("<svg"):]
+    axes.set_ylim(0, 1.05 * greatest(lines) or 1)
+    axes.set_xlim(min(seconds, default=0) - 0.5, max(seconds, default=0) + 0.5)
+    axes.xaxis.set_major_locator(ticker.MaxNLocator(integer=True, min_n_ticks=1))
+    if len(lines) > 1:
+        axes.legend(loc="upper left", bbox_to_anchor=(1, 1))
+    return svg_of(figure)
 
 
 def pictures_of(columns):
     """The pictures, from the top."""
     seconds = columns["second"]
     names = ("offered", "admitted", "rejected", "bypassed")
-    yield picture(seconds, "Requests", "a second", [(name, columns[name]) for name in names])
-    times = [("%dth percentile" % percent if percent != 50 else "median", scaled(columns["p%d" % percent], 1000)) for percent in PERCENTS]
+    yield picture(seconds, "Requests", "requests a second", [(name, columns[name]) for name in names])
+    titles = ("median", "90th percentile", "99th percentile")
+    times = [(title, scaled(columns["p%d" % percent], 1000)) for title, percent in zip(titles, PERCENTS)]
     yield picture(seconds, "Response times of admitted requests", "milliseconds", times)
     tiers = [tier for tier in range(TIERS) if "rate_%d" % tier in columns]
     rates = [("tier %d" % tier, scaled(columns["rate_%d" % tier], 1000)) for tier in tiers]
@@ -168,18 +198,19 @@ def pictures_of(columns):
     credits = [("tier %d" % tier, scaled(columns["least_credit_%d" % tier], UNITS_IN_TOKEN)) for tier in tiers]
     yield picture(seconds, "Least credit found", "tokens", credits)
     yield picture(seconds, "How busy the server was", "part of the second", [("busy", columns["busy_share"])])
-    yield picture(seconds, "Turned away while the server was idle", "requests a second", [("rejected while idle", columns["rejected_while_idle"])])
+    idle = ("rejected while idle", columns["rejected_while_idle"])
+    yield picture(seconds, "Turned away while the server was idle", "requests a second", [idle])
 
 
 def page_of(name, columns, targets):
     """The page."""
-    rows = "".join("<tr><td>%d</td><td>%s</td></tr>\n" % (count, html.escape(target)) for target, count in targets.most_common(MOST_TARGETS))
-    counts = ", ".join("%d %s" % (sum(columns[key]), key.replace("_", " ")) for key in ("offered", "admitted", "rejected", "rejected_while_idle", "bypassed"))
-    return (
-        "<!DOCTYPE html>\n<html lang=\"en\">\n<head><meta charset=\"utf-8\"><title>%s</title>\n"
-        "<style>body { font-family: sans-serif; max-width: 60em; margin: auto } svg { width: 100%%; height: auto } td { padding-right: 1em }</style>\n"
-        "</head>\n<body>\n<h1>%s</h1>\n<p>%s.</p>\n%s\n<h2>Targets most turned away</h2>\n<table>\n%s</table>\n</body>\n</html>\n"
-    ) % (html.escape(name), html.escape(name), counts, "\n".join(pictures_of(columns)), rows)
+    names = ("offered", "admitted", "rejected", "rejected_while_idle", "bypassed")
+    counts = ", ".join("%d %s" % (sum(columns[name]), name.replace("_", " ")) for name in names)
+    rows = "".join("<tr><td>%d</td><td>%s</td></tr>\n" % (count, html.escape(target))
+                   for target, count in targets.most_common(MOST_TARGETS))
+    return html_page(name, "<p>%s.</p>\n%s\n<h2>Targets most turned away</h2>\n<table>\n"
+                     "<tr><th>times</th><th>target</th></tr>\n%s</table>" % (
+                         counts, "\n".join(pictures_of(columns)), rows))
 
 
 def write_seconds(file, columns):
