@@ -4,7 +4,7 @@ Nothing but Python's own library is used: a worker of a cluster is sent this fil
 """
 import csv
 import hashlib
-import itertools
+import os
 import pathlib
 import shutil
 import subprocess
@@ -68,33 +68,33 @@ class Tally:
 
 
 def report_figures(lines):
-    """The figures of a report whose first line was read: by their names, None where it has `-`."""
+    """The figures of a report by their names, None where it has `-`."""
     figures, line = {}, ""
+    begins = next(lines, None) == REPORT_BEGIN
     for line in lines:
         name, _, value = line.rstrip("\n").partition(" ")
         if name in REPORTED:
             figures[name] = None if value == "-" else int(value)
-    if line != REPORT_END or len(figures) != len(REPORTED):
+    if not begins or line != REPORT_END or len(figures) != len(REPORTED):
         raise Fault("the report isn't whole")
     return figures
 
 
-def figures_of(lines):
-    """The figures of a table with a report directly after it; of its rows one is held at a time."""
-    lines = iter(lines)
+def tally_of(table):
+    """What is counted over a table, of which one row is held at a time."""
     tally = Tally()
-    for row in rows_of(itertools.takewhile(lambda line: line != REPORT_BEGIN, lines)):
+    for row in rows_of(table):
         tally.take(row)
-    return {**report_figures(lines), **tally.figures()}
+    return tally
 
 
-def figures_or_fault(output):
-    """The figures of what a program writes, and None; or None and the fault of a text that ended too early."""
+def tally_or_fault(table):
+    """What is counted over a table, and None; or None and the fault of a text that ended too early."""
     try:
-        return figures_of(output), None
+        return tally_of(table), None
     except (Fault, ValueError) as error:
-        fault = Fault("no table and report of haboob explain: %s" % error)
-    if output.read(1):
+        fault = Fault("no table of haboob explain: %s" % error)
+    if table.read(1):
         raise fault
     return None, fault
 
@@ -102,23 +102,33 @@ def figures_or_fault(output):
 def run(program, snapshot, capture, settings):
     """The figures of a run with these files; where the settings are refused, the program's line as the figure `fault`.
 
-    Table and report come over one pipe, so that neither takes room on a disk.
+    The table comes over a pipe of its own, so that it takes no room on a disk.
     """
+    table_end, program_end = os.pipe()
     words = [program, "explain", "--snapshot", snapshot, "--capture", capture, "--settings", settings,
-             "--messages", "/dev/stdout"]
-    with tempfile.TemporaryFile() as errors:
-        with subprocess.Popen(words, stdin=subprocess.DEVNULL, stdout=subprocess.PIPE, stderr=errors, encoding="ascii",
-                              errors="replace") as process:
-            figures, fault = figures_or_fault(process.stdout)
+             "--messages", "/dev/fd/%d" % program_end]
+    with open(table_end, encoding="ascii", errors="replace") as table, tempfile.TemporaryFile() as errors, \
+            tempfile.TemporaryFile("w+", encoding="ascii", errors="replace") as report:
+        try:
+            process = subprocess.Popen(
+                words, stdin=subprocess.DEVNULL, stdout=report, stderr=errors, pass_fds=[program_end])
+        finally:
+            os.close(program_end)
+        with process, table:
+            tally, fault = tally_or_fault(table)
         errors.seek(0)
         said = errors.readline(LINE_LIMIT).decode(errors="replace").strip()
-    if process.returncode == REFUSED:
-        return {"fault": said}
-    if process.returncode:
-        raise Fault(said or "%s: ended with status %d" % (program, process.returncode))
-    if fault:
-        raise fault
-    return figures
+        if process.returncode == REFUSED:
+            return {"fault": said}
+        if process.returncode:
+            raise Fault(said or "%s: ended with status %d" % (program, process.returncode))
+        if fault:
+            raise fault
+        report.seek(0)
+        try:
+            return {**report_figures(report), **tally.figures()}
+        except (Fault, ValueError) as error:
+            raise Fault("no report of haboob explain: %s" % error) from None
 
 
 def find_program(name):

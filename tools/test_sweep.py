@@ -175,7 +175,8 @@ class Base(unittest.TestCase):
 
 class Figures(unittest.TestCase):
     def figures(self, rows, report=REPORT.format(3, 3, 400)):
-        return decision_tables.figures_of(io.StringIO(HEADING + rows + report))
+        tally = decision_tables.tally_of(io.StringIO(HEADING + rows))
+        return {**decision_tables.report_figures(io.StringIO(report)), **tally.figures()}
 
     def test_rows(self):
         self.assertEqual(self.figures(ROWS), {
@@ -195,7 +196,7 @@ class Figures(unittest.TestCase):
         with self.assertRaisesRegex(decision_tables.Fault, "line 2: not as many fields"):
             self.figures("0,0,1000,0,200\n")
         with self.assertRaisesRegex(decision_tables.Fault, "no table"):
-            decision_tables.figures_of(io.StringIO(REPORT))
+            decision_tables.tally_of(io.StringIO(REPORT))
 
 
 class Documents(unittest.TestCase):
@@ -408,11 +409,11 @@ class Faults(Base):
         self.folder.capture.write_text("broken")
         self.check(self.folder.words(), 1, "sweep: haboob: capture: record 9: Kind")
         self.check(self.folder.words("--program", "/bin/echo"), 1,
-                   "sweep: no table and report of haboob explain: this is no table of decisions")
+                   "sweep: no table of haboob explain: this is no table of decisions")
         self.check(self.folder.words("--program", "/bin/false"), 1, "sweep: /bin/false: ended with status 1")
         self.folder.capture.write_text("capture")
         self.folder.plan(report=REPORT[:-4])
-        self.check(self.folder.words(), 1, "sweep: no table and report of haboob explain: the report isn't whole")
+        self.check(self.folder.words(), 1, "sweep: no report of haboob explain: the report isn't whole")
 
     def test_changed_input(self):
         run_missing = sweep.run_missing
