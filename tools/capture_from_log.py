@@ -1,4 +1,4 @@
-#!/usr/bin/env python3
+#!/usr/bin/python3
 """Turns an access log (nginx's or Apache's combined format, or a given one) into a capture that Haboob replays."""
 import argparse
 import collections

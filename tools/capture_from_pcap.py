@@ -1,4 +1,4 @@
-#!/usr/bin/env python3
+#!/usr/bin/python3
 """Turns recorded packets (pcap or pcapng, IPv4 or IPv6) into a capture that Haboob replays."""
 import argparse
 import collections

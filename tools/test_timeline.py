@@ -1,4 +1,4 @@
-#!/usr/bin/env python3
+#!/usr/bin/python3
 """Tests of timeline.py on a table that was written by hand.
 
     python3 tools/test_timeline.py

@@ -1,4 +1,4 @@
-#!/usr/bin/env python3
+#!/usr/bin/python3
 """Tests of the tools beside it, on stored and made-up inputs.
 
     python3 tools/test_tools.py

@@ -1,4 +1,4 @@
-#!/usr/bin/env python3
+#!/usr/bin/python3
 """Makes one HTML page of pictures over time from a table of decisions, as `haboob explain` writes it."""
 import argparse
 import collections
