@@ -67,19 +67,26 @@ explain_command =
     (required_of (codes "messages")))
     (option_of (codes "settings"))
 
+-- `settings`, with one option that isn't required
+unfoldable pub settings_command : App
+settings_command =
+    with_rule (new_app (codes "settings"))
+    (option_of (codes "settings"))
+
 -- the program, which wants one of its subcommands; the words are those after its name
 abbrev pub program_of : App → App
 program_of a = record a { top = record a.top { no_binary_name = true; subcommand_required = true } }
 
 unfoldable pub command_line : App
 command_line =
-    with_subcommand (with_subcommand (with_subcommand (with_subcommand (with_subcommand
+    with_subcommand (with_subcommand (with_subcommand (with_subcommand (with_subcommand (with_subcommand
     (program_of (new_app (codes "haboob")))
     replay_command.top)
     upgrade_command.top)
     snapshot_command.top)
     inspect_command.top)
-    explain_command.top
+    explain_command.top)
+    settings_command.top
 
 -- ---- what a subcommand asks for: its name, and the values of its options
 
@@ -113,6 +120,7 @@ subcommand_named name =
     else if bytes_eq name (codes "snapshot") then subcommands.Snapshot
     else if bytes_eq name (codes "inspect") then subcommands.Inspect
     else if bytes_eq name (codes "explain") then subcommands.Explain
+    else if bytes_eq name (codes "settings") then subcommands.Settings
     else subcommands.Replay
 
 abbrev pub subcommand_of_rows : Found → Subcommand
@@ -145,6 +153,9 @@ AsksBy found (jobs.Explain snapshot capture messages settings) =
     × (snapshot.now ≡ file_of found (codes "snapshot"))
     × (capture.now ≡ file_of found (codes "capture"))
     × (messages.now ≡ file_of found (codes "messages"))
+    × (option_map (λ s. s.now) settings ≡ value_of found (codes "settings"))
+AsksBy found (jobs.Settings settings) =
+    (subcommand_of_rows found ≡ subcommands.Settings)
     × (option_map (λ s. s.now) settings ≡ value_of found (codes "settings"))
 
 -- a subcommand asks for a replay by another engine, and no other fault comes

@@ -2,7 +2,7 @@ ghost use Rattle.std.specs.Prelude.{◌≡◌, false, IfOk};
 ghost use Rattle.clap.specs.Words.{app_of, rule_of};
 ghost use Rattle.clap.specs.declared.builder.Command.TheViews.{out-Command};
 ghost use Rattle.command_line.specs.CommandLine.{command_line, explain_command, flag_of, inspect_command, option_of};
-ghost use Rattle.command_line.specs.CommandLine.{replay_command, snapshot_command, upgrade_command};
+ghost use Rattle.command_line.specs.CommandLine.{replay_command, settings_command, snapshot_command, upgrade_command};
 
 use clap::{Arg, ArgAction, Command};
 use std::alloc::{AllocError, Global};
@@ -17,6 +17,7 @@ Examples:
   haboob inspect --capture day.capture
   haboob replay --snapshot site.snapshot --capture day.capture --replies day.replies
   haboob explain --snapshot site.snapshot --capture day.capture --messages day.csv
+  haboob settings --settings tight.toml
   haboob upgrade --capture old.capture --output new.capture";
 
 /// What help says after the options of `replay`.
@@ -63,6 +64,14 @@ Example:
   haboob explain --snapshot site.snapshot --capture day.capture --messages day.csv \\
     --settings tight.toml";
 
+/// What help says after the options of `settings`.
+const SETTINGS_NOTES: &str =
+    "Standard output gets a TOML document in which each key stands with the value that holds for it,
+below its unit, its range and its meaning. Given back with --settings, it is the same settings.
+
+Example:
+  haboob settings --settings tight.toml > whole.toml";
+
 /// The command `haboob`, whose words are those after its name.
 pub(crate) fn command_line<'a>(alloc: Global) -> Result<Command<'a>, AllocError>
     ensures { IfOk result (λ command. app_of command ≡ command_line) }
@@ -72,6 +81,7 @@ pub(crate) fn command_line<'a>(alloc: Global) -> Result<Command<'a>, AllocError>
     let snapshot = snapshot_command(alloc)?;
     let inspect = inspect_command(alloc)?;
     let explain = explain_command(alloc)?;
+    let settings = settings_command(alloc)?;
     Command::new(alloc, "haboob")
         .bin_name("haboob")?
         .no_binary_name(true)
@@ -82,7 +92,8 @@ pub(crate) fn command_line<'a>(alloc: Global) -> Result<Command<'a>, AllocError>
         .subcommand(upgrade)?
         .subcommand(snapshot)?
         .subcommand(inspect)?
-        .subcommand(explain)
+        .subcommand(explain)?
+        .subcommand(settings)
 }
 
 fn replay_command<'a>(alloc: Global) -> Result<Command<'a>, AllocError>
@@ -189,6 +200,21 @@ fn explain_command<'a>(alloc: Global) -> Result<Command<'a>, AllocError>
         .arg(snapshot)?
         .arg(capture)?
         .arg(messages)?
+        .arg(settings)
+}
+
+fn settings_command<'a>(alloc: Global) -> Result<Command<'a>, AllocError>
+    ensures app { IfOk result (λ command. app_of command ≡ settings_command) }
+    ensures local { IfOk result (λ command. (out-Command command).has_globals ≡ false) }
+{
+    let settings = file_option(
+        alloc,
+        "settings",
+        "Settings, as TOML; a key that is left out has its default",
+    );
+    Command::new(alloc, "settings")
+        .about("Writes the settings that are in force, each key with its meaning.")
+        .after_help(SETTINGS_NOTES)
         .arg(settings)
 }
 

@@ -54,6 +54,10 @@ pub enum Job<'a> {
         messages: &'a str,
         settings: Option<&'a str>,
     },
+    /// Standard output gets the settings of a file, or the default ones without it, written out in full.
+    Settings {
+        settings: Option<&'a str>,
+    },
 }
 
 /// The subcommands.
@@ -64,6 +68,7 @@ enum Subcommand {
     Snapshot,
     Inspect,
     Explain,
+    Settings,
 }
 
 /// Why words ask for nothing.
@@ -150,6 +155,11 @@ fn job_of<'a>(matches: &ArgMatches<'a>) -> Result<Job<'a>, WordFault>
                 settings: value(matches, "settings"),
             })
         }
+        Subcommand::Settings => {
+            Ok(Job::Settings {
+                settings: value(matches, "settings"),
+            })
+        }
     }
 }
 
@@ -171,6 +181,7 @@ fn subcommand_named(name: &str) -> Subcommand
         "snapshot" => Subcommand::Snapshot,
         "inspect" => Subcommand::Inspect,
         "explain" => Subcommand::Explain,
+        "settings" => Subcommand::Settings,
         _ => Subcommand::Replay,
     }
 }

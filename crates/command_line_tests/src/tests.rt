@@ -65,6 +65,12 @@ static EXPLAIN: [&str; 7] = [
     "m",
 ];
 
+static SETTINGS: [&str; 3] = ["settings", "--settings", "t"];
+
+static DEFAULT_SETTINGS: [&str; 1] = ["settings"];
+
+static FILE_OF_SETTINGS: [&str; 2] = ["settings", "t"];
+
 static HELP: [&str; 1] = ["--help"];
 
 static REPLAY_HELP: [&str; 2] = ["replay", "--help"];
@@ -76,6 +82,8 @@ static SNAPSHOT_HELP: [&str; 2] = ["snapshot", "--help"];
 static INSPECT_HELP: [&str; 2] = ["inspect", "--help"];
 
 static EXPLAIN_HELP: [&str; 2] = ["explain", "--help"];
+
+static SETTINGS_HELP: [&str; 2] = ["settings", "--help"];
 
 #[test]
 fn no_words(rt: HostRuntime) {
@@ -172,6 +180,19 @@ fn explanations(rt: HostRuntime) {
 }
 
 #[test]
+fn settings(rt: HostRuntime) {
+    for (words, file) in [
+        (SETTINGS.as_slice(), Some("t")),
+        (DEFAULT_SETTINGS.as_slice(), None),
+    ] {
+        match read_words(rt.alloc(), words) {
+            Ok(Job::Settings { settings }) => assert_eq!(rt; settings, file),
+            _ => assert!(rt; false, "the words of settings"),
+        }
+    }
+}
+
+#[test]
 fn another_engine(rt: HostRuntime) {
     assert!(rt;
         matches!(
@@ -191,6 +212,7 @@ Commands:
   snapshot  Writes the files of a folder as a snapshot.
   inspect   Tells what a capture holds.
   explain   Tells of each message why it was admitted or turned away.
+  settings  Writes the settings that are in force, each key with its meaning.
   help      Print this message or the help of the given subcommand(s)
 
 Options:
@@ -204,6 +226,7 @@ Examples:
   haboob inspect --capture day.capture
   haboob replay --snapshot site.snapshot --capture day.capture --replies day.replies
   haboob explain --snapshot site.snapshot --capture day.capture --messages day.csv
+  haboob settings --settings tight.toml
   haboob upgrade --capture old.capture --output new.capture
 ";
 
@@ -295,6 +318,28 @@ Example:
     --settings tight.toml
 ";
 
+static SETTINGS_HELP_TEXT: &str = "Writes the settings that are in force, each key with its meaning.
+
+Usage: haboob settings [OPTIONS]
+
+Options:
+      --settings <FILE>  Settings, as TOML; a key that is left out has its default
+  -h, --help             Print help
+
+Standard output gets a TOML document in which each key stands with the value that holds for it,
+below its unit, its range and its meaning. Given back with --settings, it is the same settings.
+
+Example:
+  haboob settings --settings tight.toml > whole.toml
+";
+
+static FILE_OF_SETTINGS_TEXT: &str = "error: unexpected argument 't' found
+
+Usage: haboob settings [OPTIONS]
+
+For more information, try '--help'.
+";
+
 static NO_FOLDER_TEXT: &str = "error: the following required arguments were not provided:
   --folder <FOLDER>
 
@@ -344,6 +389,8 @@ fn texts(rt: HostRuntime) -> Result<(), Fail> {
         (SNAPSHOT_HELP.as_slice(), SNAPSHOT_HELP_TEXT),
         (INSPECT_HELP.as_slice(), INSPECT_HELP_TEXT),
         (EXPLAIN_HELP.as_slice(), EXPLAIN_HELP_TEXT),
+        (SETTINGS_HELP.as_slice(), SETTINGS_HELP_TEXT),
+        (FILE_OF_SETTINGS.as_slice(), FILE_OF_SETTINGS_TEXT),
         (SHORT.as_slice(), SHORT_TEXT),
         (NO_FOLDER.as_slice(), NO_FOLDER_TEXT),
         (NO_OUTPUT.as_slice(), NO_OUTPUT_TEXT),
@@ -368,6 +415,8 @@ fn each_growth_refused(rt: HostRuntime) {
     assert!(rt; matches!(upgrade, Ok(Job::Upgrade { .. }) | Err(WordFault::Memory)));
     let snapshot = read_words(rt.alloc(), SKIPPING.as_slice());
     assert!(rt; matches!(snapshot, Ok(Job::Snapshot { .. }) | Err(WordFault::Memory)));
+    let settings = read_words(rt.alloc(), SETTINGS.as_slice());
+    assert!(rt; matches!(settings, Ok(Job::Settings { .. }) | Err(WordFault::Memory)));
     let refused = read_words(rt.alloc(), SHORT.as_slice());
     assert!(rt; matches!(refused, Err(WordFault::Words(_)) | Err(WordFault::Memory)));
 }

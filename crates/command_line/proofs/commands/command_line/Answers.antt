@@ -17,5 +17,7 @@ returns c =
     ∙ ap₂ with_subcommand two (ap (λ (a : App). a.top) c.in_ok-snapshot.ensures.app) in
     let four = c.in_ok-subcommand-4.ensures.shape c.in_ok-inspect.ensures.local
     ∙ ap₂ with_subcommand three (ap (λ (a : App). a.top) c.in_ok-inspect.ensures.app) in
-    IfOk-weaker c.subcommand-5.result _ _ (λ whole adds. adds.shape c.in_ok-explain.ensures.local
-    ∙ ap₂ with_subcommand four (ap (λ (a : App). a.top) c.in_ok-explain.ensures.app)) c.subcommand-5.ensures
+    let five = c.in_ok-subcommand-5.ensures.shape c.in_ok-explain.ensures.local
+    ∙ ap₂ with_subcommand four (ap (λ (a : App). a.top) c.in_ok-explain.ensures.app) in
+    IfOk-weaker c.subcommand-6.result _ _ (λ whole adds. adds.shape c.in_ok-settings.ensures.local
+    ∙ ap₂ with_subcommand five (ap (λ (a : App). a.top) c.in_ok-settings.ensures.app)) c.subcommand-6.ensures
