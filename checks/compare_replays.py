@@ -1,6 +1,6 @@
 #!/usr/bin/env python3
-"""Compares the program's replays, tables of decisions, inspections and upgrades with those of reference.py: status, line
-on standard error and what is written.
+"""Compares the program's replays, tables of decisions, inspections, upgrades and settings with those of reference.py:
+status, line on standard error and what is written.
 
     checks/compare_replays.py PROGRAM [COUNT [FIRST]]
 
@@ -10,7 +10,8 @@ a third of these have a fault. Each is run with both engines, and compared byte 
 stages, the workers, the capacities, the batch and the cache are drawn at random for each, but for the first, which has
 those of the default settings: nothing that is written may depend on them.
 
-Of each the table of decisions is compared too, with its report, and what its capture holds.
+Of each the table of decisions is compared too, with its report, and what its capture holds; and its settings, which are
+written out, and once more from the text that was written.
 
 The capture of each is also upgraded, and the upgraded text once more, which leaves it as it is. Where that text differs
 from the capture, it is replayed with both engines: replies and report are those of the capture. For each seed a capture
@@ -37,6 +38,7 @@ PARTS = {
     "replay": ("status", "line", "replies", "report"),
     "explain": ("status", "line", "table", "report"),
     "inspect": ("status", "line", "capture", "inspection"),
+    "settings": ("status", "line", "document", "text"),
     "upgrade": ("status", "line", "output", "standard output"),
 }
 START = 784111777
@@ -508,6 +510,11 @@ def run_inspect(program, capture):
     return run_program(program, ["inspect"], {"capture": capture}, "capture")
 
 
+def run_settings(program, document):
+    """Status, line on standard error, the document, which stays as it is, and its settings written out."""
+    return run_program(program, ["settings"], {"settings": document}, "settings")
+
+
 def run_upgrade(program, capture):
     """Status, line on standard error, output and standard output of an upgrade."""
     return run_program(program, ["upgrade"], {"capture": capture, "output": OLD_REPLIES}, "output")
@@ -552,6 +559,13 @@ class Comparison:
         status, line, text = reference.inspect(capture)
         self.judge("inspect", name, (status, line, capture, text), run_inspect(self.program, capture))
 
+    def settings(self, name, document):
+        """Compares the settings that are written out, and those of the text that was written."""
+        status, line, text = reference.settings_text(document)
+        self.judge("settings", name, (status, line, document, text), run_settings(self.program, document))
+        if status == 0:
+            self.judge("settings", name + ", read back", (0, b"", text, text), run_settings(self.program, text))
+
     def upgrade(self, name, capture):
         """Upgrades a capture, and the upgraded text once more; what is wanted then stands in the output."""
         status, line, wanted = reference.upgrade(capture)
@@ -569,6 +583,7 @@ class Comparison:
         wanted = status, line, OLD_REPLIES if replies is None else replies, report
         self.replay(name, wanted, snapshot, capture, settings)
         self.explain(name, snapshot, capture, settings)
+        self.settings(name, settings or b"")
         ended, upgraded = self.upgrade(name, capture)
         if ended == 0 and upgraded != capture:
             self.replay(name + ", upgraded", wanted, snapshot, upgraded, settings)

@@ -75,6 +75,31 @@ SETTINGS = {
     ],
     "page": [("retry_after", 1, 0, 86_400)],
 }
+COMMENTS = {
+    "front_cuts": "steps, rising from at least 1, the last 3: how many of the front's are done where each stage ends",
+    "back_cuts": "steps, rising from at least 1, the last 2: how many of the back's are done where each stage ends",
+    "batch": "pieces, 1 to 65536: how many are read at a time",
+    "cache": "bytes, 0 to 1073741824: how much the cache of pages holds",
+    "file": "microseconds, 1 to 1000000: how long the server works on a file",
+    "kib": "microseconds, 0 to 1000000: how long it works besides on each 1024 bytes that are given",
+    "error": "microseconds, 1 to 1000000: how long it works on any other answer",
+    "window": "response times, 1 to 4096: of so many of the last ones the 90th percentile is taken",
+    "every": "admitted requests, 1 to 4096: the controller looks once in so many",
+    "smoothing": "thousandths, 0 to 999: how much of the former value stays (700 is a weight of 0.7 for the past)",
+    "rate": "thousandths of a token a second, rate_min to rate_max: how fast tokens come back at first",
+    "rate_min": "thousandths of a token a second, 1 to rate_max: the rate never falls below it",
+    "rate_max": "thousandths of a token a second, rate_min to 1000000000: the rate never rises above it",
+    "up": "thousandths of a token a second, 0 to 1000000000: by so much the rate rises",
+    "down": "hundredths, 101 to 10000: what the rate is divided by where it falls (120 divides it by 1.2)",
+    "target": "microseconds, 1 to 1000000000000: above this response time the rate falls",
+    "low": "percent of the target, 0 to 100: below so much of it the rate rises",
+    "depth": "tokens, 1 to 1000000: how many the bucket holds; it starts full",
+    "retry_after": "seconds, 0 to 86400: after how long a rejected request may be tried again (Retry-After)",
+}
+for side in ("front", "back"):
+    COMMENTS[side + "_workers"] = "threads, 1 to 16 for each stage: how many work at it"
+    COMMENTS[side + "_capacities"] = "requests, 1 to 4096 for each stage: how many its queue holds"
+
 # The table of each tier's policy; those after the first take what they leave out from it.
 POLICY_TABLES = ["policy", "tier1", "tier2", "tier3"]
 SETTINGS |= {table: SETTINGS["policy"] for table in POLICY_TABLES[1:]}
@@ -815,6 +840,20 @@ def read_settings(data):
     except Refused as kind:
         raise Fault(3, "settings: %s" % kind) from None
     return settings
+
+
+def settings_text(data):
+    """Status, line of a fault, and the settings of a document written out (docs/FORMATS.md, Settings)."""
+    try:
+        settings = read_settings(data)
+    except Fault as fault:
+        return fault.status, fault.line, b""
+    lines = ["# Each key with the value that is in force, below its unit, its range and its meaning."]
+    for table in SETTINGS:
+        lines += ["", "[%s]" % table]
+        for key, *_ in SETTINGS[table]:
+            lines += ["# " + COMMENTS[key], "%s = %s" % (key, settings[table + "." + key])]
+    return 0, b"", "".join(line + "\n" for line in lines).encode()
 
 
 def replies_text(arrived, replies, fault):

@@ -1,13 +1,12 @@
 -- Choices whose numbers are in their ranges, and whose plans end with the right steps, are settings.
-use Rattle.std.proofs.Common.{◌≡◌, ℕ, ◌≤◌, Bool, true, false, List, length, Some, None, Err, refl, sym, ◌∙◌, arith}
+use Rattle.std.proofs.Common.{◌≡◌, ℕ, ◌≤◌, Bool, true, false, List, length, Some, None, refl, sym, ◌∙◌, arith}
 use Rattle.std.proofs.lemmas.Bool.Decides.{nat_tests}
 use Rattle.std.specs.Str.{is_utf8}
 use Rattle.toml.specs.Parse.{parse_document}
 use Rattle.stage_graph.specs.Stands.{last_cut}
 use Rattle.replay.specs.Choices.{Choice, settings_fault}
 use Rattle.replay.specs.declared.settings.SettingsFault.{SettingsFault}
-use Rattle.options.specs.ConfigFaults.{no_text}
-use Rattle.options.specs.SettingsTable.{settings_read, settings_or_no_text}
+use Rattle.options.specs.SettingsTable.{document_of}
 
 no_fault : (c : Choice) → last_cut c.front ≡ 3 → last_cut c.back ≡ 2 → 1 ≤ c.batch → c.batch ≤ 65536 → c.cache ≤ 1073741824 → c.retry_after ≤ 86400
     → settings_fault c ≡ None
@@ -24,8 +23,8 @@ pub not_true : (b : Bool) → (b ≡ true → ⊥) → b ≡ false
 not_true true no_way = absurd (no_way refl)
 not_true false no_way = refl
 
-pub not_text : (bytes : List ℕ) → is_utf8 bytes ≡ false → settings_read bytes ≡ Err no_text
+pub not_text : (bytes : List ℕ) → is_utf8 bytes ≡ false → document_of bytes ≡ None
 not_text bytes strange = grind (arith, nat_tests)
 
-pub text_read : (bytes : List ℕ) → length bytes ≤ 65536 → is_utf8 bytes ≡ true → settings_read bytes ≡ settings_or_no_text (parse_document bytes)
+pub text_read : (bytes : List ℕ) → length bytes ≤ 65536 → is_utf8 bytes ≡ true → document_of bytes ≡ parse_document bytes
 text_read bytes short text = grind (arith, nat_tests)

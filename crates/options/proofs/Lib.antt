@@ -1,2 +1,3 @@
 mod Choosing
 mod Rows
+mod WrittenOut

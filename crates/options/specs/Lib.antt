@@ -3,3 +3,4 @@ pub mod Keys
 pub mod Documents
 pub mod Numbers
 pub mod SettingsTable
+pub mod WrittenOut

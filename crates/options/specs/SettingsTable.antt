@@ -146,11 +146,13 @@ chosen w = do
     retry_after = w.retry_after;
   })
 
+-- what a document says of its keys, if it has no other
+abbrev pub choices_of : Members → Result Choices ConfigFault
+choices_of document = if members_known document None then written_in document else Err not_known
+
 -- the settings of a document, or its first fault
 abbrev pub settings_of : Members → Result Choice ConfigFault
-settings_of document =
-    if members_known document None then written_in document >>= chosen
-    else Err not_known
+settings_of document = choices_of document >>= chosen
 
 -- the settings of a document without keys, written out
 abbrev pub default_choice : Choice

@@ -1,12 +1,13 @@
-ghost use Rattle.std.specs.Prelude.{◌≡◌, IfOk, None};
+ghost use Rattle.std.specs.Prelude.{◌≡◌, IfOk, false, None, Some, MatchResult};
 ghost use Rattle.toml.specs.View.{table_view};
 ghost use Rattle.stage_graph.specs.Stands.{last_cut};
-ghost use Rattle.options.specs.ConfigFaults.{Answers};
+ghost use Rattle.options.specs.ConfigFaults.{Answers, is_memory, no_text};
 ghost use Rattle.options.specs.SettingsTable.{front_of, back_of, costs_of, policy_in, default_policy, written_in};
-ghost use Rattle.options.specs.SettingsTable.{plan_of, in_order, chosen, settings_of, settings_read};
+ghost use Rattle.options.specs.SettingsTable.{plan_of, in_order, choices_of, chosen, document_of, settings_of};
+ghost use Rattle.options.specs.SettingsTable.{settings_read};
 
 use crate::document::{members_known, number, numbers};
-use crate::numbers::{Choices, FloorLists, PolicyNumbers};
+use crate::numbers::{Choices, CostNumbers, FloorLists, PolicyNumbers};
 use crate::{ConfigFault, Key, PolicyKey, PolicyTable};
 use admission::Policy;
 use cost_model::Costs;
@@ -26,6 +27,20 @@ pub const LONGEST_SETTINGS: usize = 65_536;
 pub fn read_settings(alloc: Global, bytes: &[u8]) -> Result<Settings, ConfigFault>
     ensures { Answers (settings_read bytes.now) result }
 {
+    let document = document_of(alloc, bytes)?;
+    settings_of(alloc, &document)
+}
+
+/// The document that a text writes.
+///
+/// # Errors
+///
+/// `Text` where it has more than 65,536 bytes or is no TOML document, or `Memory`.
+pub(crate) fn document_of(alloc: Global, bytes: &[u8]) -> Result<Table, ConfigFault>
+    ensures { MatchResult result
+        (λ document. document_of bytes.now ≡ Some (table_view document))
+        (λ fault. is_memory fault ≡ false → (document_of bytes.now ≡ None) × (fault ≡ no_text)) }
+{
     if bytes.len() > LONGEST_SETTINGS {
         return Err(ConfigFault::TEXT);
     }
@@ -33,7 +48,7 @@ pub fn read_settings(alloc: Global, bytes: &[u8]) -> Result<Settings, ConfigFaul
         return Err(ConfigFault::TEXT);
     };
     match toml::table_from_str(alloc, text) {
-        Ok(document) => settings_of(alloc, &document),
+        Ok(document) => Ok(document),
         Err(error) if error.is_memory() => Err(ConfigFault::MEMORY),
         Err(_) => Err(ConfigFault::TEXT),
     }
@@ -43,11 +58,18 @@ pub fn read_settings(alloc: Global, bytes: &[u8]) -> Result<Settings, ConfigFaul
 pub(crate) fn settings_of(alloc: Global, document: &Table) -> Result<Settings, ConfigFault>
     ensures { Answers (settings_of (table_view document.now)) result }
 {
+    let written = choices_of(alloc, document)?;
+    chosen(alloc, &written)
+}
+
+/// What a document says of its keys, if it has no other.
+pub(crate) fn choices_of(alloc: Global, document: &Table) -> Result<Choices, ConfigFault>
+    ensures { Answers (choices_of (table_view document.now)) result }
+{
     if !members_known(document, None) {
         return Err(ConfigFault::UNKNOWN);
     }
-    let written = written_in(alloc, document)?;
-    chosen(alloc, &written)
+    written_in(alloc, document)
 }
 
 /// Every key in its order. A value of a wrong shape and a number outside its range are the faults here.
@@ -104,16 +126,13 @@ fn back_of(alloc: Global, document: &Table) -> Result<FloorLists, ConfigFault>
     })
 }
 
-fn costs_of(document: &Table) -> Result<Costs, ConfigFault>
+fn costs_of(document: &Table) -> Result<CostNumbers, ConfigFault>
     ensures { result ≡ costs_of (table_view document.now) }
 {
     let file = number(document, Key::File, 200, 1, 1_000_000)?;
     let kib = number(document, Key::Kib, 10, 0, 1_000_000)?;
     let error = number(document, Key::Error, 50, 1, 1_000_000)?;
-    match Costs::new(file, kib, error) {
-        Ok(costs) => Ok(costs),
-        Err(_) => unreachable!(),
-    }
+    Ok(CostNumbers { file, kib, error })
 }
 
 /// The policy of a document that says nothing of it.
@@ -175,7 +194,7 @@ fn policy_in(
 }
 
 /// The settings of these numbers and lists, if they fit together.
-fn chosen(alloc: Global, written: &Choices) -> Result<Settings, ConfigFault>
+pub(crate) fn chosen(alloc: Global, written: &Choices) -> Result<Settings, ConfigFault>
     ensures { Answers (chosen written.now) result }
 {
     let front = plan_of(alloc, Key::Front, FRONT_STEPS, &written.front)?;
@@ -191,11 +210,21 @@ fn chosen(alloc: Global, written: &Choices) -> Result<Settings, ConfigFault>
         back,
         batch,
         cache,
-        written.costs,
+        costs_with(written.costs),
         [policy, tier1, tier2, tier3],
         written.retry_after,
     ) {
         Ok(settings) => Ok(settings),
+        Err(_) => unreachable!(),
+    }
+}
+
+/// The service times of these numbers.
+fn costs_with(numbers: CostNumbers) -> Costs
+    ensures { result ≡ numbers }
+{
+    match Costs::new(numbers.file, numbers.kib, numbers.error) {
+        Ok(costs) => costs,
         Err(_) => unreachable!(),
     }
 }

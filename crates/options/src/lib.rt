@@ -1,4 +1,4 @@
-//! The settings of Haboob: what a document of keys gives, or its first fault.
+//! The settings of Haboob: what a document of keys gives, or its first fault; and the document that writes them out.
 #![tactic(auto)]
 
 mod config;
@@ -7,8 +7,10 @@ mod defaults;
 mod document;
 mod numbers;
 mod policy_key;
+mod written_out;
 
 pub use config::{LONGEST_SETTINGS, read_settings};
 pub use config_fault::{ConfigFault, ConfigFaultKind, Key};
 pub use defaults::default_settings;
 pub use policy_key::{PolicyKey, PolicyTable};
+pub use written_out::settings_text;

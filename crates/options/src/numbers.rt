@@ -1,4 +1,7 @@
-use cost_model::Costs;
+ghost use Rattle.std.specs.Prelude.{◌≡◌};
+ghost use Rattle.options.specs.WrittenOut.{number_in, rules_in};
+
+use crate::{PolicyKey, PolicyTable};
 use std::marker::Model;
 
 /// The lists of a floor, as a document gives them: where its stages end, how many workers each has, and how much each
@@ -83,6 +86,48 @@ impl Model for PolicyNumbers {
     } };
 }
 
+impl PolicyNumbers {
+    /// The number of a key.
+    pub(crate) fn number(self, key: PolicyKey) -> u64
+        ensures { result ≡ number_in self key }
+    {
+        match key {
+            PolicyKey::Window => self.window,
+            PolicyKey::Every => self.every,
+            PolicyKey::Smoothing => self.smoothing,
+            PolicyKey::Rate => self.rate,
+            PolicyKey::RateMin => self.rate_min,
+            PolicyKey::RateMax => self.rate_max,
+            PolicyKey::Up => self.up,
+            PolicyKey::Down => self.down,
+            PolicyKey::Target => self.target,
+            PolicyKey::Low => self.low,
+            PolicyKey::Depth => self.depth,
+        }
+    }
+}
+
+/// The service times of a document, each within its range.
+#[derive(Clone, Copy)]
+pub(crate) struct CostNumbers {
+    pub(crate) file: u64,
+    pub(crate) kib: u64,
+    pub(crate) error: u64,
+}
+
+impl Model for CostNumbers {
+    ghost use Rattle.std.specs.Prelude.{◌≡◌, true};
+    ghost use Rattle.cost_model.specs.Services.{CostTable, is_in_range};
+
+    ghost Value = { CostTable };
+
+    ghost view = { λ c. record { file = c.file; kib = c.kib; error = c.error } };
+
+    ghost invariant = { λ c. is_in_range (record { file = c.file; kib = c.kib; error = c.error }) ≡ true };
+
+    ghost inverse = { λ c. record { file = c.file; kib = c.kib; error = c.error } };
+}
+
 /// What a document says, or leaves to the defaults: each number is within its range, and nothing is known yet of how
 /// the numbers and lists fit together.
 #[derive(Drop)]
@@ -91,7 +136,7 @@ pub(crate) struct Choices {
     pub(crate) back: FloorLists,
     pub(crate) batch: u64,
     pub(crate) cache: u64,
-    pub(crate) costs: Costs,
+    pub(crate) costs: CostNumbers,
     pub(crate) retry_after: u64,
     /// The policy of tier 0.
     pub(crate) policy: PolicyNumbers,
@@ -130,4 +175,18 @@ impl Model for Choices {
       tier2 = c.tier2;
       tier3 = c.tier3;
     }) };
+}
+
+impl Choices {
+    /// The policy of a table.
+    pub(crate) fn policy_of(&self, table: PolicyTable) -> PolicyNumbers
+        ensures { result ≡ rules_in self.now table }
+    {
+        match table {
+            PolicyTable::Policy => self.policy,
+            PolicyTable::Tier1 => self.tier1,
+            PolicyTable::Tier2 => self.tier2,
+            PolicyTable::Tier3 => self.tier3,
+        }
+    }
 }
