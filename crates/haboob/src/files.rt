@@ -5,8 +5,8 @@ use options::{LONGEST_SETTINGS, default_settings, read_settings};
 use paths::Output;
 use replay::Settings;
 use runs::{
-    Fault, Place, Wanted, inspect_files, run_files, run_program, run_snapshot, upgrade_files,
-    write_skipped,
+    Fault, Place, Wanted, inspect_files, run_files, run_program, run_snapshot, settings_files,
+    upgrade_files, write_skipped,
 };
 use std::env;
 use std::fs::File;
@@ -40,20 +40,35 @@ fn open(rt: &HostRuntime, name: &str, place: Place) -> Result<File, Fault> {
     }
 }
 
+/// The bytes of a settings file, and which file it is.
+fn document_in(rt: &HostRuntime, name: &str) -> Result<(Vec<u8>, Node), Fault> {
+    let file = open(rt, name, Place::Settings)?;
+    let node = Node::of(&file, Place::Settings)?;
+    let mut bytes = Vec::new(rt.alloc());
+    match file.take(MOST_READ).read_to_end(&mut bytes) {
+        Ok(_) => Ok((bytes, node)),
+        Err(error) if error.kind() == ErrorKind::OutOfMemory => Err(Fault::Memory),
+        Err(_) => Err(Fault::Read(Place::Settings)),
+    }
+}
+
 /// The settings of a file, and which file it is; or the default ones without it.
 fn settings_in(rt: &HostRuntime, name: Option<&str>) -> Result<(Settings, Option<Node>), Fault> {
     let alloc = rt.alloc();
     let Some(name) = name else {
         return Ok((default_settings(alloc)?, None));
     };
-    let file = open(rt, name, Place::Settings)?;
-    let node = Node::of(&file, Place::Settings)?;
-    let mut bytes = Vec::new(alloc);
-    match file.take(MOST_READ).read_to_end(&mut bytes) {
-        Ok(_) => Ok((read_settings(alloc, &bytes)?, Some(node))),
-        Err(error) if error.kind() == ErrorKind::OutOfMemory => Err(Fault::Memory),
-        Err(_) => Err(Fault::Read(Place::Settings)),
-    }
+    let (bytes, node) = document_in(rt, name)?;
+    Ok((read_settings(alloc, &bytes)?, Some(node)))
+}
+
+/// Writes to standard output the settings of a file, or the default ones without it.
+fn settings_named(rt: &HostRuntime, name: Option<&str>) -> Result<(), Fault> {
+    let bytes = match name {
+        Some(name) => document_in(rt, name)?.0,
+        None => Vec::new(rt.alloc()),
+    };
+    settings_files(rt.alloc(), &bytes, rt.stdout()).0
 }
 
 /// Tells on standard output what a capture file holds.
@@ -183,5 +198,6 @@ pub fn run_arguments<T: Threads + Wait + Sync>(rt: &HostRuntime, threads: &T) ->
             output,
             skip,
         } => snapshot_named(rt, folder, output, skip),
+        Job::Settings { settings } => settings_named(rt, settings),
     }
 }

@@ -7,3 +7,4 @@ pub mod Upgraded
 pub mod LineWrites
 pub mod FoldersTaken
 pub mod Inspected
+pub mod WrittenSettings

@@ -7,3 +7,4 @@ pub mod Replays
 pub mod Upgrading
 pub mod Folders
 pub mod Inspecting
+pub mod InForce

@@ -72,7 +72,7 @@ pub fn run_inspect<R: Read, W: Write>(
 }
 
 /// Whether a write failed in a run.
-fn is_unwritten(ran: &Result<(), Fault>) -> bool
+pub(crate) fn is_unwritten(ran: &Result<(), Fault>) -> bool
     ensures { result ≡ is_unwritten ran.now }
 {
     matches!(ran, Err(Fault::Write(Place::Report)))

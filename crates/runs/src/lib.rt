@@ -1,5 +1,6 @@
 //! The runs of the program over any readers and writers: the replay of a snapshot's capture, with and without a report,
-//! what a capture holds, its upgrade, and the snapshot of a folder; each fault with its line and its status.
+//! what a capture holds, its upgrade, the snapshot of a folder, and the settings in force; each fault with its line and
+//! its status.
 //!
 //! The program `haboob` adds the command line and the files to these runs, and nothing else.
 #![tactic(auto)]
@@ -11,6 +12,7 @@ mod fault;
 mod fault_line;
 mod file_fault;
 mod folder;
+mod in_force;
 mod inspecting;
 mod kind_names;
 mod place;
@@ -27,6 +29,7 @@ pub use fault::Fault;
 pub use fault_line::write_skipped;
 pub use file_fault::{FileFault, FolderFault};
 pub use folder::{Contents, Folder, Found};
+pub use in_force::{run_settings, settings_files};
 pub use inspecting::{inspect_files, run_inspect};
 pub use place::Place;
 pub use program::run_program;

@@ -9,3 +9,4 @@ mod reports;
 mod rows;
 mod running;
 mod upgrades;
+mod written_out;

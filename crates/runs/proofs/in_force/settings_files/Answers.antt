@@ -1,0 +1,10 @@
+use Rattle.std.proofs.Common.{rules}
+use Rattle.runs.specs.InForce.{SettingsSays}
+use Rattle.runs.specs.Inspecting.{AtReport}
+use Rattle.runs.proofs.WrittenSettings.{settings_fault}
+use Rattle.runs.proofs.in_force.settings_files.Goals as goal
+
+pub returns-clause-fault : goal.returns-clause-fault
+returns-clause-fault g c =
+    let at : AtReport (SettingsSays c.args.document.now (g.W.Write.contents c.args.writer)) (g.W.Write.contents c.args.writer) (g.W.Write.contents c.settings_behind.result.1) c.settings_behind.result.0 = search rules in
+    settings_fault _ _ _ _ at

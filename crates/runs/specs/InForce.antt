@@ -1,0 +1,41 @@
+-- The run that writes out the settings that are in force.
+use Rattle.std.specs.Prelude.{◌≡◌, ℕ, false, List, Option, Result, Ok, Err, MatchResult}
+use Rattle.std.specs.Io.KnownBytes.{Appends}
+use Rattle.options.specs.ConfigFaults.{is_memory}
+use Rattle.options.specs.SettingsTable.{settings_read}
+use Rattle.options.specs.WrittenOut.{settings_text}
+use Rattle.runs.specs.declared.fault.Fault.{Fault}
+use Rattle.runs.specs.declared.fault.Fault.TheVariants.{Settings, Write, Memory}
+use Rattle.runs.specs.declared.place.Place.TheVariants.{Report}
+use Rattle.runs.specs.Replays.{WritesPart}
+
+-- the settings of a document were written out
+abbrev pub WritesSettings : List ℕ → Option (List ℕ) → Option (List ℕ) → Type 0
+WritesSettings document old new = (text : List ℕ) × (settings_text document ≡ Ok text) × Appends old new text
+
+-- the fault that a replay with this document has; out of memory comes where it happens
+abbrev pub IsOfSettings : List ℕ → Fault → Type 0
+IsOfSettings document (Settings f) = is_memory f ≡ false → settings_read document ≡ Err f
+IsOfSettings document other = ⊥
+
+-- What a fault of the run says, with the output's bytes and failures before and after. One of the settings is that of a
+-- replay, and nothing was written; else a write failed, and a prefix of the text stands. None else comes.
+abbrev pub IsSettingsFault : List ℕ → Option (List ℕ) × ℕ → Option (List ℕ) × ℕ → Fault → Type 0
+IsSettingsFault document old new (Settings f) = IsOfSettings document (Settings f) × (new ≡ old)
+IsSettingsFault document old new (Write Report) =
+    (text : List ℕ) × (settings_text document ≡ Ok text) × WritesPart old.0 new.0 text
+IsSettingsFault document old new other = ⊥
+
+-- What a fault of the program says of its document. Other faults are that the output can't be written to its end, and
+-- out of memory.
+abbrev pub IsSettingsFilesFault : List ℕ → Fault → Type 0
+IsSettingsFilesFault document (Settings f) = IsOfSettings document (Settings f)
+IsSettingsFilesFault document (Write Report) = Unit {0}
+IsSettingsFilesFault document Memory = Unit {0}
+IsSettingsFilesFault document other = ⊥
+
+-- what a run says of its document, and of what it was to leave at the device
+abbrev pub SettingsSays : List ℕ → Option (List ℕ) → Result Unit Fault → Option (List ℕ) → Type 0
+SettingsSays document old ran whole = (count : ℕ) × MatchResult ran
+    (λ done. WritesSettings document old whole)
+    (λ f. IsSettingsFault document (old, 0) (whole, count) f)
