@@ -167,9 +167,9 @@ INSPECTION = (
     b"after-close 0 0\nunfinished 0 0\nbusiest 0 3\nend\n"
 )
 # Settings that are written out: the keys of a policy, and the whole with the policies of the four tiers.
-WRITTEN_POLICY = b"""# response times, 1 to 4096: of so many of the last ones the 90th percentile is taken
+WRITTEN_POLICY = b"""# response times, 1 to 4096: of how many of the last ones the 90th percentile is taken
 window = %d
-# admitted requests, 1 to 4096: the controller looks once in so many
+# admitted requests, 1 to 4096: after how many the controller looks again
 every = %d
 # thousandths, 0 to 999: how much of the former value stays (700 is a weight of 0.7 for the past)
 smoothing = %d
@@ -179,13 +179,13 @@ rate = %d
 rate_min = %d
 # thousandths of a token a second, rate_min to 1000000000: the rate never rises above it
 rate_max = %d
-# thousandths of a token a second, 0 to 1000000000: by so much the rate rises
+# thousandths of a token a second, 0 to 1000000000: by how much the rate rises at once
 up = %d
 # hundredths, 101 to 10000: what the rate is divided by where it falls (120 divides it by 1.2)
 down = %d
 # microseconds, 1 to 1000000000000: above this response time the rate falls
 target = %d
-# percent of the target, 0 to 100: below so much of it the rate rises
+# percent of the target, 0 to 100: below this part of it the rate rises
 low = %d
 # tokens, 1 to 1000000: how many the bucket holds; it starts full
 depth = %d

@@ -154,7 +154,7 @@ pub struct FileFolder<'a> {
 
 impl<'a> FileFolder<'a> {
     /// Reads a file, up to the first byte that is too many. What it holds at the end is what was read, whatever becomes
-    /// of it in between. A time before 1970 is told as 0.
+    /// of it in between. A time before 1970 is reported as 0.
     fn read_file(&self, name: &str) -> io::Result<Result<Contents, FileFault>> {
         let alloc = self.rt.alloc();
         let path = path_in(alloc, self.path, name)?;

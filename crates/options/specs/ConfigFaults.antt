@@ -44,6 +44,6 @@ key_text (Some key) = codes " " ++ path_of key
 abbrev pub fault_text : ConfigFault → List ℕ
 fault_text fault = kind_name fault.kind ++ key_text fault.key
 
--- The call answers what is told. Out of memory comes where it happens: no definition foresees it.
+-- The call answers what is reported. Out of memory comes where it happens: no definition foresees it.
 abbrev pub Answers : {X : Type 0} → Result X ConfigFault → Result X ConfigFault → Type 0
 Answers told r = MatchResult r (λ x. told ≡ Ok x) (λ fault. is_memory fault ≡ false → told ≡ Err fault)

@@ -20,9 +20,9 @@ use Rattle.options.specs.SettingsTable.{choices_of, chosen, document_of, setting
 -- the unit of a key of a policy, its range, and what it is
 abbrev pub policy_comment : PolicyKey → List ℕ
 policy_comment policy.Window =
-    codes "response times, 1 to 4096: of so many of the last ones the 90th percentile is taken"
+    codes "response times, 1 to 4096: of how many of the last ones the 90th percentile is taken"
 policy_comment policy.Every =
-    codes "admitted requests, 1 to 4096: the controller looks once in so many"
+    codes "admitted requests, 1 to 4096: after how many the controller looks again"
 policy_comment policy.Smoothing =
     codes "thousandths, 0 to 999: how much of the former value stays (700 is a weight of 0.7 for the past)"
 policy_comment policy.Rate =
@@ -32,13 +32,13 @@ policy_comment policy.RateMin =
 policy_comment policy.RateMax =
     codes "thousandths of a token a second, rate_min to 1000000000: the rate never rises above it"
 policy_comment policy.Up =
-    codes "thousandths of a token a second, 0 to 1000000000: by so much the rate rises"
+    codes "thousandths of a token a second, 0 to 1000000000: by how much the rate rises at once"
 policy_comment policy.Down =
     codes "hundredths, 101 to 10000: what the rate is divided by where it falls (120 divides it by 1.2)"
 policy_comment policy.Target =
     codes "microseconds, 1 to 1000000000000: above this response time the rate falls"
 policy_comment policy.Low =
-    codes "percent of the target, 0 to 100: below so much of it the rate rises"
+    codes "percent of the target, 0 to 100: below this part of it the rate rises"
 policy_comment policy.Depth =
     codes "tokens, 1 to 1000000: how many the bucket holds; it starts full"
 

@@ -26,9 +26,10 @@ fn policy_comment(key: PolicyKey) -> &'static str
 {
     match key {
         PolicyKey::Window => {
-            "response times, 1 to 4096: of so many of the last ones the 90th percentile is taken"
+            "response times, 1 to 4096: of how many of the last ones the 90th percentile is taken"
         }
-        PolicyKey::Every => "admitted requests, 1 to 4096: the controller looks once in so many",
+        PolicyKey::Every =>
+            "admitted requests, 1 to 4096: after how many the controller looks again",
         PolicyKey::Smoothing => {
             "thousandths, 0 to 999: how much of the former value stays (700 is a weight of 0.7 for the past)"
         }
@@ -42,13 +43,13 @@ fn policy_comment(key: PolicyKey) -> &'static str
             "thousandths of a token a second, rate_min to 1000000000: the rate never rises above it"
         }
         PolicyKey::Up =>
-            "thousandths of a token a second, 0 to 1000000000: by so much the rate rises",
+            "thousandths of a token a second, 0 to 1000000000: by how much the rate rises at once",
         PolicyKey::Down => {
             "hundredths, 101 to 10000: what the rate is divided by where it falls (120 divides it by 1.2)"
         }
         PolicyKey::Target =>
             "microseconds, 1 to 1000000000000: above this response time the rate falls",
-        PolicyKey::Low => "percent of the target, 0 to 100: below so much of it the rate rises",
+        PolicyKey::Low => "percent of the target, 0 to 100: below this part of it the rate rises",
         PolicyKey::Depth => "tokens, 1 to 1000000: how many the bucket holds; it starts full",
     }
 }

@@ -117,7 +117,7 @@ leaves_one answers before [] x mid n fault h refused =
 leaves_one answers before (y ∷ xs) x mid n fault (inl h) refused = inl (h.0, h.1, leaves_one answers (before ++ h.0 ∷ []) xs x mid n fault h.2 refused)
 leaves_one answers before (y ∷ xs) x mid n fault (inr h) refused = inr (h.0, h.1 + 1, h.2, ap (λ (k : ℕ). k + 1) h.3, leaves_one answers before xs x mid h.1 fault h.4 refused)
 
--- what stands after so many of what was found
+-- what stands after n of what was found
 pub record Stands (answers : Answering) (found : List Found) (at : ℕ) (skip : Bool) (skipped : ℕ) (before now : Option (List ℕ)) (s : SoFar) : Type 0 where
   pub files : List File
   pub takes : Takes answers [] (take at found) files skipped

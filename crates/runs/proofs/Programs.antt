@@ -11,7 +11,7 @@ use Rattle.replay.specs.Telling.{Telling, replies_told}
 use Rattle.runs.specs.declared.fault.Fault.{Fault}
 use Rattle.runs.specs.declared.fault.Fault.TheVariants.{Words, Settings, Snapshot, Replay, Upgrade, Folder, Open, Read, Write, Memory}
 use Rattle.runs.specs.declared.place.Place.TheVariants.{Replies}
-use Rattle.runs.specs.Bundles.{BehindSnapshot, IsBundleFault, IsProgramFault, default_terms}
+use Rattle.runs.specs.Bundles.{AfterSnapshot, IsBundleFault, IsProgramFault, default_terms}
 
 -- where a replay stops, the capture's fault is the first of its text
 pub first_of_stop : (t : Telling) (input ahead old new : Option (List ℕ)) (f : CaptureFault) → StopsTelling t input ahead old new f
@@ -36,14 +36,14 @@ first_of_bytes bytes replays.Write h = tt
 first_of_bytes bytes replays.Memory h = tt
 
 -- a weaker fact of the rest
-pub behind_weaker : (input : List ℕ) (P Q : List File → List ℕ → Type 0) → ((files : List File) (bytes : List ℕ) → P files bytes → Q files bytes) → BehindSnapshot input P → BehindSnapshot input Q
-behind_weaker input P Q weaker b = record {
+pub after_weaker : (input : List ℕ) (P Q : List File → List ℕ → Type 0) → ((files : List File) (bytes : List ℕ) → P files bytes → Q files bytes) → AfterSnapshot input P → AfterSnapshot input Q
+after_weaker input P Q weaker b = record {
   files = b.files;
   rest = b.rest;
   text = b.text;
   rules = b.rules;
   size = b.size;
-  behind = weaker b.files b.rest b.behind;
+  after = weaker b.files b.rest b.after;
 }
 
 -- a fault of the run is one of the program
@@ -51,7 +51,7 @@ pub told_of_run : (input ahead : Option (List ℕ)) (old new : Option (List ℕ)
 told_of_run input ahead old new (Words f) says = absurd says
 told_of_run input ahead old new (Settings f) says = absurd says
 told_of_run input ahead old new (Snapshot f) says = says.0
-told_of_run input ahead old new (Replay f) says = λ known. behind_weaker _ _ _ (λ files bytes told. first_of_bytes bytes f (first_of_replay (replies_told (default_terms files)) (Some bytes) ahead old.0 new.0 f told.stops)) (says known)
+told_of_run input ahead old new (Replay f) says = λ known. after_weaker _ _ _ (λ files bytes told. first_of_bytes bytes f (first_of_replay (replies_told (default_terms files)) (Some bytes) ahead old.0 new.0 f told.stops)) (says known)
 told_of_run input ahead old new (Upgrade f) says = absurd says
 told_of_run input ahead old new (Folder f) says = absurd says
 told_of_run input ahead old new (Open place) says = absurd says

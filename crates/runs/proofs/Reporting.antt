@@ -18,12 +18,12 @@ use Rattle.runs.specs.Replays.{OfInput, AnswersAnd, IsReplayFault, IsFilesFault}
 use Rattle.runs.proofs.Programs.{first_of_replay}
 
 -- a replay after a whole snapshot came to no end
-pub stops_behind : (wanted : Wanted) (choice : Choice) (snapshot read capture ahead : Option (List ℕ)) (files : List File) (old new : Option (List ℕ)) (f : ReplayFault) → ReadsWhole snapshot read files
+pub stops_after : (wanted : Wanted) (choice : Choice) (snapshot read capture ahead : Option (List ℕ)) (files : List File) (old new : Option (List ℕ)) (f : ReplayFault) → ReadsWhole snapshot read files
     → IfCapture f (StopsTelling (wanted_of wanted (terms_of files choice)) capture ahead old new)
     → IfTooMany f (StopsBeyond (wanted_of wanted (terms_of files choice)) capture old new)
     → IfCutShort f (IsCutOff (wanted_of wanted (terms_of files choice)) capture old new)
     → OfInput snapshot (λ its. StopsAs (wanted_of wanted (terms_of its choice)) capture ahead old new f)
-stops_behind wanted choice snapshot read capture ahead files old new f whole is_stop is_many is_part known = record {
+stops_after wanted choice snapshot read capture ahead files old new f whole is_stop is_many is_part known = record {
   files = files;
   text = whole.text known;
   holds = record { stops = is_stop; many = is_many; part = is_part };

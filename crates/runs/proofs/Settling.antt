@@ -10,12 +10,12 @@ use Rattle.runs.specs.declared.fault.Fault.{Fault}
 use Rattle.runs.specs.declared.fault.Fault.TheVariants.{Write}
 use Rattle.runs.specs.declared.place.Place.{Place}
 use Rattle.runs.specs.declared.place.Place.TheVariants as places
-use Rattle.runs.specs.Bundles.{BehindSnapshot, WritesAnswer, HoldsCapture, IsBundleFault, IsProgramFault, BundleSays}
+use Rattle.runs.specs.Bundles.{AfterSnapshot, WritesAnswer, HoldsCapture, IsBundleFault, IsProgramFault, BundleSays}
 use Rattle.runs.specs.Devices.{Settles, AtDevice, AtDevices, is_cut, is_fault}
 use Rattle.runs.specs.Replays.{OfInput, AnswersAnd, IsReplayFault, IsFilesFault, FilesSays}
 use Rattle.runs.specs.Upgrading.{IsCaptureOfSomeVersion, IsUpgradeFault, IsUpgradeFilesFault, UpgradeSays}
 use Rattle.runs.proofs.Buffering.{append_nothing}
-use Rattle.runs.proofs.Programs.{behind_weaker, told_of_program}
+use Rattle.runs.proofs.Programs.{after_weaker, told_of_program}
 use Rattle.runs.proofs.Reporting.{ok_of_files, told_of_files}
 use Rattle.runs.proofs.Upgraded.{ok_of_upgraded_files, told_of_upgraded_files}
 
@@ -34,11 +34,11 @@ pub opened : (known its : Option (List ℕ)) (items : List ℕ) (view : Option (
 opened known its items view is same none = is ∙ rw (same, none, append_nothing known) refl
 
 pub bundle_says : (input old : Option (List ℕ)) (seen left before after : Option (List ℕ) × ℕ) (ran : Result Unit Fault) → seen ≡ (input, 0) → before ≡ (old, 0)
-    → OnOk ran (is_some seen.0 ≡ true → BehindSnapshot (unwrap_or seen.0 []) (WritesAnswer before.0 after.0))
+    → OnOk ran (is_some seen.0 ≡ true → AfterSnapshot (unwrap_or seen.0 []) (WritesAnswer before.0 after.0))
     → IfErr ran (IsBundleFault seen.0 left.0 before after) → BundleSays input old ran after.0
 bundle_says input old seen left before after (Ok done) shows is answer fault =
-    let P : Option (List ℕ) × ℕ → Type 0 = λ s. is_some s.0 ≡ true → BehindSnapshot (unwrap_or s.0 []) (WritesAnswer before.0 after.0) in
-    let Q : Option (List ℕ) × ℕ → Type 0 = λ b. is_some input ≡ true → BehindSnapshot (unwrap_or input []) (WritesAnswer b.0 after.0) in
+    let P : Option (List ℕ) × ℕ → Type 0 = λ s. is_some s.0 ≡ true → AfterSnapshot (unwrap_or s.0 []) (WritesAnswer before.0 after.0) in
+    let Q : Option (List ℕ) × ℕ → Type 0 = λ b. is_some input ≡ true → AfterSnapshot (unwrap_or input []) (WritesAnswer b.0 after.0) in
     (left.0, after.1, subst Q is (subst P shows answer))
 bundle_says input old seen left before after (Err f) shows is answer fault =
     let P : Option (List ℕ) × ℕ → Type 0 = λ s. IsBundleFault s.0 left.0 before after f in
@@ -56,14 +56,14 @@ program_fault input old new told at =
     (told_by (is_cut at.ran) places.Replies old at.whole new at.ran told at.stands)
 
 answered : (input old whole : Option (List ℕ)) (ran told : Result Unit Fault) → BundleSays input old ran whole
-    → (told ≡ ran) ⊎ (told ≡ Err (Write places.Replies)) → OnOk told (is_some input ≡ true → BehindSnapshot (unwrap_or input []) HoldsCapture)
+    → (told ≡ ran) ⊎ (told ≡ Err (Write places.Replies)) → OnOk told (is_some input ≡ true → AfterSnapshot (unwrap_or input []) HoldsCapture)
 answered input old whole (Ok done) told says (inl same) =
-    rw same (λ known. behind_weaker _ (WritesAnswer old whole) HoldsCapture (λ files bytes answer. (answer.1.version, answer.1.start, answer.1.records, answer.1.capture refl)) (says.2 known))
+    rw same (λ known. after_weaker _ (WritesAnswer old whole) HoldsCapture (λ files bytes answer. (answer.1.version, answer.1.start, answer.1.records, answer.1.capture refl)) (says.2 known))
 answered input old whole (Err f) told says (inl same) = rw same tt
 answered input old whole ran told says (inr unwritten) = rw unwritten tt
 
 pub program_ok : (input old new : Option (List ℕ)) (told : Result Unit Fault) → AtDevice places.Replies (BundleSays input old) old new told
-    → OnOk told (is_some input ≡ true → BehindSnapshot (unwrap_or input []) HoldsCapture)
+    → OnOk told (is_some input ≡ true → AfterSnapshot (unwrap_or input []) HoldsCapture)
 program_ok input old new told at = answered input old at.whole at.ran told at.says (told_by (is_cut at.ran) places.Replies old at.whole new at.ran told at.stands)
 
 pub upgrade_says : (input old : Option (List ℕ)) (seen left before after : Option (List ℕ) × ℕ) (ran : Result Unit Fault) → seen ≡ (input, 0) → before ≡ (old, 0)

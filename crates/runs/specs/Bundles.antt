@@ -20,14 +20,14 @@ use Rattle.captures.specs.Upgrades as upgrades
 use Rattle.runs.specs.declared.fault.Fault.TheVariants.{Snapshot, Replay, Upgrade, Write, Memory}
 use Rattle.runs.specs.declared.place.Place.TheVariants.{Replies}
 
--- a snapshot's text stands in front of the input, and P holds of its files and of the rest after it
-pub record BehindSnapshot (input : List ℕ) (P : List File → List ℕ → Type 0) : Type 0 where
+-- a snapshot's text stands at the start of the input, and P holds of its files and of the rest after it
+pub record AfterSnapshot (input : List ℕ) (P : List File → List ℕ → Type 0) : Type 0 where
   pub files : List File
   pub rest : List ℕ
   pub text : input ≡ snapshot_text files ++ rest
   pub rules : IsSnapshot files
   pub size : length (snapshot_text files) ≤ longest_text
-  pub behind : P files rest
+  pub after : P files rest
 
 -- the answer of the reference server with the default settings, to this capture, was written
 abbrev pub default_terms : List File → Terms
@@ -50,7 +50,7 @@ abbrev pub IsBundleFault : Option (List ℕ) → Option (List ℕ) → Option (L
     → Type 0
 IsBundleFault input ahead old new (Snapshot f) = IsForeseen IsFrontFault input f × (new ≡ old)
 IsBundleFault input ahead old new (Replay f) = is_some input ≡ true →
-    BehindSnapshot (unwrap_or input [])
+    AfterSnapshot (unwrap_or input [])
     (λ files capture. StopsAs (replies_told (default_terms files)) (Some capture) ahead old.0 new.0 f)
 IsBundleFault input ahead old new Memory = new ≡ old
 IsBundleFault input ahead old new other = ⊥
@@ -85,7 +85,7 @@ HoldsCapture files bytes = (version : Version) × (start : ℕ) × (records : Li
 abbrev pub IsProgramFault : Option (List ℕ) → Fault → Type 0
 IsProgramFault input (Snapshot f) = IsForeseen IsFrontFault input f
 IsProgramFault input (Replay f) = is_some input ≡ true →
-    BehindSnapshot (unwrap_or input [])
+    AfterSnapshot (unwrap_or input [])
     (λ files bytes. IfCapture f (λ g. is_unforeseen_kind g.kind ≡ false → IsFirstFault bytes g))
 IsProgramFault input (Write Replies) = Unit {0}
 IsProgramFault input Memory = Unit {0}
@@ -95,5 +95,5 @@ IsProgramFault input other = ⊥
 -- reader before the buffer has left
 abbrev pub BundleSays : Option (List ℕ) → Option (List ℕ) → Result Unit Fault → Option (List ℕ) → Type 0
 BundleSays input old ran whole = (ahead : Option (List ℕ)) × (count : ℕ) × MatchResult ran
-    (λ done. is_some input ≡ true → BehindSnapshot (unwrap_or input []) (WritesAnswer old whole))
+    (λ done. is_some input ≡ true → AfterSnapshot (unwrap_or input []) (WritesAnswer old whole))
     (λ f. IsBundleFault input ahead (old, 0) (whole, count) f)

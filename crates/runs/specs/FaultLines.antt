@@ -1,4 +1,4 @@
--- How a fault is told: the status that the program ends with, and the line on standard error.
+-- How a fault is reported: the status that the program ends with, and the line on standard error.
 use Rattle.std.specs.Prelude.{ℕ, ◌==◌, ◌||◌, List, ◌++◌, codes, decimal, nat_lt, string_bytes, Option, Some, None}
 use Rattle.std.specs.Prelude.{unwrap_or, if◌then◌else◌}
 use Rattle.paths.specs.declared.snapshot_fault.SnapshotFault.{SnapshotFault}
@@ -27,7 +27,7 @@ use Rattle.runs.specs.declared.told.Told.{Told}
 use Rattle.runs.specs.declared.told.Told.TheVariants.{Usage, Engine, Settings, Entry, Record, TooMany, File, Open, Read}
 use Rattle.runs.specs.declared.told.Told.TheVariants.{Write, Memory}
 
--- a failed read or write and out of memory are told alike, whatever fault they stand in
+-- a failed read or write and out of memory are reported alike, whatever fault they stand in
 abbrev pub told_entry : SnapshotFaultKind → SnapshotFault → Told
 told_entry entries.Read f = Read places.Snapshot
 told_entry entries.Memory f = Memory

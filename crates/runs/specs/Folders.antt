@@ -61,7 +61,7 @@ IsRefused answers files found fault =
     ⊎ (((found.fault ≡ None) × answers (name_of found) (Err fault))
     ⊎ ((f : File) × IsFileOf answers found f × Breaks files f fault))
 
--- each of what was found is taken, as the next file after those before, or it isn't: so many aren't
+-- each of what was found is taken, as the next file after those before, or it isn't: n aren't
 abbrev pub Takes : Answering → List File → List Found → List File → ℕ → Type 0
 Takes answers before [] files skipped = (files ≡ before) × (skipped ≡ 0)
 Takes answers before (found ∷ more) files skipped =

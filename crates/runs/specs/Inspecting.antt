@@ -32,7 +32,7 @@ abbrev pub AreDue : Option (List ℕ) → Option (List ℕ) → Inspection → T
 AreDue input ahead i = HoldsAll input i ⊎ ((f : CaptureFault) × HoldsBefore input ahead i f)
 
 -- What a fault of the run says, with what of the input wasn't read, and the bytes and failures of the output before and
--- after. One of the capture comes after its figures; it is told as a replay tells it. Else a write failed, and a prefix
+-- after. One of the capture comes after its figures; it is reported as a replay tells it. Else a write failed, and a prefix
 -- of what was due stands; or there was no memory, and nothing was written. None else comes.
 abbrev pub IsInspectFault :
     Option (List ℕ) → Option (List ℕ) → Option (List ℕ) × ℕ → Option (List ℕ) × ℕ → Fault → Type 0

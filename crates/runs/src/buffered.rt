@@ -26,7 +26,7 @@ fn is_fault(ran: &Result<(), Fault>) -> bool
 }
 
 /// Runs over buffers that were made. After a fault, no more of the report is written.
-fn run_files_behind<
+fn run_files_buffered<
     M: Stood,
     N: Stood,
     T: Threads + Wait + Sync,
@@ -119,7 +119,7 @@ pub fn run_files<
     let Ok(capture) = BufReader::with_capacity(alloc, ROOM, capture) else {
         return (Err(Fault::Memory), written, out);
     };
-    run_files_behind::<Brand, Brand, T, S, C, W, O>(
+    run_files_buffered::<Brand, Brand, T, S, C, W, O>(
         rt,
         alloc,
         settings,

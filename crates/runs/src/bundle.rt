@@ -1,5 +1,5 @@
 ghost use Rattle.std.specs.Prelude.{◌≡◌, ◌-◌, ◌<◌, ◌^◌, [], true, is_some, unwrap_or, OnOk, IfErr};
-ghost use Rattle.runs.specs.Bundles.{BehindSnapshot, WritesAnswer, IsBundleFault, CountsBy, reader_failures};
+ghost use Rattle.runs.specs.Bundles.{AfterSnapshot, WritesAnswer, IsBundleFault, CountsBy, reader_failures};
 ghost use Rattle.runs.specs.Bundles.{writer_failures};
 
 use crate::fault::Fault;
@@ -26,7 +26,7 @@ pub fn run_bundle<R: Read, W: Write>(
     requires writing { output.old.1 < 2 ^ 64 - 1 }
     ensures ok { OnOk result
         (is_some input.old.0 ≡ true
-        → BehindSnapshot (unwrap_or input.old.0 []) (WritesAnswer output.old.0 output.new.0)) }
+        → AfterSnapshot (unwrap_or input.old.0 []) (WritesAnswer output.old.0 output.new.0)) }
     ensures fault { IfErr result (IsBundleFault input.old.0 input.new.0 output.old output.new) }
     // A device is blamed only where it failed in this call.
     ensures reads { CountsBy reader_failures input.old.1 input.new.1 result }

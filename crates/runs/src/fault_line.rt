@@ -83,7 +83,7 @@ fn push_key(line: &mut Line, key: Key)
     line.try_extend_from_slice(key.name().as_bytes()).unwrap();
 }
 
-/// The line of what is told. (A fault of usage is told by its text.)
+/// The line of what is reported. (A fault of usage is told by its text.)
 fn line_of(told: Told) -> Line
     ensures { result.items ≡ line_of told }
 {

@@ -45,7 +45,7 @@ pub fn run_settings<W: Write>(
 }
 
 /// Runs over a buffer that was made.
-fn settings_behind<N: Stood, W: Write + Drop>(
+fn settings_buffered<N: Stood, W: Write + Drop>(
     alloc: Global,
     document: &[u8],
     writer: W,
@@ -62,7 +62,7 @@ fn settings_behind<N: Stood, W: Write + Drop>(
     write_rest(output.into_writer(), Place::Report, cut, ran)
 }
 
-/// Writes out the settings of a document, with a buffer in front of the device, and gives the writer back.
+/// Writes out the settings of a document, with a buffer before the device, and gives the writer back.
 ///
 /// # Errors
 ///
@@ -81,5 +81,5 @@ pub fn settings_files<W: Write + Drop>(
     let Ok(waiting) = Vec::with_capacity(alloc, ROOM) else {
         return (Err(Fault::Memory), writer);
     };
-    settings_behind::<Brand, W>(alloc, document, writer, waiting)
+    settings_buffered::<Brand, W>(alloc, document, writer, waiting)
 }

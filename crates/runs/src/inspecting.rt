@@ -55,7 +55,7 @@ pub fn run_inspect<R: Read, W: Write>(
     requires writing { output.old.1 < 2 ^ 64 - 1 }
     ensures ok { OnOk result (Inspects input.old.0 output.old.0 output.new.0) }
     ensures fault { IfErr result (IsInspectFault input.old.0 input.new.0 output.old output.new) }
-    // A device is blamed only where it failed in this call. A read that failed may not be told: where a write fails
+    // A device is blamed only where it failed in this call. A read that failed may not be reported: where a write fails
     // after it, or there is no memory.
     ensures reads { BlamedOnce capture_failures input.old.1 input.new.1 result }
     ensures writes { CountsBy report_failures output.old.1 output.new.1 result }
@@ -79,7 +79,7 @@ pub(crate) fn is_unwritten(ran: &Result<(), Fault>) -> bool
 }
 
 /// Runs over buffers that were made.
-fn inspect_behind<N: Stood, R: Read + Drop, W: Write + Drop>(
+fn inspect_buffered<N: Stood, R: Read + Drop, W: Write + Drop>(
     alloc: Global,
     reader: BufReader<R>,
     writer: W,
@@ -96,7 +96,7 @@ fn inspect_behind<N: Stood, R: Read + Drop, W: Write + Drop>(
     write_rest(output.into_writer(), Place::Report, cut, ran)
 }
 
-/// Writes what a capture holds, with a buffer in front of each device, and gives the writer back.
+/// Writes what a capture holds, with a buffer before each device, and gives the writer back.
 ///
 /// # Errors
 ///
@@ -120,5 +120,5 @@ pub fn inspect_files<R: Read + Drop, W: Write + Drop>(
     let Ok(reader) = BufReader::with_capacity(alloc, ROOM, reader) else {
         return (Err(Fault::Memory), writer);
     };
-    inspect_behind::<Brand, R, W>(alloc, reader, writer, waiting)
+    inspect_buffered::<Brand, R, W>(alloc, reader, writer, waiting)
 }

@@ -1,6 +1,6 @@
 ghost use Rattle.std.specs.Prelude.{◌≡◌, ◌⊎◌, [], true, is_some, unwrap_or, Ok, Err, OnOk, IfErr};
 ghost use Rattle.std.specs.Io.KnownBytes.{append_known};
-ghost use Rattle.runs.specs.Bundles.{BehindSnapshot, HoldsCapture, BundleSays, IsProgramFault};
+ghost use Rattle.runs.specs.Bundles.{AfterSnapshot, HoldsCapture, BundleSays, IsProgramFault};
 ghost use Rattle.runs.specs.Devices.{AtDevice, Refused, Settles, is_cut};
 
 use crate::buffer::{Buffered, Device, ROOM, Stood};
@@ -43,7 +43,7 @@ pub(crate) fn write_rest<N: Stood, W: Write + Drop>(
 }
 
 /// Runs over buffers that were made.
-fn run_behind<N: Stood, R: Read + Drop, W: Write + Drop>(
+fn run_buffered<N: Stood, R: Read + Drop, W: Write + Drop>(
     alloc: Global,
     reader: BufReader<R>,
     writer: W,
@@ -60,7 +60,7 @@ fn run_behind<N: Stood, R: Read + Drop, W: Write + Drop>(
     write_rest(replies.into_writer(), Place::Replies, cut, ran)
 }
 
-/// Replays the capture after a snapshot from a reader to a writer, with a buffer in front of each, and gives the
+/// Replays the capture after a snapshot from a reader to a writer, with a buffer before each, and gives the
 /// writer back.
 ///
 /// # Errors
@@ -77,7 +77,7 @@ pub fn run_program<R: Read + Drop, W: Write + Drop>(
         (W.contents writer) (W.contents result.1) result.0 }
     // Where the bytes of the input are known, they were a snapshot's text and a capture's, or a fault is their first.
     ensures ok { OnOk result.0
-        (is_some (R.remaining reader) ≡ true → BehindSnapshot (unwrap_or (R.remaining reader) []) HoldsCapture) }
+        (is_some (R.remaining reader) ≡ true → AfterSnapshot (unwrap_or (R.remaining reader) []) HoldsCapture) }
     ensures fault { IfErr result.0 (IsProgramFault (R.remaining reader)) }
 {
     let Ok(waiting) = Vec::with_capacity(alloc, ROOM) else {
@@ -86,5 +86,5 @@ pub fn run_program<R: Read + Drop, W: Write + Drop>(
     let Ok(reader) = BufReader::with_capacity(alloc, ROOM, reader) else {
         return (Err(Fault::Memory), writer);
     };
-    run_behind::<Brand, R, W>(alloc, reader, writer, waiting)
+    run_buffered::<Brand, R, W>(alloc, reader, writer, waiting)
 }

@@ -4,7 +4,7 @@ use captures::CaptureFault;
 use options::ConfigFault;
 use paths::SnapshotFault;
 
-/// What is told of a fault: a failed read or write and out of memory are told alike, whatever fault they stand in.
+/// What is told of a fault: a failed read or write and out of memory are reported alike, whatever fault they stand in.
 #[derive(Clone, Copy, Debug)]
 pub enum Told {
     /// The words on the command line are wrong, or ask for help: the text says it.

@@ -43,7 +43,7 @@ pub fn run_upgrade<R: Read, W: Write>(
 }
 
 /// Runs over buffers that were made.
-fn upgrade_behind<N: Stood, R: Read + Drop, W: Write + Drop>(
+fn upgrade_buffered<N: Stood, R: Read + Drop, W: Write + Drop>(
     alloc: Global,
     reader: BufReader<R>,
     writer: W,
@@ -60,7 +60,7 @@ fn upgrade_behind<N: Stood, R: Read + Drop, W: Write + Drop>(
     write_rest(output.into_writer(), Place::Output, cut, ran)
 }
 
-/// Writes a capture of either version as one of version 2, with a buffer in front of each device, and gives the writer
+/// Writes a capture of either version as one of version 2, with a buffer before each device, and gives the writer
 /// back.
 ///
 /// # Errors
@@ -85,5 +85,5 @@ pub fn upgrade_files<R: Read + Drop, W: Write + Drop>(
     let Ok(reader) = BufReader::with_capacity(alloc, ROOM, reader) else {
         return (Err(Fault::Memory), writer);
     };
-    upgrade_behind::<Brand, R, W>(alloc, reader, writer, waiting)
+    upgrade_buffered::<Brand, R, W>(alloc, reader, writer, waiting)
 }

@@ -55,11 +55,11 @@ static COSTS: [Row; 3] = [
 
 static POLICY: [Row; 11] = [
     (
-        "# response times, 1 to 4096: of so many of the last ones the 90th percentile is taken",
+        "# response times, 1 to 4096: of how many of the last ones the 90th percentile is taken",
         "window",
     ),
     (
-        "# admitted requests, 1 to 4096: the controller looks once in so many",
+        "# admitted requests, 1 to 4096: after how many the controller looks again",
         "every",
     ),
     (
@@ -79,7 +79,7 @@ static POLICY: [Row; 11] = [
         "rate_max",
     ),
     (
-        "# thousandths of a token a second, 0 to 1000000000: by so much the rate rises",
+        "# thousandths of a token a second, 0 to 1000000000: by how much the rate rises at once",
         "up",
     ),
     (
@@ -91,7 +91,7 @@ static POLICY: [Row; 11] = [
         "target",
     ),
     (
-        "# percent of the target, 0 to 100: below so much of it the rate rises",
+        "# percent of the target, 0 to 100: below this part of it the rate rises",
         "low",
     ),
     (

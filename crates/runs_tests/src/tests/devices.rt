@@ -21,7 +21,7 @@ fn unread(fault: Fault) -> Option<Place> {
     }
 }
 
-/// Runs with a reader that fails after so many reads; whether the run came to its end.
+/// Runs with a reader that fails after n reads; whether the run came to its end.
 fn ends_reading(rt: &(impl Abort + AllocGlobal), good: usize) -> bool {
     let mut reader = Flaky::new(FIRST_RUN.as_bytes(), 8, good);
     let mut replies = Narrow::ample();
@@ -34,8 +34,8 @@ fn ends_reading(rt: &(impl Abort + AllocGlobal), good: usize) -> bool {
         assert_eq!(rt; replies.text(), REPLIES.as_bytes());
         return true;
     };
-    let behind = FIRST_RUN.len() - SNAPSHOT.len();
-    let place = if reader.left() > behind {
+    let following = FIRST_RUN.len() - SNAPSHOT.len();
+    let place = if reader.left() > following {
         Place::Snapshot
     } else {
         Place::Capture
@@ -57,7 +57,7 @@ fn each_read_failing(rt: HostRuntime) {
     assert!(rt; false, "the run comes to no end");
 }
 
-/// Runs with a writer that fails after so many writes; whether the run came to its end.
+/// Runs with a writer that fails after n writes; whether the run came to its end.
 fn ends_writing(rt: &(impl Abort + AllocGlobal), good: usize) -> bool {
     let mut replies = Narrow::new(8, good);
     let ran = run_bundle(
@@ -109,7 +109,7 @@ fn buffered_replies(rt: HostRuntime) {
     assert_eq!(rt; ran, Err(Fault::Write(Place::Replies)));
 }
 
-/// A writer that takes so many bytes a write, and is interrupted once.
+/// A writer that takes n bytes a write, and is interrupted once.
 #[derive(Drop)]
 struct Interrupted {
     taken: Narrow,

@@ -143,7 +143,7 @@ fn refused(rt: HostRuntime) -> Result<(), Fail> {
     )
 }
 
-/// Writes with a device that fails after so many writes; whether the run came to its end.
+/// Writes with a device that fails after n writes; whether the run came to its end.
 fn ends_writing(rt: &(impl Abort + AllocGlobal), good: usize) -> Result<bool, Fail> {
     let shelf = Shelf {
         alloc: rt.alloc(),

@@ -48,7 +48,7 @@ fn inspected(rt: HostRuntime) {
     check(&rt, count, capture_fault(2, Count), IN_PART);
 }
 
-/// Inspects with a reader that fails after so many reads; whether the run came to its end.
+/// Inspects with a reader that fails after n reads; whether the run came to its end.
 fn ends_reading(rt: &(impl Abort + AllocGlobal), good: usize) -> bool {
     let reader = Flaky::new(CAPTURE.as_bytes(), 8, good);
     let mut output = Narrow::ample();
@@ -81,7 +81,7 @@ fn each_read_failing(rt: HostRuntime) {
     assert!(rt; false, "the run comes to no end");
 }
 
-/// Inspects with a writer that fails after so many writes, without a buffer and with one; whether both came to an end.
+/// Inspects with a writer that fails after n writes, without a buffer and with one; whether both came to an end.
 fn ends_writing(rt: &(impl Abort + AllocGlobal), good: usize) -> bool {
     let mut output = Narrow::new(64, good);
     let ran = run_inspect(
@@ -90,14 +90,14 @@ fn ends_writing(rt: &(impl Abort + AllocGlobal), good: usize) -> bool {
         &mut Output::new(&mut output),
     );
     let mut buffered = Narrow::new(64, good);
-    let (behind, _) = inspect_files(rt.alloc(), CAPTURE.as_bytes(), &mut buffered);
+    let (with_buffer, _) = inspect_files(rt.alloc(), CAPTURE.as_bytes(), &mut buffered);
     assert!(rt; WHOLE.as_bytes().starts_with(output.text()));
     assert!(rt; WHOLE.as_bytes().starts_with(buffered.text()));
     assert!(rt; matches!(ran, Ok(()) | Err(Fault::Write(Place::Report))));
-    assert!(rt; matches!(behind, Ok(()) | Err(Fault::Write(Place::Report))));
+    assert!(rt; matches!(with_buffer, Ok(()) | Err(Fault::Write(Place::Report))));
     assert_eq!(rt; ran.is_ok(), output.text().len() == WHOLE.len());
-    assert_eq!(rt; behind.is_ok(), buffered.text().len() == WHOLE.len());
-    ran.is_ok() && behind.is_ok()
+    assert_eq!(rt; with_buffer.is_ok(), buffered.text().len() == WHOLE.len());
+    ran.is_ok() && with_buffer.is_ok()
 }
 
 #[test]

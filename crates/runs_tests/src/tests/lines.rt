@@ -1,4 +1,4 @@
-//! How faults are told.
+//! How faults are reported.
 use super::running::Narrow;
 use captures::{CaptureFault, CaptureFaultKind, UpgradeFault};
 use command_line::WordFault;

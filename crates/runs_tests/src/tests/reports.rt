@@ -195,13 +195,13 @@ fn tiers(rt: HostRuntime) {
 fn snapshot_fault(rt: HostRuntime) {
     let mut replies = Narrow::ample();
     let mut report = Narrow::ample();
-    let behind = "haboob-snapshot 1\nend 0\n.";
+    let longer = "haboob-snapshot 1\nend 0\n.";
     let staged = Engine::Staged;
     let ran = run_tight(
         &rt,
         rt.alloc(),
         staged,
-        behind,
+        longer,
         CAPTURE,
         &mut replies,
         &mut report,
@@ -238,7 +238,7 @@ fn capture_fault(rt: HostRuntime) {
     assert!(rt; report.text().is_empty());
 }
 
-/// Runs with a writer of the report that fails after so many writes; whether the run came to its end.
+/// Runs with a writer of the report that fails after n writes; whether the run came to its end.
 fn ends_reporting<T: Abort + AllocGlobal + Threads + Wait + Sync>(rt: &T, good: usize) -> bool {
     let mut replies = Narrow::ample();
     let mut report = Narrow::new(32, good);
@@ -273,7 +273,7 @@ fn each_write_of_the_report_failing(rt: HostRuntime) {
     assert!(rt; false, "the run comes to no end");
 }
 
-/// Runs with buffers in front of the devices.
+/// Runs with buffers before the devices.
 fn run_buffered<T: Threads + Wait + Sync>(
     rt: &T,
     alloc: Global,

@@ -47,7 +47,7 @@ pub fn is_out_of_memory(fault: &Fault) -> bool {
     fault.status() == 7
 }
 
-/// A reader over memory that gives at most so many bytes a read, and fails at one of its reads.
+/// A reader over memory that gives at most n bytes a read, and fails at one of its reads.
 #[derive(Drop)]
 pub struct Flaky<'a> {
     bytes: &'a [u8],
@@ -80,7 +80,7 @@ impl<'a> Read for Flaky<'a> {
     }
 }
 
-/// A writer into a room of its own that takes at most so many bytes a write, and fails at one of its writes or where
+/// A writer into a room of its own that takes at most n bytes a write, and fails at one of its writes or where
 /// the room is full. It takes no memory.
 #[derive(Drop)]
 pub struct Narrow {

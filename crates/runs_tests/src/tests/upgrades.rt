@@ -76,7 +76,7 @@ fn faults(rt: HostRuntime) {
     check(&rt, trailing, capture_fault(2, Trailing), whole);
 }
 
-/// Which record is the first that isn't whole in so many bytes of the capture, and how many bytes stand before it: the
+/// Which record is the first that isn't whole in n bytes of the capture, and how many bytes stand before it: the
 /// first line has 27, the piece 46, and the end 8.
 fn whole_before(length: usize) -> (usize, usize) {
     if length < 27 {
@@ -110,7 +110,7 @@ fn is_unread(fault: &Fault) -> bool {
     fault.kind == CaptureFaultKind::Read
 }
 
-/// Upgrades with a reader that fails after so many reads; whether the run came to its end.
+/// Upgrades with a reader that fails after n reads; whether the run came to its end.
 fn ends_reading(rt: &(impl Abort + AllocGlobal), good: usize) -> bool {
     let reader = Flaky::new(OLDER.as_bytes(), 8, good);
     let mut output = Narrow::ample();
@@ -139,7 +139,7 @@ fn each_read_failing(rt: HostRuntime) {
     assert!(rt; false, "the run comes to no end");
 }
 
-/// Upgrades with a writer that fails after so many writes, without a buffer and with one; whether both came to an end.
+/// Upgrades with a writer that fails after n writes, without a buffer and with one; whether both came to an end.
 fn ends_writing(rt: &(impl Abort + AllocGlobal), good: usize) -> bool {
     let mut output = Narrow::new(8, good);
     let ran = run_upgrade(
@@ -148,14 +148,14 @@ fn ends_writing(rt: &(impl Abort + AllocGlobal), good: usize) -> bool {
         &mut Output::new(&mut output),
     );
     let mut buffered = Narrow::new(8, good);
-    let (behind, _) = upgrade_files(rt.alloc(), OLDER.as_bytes(), &mut buffered);
+    let (with_buffer, _) = upgrade_files(rt.alloc(), OLDER.as_bytes(), &mut buffered);
     assert!(rt; NEWER.as_bytes().starts_with(output.text()));
     assert!(rt; NEWER.as_bytes().starts_with(buffered.text()));
     assert!(rt; matches!(ran, Ok(()) | Err(Fault::Upgrade(UpgradeFault::Write))));
-    assert!(rt; matches!(behind, Ok(()) | Err(Fault::Write(Place::Output))));
+    assert!(rt; matches!(with_buffer, Ok(()) | Err(Fault::Write(Place::Output))));
     assert_eq!(rt; ran.is_ok(), output.text().len() == NEWER.len());
-    assert_eq!(rt; behind.is_ok(), buffered.text().len() == NEWER.len());
-    ran.is_ok() && behind.is_ok()
+    assert_eq!(rt; with_buffer.is_ok(), buffered.text().len() == NEWER.len());
+    ran.is_ok() && with_buffer.is_ok()
 }
 
 #[test]

@@ -10,9 +10,9 @@ use std::process::Abort;
 
 /// The keys of a policy with their defaults.
 const POLICY: &str =
-    "# response times, 1 to 4096: of so many of the last ones the 90th percentile is taken
+    "# response times, 1 to 4096: of how many of the last ones the 90th percentile is taken
 window = 100
-# admitted requests, 1 to 4096: the controller looks once in so many
+# admitted requests, 1 to 4096: after how many the controller looks again
 every = 100
 # thousandths, 0 to 999: how much of the former value stays (700 is a weight of 0.7 for the past)
 smoothing = 700
@@ -22,13 +22,13 @@ rate = 1000000
 rate_min = 50000
 # thousandths of a token a second, rate_min to 1000000000: the rate never rises above it
 rate_max = 5000000
-# thousandths of a token a second, 0 to 1000000000: by so much the rate rises
+# thousandths of a token a second, 0 to 1000000000: by how much the rate rises at once
 up = 2000
 # hundredths, 101 to 10000: what the rate is divided by where it falls (120 divides it by 1.2)
 down = 120
 # microseconds, 1 to 1000000000000: above this response time the rate falls
 target = 100000
-# percent of the target, 0 to 100: below so much of it the rate rises
+# percent of the target, 0 to 100: below this part of it the rate rises
 low = 90
 # tokens, 1 to 1000000: how many the bucket holds; it starts full
 depth = 100
@@ -88,7 +88,7 @@ static DEFAULTS: [&str; 8] = [
     POLICY,
 ];
 
-/// A writer that takes the default settings alone, at most so many bytes a write, and fails at one of its writes. It
+/// A writer that takes the default settings alone, at most n bytes a write, and fails at one of its writes. It
 /// takes no memory.
 #[derive(Drop)]
 struct Awaiting {
@@ -129,7 +129,7 @@ impl Write for Awaiting {
         self.good -= 1;
         if self.left.is_empty() {
             let Some((first, others)) = self.parts.split_first() else {
-                return Err(io::Error::other("a byte behind the end"));
+                return Err(io::Error::other("a byte after the end"));
             };
             self.left = first.as_bytes();
             self.parts = others;
@@ -180,17 +180,17 @@ fn wrong_documents(rt: HostRuntime) {
     }
 }
 
-/// Writes to a writer that fails after so many writes, without a buffer and with one; whether both came to an end.
+/// Writes to a writer that fails after n writes, without a buffer and with one; whether both came to an end.
 fn ends_writing(rt: &(impl Abort + AllocGlobal), good: usize) -> bool {
     let mut output = Awaiting::new(512, good);
     let ran = run_settings(rt.alloc(), b"", &mut Output::new(&mut output));
     let mut buffered = Awaiting::new(512, good);
-    let (behind, _) = settings_files(rt.alloc(), b"", &mut buffered);
+    let (with_buffer, _) = settings_files(rt.alloc(), b"", &mut buffered);
     assert!(rt; matches!(ran, Ok(()) | Err(Fault::Write(Place::Report))));
-    assert!(rt; matches!(behind, Ok(()) | Err(Fault::Write(Place::Report))));
+    assert!(rt; matches!(with_buffer, Ok(()) | Err(Fault::Write(Place::Report))));
     assert_eq!(rt; ran.is_ok(), output.is_whole());
-    assert_eq!(rt; behind.is_ok(), buffered.is_whole());
-    ran.is_ok() && behind.is_ok()
+    assert_eq!(rt; with_buffer.is_ok(), buffered.is_whole());
+    ran.is_ok() && with_buffer.is_ok()
 }
 
 #[test]

@@ -6,5 +6,5 @@ use Rattle.runs.proofs.in_force.settings_files.Goals as goal
 
 pub returns-clause-fault : goal.returns-clause-fault
 returns-clause-fault g c =
-    let at : AtReport (SettingsSays c.args.document.now (g.W.Write.contents c.args.writer)) (g.W.Write.contents c.args.writer) (g.W.Write.contents c.settings_behind.result.1) c.settings_behind.result.0 = search rules in
+    let at : AtReport (SettingsSays c.args.document.now (g.W.Write.contents c.args.writer)) (g.W.Write.contents c.args.writer) (g.W.Write.contents c.settings_buffered.result.1) c.settings_buffered.result.0 = search rules in
     settings_fault _ _ _ _ at

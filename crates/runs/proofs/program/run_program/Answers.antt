@@ -7,5 +7,5 @@ use Rattle.runs.proofs.program.run_program.Goals as goal
 
 pub returns-clause-fault : goal.returns-clause-fault
 returns-clause-fault g c =
-    let at : AtDevice Replies (BundleSays (g.R.Read.remaining c.args.reader) (g.W.Write.contents c.args.writer)) (g.W.Write.contents c.args.writer) (g.W.Write.contents c.run_behind.result.1) c.run_behind.result.0 = search rules in
+    let at : AtDevice Replies (BundleSays (g.R.Read.remaining c.args.reader) (g.W.Write.contents c.args.writer)) (g.W.Write.contents c.args.writer) (g.W.Write.contents c.run_buffered.result.1) c.run_buffered.result.0 = search rules in
     program_fault _ _ _ _ at

@@ -1,6 +1,6 @@
 use Rattle.std.proofs.Common.{refl, ◌≡◌}
 use Rattle.runs.proofs.Settling.{opened, settled, bundle_says}
-use Rattle.runs.proofs.program.run_behind.Goals as goal
+use Rattle.runs.proofs.program.run_buffered.Goals as goal
 
 pub returns : goal.returns
 returns g c =

@@ -1,7 +1,7 @@
 use Rattle.std.proofs.Common.{refl, ◌≡◌}
 use Rattle.runs.proofs.Settling.{opened, settled}
 use Rattle.runs.proofs.Inspected.{inspect_says}
-use Rattle.runs.proofs.inspecting.inspect_behind.Goals as goal
+use Rattle.runs.proofs.inspecting.inspect_buffered.Goals as goal
 
 pub returns : goal.returns
 returns g c =

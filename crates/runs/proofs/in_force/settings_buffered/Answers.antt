@@ -1,7 +1,7 @@
 use Rattle.std.proofs.Common.{refl, ◌≡◌}
 use Rattle.runs.proofs.Settling.{opened, settled}
 use Rattle.runs.proofs.WrittenSettings.{settings_say}
-use Rattle.runs.proofs.in_force.settings_behind.Goals as goal
+use Rattle.runs.proofs.in_force.settings_buffered.Goals as goal
 
 pub returns : goal.returns
 returns g c =

@@ -1,6 +1,6 @@
 use Rattle.std.proofs.Common.{refl, ◌≡◌}
 use Rattle.runs.proofs.Settling.{opened, settled, upgrade_says}
-use Rattle.runs.proofs.upgrading.upgrade_behind.Goals as goal
+use Rattle.runs.proofs.upgrading.upgrade_buffered.Goals as goal
 
 pub returns : goal.returns
 returns g c =
