@@ -92,9 +92,9 @@ static DEFAULTS: [&str; 8] = [
 /// takes no memory.
 #[derive(Drop)]
 struct Awaiting {
-    /// What is left of a part.
-    left: &'static [u8],
-    parts: &'static [&'static str],
+    /// The part that comes next, and how much of it was written.
+    part: usize,
+    at: usize,
     size: usize,
     /// How many writes are made before the one that fails.
     good: usize,
@@ -103,8 +103,8 @@ struct Awaiting {
 impl Awaiting {
     fn new(size: usize, good: usize) -> Awaiting {
         Awaiting {
-            left: &[],
-            parts: DEFAULTS.as_slice(),
+            part: 0,
+            at: 0,
             size,
             good,
         }
@@ -112,12 +112,12 @@ impl Awaiting {
 
     /// Whether nothing was written yet.
     fn is_new(&self) -> bool {
-        self.left.is_empty() && self.parts.len() == 8
+        self.part == 0 && self.at == 0
     }
 
     /// Whether all was written.
     fn is_whole(&self) -> bool {
-        self.left.is_empty() && self.parts.is_empty()
+        self.part == DEFAULTS.len()
     }
 }
 
@@ -127,18 +127,21 @@ impl Write for Awaiting {
             return Err(io::Error::other("refused"));
         }
         self.good -= 1;
-        if self.left.is_empty() {
-            let Some((first, others)) = self.parts.split_first() else {
-                return Err(io::Error::other("a byte after the end"));
-            };
-            self.left = first.as_bytes();
-            self.parts = others;
-        }
-        let count = bytes.len().min(self.size).min(self.left.len());
-        if bytes[..count] != self.left[..count] {
+        let Some(part) = DEFAULTS.as_slice().get(self.part) else {
+            return Err(io::Error::other("a byte after the end"));
+        };
+        let Some(left) = part.as_bytes().get(self.at..) else {
+            return Err(io::Error::other("nothing left"));
+        };
+        let count = bytes.len().min(self.size).min(left.len());
+        if bytes[..count] != left[..count] {
             return Err(io::Error::other("another byte"));
         }
-        self.left = &self.left[count..];
+        self.at = self.at.saturating_add(count);
+        if count == left.len() {
+            self.part = self.part.saturating_add(1);
+            self.at = 0;
+        }
         Ok(count)
     }
 
