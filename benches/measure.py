@@ -39,13 +39,13 @@ def write_capture(file, requests):
 
 
 def small(count):
-    """So many requests of 32 bytes for a file of 3."""
+    """n requests of 32 bytes for a file of 3."""
     request = b"GET /a.txt HTTP/1.1\r\nHost: a\r\n\r\n"
     return [(b"a.txt", b"hi\n")], (request for _ in range(count))
 
 
 def large(count):
-    """So many requests over 1,000 files of 1 to 16 KiB, in an order that jumps."""
+    """n requests over 1,000 files of 1 to 16 KiB, in an order that jumps."""
     names = [b"files/%04d.html" % number for number in range(1000)]
     files = [(name, b"x" * (1024 + number * 15360 // 999)) for number, name in enumerate(names)]
     requests = [b"GET /%b HTTP/1.1\r\nHost: a\r\n\r\n" % name for name in names]
@@ -53,7 +53,7 @@ def large(count):
 
 
 def huge(count):
-    """So many requests over 64 files of 256 KiB to 1 MiB, in an order that jumps. The default cache has room for all."""
+    """n requests over 64 files of 256 KiB to 1 MiB, in an order that jumps. The default cache has room for all."""
     names = [b"files/%02d.html" % number for number in range(64)]
     files = [(name, b"x" * (262144 + number * 786432 // 63)) for number, name in enumerate(names)]
     requests = [b"GET /%b HTTP/1.1\r\nHost: a\r\n\r\n" % name for name in names]

@@ -338,7 +338,7 @@ def first_files(files):
 
 
 class Sparse:
-    """A file of so many bytes 0."""
+    """A file of n bytes 0."""
     def __init__(self, size):
         self.size = size
 
