@@ -107,8 +107,8 @@ pub fn run_replay<T: Threads + Wait + Sync, S: Read, C: Read, W: Write, O: Write
     ensures fault { IfErr result
         (IsReplayFault wanted settings.now snapshot.old.0 capture.old.0 capture.new.0
         written.old written.new out.old out.new) }
-    // A device is blamed only where it failed in this call. A read of the capture that failed may not be reported: where
-    // another fault comes before it.
+    // A device is blamed only where it failed in this call. A read of the capture that failed may not be reported:
+    // where another fault comes before it.
     ensures reads_snapshot { CountsBy snapshot_failures snapshot.old.1 snapshot.new.1 result }
     ensures reads_capture { BlamedOnce capture_failures capture.old.1 capture.new.1 result }
     ensures writes { CountsBy writer_failures written.old.1 written.new.1 result }
