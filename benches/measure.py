@@ -3,12 +3,13 @@
 
 usage: measure.py PROGRAM [RUNS]
 
-Each input is replayed from files with a report, by the plain and the staged engine in turn, RUNS times each (3 if left out),
-with settings that admit each request and that leave the stages, the batch and the cache as they are by default. Of each
-engine's runs the fastest is taken: its seconds, the seconds that all processors worked for it, requests a second, microseconds
-a request, bytes a second (read and written), and the peak of memory beside the size of the snapshot. The last line of an
-input says how many times as many requests a second the staged engine answers as the plain one. The inputs stand in a folder
-of their own while it runs, and need about 100 MB. Run it on a machine that does nothing else.
+Each input is replayed from files with a report, by the plain and the staged engine in turn, RUNS times each (3 if
+left out), with settings that admit each request and that leave the stages, the batch and the cache as they are by
+default. Of each engine's runs the fastest is taken: its seconds, the seconds that all processors worked for it,
+requests a second, microseconds a request, bytes a second (read and written), and the peak of memory beside the size
+of the snapshot. The last line of an input says how many times as many requests a second the staged engine answers as
+the plain one. The inputs stand in a folder of their own while it runs, and need about 100 MB. Run it on a machine
+that does nothing else.
 """
 import os
 import sys
@@ -104,7 +105,9 @@ class Run:
             while os.waitpid(child, os.WNOHANG) == (0, 0):
                 with open("/proc/%d/comm" % child) as comm, open("/proc/%d/status" % child) as status:
                     if comm.read().strip() == os.path.basename(self.words[0])[:15]:
-                        peak = max([peak] + [int(line.split()[1]) * 1024 for line in status if line.startswith("VmHWM")])
+                        peak = max(
+                            [peak] + [int(line.split()[1]) * 1024 for line in status if line.startswith("VmHWM")]
+                        )
                 time.sleep(0.002)
         return peak
 
@@ -148,7 +151,16 @@ def measure(program, runs, title, count, make, folder):
     text = snapshot(files)
     names = write_inputs(folder, text, requests)
     size = os.path.getsize(names["snapshot"]) + os.path.getsize(names["capture"])
-    words = [program, "replay", "--snapshot", names["snapshot"], "--capture", names["capture"], "--settings", names["settings"]]
+    words = [
+        program,
+        "replay",
+        "--snapshot",
+        names["snapshot"],
+        "--capture",
+        names["capture"],
+        "--settings",
+        names["settings"],
+    ]
     written = count_replies(Run(words + ["--replies", "/dev/stdout", "--engine", "plain"]))
     engines = {name: Run(words + ["--replies", os.devnull, "--engine", name]) for name in ENGINES}
     best = fastest(engines, runs)
@@ -156,8 +168,18 @@ def measure(program, runs, title, count, make, folder):
     for name, (seconds, usage) in best.items():
         worked = usage.ru_utime + usage.ru_stime
         print(
-            "  %-6s %6.2f s (processors %.2f s)  %9.0f requests/s  %6.2f us a request  %5.0f MB/s read  %5.0f MB/s written  peak %.1f MiB"
-            % (name, seconds, worked, count / seconds, seconds / count * 1e6, size / seconds / 1e6, written / seconds / 1e6, engines[name].peak_of_memory() / 2**20)
+            "  %-6s %6.2f s (processors %.2f s)  %9.0f requests/s  %6.2f us a request"
+            "  %5.0f MB/s read  %5.0f MB/s written  peak %.1f MiB"
+            % (
+                name,
+                seconds,
+                worked,
+                count / seconds,
+                seconds / count * 1e6,
+                size / seconds / 1e6,
+                written / seconds / 1e6,
+                engines[name].peak_of_memory() / 2**20,
+            )
         )
     print("  staged answers %.2f times as many requests a second" % (best["plain"][0] / best["staged"][0]), flush=True)
     for name in names.values():

@@ -64,49 +64,215 @@ depth = 3
 
 FOLDERS = ["a", "b", "docs", "a b", "\u00e9", "%41", "a!b", "A", "~x", "..."]
 LAST_PARTS = [
-    "index.html", "index.html", "a.txt", "b.HTM", "c.css", "d.js", "e.json", "f.svg", "g.png", "h.jpg", "i.jPeG", "j.gif",
-    "k.", ".txt", "l", "m.tar.gz", "a", "docs", "n\nm.txt", "o?.txt", "p#", "q%2f.css", "\x01", "index.html.", "\U0001f42a.html",
+    "index.html",
+    "index.html",
+    "a.txt",
+    "b.HTM",
+    "c.css",
+    "d.js",
+    "e.json",
+    "f.svg",
+    "g.png",
+    "h.jpg",
+    "i.jPeG",
+    "j.gif",
+    "k.",
+    ".txt",
+    "l",
+    "m.tar.gz",
+    "a",
+    "docs",
+    "n\nm.txt",
+    "o?.txt",
+    "p#",
+    "q%2f.css",
+    "\x01",
+    "index.html.",
+    "\U0001f42a.html",
 ]
-METHODS = [b"GET"] * 30 + [b"HEAD"] * 8 + [b"POST", b"PUT", b"DELETE", b"CONNECT", b"OPTIONS", b"TRACE", b"PATCH", b"get", b"GET!", b"G@T"]
+METHODS = (
+    [b"GET"] * 30
+    + [b"HEAD"] * 8
+    + [b"POST", b"PUT", b"DELETE", b"CONNECT", b"OPTIONS", b"TRACE", b"PATCH", b"get", b"GET!", b"G@T"]
+)
 VERSIONS = [b"HTTP/1.1"] * 100 + [b"HTTP/1.0"] * 20 + [b"HTTP/1.2", b"HTTP/2.0", b"http/1.1", b"HTTP/1.1 ", b""]
 ODD_TARGETS = [
-    b"/", b"*", b"//", b"/.", b"/..", b"/../x", b"/a/../../b", b"/a/%2e%2E/b", b"/%zz", b"/%", b"/%4", b"/%c3%28", b"/%c3%28/%zz",
-    b"/%00", b"/%00/../..", b"/../%00", b"/a%2fa.txt", b"http://h", b"HTTP://h/a", b"http:///a", b"http://?", b"http://h?x/y",
-    b"http://h%zz/a.txt", b"https://h/a", b"http:/a", b"/a#b", b"/a?b#c", b"/a?%zz", b"/\xc3\xa9", b"/\xff", b"a", b"", b"/a b",
-    b"/index.html", b"/%69ndex.html", b"/docs/", b"/docs", b"/docs/.", b"/%e2%82", b"/%ed%a0%80", b"/\x7f", b"?", b"/?/..",
+    b"/",
+    b"*",
+    b"//",
+    b"/.",
+    b"/..",
+    b"/../x",
+    b"/a/../../b",
+    b"/a/%2e%2E/b",
+    b"/%zz",
+    b"/%",
+    b"/%4",
+    b"/%c3%28",
+    b"/%c3%28/%zz",
+    b"/%00",
+    b"/%00/../..",
+    b"/../%00",
+    b"/a%2fa.txt",
+    b"http://h",
+    b"HTTP://h/a",
+    b"http:///a",
+    b"http://?",
+    b"http://h?x/y",
+    b"http://h%zz/a.txt",
+    b"https://h/a",
+    b"http:/a",
+    b"/a#b",
+    b"/a?b#c",
+    b"/a?%zz",
+    b"/\xc3\xa9",
+    b"/\xff",
+    b"a",
+    b"",
+    b"/a b",
+    b"/index.html",
+    b"/%69ndex.html",
+    b"/docs/",
+    b"/docs",
+    b"/docs/.",
+    b"/%e2%82",
+    b"/%ed%a0%80",
+    b"/\x7f",
+    b"?",
+    b"/?/..",
 ]
 HOST_LINES = [[b"Host: a"]] * 150 + [
-    [], [b"Host: a", b"Host: a"], [b"hOST:\t[::1]:80 "], [b"HOST:"], [b"Host: a b"], [b"Host: a/b"], [b"Host: \xc3\xa9"],
-    [b"Host: a@b"], [b"Host: %zz"],
+    [],
+    [b"Host: a", b"Host: a"],
+    [b"hOST:\t[::1]:80 "],
+    [b"HOST:"],
+    [b"Host: a b"],
+    [b"Host: a/b"],
+    [b"Host: \xc3\xa9"],
+    [b"Host: a@b"],
+    [b"Host: %zz"],
 ]
 CONNECTION_LINES = [[]] * 24 + [
-    [b"Connection: close"], [b"Connection: Keep-Alive"], [b"Connection: Keep-Alive"], [b"connection: x ,\tCLOSE\t ,"],
-    [b"Connection: keep-alive", b"Connection: x"], [b"Connection: keep-alive", b"Connection: close"], [b"Connection: closed"], [b"Connection:"],
+    [b"Connection: close"],
+    [b"Connection: Keep-Alive"],
+    [b"Connection: Keep-Alive"],
+    [b"connection: x ,\tCLOSE\t ,"],
+    [b"Connection: keep-alive", b"Connection: x"],
+    [b"Connection: keep-alive", b"Connection: close"],
+    [b"Connection: closed"],
+    [b"Connection:"],
 ]
 LENGTH_LINES = [
-    [b"Content-Length: 65537"], [b"Content-Length: 065536"], [b"Content-Length: " + b"9" * 30], [b"Content-Length: 1", b"Content-Length: 1"],
-    [b"Content-Length: +1"], [b"Content-Length:"], [b"Content-Length: 1, 1"], [b"Content-Length: " + b"0" * 5000 + b"1"],
-    [b"Content-Length: 0x1"], [b"Content-Length: 1", b"content-length: x"], [b"Content-Length: " + b"9" * 5000],
+    [b"Content-Length: 65537"],
+    [b"Content-Length: 065536"],
+    [b"Content-Length: " + b"9" * 30],
+    [b"Content-Length: 1", b"Content-Length: 1"],
+    [b"Content-Length: +1"],
+    [b"Content-Length:"],
+    [b"Content-Length: 1, 1"],
+    [b"Content-Length: " + b"0" * 5000 + b"1"],
+    [b"Content-Length: 0x1"],
+    [b"Content-Length: 1", b"content-length: x"],
+    [b"Content-Length: " + b"9" * 5000],
 ]
 ODD_LINES = [
-    b"X: \xff\x80\t!", b"X : a", b" folded", b"\tfolded: a", b"X: a\rb", b"X: a\r", b": a", b"X", b"X: \x00", b"X: \x7f", b"X:\x0b", b"X(Y: a",
-    b"!#$%&'*+-.^_`|~: ok", b"Range: bytes=0-1", b"Expect: 100-continue", b"if-none-match:", b"Transfer-Encoding: chunked",
-    b"transfer-encoding:", b"Content-Type: x", b"\xe9: a", b"X:: a",
-    b"If-Modified-Since: x", b"If-Modified-Since: Wednesday, 06-Nov-69 08:49:37 GMT", b"If-Modified-Since: Friday, 06-Nov-70 08:49:37 GMT",
+    b"X: \xff\x80\t!",
+    b"X : a",
+    b" folded",
+    b"\tfolded: a",
+    b"X: a\rb",
+    b"X: a\r",
+    b": a",
+    b"X",
+    b"X: \x00",
+    b"X: \x7f",
+    b"X:\x0b",
+    b"X(Y: a",
+    b"!#$%&'*+-.^_`|~: ok",
+    b"Range: bytes=0-1",
+    b"Expect: 100-continue",
+    b"if-none-match:",
+    b"Transfer-Encoding: chunked",
+    b"transfer-encoding:",
+    b"Content-Type: x",
+    b"\xe9: a",
+    b"X:: a",
+    b"If-Modified-Since: x",
+    b"If-Modified-Since: Wednesday, 06-Nov-69 08:49:37 GMT",
+    b"If-Modified-Since: Friday, 06-Nov-70 08:49:37 GMT",
 ]
 EMPTY_LINES = [b""] * 20 + [b"\r\n", b"\n", b"\r\n\n", b"\n\n\r\n", b"\r", b" "]
 ODD_NUMBERS = [
-    b"0", b"00", b"01", b"1", b"-1", b"+1", b"", b"x", b"4095", b"4096", b"65536", b"65537", b"1025", b"16777217", b"253402300800",
-    b"4102444801", b"1000000000000000", b"1000000000000001", b"18446744073709551616", b"9" * 40, b"9" * 70, b"1 1", b"1 ", b" 1", b"1\r",
+    b"0",
+    b"00",
+    b"01",
+    b"1",
+    b"-1",
+    b"+1",
+    b"",
+    b"x",
+    b"4095",
+    b"4096",
+    b"65536",
+    b"65537",
+    b"1025",
+    b"16777217",
+    b"253402300800",
+    b"4102444801",
+    b"1000000000000000",
+    b"1000000000000001",
+    b"18446744073709551616",
+    b"9" * 40,
+    b"9" * 70,
+    b"1 1",
+    b"1 ",
+    b" 1",
+    b"1\r",
 ]
 ODD_VALUES = [
-    "true", "1.0", '"1"', "[]", "[1]", "[[1]]", "[true]", "{}", "{x = 1}", "1979-05-27", "-1", "0", "1", "2", "01", "1__0",
-    "0x7fffffffffffffff", "9223372036854775807", "9223372036854775808", "-9223372036854775808", "-9223372036854775809", "",
-    "[1, 2, 3, 4]", "[0, 1, 3]", "[1, 2, 2]", "[16, 17, 1]", "[4096, 4097]", "[1, 9223372036854775807, 1]", "[-1, 1, 3]",
+    "true",
+    "1.0",
+    '"1"',
+    "[]",
+    "[1]",
+    "[[1]]",
+    "[true]",
+    "{}",
+    "{x = 1}",
+    "1979-05-27",
+    "-1",
+    "0",
+    "1",
+    "2",
+    "01",
+    "1__0",
+    "0x7fffffffffffffff",
+    "9223372036854775807",
+    "9223372036854775808",
+    "-9223372036854775808",
+    "-9223372036854775809",
+    "",
+    "[1, 2, 3, 4]",
+    "[0, 1, 3]",
+    "[1, 2, 2]",
+    "[16, 17, 1]",
+    "[4096, 4097]",
+    "[1, 9223372036854775807, 1]",
+    "[-1, 1, 3]",
 ]
 ODD_DOCUMENTS = [
-    "x = 1\n", "[tier9]\n", "policy = 1\n", "[[policy]]\ndepth = 1\n", "[policy.depth]\n", "[policy]\ndepth.x = 1\n", "floor = []\n",
-    "[floor\n", "[policy]\ndepth = 1\ndepth = 1\n", "\"policy.depth\" = 1\n", "[floor]\nfront_cuts = [{x = 1}]\n", "\u00e9 = 1\n",
+    "x = 1\n",
+    "[tier9]\n",
+    "policy = 1\n",
+    "[[policy]]\ndepth = 1\n",
+    "[policy.depth]\n",
+    "[policy]\ndepth.x = 1\n",
+    "floor = []\n",
+    "[floor\n",
+    "[policy]\ndepth = 1\ndepth = 1\n",
+    '"policy.depth" = 1\n',
+    "[floor]\nfront_cuts = [{x = 1}]\n",
+    "\u00e9 = 1\n",
     "[costs]\nfile = 1 kib = 2\n",
 ]
 
@@ -120,14 +286,23 @@ def random_files(chance, start):
     names = sorted(name for name in names if not any(other.startswith(name + b"/") for other in names))
     times = [start + shift for shift in (-3600, -2, -1, 0, 0, 1, 2)] + [0, reference.TIME_LIMIT]
     sizes = (1023, 1024, 1025, 5000)
-    bodies = [b"", b"hi\n", b"\r\n\r\n", b"\nend 1\n", b"x" * chance.choice(sizes), chance.randbytes(chance.randrange(300))]
+    bodies = [
+        b"",
+        b"hi\n",
+        b"\r\n\r\n",
+        b"\nend 1\n",
+        b"x" * chance.choice(sizes),
+        chance.randbytes(chance.randrange(300)),
+    ]
     return [(name, max(0, chance.choice(times)), chance.choice(bodies)) for name in names]
 
 
 def escaped(chance, path):
     """A path as it may stand in a target: what can't stand there is percent-encoded, and now and then another byte."""
+
     def may_stand(byte):
-        return byte == ord("/") or (0x20 < byte < 0x7f and byte not in b"%?#" and chance.random() < 0.95)
+        return byte == ord("/") or (0x20 < byte < 0x7F and byte not in b"%?#" and chance.random() < 0.95)
+
     return b"".join(bytes([byte]) if may_stand(byte) else chance.choice((b"%%%02x", b"%%%02X")) % byte for byte in path)
 
 
@@ -138,8 +313,12 @@ def random_target(chance, names):
     path = chance.choice(names)
     if chance.random() < 0.25:
         path = path.rpartition(b"/")[0]
-    before = chance.choice([b"/"] * 20 + [b"//", b"/./", b"/x/../", b"http://h/", b"HTTP://h:80/", b"/x/%2e%2e/", b"/../", b""])
-    after = chance.choice([b""] * 20 + [b"?q", b"?a/b?%", b"/", b"/", b"/.", b"/..", b"/x/..", b"#x", b"x", b"%2f", b"%00"])
+    before = chance.choice(
+        [b"/"] * 20 + [b"//", b"/./", b"/x/../", b"http://h/", b"HTTP://h:80/", b"/x/%2e%2e/", b"/../", b""]
+    )
+    after = chance.choice(
+        [b""] * 20 + [b"?q", b"?a/b?%", b"/", b"/", b"/.", b"/..", b"/x/..", b"#x", b"x", b"%2f", b"%00"]
+    )
     return before + escaped(chance, path) + after
 
 
@@ -147,20 +326,26 @@ def random_date(chance, seconds):
     """A date in one of the three formats, now and then with another byte."""
     date = datetime.datetime(1970, 1, 1) + datetime.timedelta(seconds=seconds)
     day, month = reference.DAYS[date.weekday()], reference.MONTHS[date.month - 1]
-    text = chance.choice((
-        f"{day[:3]}, {date:%d} {month} {date:%Y %H:%M:%S} GMT",
-        f"{day}, {date:%d}-{month}-{date:%y %H:%M:%S} GMT",
-        f"{day[:3]} {month} {date.day:2} {date:%H:%M:%S %Y}",
-        f"{day[:3]} {month} {date:%d %H:%M:%S %Y}",
-    )).encode()
+    text = chance.choice(
+        (
+            f"{day[:3]}, {date:%d} {month} {date:%Y %H:%M:%S} GMT",
+            f"{day}, {date:%d}-{month}-{date:%y %H:%M:%S} GMT",
+            f"{day[:3]} {month} {date.day:2} {date:%H:%M:%S %Y}",
+            f"{day[:3]} {month} {date:%d %H:%M:%S %Y}",
+        )
+    ).encode()
     return changed(chance, text) if chance.random() < 0.2 else text
 
 
 def changed(chance, text):
     """A text with one byte changed, left out, doubled or put in, or cut."""
     at = chance.randrange(len(text) + 1)
-    byte = chance.choice((text[at:at + 1], bytes([chance.randrange(256)]), chance.choice((b" ", b"\n", b"\r", b"0", b"9", b"1"))))
-    return chance.choice((text[:at] + byte + text[at + 1:], text[:at] + byte + text[at:], text[:at] + text[at + 1:], text[:at]))
+    byte = chance.choice(
+        (text[at : at + 1], bytes([chance.randrange(256)]), chance.choice((b" ", b"\n", b"\r", b"0", b"9", b"1")))
+    )
+    return chance.choice(
+        (text[:at] + byte + text[at + 1 :], text[:at] + byte + text[at:], text[:at] + text[at + 1 :], text[:at])
+    )
 
 
 def random_lines(chance, times):
@@ -244,7 +429,9 @@ def random_records(chance, names, times, version):
         waiting[conn] = plain + texts
     order = [conn for conn, pieces in waiting.items() for _ in pieces]
     chance.shuffle(order)
-    steps = chance.choice(([0, 1], [0, 0, 0, 50, 250], [100, 200, 300], [100, 200, 300], [0, 1000, 5000], [0, 999_999, 10**6, 10**7]))
+    steps = chance.choice(
+        ([0, 1], [0, 0, 0, 50, 250], [100, 200, 300], [100, 200, 300], [0, 1000, 5000], [0, 999_999, 10**6, 10**7])
+    )
     tick, records = chance.choice((0, 0, 1, 10**6, 10**15 - 1000)), []
     for conn in order:
         tick = min(tick + chance.choice(steps), reference.TICK_LIMIT)
@@ -264,7 +451,7 @@ def odd_line(chance, line):
     number = chance.choice(found)
     near = b"%d" % max(0, int(number[0]) + chance.choice((-1, 1)))
     odd = near if chance.random() < 0.25 else chance.choice(ODD_NUMBERS)
-    return line[:number.start()] + odd + line[number.end():]
+    return line[: number.start()] + odd + line[number.end() :]
 
 
 def join(chance, parts, faulty):
@@ -274,24 +461,45 @@ def join(chance, parts, faulty):
         return text
     kind = chance.random()
     if kind < 0.2:
-        return text[:chance.randrange(len(text))]
+        return text[: chance.randrange(len(text))]
     if kind < 0.3:
         return text + chance.choice((b"\n", b"x", b"stop 1\n"))
     if kind < 0.45:
         return changed(chance, text)
     at = chance.randrange(0, len(parts), 2)
     odd = odd_line(chance, parts[at]) if chance.random() < 0.6 else chance.choice((b"", parts[at] * 2, parts[at - 2]))
-    return b"".join(parts[:at] + [odd] + parts[at + 1:])
+    return b"".join(parts[:at] + [odd] + parts[at + 1 :])
 
 
 def odd_files(chance, files):
     """The files with one of them at another place or with another name."""
     place = chance.randrange(len(files))
     name, time, body = files[place]
-    names = (b"/" + name, name + b"/", b"a//b", b"../x", b"\xff" + name, name + b"\0", b"x" * 1025, b"", name[:-1], name + b"/x/y", b"\n")
+    names = (
+        b"/" + name,
+        name + b"/",
+        b"a//b",
+        b"../x",
+        b"\xff" + name,
+        name + b"\0",
+        b"x" * 1025,
+        b"",
+        name[:-1],
+        name + b"/x/y",
+        b"\n",
+    )
     inside, odd = (name + b"/x", time, body), (chance.choice(names), time, body)
-    instead = chance.choice(([odd], [odd, files[place]], [files[place], odd], [files[place], inside], [files[place], files[place]], files[:place]))
-    return files[:place] + instead + files[place + 1:]
+    instead = chance.choice(
+        (
+            [odd],
+            [odd, files[place]],
+            [files[place], odd],
+            [files[place], inside],
+            [files[place], files[place]],
+            files[:place],
+        )
+    )
+    return files[:place] + instead + files[place + 1 :]
 
 
 def snapshot_text(chance, files, faulty):
@@ -330,13 +538,18 @@ def capture_text(chance, version, start, records, faulty):
 
 def random_rates(chance):
     """The three rates, in their order."""
-    least, rate, most = sorted(chance.choice((1, 1000, 10**6, 3 * 10**6, 5 * 10**6, 10**7, 10**9)) for _ in range(3))
+    least, rate, most = sorted(
+        chance.choice((1, 1000, 10**6, 3 * 10**6, 5 * 10**6, 10**7, 10**9)) for _ in range(3)
+    )
     return {"rate": rate, "rate_min": least, "rate_max": most}
 
 
 def random_floor(chance):
     """A value for each key of the table `floor`, in its range. The answer doesn't depend on them."""
-    floor = {"batch": chance.choice((1, 2, 3, 7, 1024, 65_536)), "cache": chance.choice((0, 47, 96, 1000, 10**6, 2**30))}
+    floor = {
+        "batch": chance.choice((1, 2, 3, 7, 1024, 65_536)),
+        "cache": chance.choice((0, 47, 96, 1000, 10**6, 2**30)),
+    }
     for side, steps in (("front", 3), ("back", 2)):
         floor[side + "_cuts"] = [cut for cut in range(1, steps) if chance.random() < 0.7] + [steps]
         floor[side + "_workers"] = [chance.choice((1, 2, 3, 16)) for _ in floor[side + "_cuts"]]
@@ -345,7 +558,7 @@ def random_floor(chance):
 
 
 def with_floor(chance, settings, least):
-    """The settings with a table `floor` drawn at random after them, and this batch or more, where there is room for it."""
+    """The settings with a table `floor` drawn at random after them, and this batch or more, where there is room."""
     floor = random_floor(chance)
     floor["batch"] = max(floor["batch"], least)
     text = (settings or b"") + "".join(["[floor]\n"] + ["%s = %s\n" % pair for pair in floor.items()]).encode()
@@ -354,7 +567,12 @@ def with_floor(chance, settings, least):
 
 def random_tier(chance, policy):
     """What the table of a tier gives: some keys of a policy, all three rates or none."""
-    tier = {"depth": chance.choice((1, 2, 5, 30)), "window": chance.randint(1, 12), "every": chance.randint(1, 8), "target": chance.choice((1, 300, 20_000))}
+    tier = {
+        "depth": chance.choice((1, 2, 5, 30)),
+        "window": chance.randint(1, 12),
+        "every": chance.randint(1, 8),
+        "target": chance.choice((1, 300, 20_000)),
+    }
     kept = {key: value for key, value in tier.items() if chance.random() < 0.5}
     return kept | (random_rates(chance) if chance.random() < 0.5 else {}) or {"low": policy["low"]}
 
@@ -362,11 +580,19 @@ def random_tier(chance, policy):
 def random_values(chance):
     """A value for each key, in its range, small enough that much happens."""
     policy = {
-        "window": chance.randint(1, 12), "every": chance.randint(1, 8), "smoothing": chance.choice((0, 500, 700, 999)), **random_rates(chance),
-        "up": chance.choice((0, 1, 1000, 10**6)), "down": chance.choice((101, 120, 200, 10_000)), "target": chance.choice((1, 300, 1000, 20_000)),
-        "low": chance.choice((0, 50, 90, 100)), "depth": chance.choice((1, 2, 5, 30)),
+        "window": chance.randint(1, 12),
+        "every": chance.randint(1, 8),
+        "smoothing": chance.choice((0, 500, 700, 999)),
+        **random_rates(chance),
+        "up": chance.choice((0, 1, 1000, 10**6)),
+        "down": chance.choice((101, 120, 200, 10_000)),
+        "target": chance.choice((1, 300, 1000, 20_000)),
+        "low": chance.choice((0, 50, 90, 100)),
+        "depth": chance.choice((1, 2, 5, 30)),
     }
-    costs = {key: chance.choice((1, 50, 100, 200, chance.randint(1, 400))) for key in ("file", "error")} | {"kib": chance.choice((0, 0, 1, 10, 1000))}
+    costs = {key: chance.choice((1, 50, 100, 200, chance.randint(1, 400))) for key in ("file", "error")} | {
+        "kib": chance.choice((0, 0, 1, 10, 1000))
+    }
     page = {"retry_after": chance.choice((0, 1, 86_400))}
     tiers = {table: random_tier(chance, policy) for table in reference.POLICY_TABLES[1:] if chance.random() < 0.5}
     return {"floor": random_floor(chance), "costs": costs, "policy": policy, "page": page, **tiers}
@@ -416,7 +642,9 @@ def value_text(chance, value):
     """An integer in one of the ways in which TOML writes it; another value as it is."""
     if not isinstance(value, int) or chance.random() < 0.5:
         return str(value)
-    return chance.choice(("+%d" % value, format(value, "#x"), format(value, "#o"), format(value, "#b"), format(value, "_")))
+    return chance.choice(
+        ("+%d" % value, format(value, "#x"), format(value, "#o"), format(value, "#b"), format(value, "_"))
+    )
 
 
 def random_replay(seed, faults=FAULTS):
@@ -429,7 +657,11 @@ def random_replay(seed, faults=FAULTS):
     version = chance.choice((1, 2))
     records = random_records(chance, [name for name, _, _ in files], times, version)
     snapshot = snapshot_text(chance, files, fault == "snapshot")
-    return snapshot, capture_text(chance, version, start, records, fault == "capture"), random_settings(chance, fault == "settings")
+    return (
+        snapshot,
+        capture_text(chance, version, start, records, fault == "capture"),
+        random_settings(chance, fault == "settings"),
+    )
 
 
 def faulty_capture(seed):
@@ -444,7 +676,8 @@ def limit_replays():
     """Name, files, version, start, records and settings of replays at a limit, and just past it."""
     records = [(0, 0, REQUEST)]
     head = b"POST / HTTP/1.1\r\nHost: a\r\nContent-Length: %d\r\n\r\n"
-    costly = b"[costs]\nfile = 1000000\nkib = 1000000\n[policy]\nevery = 1\ntarget = 1000000000000\nlow = 100\nup = 1000000000\n"
+    costly = b"[costs]\nfile = 1000000\nkib = 1000000\n"
+    costly += b"[policy]\nevery = 1\ntarget = 1000000000000\nlow = 100\nup = 1000000000\n"
     open_policy = b"[policy]\ndepth = 1000000\nrate = 1000000000\nrate_max = 1000000000\n"
     # More bytes of pages than the staged engine holds at a time, and of pieces than it takes into a batch.
     pages = [(b"%d.txt" % number, START, b"%d" % number * 5_000_000) for number in range(4)]
@@ -459,11 +692,19 @@ def limit_replays():
         yield "connection", FILES, 2, START, [(0, reference.LAST_CONNECTION[2] + past, REQUEST)], None
         yield "tier", FILES, 2, START, [("tier", 0, reference.TIERS - 1 + past), (0, 0, REQUEST)], None
         yield "piece", FILES, 1, START, [(0, 0, REQUEST * 2048 + b"G" * past)], None
-        yield "body", FILES, 1, START, [(0, 0, head % (65_536 + past)), (1, 0, b"x" * 65_536), (2, 0, b"x" * past + REQUEST)], None
+        yield "body", FILES, 1, START, [
+            (0, 0, head % (65_536 + past)),
+            (1, 0, b"x" * 65_536),
+            (2, 0, b"x" * past + REQUEST),
+        ], None
         yield "time", [(b"a.txt", reference.TIME_LIMIT + past, b"")], 1, START, records, None
         yield "name", [(b"a.txt/" + b"x" * (reference.NAME_LIMIT - 6 + past), 0, b"")], 1, START, records, None
-        yield "length", [(b"a.txt", 0, bytes(reference.FILE_LIMIT + past))], 1, START, records * 2 + [(10**11, 0, REQUEST)], costly
-        yield "files", [(b"%05d" % number, 0, b"") for number in range(reference.FILES_LIMIT + past)], 1, START, records, None
+        yield "length", [(b"a.txt", 0, bytes(reference.FILE_LIMIT + past))], 1, START, records * 2 + [
+            (10**11, 0, REQUEST)
+        ], costly
+        yield "files", [
+            (b"%05d" % number, 0, b"") for number in range(reference.FILES_LIMIT + past)
+        ], 1, START, records, None
         yield "settings", FILES, 1, START, records, b"#" * (reference.SETTINGS_LIMIT + past)
 
 
@@ -623,7 +864,7 @@ def main():
     if not 2 <= len(sys.argv) <= 4:
         sys.exit(__doc__)
     comparison = Comparison(os.path.abspath(sys.argv[1]))
-    count, first = (int(word) for word in (sys.argv[2:] + ["40", "0"][len(sys.argv) - 2:]))
+    count, first = (int(word) for word in (sys.argv[2:] + ["40", "0"][len(sys.argv) - 2 :]))
     chance = random.Random(first)
     compare_large(comparison, "hundred thousand requests", None)
     # With a batch of one piece, starting threads would take minutes.

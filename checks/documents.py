@@ -3,9 +3,10 @@
 
 usage: documents.py PROGRAM
 
-A command stands in an indented block after `$ `, on one or more lines; the lines up to the next command are its output. A
-line `..` in it stands for any lines. The commands of a document run one after another in one folder, which has the folders
-`examples` and `tools` and the program as `haboob`. A command that names a tool is left out where its libraries aren't there.
+A command stands in an indented block after `$ `, on one or more lines; the lines up to the next command are its
+output. A line `..` in it stands for any lines. The commands of a document run one after another in one folder, which
+has the folders `examples` and `tools` and the program as `haboob`. A command that names a tool is left out where its
+libraries aren't there.
 """
 import os
 import re
@@ -27,14 +28,14 @@ def commands_of(text):
     within = False
     for line in text.split("\n"):
         if line.startswith(PROMPT):
-            commands.append((line[len(PROMPT):], []))
+            commands.append((line[len(PROMPT) :], []))
             within = True
         elif within and line.startswith(INDENT):
             command, output = commands[-1]
             if command.endswith("\\"):
                 commands[-1] = (command + "\n" + line, output)
             else:
-                output.append(line[len(INDENT):])
+                output.append(line[len(INDENT) :])
         elif line:
             within = False
         elif within:
@@ -52,8 +53,13 @@ def run(command, folder):
     """What a command prints."""
     words = dict(os.environ, PATH=folder + os.pathsep + os.environ["PATH"])
     ran = subprocess.run(
-        ["bash", "-o", "pipefail", "-c", command], cwd=folder, env=words, timeout=SECONDS,
-        stdin=subprocess.DEVNULL, stdout=subprocess.PIPE, stderr=subprocess.STDOUT,
+        ["bash", "-o", "pipefail", "-c", command],
+        cwd=folder,
+        env=words,
+        timeout=SECONDS,
+        stdin=subprocess.DEVNULL,
+        stdout=subprocess.PIPE,
+        stderr=subprocess.STDOUT,
     )
     return ran.stdout.decode()
 

@@ -3,11 +3,11 @@
 
     checks/hostile.py PROGRAM [COUNT [FIRST]]
 
-COUNT runs (100 without it) are made from the seeds FIRST (0 without it), FIRST + 1 and so on. Each takes a random replay
-of compare_replays.py, and damages its snapshot, its capture or both a few times: bytes are changed, cut out, doubled or
-put in, lines change places or come twice, numbers become others or stand at a limit. Each is run on both engines, with
-limits of time and memory; its table of decisions and what its capture holds are compared as well. Exits with 1 where a
-run answers otherwise than the reference, hangs, is killed, or takes more memory than MEMORY.
+COUNT runs (100 without it) are made from the seeds FIRST (0 without it), FIRST + 1 and so on. Each takes a random
+replay of compare_replays.py, and damages its snapshot, its capture or both a few times: bytes are changed, cut out,
+doubled or put in, lines change places or come twice, numbers become others or stand at a limit. Each is run on both
+engines, with limits of time and memory; its table of decisions and what its capture holds are compared as well. Exits
+with 1 where a run answers otherwise than the reference, hangs, is killed, or takes more memory than MEMORY.
 """
 import os
 import random
@@ -27,11 +27,53 @@ SECONDS = 120
 MEMORY = 128 * 2**20
 
 LIMITS = (
-    0, 1, 3, 4, 64, 255, 256, 1023, 1024, 1025, 4095, 4096, 8191, 8192, 65_535, 65_536, 65_537, 2**20, 2**24, 2**24 + 1,
-    2**30, 2**32, 4_102_444_800, 10**15, 10**15 + 1, 2**63, 2**64 - 1, 2**64, 10**25,
+    0,
+    1,
+    3,
+    4,
+    64,
+    255,
+    256,
+    1023,
+    1024,
+    1025,
+    4095,
+    4096,
+    8191,
+    8192,
+    65_535,
+    65_536,
+    65_537,
+    2**20,
+    2**24,
+    2**24 + 1,
+    2**30,
+    2**32,
+    4_102_444_800,
+    10**15,
+    10**15 + 1,
+    2**63,
+    2**64 - 1,
+    2**64,
+    10**25,
 )
-WORDS = (b"\n", b"\r\n", b" ", b"\0", b"\xff", b"piece 0 0 1\n", b"end 0 0\n", b"tier 0 1\n", b"stop 0\n", b"file 0 1 1\n",
-         b"haboob-capture 2 0\n", b"GET / HTTP/1.1\r\n", b"Content-Length: 65537\r\n", b"Host:\r\n", b"\r\n\r\n")
+WORDS = (
+    b"\n",
+    b"\r\n",
+    b" ",
+    b"\0",
+    b"\xff",
+    b"piece 0 0 1\n",
+    b"end 0 0\n",
+    b"tier 0 1\n",
+    b"stop 0\n",
+    b"file 0 1 1\n",
+    b"haboob-capture 2 0\n",
+    b"GET / HTTP/1.1\r\n",
+    b"Content-Length: 65537\r\n",
+    b"Host:\r\n",
+    b"\r\n\r\n",
+)
 
 
 def lines_exchanged(chance, text):
@@ -58,25 +100,29 @@ def number_changed(chance, text):
     value = int(found[0][:30])
     new = chance.choice((value + 1, max(0, value - 1), chance.choice(LIMITS)))
     written = chance.choice((b"%d" % new, b"%d" % new, b"0%d" % new))
-    return text[:found.start()] + written + text[found.end():]
+    return text[: found.start()] + written + text[found.end() :]
 
 
 def byte_changed(chance, text):
     """A byte becomes another."""
     at = chance.randrange(len(text))
-    return text[:at] + bytes([chance.choice((text[at] ^ (1 << chance.randrange(8)), chance.randrange(256)))]) + text[at + 1:]
+    return (
+        text[:at]
+        + bytes([chance.choice((text[at] ^ (1 << chance.randrange(8)), chance.randrange(256)))])
+        + text[at + 1 :]
+    )
 
 
 def cut_out(chance, text):
     """Some bytes go, at times all to the end."""
     at = chance.randrange(len(text))
-    return text[:at] + (b"" if chance.random() < 0.3 else text[at + chance.randrange(1, 40):])
+    return text[:at] + (b"" if chance.random() < 0.3 else text[at + chance.randrange(1, 40) :])
 
 
 def part_doubled(chance, text):
     """Some bytes come twice."""
     at = chance.randrange(len(text))
-    part = text[at:at + chance.randrange(1, 200)]
+    part = text[at : at + chance.randrange(1, 200)]
     return text[:at] + part + text[at:]
 
 
@@ -86,7 +132,16 @@ def word_put_in(chance, text):
     return text[:at] + chance.choice(WORDS) + text[at:]
 
 
-DAMAGES = (lines_exchanged, line_doubled, number_changed, number_changed, byte_changed, cut_out, part_doubled, word_put_in)
+DAMAGES = (
+    lines_exchanged,
+    line_doubled,
+    number_changed,
+    number_changed,
+    byte_changed,
+    cut_out,
+    part_doubled,
+    word_put_in,
+)
 
 
 def damaged(chance, text):
@@ -120,8 +175,13 @@ def run(program, engine, snapshot, capture, settings):
                 file.write(data)
         words = [program, "replay", *engine, *(word for name in files for word in ("--" + name, name))]
         with open(os.path.join(folder, "out"), "wb+") as out, open(os.path.join(folder, "err"), "wb+") as err:
-            child = subprocess.Popen(["timeout", "--signal=KILL", str(SECONDS), *words], cwd=folder, stdin=subprocess.DEVNULL,
-                                     stdout=out, stderr=err)
+            child = subprocess.Popen(
+                ["timeout", "--signal=KILL", str(SECONDS), *words],
+                cwd=folder,
+                stdin=subprocess.DEVNULL,
+                stdout=out,
+                stderr=err,
+            )
             _, status, used = os.wait4(child.pid, 0)
             child.returncode = os.waitstatus_to_exitcode(status)
             out.seek(0)
@@ -135,7 +195,7 @@ def main():
     if not 2 <= len(sys.argv) <= 4:
         sys.exit(__doc__)
     program = os.path.abspath(sys.argv[1])
-    count, first = (int(word) for word in (sys.argv[2:] + ["100", "0"][len(sys.argv) - 2:]))
+    count, first = (int(word) for word in (sys.argv[2:] + ["100", "0"][len(sys.argv) - 2 :]))
     wrong, most, ends = 0, 0, {}
     comparison = compare_replays.Comparison(program)
     for seed in range(first, first + count):
@@ -149,7 +209,10 @@ def main():
             found = compare_replays.difference(compare_replays.PARTS["replay"], wanted, got)
             if found or memory > MEMORY:
                 wrong += 1
-                print("seed %d %s: WRONG: %s" % (seed, " ".join(engine), found or "%d bytes of memory" % memory), flush=True)
+                print(
+                    "seed %d %s: WRONG: %s" % (seed, " ".join(engine), found or "%d bytes of memory" % memory),
+                    flush=True,
+                )
         comparison.explain("seed %d" % seed, *texts)
     text = ", ".join("%d with status %d" % (number, status) for status, number in sorted(ends.items()))
     wrong += comparison.wrong

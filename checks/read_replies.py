@@ -4,11 +4,11 @@
     checks/read_replies.py [--head N[,N..]] [FILE]
 
 Reads FILE, or standard input. The text is taken apart into its records, and then the replies of each connection, laid
-one after another as they stand on the wire, are read one by one by http.client. Each has to have the number, the status
-line, the fields and the body that it should, and nothing may be left over. With --head the numbers of the messages that
-asked by HEAD are given; without it a reply counts as an answer to HEAD where its head is followed by no byte although it
-tells of some. Prints how many replies were read. Exits with 1 at the first reply that is not right, with 2 where the
-text is no replies text.
+one after another as they stand on the wire, are read one by one by http.client. Each has to have the number, the
+status line, the fields and the body that it should, and nothing may be left over. With --head the numbers of the
+messages that asked by HEAD are given; without it a reply counts as an answer to HEAD where its head is followed by no
+byte although it tells of some. Prints how many replies were read. Exits with 1 at the first reply that is not right,
+with 2 where the text is no replies text.
 """
 import argparse
 import email.utils
@@ -103,8 +103,8 @@ def records_of(text):
         if words[0] != "reply" or len(words) != 4 or words[1] != str(len(records)):
             raise NoRepliesText("reply %d begins with %r" % (len(records), line))
         size = int(words[3])
-        reply = text[at:at + size]
-        if len(reply) != size or text[at + size:at + size + 1] != b"\n":
+        reply = text[at : at + size]
+        if len(reply) != size or text[at + size : at + size + 1] != b"\n":
             raise NoRepliesText("reply %d does not end after %d bytes" % (len(records), size))
         records.append((len(records), int(words[2]), reply))
         at += size + 1

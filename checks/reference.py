@@ -46,32 +46,59 @@ UNITS_IN_TOKEN = 10**9
 HEADING = "number,connection,tick,tier,status,decision,service,credit,rate,start,finish,waited,method,target"
 
 REASONS = {
-    200: b"OK", 301: b"Moved Permanently", 304: b"Not Modified", 400: b"Bad Request", 404: b"Not Found",
-    405: b"Method Not Allowed", 413: b"Content Too Large", 501: b"Not Implemented", 503: b"Service Unavailable",
+    200: b"OK",
+    301: b"Moved Permanently",
+    304: b"Not Modified",
+    400: b"Bad Request",
+    404: b"Not Found",
+    405: b"Method Not Allowed",
+    413: b"Content Too Large",
+    501: b"Not Implemented",
+    503: b"Service Unavailable",
 }
 
 # The kinds of a message that is no request, each with its status.
 FAULTS = {"TooLong": 400, "Block": 400, "Host": 400, "Coding": 501, "Length": 400, "BodySize": 413}
 
 MEDIA_TYPES = {
-    b"html": b"text/html", b"htm": b"text/html", b"css": b"text/css", b"js": b"text/javascript", b"txt": b"text/plain",
-    b"json": b"application/json", b"svg": b"image/svg+xml", b"png": b"image/png", b"jpg": b"image/jpeg",
-    b"jpeg": b"image/jpeg", b"gif": b"image/gif",
+    b"html": b"text/html",
+    b"htm": b"text/html",
+    b"css": b"text/css",
+    b"js": b"text/javascript",
+    b"txt": b"text/plain",
+    b"json": b"application/json",
+    b"svg": b"image/svg+xml",
+    b"png": b"image/png",
+    b"jpg": b"image/jpeg",
+    b"jpeg": b"image/jpeg",
+    b"gif": b"image/gif",
 }
 
 # Each key with its default, and its least and greatest value where it is a single integer.
 SETTINGS = {
     "floor": [
-        ("front_cuts", [1, 2, 3]), ("front_workers", [2, 2, 2]), ("front_capacities", [64, 64, 64]),
-        ("back_cuts", [1, 2]), ("back_workers", [2, 2]), ("back_capacities", [64, 64]),
-        ("batch", 1024, 1, 65_536), ("cache", 67_108_864, 0, 1_073_741_824),
+        ("front_cuts", [1, 2, 3]),
+        ("front_workers", [2, 2, 2]),
+        ("front_capacities", [64, 64, 64]),
+        ("back_cuts", [1, 2]),
+        ("back_workers", [2, 2]),
+        ("back_capacities", [64, 64]),
+        ("batch", 1024, 1, 65_536),
+        ("cache", 67_108_864, 0, 1_073_741_824),
     ],
     "costs": [("file", 200, 1, 10**6), ("kib", 10, 0, 10**6), ("error", 50, 1, 10**6)],
     "policy": [
-        ("window", 100, 1, 4096), ("every", 100, 1, 4096), ("smoothing", 700, 0, 999),
-        ("rate", 1_000_000, 1, 10**9), ("rate_min", 50_000, 1, 10**9), ("rate_max", 5_000_000, 1, 10**9),
-        ("up", 2000, 0, 10**9), ("down", 120, 101, 10_000), ("target", 100_000, 1, 10**12),
-        ("low", 90, 0, 100), ("depth", 100, 1, 10**6),
+        ("window", 100, 1, 4096),
+        ("every", 100, 1, 4096),
+        ("smoothing", 700, 0, 999),
+        ("rate", 1_000_000, 1, 10**9),
+        ("rate_min", 50_000, 1, 10**9),
+        ("rate_max", 5_000_000, 1, 10**9),
+        ("up", 2000, 0, 10**9),
+        ("down", 120, 101, 10_000),
+        ("target", 100_000, 1, 10**12),
+        ("low", 90, 0, 100),
+        ("depth", 100, 1, 10**6),
     ],
     "page": [("retry_after", 1, 0, 86_400)],
 }
@@ -170,14 +197,14 @@ class Text:
         found = self.data.find(b"\n", self.at, min(self.at + LINE_LIMIT + 1, self.end))
         refuse_unless(found >= 0 or self.end - self.at <= LINE_LIMIT, too_long)
         self.need(found >= 0)
-        line, self.at = self.data[self.at:found], found + 1
+        line, self.at = self.data[self.at : found], found + 1
         return line
 
     def owed(self, count):
         """The bytes that a line tells of, and whether an LF stands after them (docs/FORMATS.md, Formats)."""
         self.need(self.at + count < self.end)
-        body, self.at = self.data[self.at:self.at + count], self.at + count + 1
-        return body, self.data[self.at - 1:self.at] == b"\n"
+        body, self.at = self.data[self.at : self.at + count], self.at + count + 1
+        return body, self.data[self.at - 1 : self.at] == b"\n"
 
     def finish(self, counts):
         """The faults of a last line (docs/FORMATS.md, Snapshot and Capture)."""
@@ -214,7 +241,7 @@ def is_name(name):
 
 def folders_of(name):
     """The folders that a file lies in, without the root (docs/FORMATS.md, Snapshot)."""
-    return [name[:slash.start()] for slash in re.finditer(b"/", name)]
+    return [name[: slash.start()] for slash in re.finditer(b"/", name)]
 
 
 def read_file(text, line, files):
@@ -318,8 +345,8 @@ def read_pieces(text, version, pieces):
 
 
 def read_capture(data):
-    """The start of a capture (None where its first line has a fault), the records before its first fault, and that fault
-    (docs/FORMATS.md, Capture)."""
+    """The start of a capture (None where its first line has a fault), the records before its first fault, and that
+    fault (docs/FORMATS.md, Capture)."""
     text, start, pieces = Text(data), None, []
     try:
         version, start = read_start(text)
@@ -362,7 +389,8 @@ def rests(records):
 
 
 def busiest(arrived):
-    """The second in which the most messages arrived, the first of equals, and how many (docs/FORMATS.md, Inspection)."""
+    """The second in which the most messages arrived, the first of equals, and how many (docs/FORMATS.md,
+    Inspection)."""
     counts = collections.Counter(piece.tick // TICKS_IN_SECOND for piece, _ in arrived)
     return min(((-count, second) for second, count in counts.items()), default=(0, 0))
 
@@ -498,7 +526,7 @@ def messages_of(text):
         begin = EMPTY_LINES.match(text, at).end()
         found = BLOCK_END.search(text, begin, begin + BLOCK_LIMIT)
         if found:
-            message = verdict(text[begin:found.end()])
+            message = verdict(text[begin : found.end()])
             at = found.end() + (message.length if isinstance(message, Request) else 0)
         else:
             message = Bad("TooLong")
@@ -532,7 +560,7 @@ def path_of(target):
         authority = re.match(rb"[^/?]*", target[7:])[0]
         if not authority:
             return None
-        target = target[7 + len(authority):]
+        target = target[7 + len(authority) :]
     elif not target.startswith(b"/"):
         return None
     path = target.partition(b"?")[0] or b"/"
@@ -646,7 +674,7 @@ class Tier:
         """The control at a finish (docs/RULES.md, Service times and admission)."""
         policy = self.policy
         before = self.controls[-1] if self.controls else Control(0, 0, 0, policy["rate"])
-        percentile = ranked(self.samples[-policy["window"]:], 90)
+        percentile = ranked(self.samples[-policy["window"] :], 90)
         smoothed = (policy["smoothing"] * before.smoothed + (1000 - policy["smoothing"]) * percentile) // 1000
         rate = before.rate
         if smoothed > policy["target"]:
@@ -793,7 +821,7 @@ def read_document(data):
     except ValueError:
         raise Refused("Text") from None
     found = list(values_in(document))
-    refuse_unless(all(-2**63 <= value < 2**63 for _, value in found if type(value) is int), "Text")
+    refuse_unless(all(-(2**63) <= value < 2**63 for _, value in found if type(value) is int), "Text")
     known = {(), *((table,) for table in SETTINGS), *((table, key[0]) for table in SETTINGS for key in SETTINGS[table])}
     refuse_unless(all(path in known for path, _ in found), "Unknown")
     return document

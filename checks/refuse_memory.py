@@ -4,11 +4,11 @@
 usage: refuse_memory.py PROGRAM
 
 For N = 1, 2, .. the Nth request is refused, until some runs make fewer. Each such run, a replay, an upgrade or a
-snapshot, says `haboob: memory`, with status 7, a prefix of the replies, of the upgraded capture or of the snapshot that
-the run writes with ample memory, and no report; or it ends as with ample memory, where the program can do without. Then it counts the requests of
-64 GETs of one file, with the cache of pages and without: each page that the cache spares is a request less, so a staged
-engine that goes round its cache shows. It needs a C compiler (CC, or cc) and the C library of GNU; without a compiler
-nothing is tried.
+snapshot, says `haboob: memory`, with status 7, a prefix of the replies, of the upgraded capture or of the snapshot
+that the run writes with ample memory, and no report; or it ends as with ample memory, where the program can do
+without. Then it counts the requests of 64 GETs of one file, with the cache of pages and without: each page that the
+cache spares is a request less, so a staged engine that goes round its cache shows. It needs a C compiler (CC, or cc)
+and the C library of GNU; without a compiler nothing is tried.
 """
 import os
 import shutil

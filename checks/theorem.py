@@ -3,11 +3,11 @@
 
     checks/theorem.py [--list] [PAGE]
 
-It begins at the record `Answers` of crates/replay/specs/Outcomes.antt, and follows each name that a definition cites to
-the file of specs/ that defines it; types of the code are followed to the file of src/ that declares them. Without --list
-it compares what it finds with PAGE (docs/THEOREM.md without it), which names each such file, with the number of its lines
-that are read, in a row `| `crates/..` | lines | .. |`. Exits with 1 where the page misses a file, names one that isn't
-reached, or gives another number.
+It begins at the record `Answers` of crates/replay/specs/Outcomes.antt, and follows each name that a definition cites
+to the file of specs/ that defines it; types of the code are followed to the file of src/ that declares them. Without
+--list it compares what it finds with PAGE (docs/THEOREM.md without it), which names each such file, with the number
+of its lines that are read, in a row `| `crates/..` | lines | .. |`. Exits with 1 where the page misses a file, names
+one that isn't reached, or gives another number.
 """
 import argparse
 import os
@@ -17,8 +17,13 @@ import sys
 TOP = os.path.dirname(os.path.dirname(os.path.abspath(__file__)))
 BEGIN = ("crates/replay/specs/Outcomes.antt", "Answers")
 WORD = re.compile(r"[^\s(){}\[\],;.λ]+")
-HEAD = re.compile(r"^(?:(?:abbrev|unfoldable|pub|opaque) )*(?:record )?(?P<name>[^\s:({]+) (?::|\()|^(?:abbrev |pub )*record (?P<record>\S+)")
-IMPORT = re.compile(r"^use Rattle\.(?P<crate>\w+)\.specs\.(?P<path>[\w.]+?)(?:\.\{(?P<names>[^}]*)\})?(?: as (?P<alias>\w+))?$")
+HEAD = re.compile(
+    r"^(?:(?:abbrev|unfoldable|pub|opaque) )*(?:record )?(?P<name>[^\s:({]+) (?::|\()"
+    r"|^(?:abbrev |pub )*record (?P<record>\S+)"
+)
+IMPORT = re.compile(
+    r"^use Rattle\.(?P<crate>\w+)\.specs\.(?P<path>[\w.]+?)(?:\.\{(?P<names>[^}]*)\})?(?: as (?P<alias>\w+))?$"
+)
 ROW = re.compile(r"^\| `(crates/\S+)` \| (\d+) \|", re.MULTILINE)
 
 
@@ -120,8 +125,11 @@ def main():
         told = {path: int(lines) for path, lines in ROW.findall(file.read())}
     wrong = ["%s: not on the page" % path for path in found if path not in told]
     wrong += ["%s: not reached" % path for path in told if path not in found]
-    wrong += ["%s: %d lines, and the page says %d" % (path, found[path][0], told[path])
-              for path in told if path in found and found[path][0] != told[path]]
+    wrong += [
+        "%s: %d lines, and the page says %d" % (path, found[path][0], told[path])
+        for path in told
+        if path in found and found[path][0] != told[path]
+    ]
     print("\n".join(wrong + ["%d files, %d wrong" % (len(found), len(wrong))]))
     return int(bool(wrong))
 

@@ -80,7 +80,8 @@ class Input:
         self.name, self.records, self.version, self.status = name, records, version, status
         self.files, self.settings = files, settings
         self.numbers = {"sent": 0, "tiers": 0, "blocks": 0, "heads": 0, "requests": 0, "controls": 0, "pieces": 0,
-                        "waiting": 0, "messages": 0, "page": 0, "unshared": 0, "cache": 0, "workers": DEFAULT_WORKERS, **numbers}
+                        "waiting": 0, "messages": 0, "page": 0, "unshared": 0, "cache": 0,
+                        "workers": DEFAULT_WORKERS, **numbers}
 
     def write(self, folder):
         """Writes the texts into the folder; the bytes of the snapshot."""

@@ -1,9 +1,9 @@
 #!/usr/bin/env python3
-"""Writes the example of docs/WALK.md beside itself: a small site as a snapshot, a burst of requests for it as a capture, and
-the same burst among readers, without tiers and with.
+"""Writes the example of docs/WALK.md beside itself: a small site as a snapshot, a burst of requests for it as a
+capture, and the same burst among readers, without tiers and with.
 
-Change the site or the traffic here to try something else, or write the two files from records of your own: their formats
-stand in docs/FORMATS.md.
+Change the site or the traffic here to try something else, or write the two files from records of your own: their
+formats stand in docs/FORMATS.md.
 """
 import os
 
@@ -15,7 +15,8 @@ BURST = 20  # how often each visitor asks within the burst
 SITE = {
     "about.html": "<!DOCTYPE html>\n<title>About</title>\n<p>A site of five files.\n",
     "docs/index.html": "<!DOCTYPE html>\n<title>Documents</title>\n<p>Nothing is here yet.\n",
-    "index.html": '<!DOCTYPE html>\n<title>Home</title>\n<link rel="stylesheet" href="/style.css">\n<p><a href="/about.html">About</a>\n',
+    "index.html": "<!DOCTYPE html>\n<title>Home</title>\n"
+    '<link rel="stylesheet" href="/style.css">\n<p><a href="/about.html">About</a>\n',
     "notes.txt": "".join("line %d of the notes\n" % number for number in range(1, 200)),
     "style.css": "body { font-family: sans-serif }\n",
 }
@@ -55,7 +56,9 @@ def burst():
     """All visitors at once: a request each 150 ticks, faster than the server's 201 ticks for a small file."""
     targets = ["/", "/style.css", "/notes.txt", "/about.html"]
     for number in range(VISITORS * BURST):
-        yield 3000 * MILLISECOND + 150 * number, 1 + number % VISITORS, request(targets[number // VISITORS % len(targets)])
+        yield 3000 * MILLISECOND + 150 * number, 1 + number % VISITORS, request(
+            targets[number // VISITORS % len(targets)]
+        )
 
 
 def readers():

@@ -10,7 +10,7 @@ use Rattle.admission.specs.Rules.{Rules, rules_of}
 use Rattle.admission.specs.Requests.{Offer, Decided, Served, of_tier, is_admitted, served, last_finish, finish_after}
 use Rattle.admission.specs.Controls.{control_at, rate_at}
 use Rattle.admission.specs.Decisions.{least_balance, credit, decide, decided_next, decided_from, decided}
-use Rattle.admission.specs.Fits.{tick_from, AllCovered}
+use Rattle.admission.specs.After.{tick_from, AllCovered}
 use Rattle.admission.specs.Laws.{AreOffered, AreOfOthers, RunsTo, FinishFromFinish, FirstCredit, CreditFromCredit, AccrualSplitsAtControl, RateFromOffersBefore}
 use Rattle.admission.proofs.RequestLemmas.{decided_from-push, of_tier-same, of_tier-other, of_tier-none, served-push, last_finish-push}
 use Rattle.admission.proofs.CreditLemmas.{token_of, least_balance-none, least_balance-later, least_balance-push, covered-later, covered-push}

@@ -7,7 +7,7 @@ use Rattle.token_bucket.specs.Accrual.{accrual}
 use Rattle.token_bucket.proofs.AccrualLemmas.{accrual-split, accrual-agree, accrual-none}
 use Rattle.admission.specs.Requests.{Decided, is_admitted}
 use Rattle.admission.specs.Decisions.{balance, least_balance}
-use Rattle.admission.specs.Fits.{AllCovered}
+use Rattle.admission.specs.After.{AllCovered}
 
 -- how many tokens a request took, and how many requests took
 abbrev pub token_of : Decided → ℕ

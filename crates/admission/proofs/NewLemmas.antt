@@ -4,7 +4,7 @@ use Rattle.std.proofs.Math.Nat.{zero-div}
 use Rattle.std.specs.List.{range_with_len}
 use Rattle.token_bucket.specs.Limits.{TOKEN}
 use Rattle.token_bucket.specs.Calls.{Past, made}
-use Rattle.token_bucket.specs.Fits.{Fits as FitsCalls, last_rate}
+use Rattle.token_bucket.specs.After.{BucketAfter, last_rate}
 use Rattle.token_bucket.specs.Standing as bucket
 use Rattle.token_bucket.proofs.CallLemmas as calls
 use Rattle.admission.specs.Rules.{Rules}
@@ -14,7 +14,7 @@ use Rattle.admission.specs.Controls.{rate_after, control_at}
 use Rattle.admission.specs.Decisions.{least_balance}
 use Rattle.admission.specs.Standing.{TierStanding, RiseWithin, AllRates, IsSoundTier, IsShare}
 use Rattle.admission.specs.Running.{passed}
-use Rattle.admission.specs.Fits.{IsRising, AllCovered, BucketFits, TierFits}
+use Rattle.admission.specs.After.{IsRising, AllCovered, BucketFits, TierFits}
 use Rattle.admission.proofs.StandLemmas.{stands_passing}
 use Rattle.admission.proofs.PassLemmas.{Ends}
 
@@ -45,7 +45,7 @@ pub start_share : (rules : Rules) (b : bucket.Standing) (window : Window) → b.
 unfolding RiseWithin
 start_share rules b window clock = record { admitted = omega arith; rejected = omega arith; clock = omega arith; rising = tt }
 
-pub start_fits : (rules : Rules) (b : bucket.Standing) (window : Window) → FitsCalls (made rules.depth rules.rate) b → b.tick ≡ 0
+pub start_fits : (rules : Rules) (b : bucket.Standing) (window : Window) → BucketAfter (made rules.depth rules.rate) b → b.tick ≡ 0
     → window ≡ window_of rules.window [] → TierFits [] 0 (start rules b window)
 unfolding served rate_after least_balance AllCovered IsRising last_rate
 start_fits rules b window fits clock is = record {
@@ -70,7 +70,7 @@ start_fits rules b window fits clock is = record {
 -- the bucket of a tier at a later tick
 pub later_fits : (t : TierStanding) (next : bucket.Standing) (past : List Decided) (free rise tick : ℕ) → TierFits past free t
     → IsSoundTier t → RiseWithin t.bucket.tick rise (drop t.reached t.controls) → t.bucket.tick ≤ tick
-    → ((calls : Past) → FitsCalls calls t.bucket → Ends t.bucket (drop t.reached t.controls) tick next)
+    → ((calls : Past) → BucketAfter calls t.bucket → Ends t.bucket (drop t.reached t.controls) tick next)
     → BucketFits t.rules past next (t.reached + passed (drop t.reached t.controls) tick)
 later_fits t next past free rise tick fits sound rises later passes =
     let ends : Ends t.bucket (drop t.reached t.controls) tick next = passes fits.bucket.past_calls fits.bucket.fits in

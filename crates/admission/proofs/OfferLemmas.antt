@@ -8,7 +8,7 @@ use Rattle.std.proofs.lemmas.List.Sums.{count_by-le-length, sum_by_push}
 use Rattle.circular_buffer.specs.Buffer.{keep_last}
 use Rattle.token_bucket.specs.Limits.{TOKEN}
 use Rattle.token_bucket.specs.Calls.{Past, TryTake, and_then}
-use Rattle.token_bucket.specs.Fits.{Fits as FitsCalls}
+use Rattle.token_bucket.specs.After.{BucketAfter}
 use Rattle.token_bucket.specs.Running.{after}
 use Rattle.token_bucket.specs.Standing as bucket
 use Rattle.token_bucket.proofs.FitsLemmas.{standing_runs}
@@ -21,7 +21,7 @@ use Rattle.admission.specs.Controls.{rate_after, rate_at, controls_of}
 use Rattle.admission.specs.Decisions.{least_balance, credit}
 use Rattle.admission.specs.Standing.{TierStanding}
 use Rattle.admission.specs.Running.{with_due, when_rejected, when_admitted, decision_after}
-use Rattle.admission.specs.Fits.{Stands, TierFits}
+use Rattle.admission.specs.After.{TierBucketAfter, TierFits}
 use Rattle.admission.proofs.CreditLemmas.{least_balance-le, least_balance-push, covered-push}
 use Rattle.admission.proofs.ControlLemmas.{quotient_fits, rate_after-more, controls_of-push}
 use Rattle.admission.proofs.RequestLemmas.{served-push, upto-push_later, rising-push, rising-widen}
@@ -37,19 +37,19 @@ served_rejected : (past : List Decided) (offer : Offer) → served (past ++ reco
 served_rejected past offer = served-push past (record { offer = offer; decision = Rejected }) ∙ append-nil (served past)
 
 -- a bucket that stands so holds no more than its depth
-within_depth : (rules : Rules) (past : List Decided) (b : bucket.Standing) (reached : ℕ) → Stands rules past b reached
+within_depth : (rules : Rules) (past : List Decided) (b : bucket.Standing) (reached : ℕ) → TierBucketAfter rules past b reached
     → b.credit ≤ b.depth * TOKEN
 within_depth rules past b reached stands =
     rw (stands.credit, stands.depth) (least_balance-le (rate_at rules (served past)) (rules.depth * TOKEN) b.tick past)
 
 -- its credit is that of the offer
-credit_there : (rules : Rules) (past : List Decided) (b : bucket.Standing) (reached tick : ℕ) → Stands rules past b reached
+credit_there : (rules : Rules) (past : List Decided) (b : bucket.Standing) (reached tick : ℕ) → TierBucketAfter rules past b reached
     → b.tick ≡ tick → credit rules past tick ≡ b.credit
 credit_there rules past b reached tick stands at = ap (credit rules past) (sym at) ∙ sym stands.credit
 
 stands_rejected : (rules : Rules) (past : List Decided) (b next : bucket.Standing) (reached : ℕ) (offer : Offer)
-    → Stands rules past b reached → b.tick ≡ offer.tick → next ≡ after b (TryTake false)
-    → Stands rules (past ++ record { offer = offer; decision = Rejected } ∷ []) next reached
+    → TierBucketAfter rules past b reached → b.tick ≡ offer.tick → next ≡ after b (TryTake false)
+    → TierBucketAfter rules (past ++ record { offer = offer; decision = Rejected } ∷ []) next reached
 stands_rejected rules past b next reached offer stands at is =
     let same : served (past ++ record { offer = offer; decision = Rejected } ∷ []) ≡ served past = served_rejected past offer in
     let agree : (u : ℕ) → u < b.tick
@@ -86,8 +86,8 @@ tier_later past free later t fits more = record {
 }
 
 pub tier_rejected : (t : TierStanding) (b next : bucket.Standing) (reached : ℕ) (calls : Past) (past : List Decided) (free : ℕ) (offer : Offer)
-    → TierFits past free t → Stands t.rules past b reached → b.tick ≡ offer.tick
-    → FitsCalls calls b → FitsCalls (and_then calls (TryTake false)) next
+    → TierFits past free t → TierBucketAfter t.rules past b reached → b.tick ≡ offer.tick
+    → BucketAfter calls b → BucketAfter (and_then calls (TryTake false)) next
     → TierFits (past ++ record { offer = offer; decision = Rejected } ∷ []) free (when_rejected t next reached)
 tier_rejected t b next reached calls past free offer fits stands at before now =
     let next_is : next ≡ after b (TryTake false) = standing_runs calls b next (TryTake false) before (omega arith) (omega arith) now in
@@ -155,9 +155,9 @@ rate_before rules requests request u some before =
     ) refl
 
 stands_admitted : (rules : Rules) (past : List Decided) (b next : bucket.Standing) (reached : ℕ) (offer : Offer) (finish : ℕ)
-    → Stands rules past b reached → b.tick ≡ offer.tick → next ≡ after b (TryTake true) → 0 < rules.every
+    → TierBucketAfter rules past b reached → b.tick ≡ offer.tick → next ≡ after b (TryTake true) → 0 < rules.every
     → offer.tick < finish → TOKEN ≤ b.credit
-    → Stands rules (past ++ record { offer = offer; decision = Admitted finish } ∷ []) next reached
+    → TierBucketAfter rules (past ++ record { offer = offer; decision = Admitted finish } ∷ []) next reached
 stands_admitted rules past b next reached offer finish stands at is some later enough =
     let more : served (past ++ record { offer = offer; decision = Admitted finish } ∷ []) ≡ served past ++ record { offer = offer; finish = finish } ∷ [] =
     served_admitted past offer finish in
@@ -186,8 +186,8 @@ stands_admitted rules past b next reached offer finish stands at is some later e
 
 pub tier_admitted : (t : TierStanding) (b next : bucket.Standing) (reached : ℕ) (calls : Past) (past : List Decided) (free : ℕ) (offer : Offer)
     (finish : ℕ)
-    → TierFits past free t → Stands t.rules past b reached → b.tick ≡ offer.tick → 0 < t.rules.every → offer.tick < finish → free < finish
-    → FitsCalls calls b → FitsCalls (and_then calls (TryTake true)) next → TOKEN ≤ b.credit
+    → TierFits past free t → TierBucketAfter t.rules past b reached → b.tick ≡ offer.tick → 0 < t.rules.every → offer.tick < finish → free < finish
+    → BucketAfter calls b → BucketAfter (and_then calls (TryTake true)) next → TOKEN ≤ b.credit
     → TierFits (past ++ record { offer = offer; decision = Admitted finish } ∷ []) finish (when_admitted t next reached finish (finish - offer.tick))
 tier_admitted t b next reached calls past free offer finish fits stands at some later following before now enough =
     let next_is : next ≡ after b (TryTake true) = standing_runs calls b next (TryTake true) before (omega arith) enough now in
@@ -226,13 +226,13 @@ enough_of held credit taken is = let enough : TOKEN ≤ credit = taken.0 refl in
 
 -- the decision
 pub decision_rejected : (rules : Rules) (past : List Decided) (b : bucket.Standing) (reached free tick service : ℕ)
-    → Stands rules past b reached → b.tick ≡ tick → b.credit < TOKEN → Rejected ≡ decision_after rules past free tick service
+    → TierBucketAfter rules past b reached → b.tick ≡ tick → b.credit < TOKEN → Rejected ≡ decision_after rules past free tick service
 decision_rejected rules past b reached free tick service stands at short =
     let there : credit rules past tick ≡ b.credit = credit_there rules past b reached tick stands at in
     sym (rw (lt-leb TOKEN (credit rules past tick) (rw there short)) refl)
 
 pub decision_admitted : (rules : Rules) (past : List Decided) (b : bucket.Standing) (reached free tick service finish : ℕ)
-    → Stands rules past b reached → b.tick ≡ tick → TOKEN ≤ b.credit → finish ≡ max free tick + service
+    → TierBucketAfter rules past b reached → b.tick ≡ tick → TOKEN ≤ b.credit → finish ≡ max free tick + service
     → Admitted finish ≡ decision_after rules past free tick service
 decision_admitted rules past b reached free tick service finish stands at enough is =
     let there : credit rules past tick ≡ b.credit = credit_there rules past b reached tick stands at in

@@ -3,7 +3,7 @@ use Rattle.std.proofs.Common.{◌≡◌, ℕ, ◌+◌, ◌<◌, ◌≤◌, List,
 use Rattle.std.proofs.lemmas.Bool.{le-leb, lt-leb}
 use Rattle.token_bucket.specs.Limits.{MAX_RATE}
 use Rattle.token_bucket.specs.Calls.{Call, Past, Advance, SetRate, and_then}
-use Rattle.token_bucket.specs.Fits.{Fits as FitsCalls}
+use Rattle.token_bucket.specs.After.{BucketAfter}
 use Rattle.token_bucket.specs.Running.{after}
 use Rattle.token_bucket.specs.Standing as bucket
 use Rattle.token_bucket.proofs.FitsLemmas.{standing_runs}
@@ -46,20 +46,20 @@ passed-next control pending tick reached = rw (le-leb control.instant tick reach
 -- the bucket fits some calls, and from it the pending controls lead to where they led from the first one
 pub record Goes (first b : bucket.Standing) (all pending : List Control) (tick : ℕ) : Type 0 where
   pub later : Past
-  pub fits : FitsCalls later b
+  pub fits : BucketAfter later b
   pub same : passing first all tick ≡ passing b pending tick
 
 -- what one call does to a bucket, whatever calls it fits
 abbrev pub Does : bucket.Standing → Call → bucket.Standing → Type 0
-Does b call next = (past : Past) → FitsCalls past b → FitsCalls (and_then past call) next
+Does b call next = (past : Past) → BucketAfter past b → BucketAfter (and_then past call) next
 
 pub goes-next : (first b moved next : bucket.Standing) (all : List Control) (control : Control) (pending : List Control) (tick : ℕ)
     → Goes first b all (control ∷ pending) tick → control.instant ≤ tick → b.tick ≤ control.instant
     → Does b (Advance control.instant) moved → Does moved (SetRate control.rate) next
     → Goes first next all pending tick
 goes-next first b moved next all control pending tick goes reached forward moves turns =
-    let fits_moved : FitsCalls (and_then goes.later (Advance control.instant)) moved = moves goes.later goes.fits in
-    let fits_next : FitsCalls (and_then (and_then goes.later (Advance control.instant)) (SetRate control.rate)) next =
+    let fits_moved : BucketAfter (and_then goes.later (Advance control.instant)) moved = moves goes.later goes.fits in
+    let fits_next : BucketAfter (and_then (and_then goes.later (Advance control.instant)) (SetRate control.rate)) next =
     turns (and_then goes.later (Advance control.instant)) fits_moved in
     let moved_is : moved ≡ after b (Advance control.instant) =
     standing_runs goes.later b moved (Advance control.instant) goes.fits forward (omega arith) fits_moved in
@@ -74,7 +74,7 @@ goes-next first b moved next all control pending tick goes reached forward moves
 
 -- where the walk ends
 abbrev pub Ends : bucket.Standing → List Control → ℕ → bucket.Standing → Type 0
-Ends first all tick next = ((later : Past) × FitsCalls later next) × (next ≡ passing first all tick)
+Ends first all tick next = ((later : Past) × BucketAfter later next) × (next ≡ passing first all tick)
 
 pub goes-stop : (first b next : bucket.Standing) (all : List Control) (control : Control) (pending : List Control) (tick : ℕ)
     → Goes first b all (control ∷ pending) tick → tick < control.instant → b.tick ≤ tick → Does b (Advance tick) next

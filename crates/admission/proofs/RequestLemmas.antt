@@ -7,7 +7,7 @@ use Rattle.std.proofs.lemmas.Bool.{le-leb, lt-leb, cases_lt, eq-eqb, ne_eqb}
 use Rattle.admission.specs.Rules.{Rules}
 use Rattle.admission.specs.Requests.{Offer, Decided, of_tier, as_served, served, last_finish}
 use Rattle.admission.specs.Decisions.{decided_next, decided_from}
-use Rattle.admission.specs.Fits.{tick_from, IsRising}
+use Rattle.admission.specs.After.{tick_from, IsRising}
 
 -- ---- the lists
 

@@ -17,7 +17,7 @@ use Rattle.admission.specs.Controls.{rate_after, rate_at, control_at, controls_o
 use Rattle.admission.specs.Decisions.{credit}
 use Rattle.admission.specs.Standing.{RiseWithin}
 use Rattle.admission.specs.Running.{passing, passed}
-use Rattle.admission.specs.Fits.{IsRising, Stands}
+use Rattle.admission.specs.After.{IsRising, TierBucketAfter}
 use Rattle.admission.proofs.CreditLemmas.{least_balance-le, least_balance-later, covered-later}
 use Rattle.admission.proofs.ControlLemmas.{fits_quotient, quotient_fits, quotient_below, length-finishes}
 use Rattle.admission.proofs.RequestLemmas.{upto-mono, upto-before, upto-at, rising-at}
@@ -86,7 +86,7 @@ untaken : (full x : ℕ) → min full (x - 0) ≡ min full x
 untaken full x = omega arith
 
 -- a bucket that time passes for at one rate has the credit of that tick
-credit_later : (rules : Rules) (past : List Decided) (b : bucket.Standing) (reached tick : ℕ) → Stands rules past b reached
+credit_later : (rules : Rules) (past : List Decided) (b : bucket.Standing) (reached tick : ℕ) → TierBucketAfter rules past b reached
     → b.tick ≤ tick → ((u : ℕ) → b.tick ≤ u → u < tick → done (served past) u / rules.every ≡ reached)
     → (after b (Advance tick)).credit ≡ credit rules past tick
 credit_later rules past b reached tick stands later same =
@@ -102,9 +102,9 @@ credit_later rules past b reached tick stands later same =
     (untaken (rules.depth * TOKEN) (b.credit + b.rate * (tick - b.tick)))
 
 -- where no control is reached
-stands_stop : (rules : Rules) (past : List Decided) (b : bucket.Standing) (reached tick : ℕ) → Stands rules past b reached
+stands_stop : (rules : Rules) (past : List Decided) (b : bucket.Standing) (reached tick : ℕ) → TierBucketAfter rules past b reached
     → b.tick ≤ tick → ((u : ℕ) → b.tick ≤ u → u ≤ tick → done (served past) u / rules.every ≡ reached)
-    → Stands rules past (after b (Advance tick)) reached
+    → TierBucketAfter rules past (after b (Advance tick)) reached
 stands_stop rules past b reached tick stands later same = record {
   depth = stands.depth;
   rate = stands.rate;
@@ -117,10 +117,10 @@ still : (full credit rate i : ℕ) → credit ≤ full → min full (credit + ra
 still full credit rate i within = let none : i - i ≡ 0 = omega arith in rw none (omega arith)
 
 -- where the next control is reached
-stands_reach : (rules : Rules) (past : List Decided) (b : bucket.Standing) (reached instant rate : ℕ) → Stands rules past b reached
+stands_reach : (rules : Rules) (past : List Decided) (b : bucket.Standing) (reached instant rate : ℕ) → TierBucketAfter rules past b reached
     → b.tick ≤ instant → ((u : ℕ) → b.tick ≤ u → u < instant → done (served past) u / rules.every ≡ reached)
     → done (served past) instant / rules.every ≡ suc reached → rate ≡ rate_after rules (samples (served past)) (suc reached)
-    → Stands rules past (after (after b (Advance instant)) (SetRate rate)) (suc reached)
+    → TierBucketAfter rules past (after (after b (Advance instant)) (SetRate rate)) (suc reached)
 stands_reach rules past b reached instant rate stands later same next is =
     let credit_there : (after b (Advance instant)).credit ≡ credit rules past instant =
     credit_later rules past b reached instant stands later same in
@@ -161,8 +161,8 @@ one_more j = omega arith
 -- a bucket that passes them stands as the requests so far leave it at the new tick
 pub stands_passing : (rules : Rules) (past : List Decided) (hi : ℕ) (pending : List Control) (b : bucket.Standing) (j tick rise : ℕ)
     → 0 < rules.every → IsRising 0 hi (finishes (served past)) → drop j (controls_of rules (served past)) ≡ pending
-    → RiseWithin b.tick rise pending → b.tick ≤ tick → Stands rules past b j
-    → Stands rules past (passing b pending tick) (j + passed pending tick)
+    → RiseWithin b.tick rise pending → b.tick ≤ tick → TierBucketAfter rules past b j
+    → TierBucketAfter rules past (passing b pending tick) (j + passed pending tick)
 stands_passing rules past hi [] b j tick rise some rising at rises later stands =
     let last : length (served past) / rules.every ≤ j =
     pending_none (control_at rules (served past)) 1 (length (served past) / rules.every) j at in

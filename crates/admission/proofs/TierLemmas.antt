@@ -16,7 +16,7 @@ use Rattle.admission.specs.Controls.{controls_until}
 use Rattle.admission.specs.Decisions.{credit, decide, decided_from, decided, outlook}
 use Rattle.admission.specs.Standing.{TierStanding, Standing, policies_of, IsShare, IsSound}
 use Rattle.admission.specs.Running.{decision_after, free_after}
-use Rattle.admission.specs.Fits.{tick_from, TierFits, Fits}
+use Rattle.admission.specs.After.{tick_from, TierFits, ControllerAfter}
 use Rattle.admission.specs.TierCalls.{AreNew, Decides, Takes, Shows, Foresees}
 use Rattle.admission.proofs.RequestLemmas.{decided_from-push, served-push, of_tier-same, of_tier-other, of_tier-none, tick_from-push, last_finish-push}
 use Rattle.admission.proofs.OfferLemmas.{tier_later}
@@ -69,7 +69,7 @@ policies_kept c i t next free tick at same =
 -- ---- the decision
 
 -- the decision of a tier is that of the definitions
-pub decide_is : (c : Standing) (offers : List Offer) (offer : Offer) (t : TierStanding) → Fits offers c → slice_get c.tiers offer.tier ≡ Some t
+pub decide_is : (c : Standing) (offers : List Offer) (offer : Offer) (t : TierStanding) → ControllerAfter offers c → slice_get c.tiers offer.tier ≡ Some t
     → decision_after t.rules (of_tier offer.tier (decided (policies_of c) offers)) c.free offer.tick offer.service
     ≡ decide (policies_of c) (decided (policies_of c) offers) offer
 decide_is c offers offer t fits at =
@@ -123,11 +123,11 @@ tiers_after c past request t next later fits within longer own i found at =
     ]
 
 pub offer_fits : (c : Standing) (offers : List Offer) (offer : Offer) (t next : TierStanding) (decision : Decision)
-    → Fits offers c → offer.tier < length c.tiers → slice_get c.tiers offer.tier ≡ Some t → next.rules ≡ t.rules
+    → ControllerAfter offers c → offer.tier < length c.tiers → slice_get c.tiers offer.tier ≡ Some t → next.rules ≡ t.rules
     → decision ≡ decision_after t.rules (of_tier offer.tier (decided (policies_of c) offers)) c.free offer.tick offer.service
     → TierFits (of_tier offer.tier (decided (policies_of c) offers) ++ record { offer = offer; decision = decision } ∷ [])
     (free_after c.free decision) next
-    → Fits (offers ++ offer ∷ []) (with_tier c offer.tier next (free_after c.free decision) offer.tick)
+    → ControllerAfter (offers ++ offer ∷ []) (with_tier c offer.tier next (free_after c.free decision) offer.tick)
 offer_fits c offers offer t next decision fits within at rules is own =
     let past : List Decided = decided (policies_of c) offers in
     let later : ℕ = free_after c.free decision in
@@ -198,7 +198,7 @@ started_sound ts long news = record {
   tiers = λ i t at. (news i t at).1;
 }
 
-pub started_fits : (ts : List TierStanding) → AreNew ts → Fits [] (started ts)
+pub started_fits : (ts : List TierStanding) → AreNew ts → ControllerAfter [] (started ts)
 unfolding decided_from served last_finish tick_from
 started_fits ts news = record {
   offered = refl;
@@ -223,12 +223,12 @@ shared_at c i t sound within at =
 
 -- the standing of a tier, and that it fits its own requests
 pub own_fits : (c : Standing) (i : ℕ) (t : TierStanding) (offers : List Offer) → i < length c.tiers
-    → t ≡ slice_index_or c.tiers i t → Fits offers c → TierFits (of_tier i (decided (policies_of c) offers)) c.free t
+    → t ≡ slice_index_or c.tiers i t → ControllerAfter offers c → TierFits (of_tier i (decided (policies_of c) offers)) c.free t
 own_fits c i t offers within at fits = fits.tiers i t (get_at c.tiers i t within at)
 
 -- the controls that a tier shows
 pub shown_at : (c : Standing) (i : ℕ) (t : TierStanding) (offers : List Offer) (shown : List Control) → i < length c.tiers
-    → t ≡ slice_index_or c.tiers i t → Fits offers c
+    → t ≡ slice_index_or c.tiers i t → ControllerAfter offers c
     → Shows (slice_index_or c.tiers i t) c.tick shown
     → shown ≡ controls_until (rules_of (policies_of c) i) (served (of_tier i (decided (policies_of c) offers))) (tick_from 0 offers)
 shown_at c i t offers shown within at fits shows =
@@ -244,7 +244,7 @@ offered_at c i tick t sound within at forward =
     (omega arith) (omega arith) forward)
 
 pub offered_decision : (c : Standing) (i tick service : ℕ) (t : TierStanding) (offers : List Offer) (decision : Decision) → i < length c.tiers
-    → t ≡ slice_index_or c.tiers i t → Fits offers c
+    → t ≡ slice_index_or c.tiers i t → ControllerAfter offers c
     → Decides (slice_index_or c.tiers i t) c.free tick service decision
     → decision ≡ decide (policies_of c) (decided (policies_of c) offers) (record { tier = i; tick = tick; service = service })
 offered_decision c i tick service t offers decision within at fits decides =
@@ -253,11 +253,11 @@ offered_decision c i tick service t offers decision within at fits decides =
     ∙ decide_is c offers (record { tier = i; tick = tick; service = service }) t fits found
 
 pub offered_fits : (c : Standing) (i tick service : ℕ) (t next : TierStanding) (offers : List Offer) (decision : Decision) → i < length c.tiers
-    → t ≡ slice_index_or c.tiers i t → Fits offers c
+    → t ≡ slice_index_or c.tiers i t → ControllerAfter offers c
     → Decides (slice_index_or c.tiers i t) c.free tick service decision
     → Takes (slice_index_or c.tiers i t) c.free tick decision next
     → next.rules ≡ (slice_index_or c.tiers i t).rules
-    → Fits (offers ++ record { tier = i; tick = tick; service = service } ∷ []) (with_tier c i next (free_after c.free decision) tick)
+    → ControllerAfter (offers ++ record { tier = i; tick = tick; service = service } ∷ []) (with_tier c i next (free_after c.free decision) tick)
 offered_fits c i tick service t next offers decision within at fits decides stands rules =
     let offer : Offer = record { tier = i; tick = tick; service = service } in
     let past : List Decided = of_tier i (decided (policies_of c) offers) in
@@ -278,7 +278,7 @@ later_at c i tick t sound within at forward =
     sound.offers (omega arith) forward)
 
 pub foreseen_at : (c : Standing) (i tick : ℕ) (t : TierStanding) (offers : List Offer) (found : Outlook) → i < length c.tiers
-    → t ≡ slice_index_or c.tiers i t → Fits offers c → Foresees (slice_index_or c.tiers i t) c.free tick found
+    → t ≡ slice_index_or c.tiers i t → ControllerAfter offers c → Foresees (slice_index_or c.tiers i t) c.free tick found
     → found ≡ outlook (policies_of c) (decided (policies_of c) offers) i tick
 foreseen_at c i tick t offers found within at fits foresees =
     let is : slice_get c.tiers i ≡ Some t = get_at c.tiers i t within at in

@@ -10,7 +10,7 @@ use Rattle.admission.specs.Rules.{Rules}
 use Rattle.admission.specs.Requests.{Decided, Served, served, finishes, done}
 use Rattle.admission.specs.Standing.{TierStanding}
 use Rattle.admission.specs.Controls.{control_at, controls_of, controls_until}
-use Rattle.admission.specs.Fits.{IsRising, BucketFits, TierFits}
+use Rattle.admission.specs.After.{IsRising, BucketFits, TierFits}
 use Rattle.admission.proofs.ControlLemmas.{fits_quotient, quotient_fits, length-finishes}
 use Rattle.admission.proofs.RequestLemmas.{upto-before, upto-at}
 

@@ -9,6 +9,6 @@ pub mod OneTier
 pub mod Requests
 pub mod Standing
 pub mod Running
-pub mod Fits
+pub mod After
 pub mod TierCalls
 pub mod Laws

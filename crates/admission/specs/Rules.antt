@@ -2,21 +2,12 @@
 use Rattle.std.specs.Prelude.{ℕ, ◌≤◌, Bool, nat_le, ◌&&◌, if◌then◌else◌, Option, Some, None, List, slice_index_or}
 use Rattle.admission.specs.Limits.{MAX_WINDOW, MAX_EVERY, MAX_UP, MIN_DOWN, MAX_DOWN, MAX_TARGET}
 use Rattle.token_bucket.specs.Limits.{MAX_RATE, MAX_DEPTH}
+use Rattle.admission.specs.declared.policy.PolicyNumbers.{PolicyNumbers}
 use Rattle.admission.specs.declared.policy.PolicyFault.{PolicyFault}
 use Rattle.admission.specs.declared.policy.PolicyFault.TheVariants.{Window, Every, Smoothing, Rates, Target, Depth}
 
-pub record Rules : Type 0 where
-  pub window : ℕ
-  pub every : ℕ
-  pub smoothing : ℕ
-  pub rate : ℕ
-  pub rate_min : ℕ
-  pub rate_max : ℕ
-  pub up : ℕ
-  pub down : ℕ
-  pub target : ℕ
-  pub low : ℕ
-  pub depth : ℕ
+abbrev pub Rules : Type 0
+Rules = PolicyNumbers
 
 -- the rules of a tier that has no policy
 abbrev pub no_rules : Rules

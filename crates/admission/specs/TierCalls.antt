@@ -9,7 +9,7 @@ use Rattle.admission.specs.Controls.{controls_until, rate_at}
 use Rattle.admission.specs.Decisions.{credit}
 use Rattle.admission.specs.Standing.{TierStanding, RiseWithin, IsShare}
 use Rattle.admission.specs.Running.{decision_after, free_after}
-use Rattle.admission.specs.Fits.{BucketFits, TierFits}
+use Rattle.admission.specs.After.{BucketFits, TierFits}
 
 -- tiers that were offered nothing yet
 abbrev pub AreNew : List TierStanding → Type 0

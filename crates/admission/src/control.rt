@@ -1,3 +1,5 @@
+//! What a controller tells of a request: admitted or rejected, and why; and of a control of a rate.
+
 /// A change of the rate. `percentile` and `smoothed` are in ticks, `rate` in thousandths of a token a second.
 #[derive(Clone, Copy, Debug, PartialEq, Eq, Hash)]
 pub struct Control {

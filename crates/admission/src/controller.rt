@@ -1,3 +1,5 @@
+//! The controller: four tiers that share one server, offered requests in the order of their ticks.
+
 ghost use Rattle.std.specs.Prelude.{◌≡◌, ◌+◌, ◌*◌, ◌<◌, ◌≤◌, ◌++◌, [], ◌∷◌, ℕ, List, length, map, IfOk, OnOk, OnErr};
 ghost use Rattle.std.specs.Prelude.{count_by};
 ghost use Rattle.admission.specs.Rules.{rules_of};
@@ -5,7 +7,7 @@ ghost use Rattle.admission.specs.Requests.{Offer, of_tier, served, is_rejected};
 ghost use Rattle.admission.specs.Controls.{controls_until};
 ghost use Rattle.admission.specs.Decisions.{decide, decided, outlook};
 ghost use Rattle.admission.specs.Standing.{last_tick, policies_of};
-ghost use Rattle.admission.specs.Fits.{Fits, tick_from};
+ghost use Rattle.admission.specs.After.{ControllerAfter, tick_from};
 ghost use Rattle.admission.specs.TierCalls.{AreNew};
 ghost use Rattle.admission.specs.Running.{free_after};
 
@@ -64,7 +66,7 @@ fn tiers_of(alloc: Global, policies: &[Policy]) -> Result<[Tier; 4], AllocError>
 impl Controller {
     /// A controller that was offered nothing yet, with the policies of the tiers 0 to 3.
     pub fn new(alloc: Global, policies: [Policy; 4]) -> Result<Self, AllocError>
-        ensures fits { IfOk result (λ controller. Fits [] controller) }
+        ensures fits { IfOk result (λ controller. ControllerAfter [] controller) }
         ensures policies { IfOk result (λ controller. policies_of controller ≡ policies) }
         ensures start { IfOk result (λ controller. (controller.offers ≡ 0) × (last_tick controller ≡ 0)) }
     {
@@ -86,12 +88,12 @@ impl Controller {
 
         // The decision is that of the definitions for the offers of all tiers so far followed by this one.
         ensures decision { IfOk result
-            (λ decision. (offers : List Offer) → Fits offers self.old
+            (λ decision. (offers : List Offer) → ControllerAfter offers self.old
             → decision ≡ decide (policies_of self.old) (decided (policies_of self.old) offers)
             (record { tier = tier; tick = tick; service = service })) }
         ensures fits { OnOk result
-            ((offers : List Offer) → Fits offers self.old
-            → Fits (offers ++ record { tier = tier; tick = tick; service = service } ∷ []) self.new) }
+            ((offers : List Offer) → ControllerAfter offers self.old
+            → ControllerAfter (offers ++ record { tier = tier; tick = tick; service = service } ∷ []) self.new) }
 
         // What the next offer asks.
         ensures next { OnOk result
@@ -112,7 +114,7 @@ impl Controller {
     pub fn outlook(&self, tier: u8, tick: u64) -> Outlook
         requires tier { tier < 4 }
         requires forward { (last_tick self.now ≤ tick) × (tick ≤ MAX_TICK) }
-        ensures finds { (offers : List Offer) → Fits offers self.now
+        ensures finds { (offers : List Offer) → ControllerAfter offers self.now
             → result ≡ outlook (policies_of self.now) (decided (policies_of self.now) offers) tier tick }
         ensures range { result.free ≤ MAX_TICK + MAX_SERVICE * MAX_OFFERS }
     {
@@ -122,7 +124,7 @@ impl Controller {
     /// How many requests of a tier (0 to 3) were admitted.
     pub fn admitted(&self, tier: u8) -> u64
         requires { tier < 4 }
-        ensures { (offers : List Offer) → Fits offers self.now
+        ensures { (offers : List Offer) → ControllerAfter offers self.now
             → result ≡ length (served (of_tier tier (decided (policies_of self.now) offers))) }
     {
         let own = &self.tiers[usize::from(tier)];
@@ -132,7 +134,7 @@ impl Controller {
     /// How many requests of a tier (0 to 3) were turned away.
     pub fn rejected(&self, tier: u8) -> u64
         requires { tier < 4 }
-        ensures { (offers : List Offer) → Fits offers self.now
+        ensures { (offers : List Offer) → ControllerAfter offers self.now
             → result ≡ count_by (λ r. is_rejected r.decision) (of_tier tier (decided (policies_of self.now) offers)) }
     {
         let own = &self.tiers[usize::from(tier)];
@@ -142,7 +144,7 @@ impl Controller {
     /// The controls of a tier (0 to 3) whose instant is at most the last offered tick of any tier.
     pub fn controls(&self, tier: u8) -> &[Control]
         requires { tier < 4 }
-        ensures { (offers : List Offer) → Fits offers self.now
+        ensures { (offers : List Offer) → ControllerAfter offers self.now
             → result.now ≡ controls_until (rules_of (policies_of self.now) tier)
             (served (of_tier tier (decided (policies_of self.now) offers))) (tick_from 0 offers) }
     {

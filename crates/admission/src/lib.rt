@@ -16,7 +16,7 @@ mod window;
 
 pub use control::{Control, Decision, Outlook};
 pub use controller::Controller;
-pub use policy::{Policy, PolicyFault};
+pub use policy::{Policy, PolicyFault, PolicyNumbers};
 pub use token_bucket::{MAX_DEPTH, MAX_RATE, MAX_TICK};
 pub use window::SampleWindow;
 

@@ -1,13 +1,15 @@
+//! A tier: its bucket, its window of samples and its controls.
+
 ghost use Rattle.std.specs.Prelude.{◌≡◌, ◌+◌, ◌-◌, ◌*◌, ◌<◌, ◌≤◌, ◌++◌, [], ◌∷◌, ℕ, List, length, drop, max, vec_len};
 ghost use Rattle.std.specs.Prelude.{vec_capacity, unwrap_or, IsTrue, IfOk, OnOk, OnErr};
 ghost use Rattle.std.specs.Option.{option_copied};
 ghost use Rattle.circular_buffer.specs.Buffer.{last_item};
 ghost use Rattle.token_bucket.specs.Calls.{Past};
-ghost use Rattle.token_bucket.specs.Fits.{Fits as FitsCalls};
+ghost use Rattle.token_bucket.specs.After.{BucketAfter};
 ghost use Rattle.admission.specs.Percentile.{percentile};
 ghost use Rattle.admission.specs.Controls.{smoother, adjusted};
 ghost use Rattle.admission.specs.Standing.{RiseWithin, AllRates, IsShare};
-ghost use Rattle.admission.specs.Fits.{TierFits};
+ghost use Rattle.admission.specs.After.{TierFits};
 ghost use Rattle.admission.specs.TierCalls.{Decides, Takes, StaysBeside, Passes, RisesFrom, Shows, Foresees};
 ghost use Rattle.admission.specs.Window.{with_sample};
 ghost use Rattle.admission.specs.Running.{passing, passed, last_rate, next_control, with_due, when_rejected};
@@ -73,7 +75,7 @@ fn pass(bucket: &mut Bucket, pending: &[Control], tick: u64) -> usize
     requires within { tick ≤ MAX_TICK }
     ensures reached { result ≡ passed pending.now tick }
     ensures tick { bucket.new.tick ≡ tick }
-    ensures passes { (past : Past) → FitsCalls past bucket.old → ((later : Past) × FitsCalls later bucket.new)
+    ensures passes { (past : Past) → BucketAfter past bucket.old → ((later : Past) × BucketAfter later bucket.new)
         × (bucket.new ≡ passing bucket.old pending.now tick) }
 {
     let mut reached = 0;
@@ -95,7 +97,7 @@ fn pass(bucket: &mut Bucket, pending: &[Control], tick: u64) -> usize
 fn smooth(policy: Policy, before: u64, own: u64) -> u64
     ensures { result ≡ smoother policy before own }
 {
-    let weight = u128::from(policy.smoothing);
+    let weight = u128::from(policy.numbers.smoothing);
     let sum = weight * u128::from(before) + (1000 - weight) * u128::from(own);
     (sum / 1000) as u64
 }
@@ -106,10 +108,11 @@ fn adjust(policy: Policy, smoothed: u64, rate: u64) -> u64
     ensures rate { result ≡ adjusted policy smoothed rate }
     ensures range { (1 ≤ result) × (result ≤ MAX_RATE) }
 {
-    if smoothed > policy.target {
-        policy.rate_min.max(100 * rate / policy.down)
-    } else if 100 * u128::from(smoothed) < u128::from(policy.low * policy.target) {
-        policy.rate_max.min(rate + policy.up)
+    let numbers = policy.numbers;
+    if smoothed > numbers.target {
+        numbers.rate_min.max(100 * rate / numbers.down)
+    } else if 100 * u128::from(smoothed) < u128::from(numbers.low * numbers.target) {
+        numbers.rate_max.min(rate + numbers.up)
     } else {
         rate
     }
@@ -123,7 +126,7 @@ fn last_rate(policy: Policy, controls: &[Control]) -> u64
 {
     match controls.last() {
         Some(last) => last.rate,
-        None => policy.rate,
+        None => policy.numbers.rate,
     }
 }
 
@@ -160,7 +163,7 @@ fn note_control(
     ensures controls { controls.new.items ≡ with_due policy controls.old.items window.now.samples admitted instant }
     ensures rates { AllRates controls.new.items }
 {
-    if admitted % policy.every == 0 {
+    if admitted % policy.numbers.every == 0 {
         let percentile = window.percentile().unwrap_or(0);
         let control = next_control(policy, controls, percentile, instant);
         controls.push_reserved(control);
@@ -191,10 +194,10 @@ impl Tier {
     {
         Ok(Tier {
             policy,
-            bucket: Bucket::new(policy.depth, policy.rate),
+            bucket: Bucket::new(policy.numbers.depth, policy.numbers.rate),
             admitted: 0,
             rejected: 0,
-            window: SampleWindow::new(alloc, policy.window as usize)?,
+            window: SampleWindow::new(alloc, policy.numbers.window as usize)?,
             controls: Vec::new(alloc),
             reached: 0,
         })

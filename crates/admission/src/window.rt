@@ -1,3 +1,5 @@
+//! The last samples of a tier, kept in order of arrival and by size, and their percentile.
+
 ghost use Rattle.std.specs.Prelude.{◌≡◌, ◌+◌, ◌-◌, ◌<◌, ◌≤◌, ◌++◌, length, slice_get, ◌∷◌, List, ℕ, [], true, false};
 ghost use Rattle.std.specs.Prelude.{IfOk, OnOk, OnErr};
 ghost use Rattle.std.specs.Ordering.{nat_cmp};

@@ -1,3 +1,4 @@
+//! What no clause says: that calls succeed, and rows worked by hand.
 mod memory;
 mod plain;
 mod rows;

@@ -6,7 +6,7 @@ use Rattle.captures.specs.declared.record.Record.{Record}
 use Rattle.captures.specs.declared.record.Record.TheVariants.{Piece, End, Tier}
 use Rattle.captures.specs.declared.version.Version.{Version}
 use Rattle.captures.specs.declared.progress.Progress.{Progress}
-use Rattle.captures.specs.Readers.{Fits, Gave}
+use Rattle.captures.specs.Readers.{ReaderAfter, Gave}
 use Rattle.arrivals.specs.Batches.{pieces_to, with_tier, tiers_of, origins_of}
 use Rattle.arrivals.specs.Gathering.{with_pieces, Adds, AddsOne}
 use Rattle.arrivals.specs.Places.{Place, place_at, with_piece}
@@ -15,7 +15,7 @@ use Rattle.arrivals.proofs.Merging.{tiers_piece, tiers_end, tiers_tier}
 
 -- what the reader's answer says
 pub gave_some : (v : Version) (text now : Option (List ℕ)) (start : ℕ) (records : List Record) (p : Progress) (x : Option Record) (r : Record) → x ≡ Some r
-    → Gave v text start records (Ok x) p now → Fits v text start (records ++ r ∷ []) p now
+    → Gave v text start records (Ok x) p now → ReaderAfter v text start (records ++ r ∷ []) p now
 gave_some v text now start records p x r is h = subst (λ (o : Option Record). Gave v text start records (Ok o) p now) is h
 
 abbrev holding : Place → List (List ℕ) → Place

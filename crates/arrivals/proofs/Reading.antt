@@ -4,7 +4,7 @@ use Rattle.std.specs.Prelude.{MatchBool}
 use Rattle.std.proofs.lemmas.List.{append_assoc, append-nil, drop-append-le}
 use Rattle.http_requests.specs.declared.messages.Message.{Message}
 use Rattle.http_requests.specs.Framing.{Messages, MessagesOf, closes}
-use Rattle.http_requests.specs.Cutting.{Progress, Fits, Fed}
+use Rattle.http_requests.specs.Cutting.{Progress, CutterAfter, Fed}
 use Rattle.http_requests.proofs.FrontLemmas.{next_append, next_within}
 use Rattle.arrivals.specs.Connections.{HasRead, ReadMore, connection_at, some_closes}
 use Rattle.arrivals.specs.declared.connection.Connection.{Connection}
@@ -55,7 +55,7 @@ read_closed text piece ms new none h = record {
 }
 
 -- a new cutter has read what a silent connection has: nothing
-pub fits_silent : (cutter : Progress) (text : List ℕ) (ms : List Message) → Fits [] [] cutter → HasRead Silent text ms → Fits text ms cutter
+pub fits_silent : (cutter : Progress) (text : List ℕ) (ms : List Message) → CutterAfter [] [] cutter → HasRead Silent text ms → CutterAfter text ms cutter
 fits_silent cutter text ms fits h = rw (h.0, h.1) fits
 
 -- a further silent connection is none kept

@@ -5,7 +5,7 @@ use Rattle.captures.specs.Captures.{longest_text}
 use Rattle.captures.specs.declared.record.Record.{Record}
 use Rattle.http_requests.specs.declared.messages.Message.{Message}
 use Rattle.http_requests.specs.Framing.{MessagesOf, closes}
-use Rattle.http_requests.specs.Cutting.{Fits, EndBetween}
+use Rattle.http_requests.specs.Cutting.{CutterAfter, EndBetween}
 use Rattle.arrivals.specs.Arrivals.{Arrival, text_of, messages_of}
 use Rattle.arrivals.specs.declared.origin.Origin.{Origin}
 use Rattle.arrivals.specs.declared.connection.Connection.{Connection}
@@ -14,7 +14,7 @@ use Rattle.arrivals.specs.declared.connection.Connection.TheVariants.{Silent, Op
 -- the connection has read this text, whose messages are these; those of a closed one stay, whatever follows
 abbrev pub HasRead : Connection → List ℕ → List Message → Type 0
 HasRead Silent text ms = (text ≡ []) × (ms ≡ [])
-HasRead (Open cutter) text ms = Fits text ms cutter
+HasRead (Open cutter) text ms = CutterAfter text ms cutter
 HasRead Closed text ms = (more : List ℕ) → MessagesOf (text ++ more) ms
 
 -- the connection may read n bytes more

@@ -4,7 +4,7 @@ use Rattle.captures.specs.declared.record.Record.{Record}
 use Rattle.captures.specs.declared.progress.Progress.{Progress}
 use Rattle.captures.specs.declared.version.Version.{Version}
 use Rattle.captures.specs.CaptureFaults.{failures_of}
-use Rattle.captures.specs.Readers.{Fits, Gave, FailsNext}
+use Rattle.captures.specs.Readers.{ReaderAfter, Gave, FailsNext}
 use Rattle.arrivals.specs.Batches.{pieces_to}
 use Rattle.arrivals.specs.Places.{Place, place_at}
 use Rattle.arrivals.specs.declared.batch.Ending.{Ending}
@@ -23,7 +23,7 @@ AddsOne r old new = Adds (r ∷ []) old new
 
 -- the reader has given these records, and after them what the ending says
 abbrev pub EndsWith : Version → Option (List ℕ) → ℕ → List Record → Ending → Progress → Option (List ℕ) → Type 0
-EndsWith v text start records More p now = Fits v text start records p now
+EndsWith v text start records More p now = ReaderAfter v text start records p now
 EndsWith v text start records End p now = Gave v text start records (Ok None) p now
 EndsWith v text start records (Fault f) p now =
     Gave v text start records (Err f) p now × FailsNext v text start records (Err f) now
@@ -33,7 +33,7 @@ pub record ReadOn (v : Version) (text : Option (List ℕ)) (start : ℕ) (record
     (now : Option (List ℕ)) : Type 0 where
   pub progress : Progress
   pub ahead : Option (List ℕ)
-  pub fits : Fits v text start records progress ahead
+  pub fits : ReaderAfter v text start records progress ahead
   pub ends : EndsWith v text start records ending p now
 
 -- how often the reader failed

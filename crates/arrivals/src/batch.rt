@@ -1,8 +1,11 @@
+//! The next pieces of a capture, each laid at the seat of its connection.
+
 ghost use Rattle.std.specs.Prelude.{◌≡◌, ◌<◌, ◌≤◌, ◌-◌, ◌^◌, ◌++◌, ◌∷◌, [], ℕ, List, Option, length, vec_len, ◌+◌};
 ghost use Rattle.std.specs.Prelude.{IfOk, IfErr, OnOk, MatchResult};
+ghost use Rattle.paths.specs.Devices.{CanFail};
 ghost use Rattle.captures.specs.declared.version.Version.{Version as AVersion};
 ghost use Rattle.captures.specs.Captures.{IsRecord};
-ghost use Rattle.captures.specs.Readers.{Fits};
+ghost use Rattle.captures.specs.Readers.{ReaderAfter};
 ghost use Rattle.captures.specs.declared.record.Record.{Record as ARecord};
 ghost use Rattle.captures.specs.declared.stage.Stage.TheVariants.{Reading};
 ghost use Rattle.arrivals.specs.Batches.{origins_of, tiers_of};
@@ -83,19 +86,19 @@ pub fn read_batch<'a, R: Read>(
     seats: &mut Seats,
     tiers: &mut Tiers,
 ) -> Result<Batch, AllocError>
-    requires count { capture.old.input.now.1 < 2 ^ 64 - 1 }
+    requires count { CanFail capture.old.input.now }
     requires stage { capture.old.progress.stage ≡ Reading }
     ensures batch { IfOk result (λ batch. (rs : List ARecord) × Adds rs seats.old seats.new
         × ((records : List ARecord) → AreTiers records tiers.old
         → (batch.origins.items ≡ origins_of (tiers_of records) rs) × AreTiers (records ++ rs) tiers.new)
         × ((version : AVersion) (text : Option (List ℕ)) (start : ℕ) (records : List ARecord)
-        → Fits version text start records capture.old.progress capture.old.input.now.0
-        → ReadOn version text start (records ++ rs) batch.ending capture.new.progress capture.new.input.now.0)) }
+        → ReaderAfter version text start records capture.old.progress capture.old.input.now.bytes
+        → ReadOn version text start (records ++ rs) batch.ending capture.new.progress capture.new.input.now.bytes)) }
     ensures room { IfOk result (λ batch. IfMore batch.ending (0 < pieces
         → capture.new.progress.room < capture.old.progress.room)) }
     ensures count { MatchResult result
-        (λ batch. CountsEnding capture.old.input.now.1 capture.new.input.now.1 batch.ending)
-        (λ _. capture.new.input.now.1 ≡ capture.old.input.now.1) }
+        (λ batch. CountsEnding capture.old.input.now.failures capture.new.input.now.failures batch.ending)
+        (λ _. capture.new.input.now.failures ≡ capture.old.input.now.failures) }
     ensures same { capture.new.input.ghost_name ≡ capture.old.input.ghost_name }
 {
     let mut origins = Vec::new(alloc);

@@ -1,3 +1,5 @@
+//! A message with where it came from.
+
 use crate::origin::Origin;
 use http_requests::What as Meaning;
 

@@ -1,3 +1,5 @@
+//! The messages of a batch in parts of some thousands.
+
 ghost use Rattle.std.specs.Prelude.{◌≡◌, ◌++◌, flat_map, IfOk};
 ghost use Rattle.arrivals.specs.Batches.{incoming_from, joined};
 

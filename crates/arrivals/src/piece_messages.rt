@@ -1,3 +1,5 @@
+//! The messages that end in one piece.
+
 use crate::Series;
 use crate::origin::Origin;
 use http_requests::Message;

@@ -1,3 +1,5 @@
+//! The pieces of one connection in a batch, and their cutting into messages.
+
 ghost use Rattle.std.specs.Prelude.{◌≡◌, ◌<◌, [], ◌∷◌, length, IfOk, OnOk};
 ghost use Rattle.arrivals.specs.Places.{empty_place, with_piece, with_lists, IsReady, IsCutOf};
 

@@ -1,3 +1,5 @@
+//! The tier of each connection.
+
 ghost use Rattle.std.specs.Prelude.{◌≡◌, ◌<◌, [], ℕ, length, OnOk};
 ghost use Rattle.arrivals.specs.Tiers.{tier_at};
 ghost use Rattle.arrivals.specs.Batches.{with_tier};

@@ -3,17 +3,17 @@ use Rattle.std.proofs.Common.{◌≡◌, ℕ, true, List, [], ◌∷◌, ◌++�
 use Rattle.captures.specs.Captures.{IsCaptureText}
 use Rattle.captures.specs.declared.version.Version.{Version}
 use Rattle.captures.specs.CaptureFaults.{IsForeseen, IsHeaderFault, IsFaultAfter, IsFirstFault}
-use Rattle.captures.specs.Readers.{Fits, Gave}
+use Rattle.captures.specs.Readers.{ReaderAfter, Gave}
 use Rattle.captures.specs.declared.record.Record.{Record}
 use Rattle.captures.specs.declared.progress.Progress.{Progress}
 use Rattle.captures.specs.declared.capture_fault.CaptureFault.{CaptureFault}
 
 -- one more record, which the caller put after the others
 pub gave_record : (v : Version) (text now : Option (List ℕ)) (start : ℕ) (records more : List Record) (p : Progress) (x : Option Record) (r : Record) → x ≡ Some r → more ≡ records ++ r ∷ []
-    → Gave v text start records (Ok x) p now → Fits v text start more p now
+    → Gave v text start records (Ok x) p now → ReaderAfter v text start more p now
 gave_record v text now start records more p x r is put h =
-    let fits : Fits v text start (records ++ r ∷ []) p now = subst (λ (o : Option Record). Gave v text start records (Ok o) p now) is h in
-    subst (λ (rs : List Record). Fits v text start rs p now) (sym put) fits
+    let fits : ReaderAfter v text start (records ++ r ∷ []) p now = subst (λ (o : Option Record). Gave v text start records (Ok o) p now) is h in
+    subst (λ (rs : List Record). ReaderAfter v text start rs p now) (sym put) fits
 
 -- the end
 pub gave_all : (v : Version) (text now : Option (List ℕ)) (start : ℕ) (records : List Record) (p : Progress) (x : Option Record) → x ≡ None

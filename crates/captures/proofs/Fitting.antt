@@ -13,7 +13,7 @@ use Rattle.paths.proofs.Inverse.{TakesAhead}
 use Rattle.captures.specs.Captures.{Past, feed, first_line, record_text, text_before_stop, longest_text, latest_start, is_end_of, is_use_of, connection_of, LetsFollow, tick_of, ticks_of, IsRecord, IsCapture, IsCaptureText, past_of, Follows, size_of, sizes_of}
 use Rattle.captures.specs.declared.version.Version.{Version}
 use Rattle.captures.specs.CaptureFaults.{header_at, record_at, is_unforeseen_kind, IsForeseen, IsFaultAfter}
-use Rattle.captures.specs.Readers.{seen, after, Fits}
+use Rattle.captures.specs.Readers.{seen, after, ReaderAfter}
 use Rattle.captures.specs.declared.record.Record.{Record}
 use Rattle.captures.specs.declared.record.Record.TheVariants.{Piece, End, Tier}
 use Rattle.captures.specs.declared.so_far.SoFar.{SoFar}
@@ -94,7 +94,7 @@ sizes_below (r ∷ records) = omega (arith, sizes_below records, size_below r, s
 
 pub fits_begins : (v : Version) (text now : Option (List ℕ)) (start left : ℕ) (s : SoFar) → seen s ≡ past_of [] → start ≤ latest_start
     → (is_some text ≡ true → (header_at (ahead_of text longest_text) ≡ Ok ((v, start), ahead_of now left)) × (is_some now ≡ true))
-    → Fits v text start [] (record { version = v; start = start; left = left; room = longest_text; so_far = s; stage = Reading }) now
+    → ReaderAfter v text start [] (record { version = v; start = start; left = left; room = longest_text; so_far = s; stage = Reading }) now
 fits_begins v text now start left s none in_time h =
     let all : text_before_stop v start [] ≡ first_line v start ++ feed ∷ [] = append-nil (first_line v start ++ feed ∷ []) in
     let took = λ (k : is_some text ≡ true). (header_inverse v (ahead_of text longest_text) (ahead_of now left) start (h k).0).0 in
@@ -111,7 +111,7 @@ fits_begins v text now start left s none in_time h =
     }
 
 -- what the next record, or the last line, takes
-next_takes : (v : Version) (text now new : Option (List ℕ)) (start new_left : ℕ) (records : List Record) (p : Progress) (x : Option Record) → Fits v text start records p now
+next_takes : (v : Version) (text now new : Option (List ℕ)) (start new_left : ℕ) (records : List Record) (p : Progress) (x : Option Record) → ReaderAfter v text start records p now
     → (is_some now ≡ true → (record_at p.version (seen p.so_far) (ahead_of now p.left) ≡ Ok (x, ahead_of new new_left)) × (is_some new ≡ true))
     → is_some text ≡ true → TakesAhead (ahead_of now p.left) (next_text (past_of records) x) (ahead_of new new_left) × EndsIfNone x (ahead_of new new_left)
 next_takes v text now new start new_left records p x f h k =
@@ -125,10 +125,10 @@ front_then : (text before taken now new : List ℕ) → text ≡ before ++ now �
 front_then text before taken now new a b = a ∙ (ap (λ w. before ++ w) b ∙ sym (append_assoc before taken new))
 
 pub fits_goes_on : (v : Version) (text now new : Option (List ℕ)) (start : ℕ) (records : List Record) (p q : Progress) (x : Option Record) (r : Record) → x ≡ Some r
-    → Fits v text start records p now → Follows p.version (seen p.so_far) r → size_of r + 1 + q.room ≡ p.room
+    → ReaderAfter v text start records p now → Follows p.version (seen p.so_far) r → size_of r + 1 + q.room ≡ p.room
     → (p.so_far.count < 2 ^ 64 - 1 → seen q.so_far ≡ after (seen p.so_far) r) → q.version ≡ p.version → q.start ≡ p.start → q.stage ≡ p.stage
     → (is_some now ≡ true → (record_at p.version (seen p.so_far) (ahead_of now p.left) ≡ Ok (x, ahead_of new q.left)) × (is_some new ≡ true))
-    → Fits v text start (records ++ r ∷ []) q new
+    → ReaderAfter v text start (records ++ r ∷ []) q new
 fits_goes_on v text now new start records p q x r some f follows room more same_version same_start same_stage h =
     let count : p.so_far.count ≡ length records = ap (λ (s : Past). s.count) f.past in
     let took = λ (k : is_some text ≡ true). subst (λ (o : Option Record). TakesAhead (ahead_of now p.left) (next_text (past_of records) o) (ahead_of new q.left)) some (next_takes v text now new start q.left records p x f h k).0 in
@@ -146,7 +146,7 @@ fits_goes_on v text now new start records p q x r some f follows room more same_
     }
 
 pub fits_ends : (v : Version) (text now new : Option (List ℕ)) (start new_left : ℕ) (records : List Record) (p : Progress) (x : Option Record) → x ≡ None
-    → Fits v text start records p now
+    → ReaderAfter v text start records p now
     → (is_some now ≡ true → (record_at p.version (seen p.so_far) (ahead_of now p.left) ≡ Ok (x, ahead_of new new_left)) × (is_some new ≡ true))
     → is_some text ≡ true → IsCaptureText v (unwrap_or text []) start records
 fits_ends v text now new start new_left records p x none f h k =
@@ -162,7 +162,7 @@ fits_ends v text now new start new_left records p x none f h k =
       size = let before = f.left k in let after = both.0.left in let e = ap length text_is in omega (arith, length-append (text_before_stop v start records) last);
     }
 
-pub fits_faults : (v : Version) (text now : Option (List ℕ)) (start at : ℕ) (records : List Record) (p : Progress) (kind : CaptureFaultKind) → at ≡ length records + 1 → Fits v text start records p now
+pub fits_faults : (v : Version) (text now : Option (List ℕ)) (start at : ℕ) (records : List Record) (p : Progress) (kind : CaptureFaultKind) → at ≡ length records + 1 → ReaderAfter v text start records p now
     → (is_some now ≡ true → is_unforeseen_kind kind ≡ false → record_at p.version (seen p.so_far) (ahead_of now p.left) ≡ Err kind)
     → IsForeseen (λ bytes. IsFaultAfter v bytes start records) text (record { at = at; kind = kind })
 fits_faults v text now start at records p kind is f h = λ k foreseen.
@@ -181,7 +181,7 @@ fits_faults v text now start at records p kind is f h = λ k foreseen.
 
 -- there is room for each record of a text
 pub fits_has_room : (v : Version) (text now new : Option (List ℕ)) (start new_left : ℕ) (records : List Record) (p : Progress) (x : Option Record) (r : Record) → x ≡ Some r
-    → Fits v text start records p now → p.room ≤ size_of r
+    → ReaderAfter v text start records p now → p.room ≤ size_of r
     → (is_some now ≡ true → (record_at p.version (seen p.so_far) (ahead_of now p.left) ≡ Ok (x, ahead_of new new_left)) × (is_some new ≡ true))
     → is_some text ≡ true → ⊥
 fits_has_room v text now new start new_left records p x r some f full h k =
@@ -192,7 +192,7 @@ fits_has_room v text now new start new_left records p x r some f full h k =
     omega (arith, sizes_below records, size_below r, length-append (first_line v start ++ feed ∷ []) (flat_map record_text records))
 
 -- the number of the record that is next
-pub fits_at : (v : Version) (text now : Option (List ℕ)) (start : ℕ) (records : List Record) (p : Progress) → Fits v text start records p now → (p.so_far.count ≡ length records) × (p.so_far.count ≤ longest_text)
+pub fits_at : (v : Version) (text now : Option (List ℕ)) (start : ℕ) (records : List Record) (p : Progress) → ReaderAfter v text start records p now → (p.so_far.count ≡ length records) × (p.so_far.count ≤ longest_text)
 fits_at v text now start records p f =
     let count : p.so_far.count ≡ length records = ap (λ (s : Past). s.count) f.past in
     (count, let r = f.room in omega arith)

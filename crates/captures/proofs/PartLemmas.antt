@@ -13,7 +13,7 @@ use Rattle.paths.proofs.PartLemmas.{none_after, part_after, no_byte, run_alone, 
 use Rattle.captures.specs.Captures.{last_connection, has_tiers, Past, feed, longest_text, latest_tick, last_tier, text_before_stop, past_of}
 use Rattle.captures.specs.declared.version.Version.{Version}
 use Rattle.captures.specs.CaptureFaults.{kind_of, named, ◌>>=◌, two_numbers, piece_heading, end_heading, tier_heading, stop_heading, heading_of, open_connection, allowed, tier_record, body_at, announced, record_at, IsUnfinished, failures_of}
-use Rattle.captures.specs.Readers.{seen, Fits, FailsInRecord}
+use Rattle.captures.specs.Readers.{seen, ReaderAfter, FailsInRecord}
 use Rattle.captures.specs.declared.record.Record.{Record}
 use Rattle.captures.specs.declared.record.Record.TheVariants.{Tier}
 use Rattle.captures.specs.declared.heading.TierLine.{TierLine}
@@ -141,7 +141,7 @@ record_fails v past o m p l ml pl line heading is read h k =
 
 -- ---- the reader
 
-pub fits_fails : (v : Version) (text now new : Option (List ℕ)) (start new_left : ℕ) (records : List Record) (p : Progress) → Fits v text start records p now
+pub fits_fails : (v : Version) (text now new : Option (List ℕ)) (start new_left : ℕ) (records : List Record) (p : Progress) → ReaderAfter v text start records p now
     → (is_some now ≡ true → TookPart (λ part. IsUnfinished (record_at p.version (seen p.so_far) (record { bytes = part; left = p.left }))) now p.left new new_left)
     → is_some text ≡ true → (part : List ℕ) × FailsInRecord v (unwrap_or text []) start records part (unwrap_or new [])
 fits_fails v text now new start new_left records p f h k =

@@ -14,7 +14,7 @@ use Rattle.captures.specs.declared.upgrade_fault.UpgradeFault.{UpgradeFault}
 use Rattle.captures.specs.declared.upgrade_fault.UpgradeFault.TheVariants.{Capture, Memory, Write as Unwritten}
 use Rattle.captures.specs.Captures.{feed, first_line, last_line, record_text, text_before_stop, longest_text, IsCaptureText}
 use Rattle.captures.specs.CaptureFaults.{IsForeseen, IsHeaderFault, failures_of}
-use Rattle.captures.specs.Readers.{Fits, Gave, FailsNext}
+use Rattle.captures.specs.Readers.{ReaderAfter, Gave, FailsNext}
 use Rattle.captures.specs.Writing.{AppendsPrefix, WritesPrefix}
 use Rattle.captures.specs.Upgrades.{upgraded, Upgrades, Stops, IsCutShort, told_as, upgrade_fault, IfCapture, IfCutShort, IsWriteOrMemory, reader_failures, writer_failures}
 use Rattle.captures.proofs.WritingLemmas.{appends_then, prefix_none, prefix_then}
@@ -99,16 +99,16 @@ passed_on (Err f) Q P more h = more f h
 -- ---- the reader
 
 -- a reader's version and start are its own
-pub fits_own : (v : Version) (text now : Option (List ℕ)) (start : ℕ) (records : List Record) (p : Progress) → Fits v text start records p now → Fits p.version text p.start records p now
+pub fits_own : (v : Version) (text now : Option (List ℕ)) (start : ℕ) (records : List Record) (p : Progress) → ReaderAfter v text start records p now → ReaderAfter p.version text p.start records p now
 fits_own v text now start records p f =
-    subst (λ (q : Version × ℕ). Fits q.0 text q.1 records p now) (λ i. (sym f.version i, sym f.begun i)) f
+    subst (λ (q : Version × ℕ). ReaderAfter q.0 text q.1 records p now) (λ i. (sym f.version i, sym f.begun i)) f
 
 pub gave_more : (v : Version) (text now : Option (List ℕ)) (start : ℕ) (records : List Record) (p : Progress) (x : Option Record) (r : Record) → x ≡ Some r
-    → Gave v text start records (Ok x) p now → Fits v text start (records ++ r ∷ []) p now
+    → Gave v text start records (Ok x) p now → ReaderAfter v text start (records ++ r ∷ []) p now
 gave_more v text now start records p x r is h = subst (λ (o : Option Record). Gave v text start records (Ok o) p now) is h
 
 -- there are fewer records than 64 bits count
-pub fits_few : (v : Version) (text now : Option (List ℕ)) (start : ℕ) (records : List Record) (p : Progress) → Fits v text start records p now → length records ≤ longest_text
+pub fits_few : (v : Version) (text now : Option (List ℕ)) (start : ℕ) (records : List Record) (p : Progress) → ReaderAfter v text start records p now → length records ≤ longest_text
 fits_few v text now start records p f = let r = f.room in omega arith
 
 -- ---- what stands
@@ -137,7 +137,7 @@ more_prefix start records r old mid new before h =
 pub stops_first : (text rest old : Option (List ℕ)) (f : CaptureFault) → f.at ≡ 0 → IsForeseen IsHeaderFault text f → is_some text ≡ true → Stops (unwrap_or text []) rest old old f
 stops_first text rest old f at h known = inl (record { at = at; written = refl; fault = λ foreseen. h known foreseen })
 
-pub stops_after : (v : Version) (text now rest old new : Option (List ℕ)) (start : ℕ) (records : List Record) (p q : Progress) (f : CaptureFault) → Fits v text start records p now
+pub stops_after : (v : Version) (text now rest old new : Option (List ℕ)) (start : ℕ) (records : List Record) (p q : Progress) (f : CaptureFault) → ReaderAfter v text start records p now
     → Appends old new (text_before_stop Two start records) → Gave v text start records (Err f) q rest → FailsNext v text start records (Err f) rest → is_some text ≡ true
     → Stops (unwrap_or text []) rest old new f
 stops_after v text now rest old new start records p q f fits written gave fails known = inr (record {
@@ -153,7 +153,7 @@ stops_after v text now rest old new start records p q f fits written gave fails 
   failed = λ read. fails read known;
 })
 
-pub short_none : (v : Version) (text now old : Option (List ℕ)) (start : ℕ) (records : List Record) (p : Progress) → Fits v text start records p now → is_some text ≡ true
+pub short_none : (v : Version) (text now old : Option (List ℕ)) (start : ℕ) (records : List Record) (p : Progress) → ReaderAfter v text start records p now → is_some text ≡ true
     → IsCutShort (unwrap_or text []) old old
 short_none v text now old start records p fits known = inl (record {
   version = v;
@@ -165,7 +165,7 @@ short_none v text now old start records p fits known = inl (record {
   written = prefix_none old (text_before_stop Two start records);
 })
 
-pub short_among : (v : Version) (text now old new : Option (List ℕ)) (start : ℕ) (records : List Record) (p : Progress) → Fits v text start records p now
+pub short_among : (v : Version) (text now old new : Option (List ℕ)) (start : ℕ) (records : List Record) (p : Progress) → ReaderAfter v text start records p now
     → AppendsPrefix old new (text_before_stop Two start records) → is_some text ≡ true → IsCutShort (unwrap_or text []) old new
 short_among v text now old new start records p fits written known = inl (record {
   version = v;

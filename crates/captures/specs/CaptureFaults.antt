@@ -3,6 +3,7 @@ use Rattle.std.specs.Prelude.{◌≡◌, ℕ, ◌+◌, ◌-◌, ◌≤◌, ◌==
 use Rattle.std.specs.Prelude.{length, Option, Some, None, Result, Ok, Err, MatchResult, codes, nat_eq, nat_lt}
 use Rattle.std.specs.Prelude.{if◌then◌else◌, is_some, unwrap_or}
 use Rattle.std.specs.List.{starts_with}
+use Rattle.paths.specs.Devices.{CountsBy}
 use Rattle.paths.specs.Numbers.{number_of, number_and_rest, three_numbers}
 use Rattle.paths.specs.Numbers.{◌>>=◌ as ◌>?=◌}
 use Rattle.paths.specs.Texts.{Ahead, line_at, run_at, byte_at}
@@ -212,7 +213,7 @@ failures_of _ = 0
 
 -- the count of failures rose by one exactly where the fault is a failed read
 abbrev pub CountsKind : {X : Type 0} → ℕ → ℕ → Result X CaptureFaultKind → Type 0
-CountsKind old new r = MatchResult r (λ _. new ≡ old) (λ k. new ≡ old + failures_of k)
+CountsKind old new r = CountsBy failures_of old new r
 
 abbrev pub CountsFault : {X : Type 0} → ℕ → ℕ → Result X CaptureFault → Type 0
-CountsFault old new r = MatchResult r (λ _. new ≡ old) (λ f. new ≡ old + failures_of f.kind)
+CountsFault old new r = CountsBy (λ f. failures_of f.kind) old new r

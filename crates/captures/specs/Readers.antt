@@ -3,6 +3,7 @@ use Rattle.std.specs.Prelude.{◌≡◌, ℕ, ◌+◌, ◌-◌, ◌≤◌, ◌/�
 use Rattle.std.specs.Prelude.{Option, Some, None, Result, Ok, Err, MatchResult, IfErr, slice_index_or, is_some}
 use Rattle.std.specs.Prelude.{unwrap_or}
 use Rattle.std.specs.Int.{bit_at}
+use Rattle.paths.specs.Devices.{CountsBy}
 use Rattle.captures.specs.Captures.{Past, past_of, longest_text, text_before_stop, IsCapture, IsCaptureText, sizes_of}
 use Rattle.captures.specs.CaptureFaults.{IsFaultAfter, IsForeseen, IsUnfinished, record_at, failures_of}
 use Rattle.captures.specs.declared.version.Version.{Version}
@@ -36,7 +37,7 @@ after past (Tier conn tier) =
 
 -- A reader has given these records of a text, and no others: they keep the rules, and where the bytes of the input are
 -- known, the first line and the texts of the records were taken from their front, and the rest is ahead.
-pub record Fits (v : Version) (text : Option (List ℕ)) (start : ℕ) (records : List Record) (p : Progress)
+pub record ReaderAfter (v : Version) (text : Option (List ℕ)) (start : ℕ) (records : List Record) (p : Progress)
     (now : Option (List ℕ)) : Type 0 where
   pub stage : p.stage ≡ Reading
   pub version : p.version ≡ v
@@ -52,7 +53,7 @@ pub record Fits (v : Version) (text : Option (List ℕ)) (start : ℕ) (records 
 -- records; or a fault of the record after these, which is the text's (unless a read failed, or memory ran out).
 abbrev pub Gave : Version → Option (List ℕ) → ℕ → List Record → Result (Option Record) CaptureFault → Progress
     → Option (List ℕ) → Type 0
-Gave v text start records (Ok (Some r)) p now = Fits v text start (records ++ r ∷ []) p now
+Gave v text start records (Ok (Some r)) p now = ReaderAfter v text start (records ++ r ∷ []) p now
 Gave v text start records (Ok None) p now = is_some text ≡ true → IsCaptureText v (unwrap_or text []) start records
 Gave v text start records (Err f) p now = (f.at ≡ length records + 1)
     × IsForeseen (λ bytes. IsFaultAfter v bytes start records) text f
@@ -77,7 +78,7 @@ failures_next (Failed f) k = 0
 
 -- the count of failures of the reader's device rose by one exactly where a read failed in the call
 abbrev pub CountsNext : Stage → ℕ → ℕ → Result (Option Record) CaptureFault → Type 0
-CountsNext stage old new r = MatchResult r (λ _. new ≡ old) (λ f. new ≡ old + failures_next stage f.kind)
+CountsNext stage old new r = CountsBy (λ f. failures_next stage f.kind) old new r
 
 -- the same of a reader that names the kind of a fault alone
 abbrev pub GaveKind : Version → Option (List ℕ) → ℕ → List Record → Result (Option Record) CaptureFaultKind → Progress

@@ -106,7 +106,3 @@ reader_failures other = 0
 abbrev pub writer_failures : UpgradeFault → ℕ
 writer_failures Unwritten = 1
 writer_failures other = 0
-
--- a device's count rose by one exactly where the fault is its own
-abbrev pub CountsBy : {X : Type 0} → (UpgradeFault → ℕ) → ℕ → ℕ → Result X UpgradeFault → Type 0
-CountsBy failures old new r = MatchResult r (λ _. new ≡ old) (λ f. new ≡ old + failures f)

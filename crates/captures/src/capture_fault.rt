@@ -1,3 +1,5 @@
+//! What is wrong with a capture, and at which record.
+
 ghost use Rattle.std.specs.Prelude.{◌≡◌};
 
 use paths::Stop;

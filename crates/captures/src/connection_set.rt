@@ -1,3 +1,5 @@
+//! A set of connection numbers.
+
 ghost use Rattle.std.specs.Prelude.{◌≡◌, ◌==◌, ◌||◌, ℕ, false};
 ghost use Rattle.captures.specs.Readers.{is_in};
 

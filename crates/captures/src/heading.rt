@@ -1,3 +1,5 @@
+//! The line that announces a record.
+
 /// The line before a piece: its tick, its connection, and how many bytes follow. A number past 64 bits stands as
 /// the greatest of 64 bits, which is past every limit.
 #[derive(Clone, Copy, Debug)]

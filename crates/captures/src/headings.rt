@@ -1,3 +1,5 @@
+//! Reading the first line and the lines that announce records.
+
 ghost use Rattle.std.specs.Prelude.{◌≡◌};
 ghost use Rattle.paths.specs.Numbers.{number_of};
 ghost use Rattle.captures.specs.CaptureFaults.{two_numbers, heading_of, start_heading, start_of};

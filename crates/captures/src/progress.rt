@@ -1,8 +1,11 @@
+//! How far a reader of a capture has come, apart from its device.
+
 ghost use Rattle.std.specs.Prelude.{◌≡◌, ◌+◌, ◌<◌, ◌≤◌, ◌-◌, ◌^◌, [], ℕ, List, Option, IfNone, IfOk, IfErr, IfSome};
 ghost use Rattle.std.specs.Prelude.{◌≢◌};
+ghost use Rattle.paths.specs.Devices.{CanFail};
 ghost use Rattle.captures.specs.Captures.{IsRecord, size_of};
 ghost use Rattle.captures.specs.CaptureFaults.{IsForeseen, IsHeaderFault, IsFaultAfter, CountsFault, CountsKind};
-ghost use Rattle.captures.specs.Readers.{Fits, Gave, GaveKind, FailsNext, FailsNextKind, stage_after, Repeats};
+ghost use Rattle.captures.specs.Readers.{ReaderAfter, Gave, GaveKind, FailsNext, FailsNextKind, stage_after, Repeats};
 ghost use Rattle.captures.specs.Readers.{CountsNext};
 ghost use Rattle.captures.specs.declared.record.Record.{Record as ARecord};
 ghost use Rattle.captures.specs.declared.version.Version.{Version as AVersion};
@@ -49,13 +52,13 @@ fn room_after(room: usize, next: &Record) -> Option<usize>
 impl Progress {
     /// Reads the first line.
     pub(crate) fn open<R: Read>(input: &mut Input<R>) -> Result<Progress, CaptureFault>
-        requires { input.old.1 < 2 ^ 64 - 1 }
-        ensures ok { IfOk result (λ p. Fits p.version input.old.0 p.start [] p input.new.0) }
+        requires { CanFail input.old }
+        ensures ok { IfOk result (λ p. ReaderAfter p.version input.old.bytes p.start [] p input.new.bytes) }
         ensures at { IfErr result (λ f. f.at ≡ 0) }
         // It takes no memory.
         ensures memory { IfErr result (λ f. f.kind ≢ CaptureFaultKind.Memory) }
-        ensures fault { IfErr result (IsForeseen IsHeaderFault input.old.0) }
-        ensures count { CountsFault input.old.1 input.new.1 result }
+        ensures fault { IfErr result (IsForeseen IsHeaderFault input.old.bytes) }
+        ensures count { CountsFault input.old.failures input.new.failures result }
     {
         let mut left = LONGEST_TEXT;
         match read_header(input, &mut left) {
@@ -77,21 +80,21 @@ impl Progress {
         alloc: Global,
         input: &mut Input<R>,
     ) -> Result<Option<Record>, CaptureFaultKind>
-        requires { input.old.1 < 2 ^ 64 - 1 }
+        requires { CanFail input.old }
         ensures next { (version : AVersion) (text : Option (List ℕ)) (start : ℕ) (records : List ARecord)
-            → Fits version text start records self.old input.old.0
-            → GaveKind version text start records result self.new input.new.0 }
+            → ReaderAfter version text start records self.old input.old.bytes
+            → GaveKind version text start records result self.new input.new.bytes }
         // Where a read failed, no whole record after these had been taken.
         ensures failed { (version : AVersion) (text : Option (List ℕ)) (start : ℕ) (records : List ARecord)
-            → Fits version text start records self.old input.old.0
-            → FailsNextKind version text start records result input.new.0 }
+            → ReaderAfter version text start records self.old input.old.bytes
+            → FailsNextKind version text start records result input.new.bytes }
         ensures room { IfOk result (λ next. IfSome next (λ r. size_of r + 1 + self.new.room ≡ self.old.room)) }
         // Whatever the bytes of the device are.
         ensures limits { IfOk result (λ next. IfSome next (IsRecord self.old.version)) }
         ensures version { self.new.version ≡ self.old.version }
         ensures start { self.new.start ≡ self.old.start }
         ensures stage { self.new.stage ≡ self.old.stage }
-        ensures count { CountsKind input.old.1 input.new.1 result }
+        ensures count { CountsKind input.old.failures input.new.failures result }
     {
         match read_record(alloc, input, &mut self.left, self.version, &self.so_far) {
             Ok(Some(record)) => match room_after(self.room, &record) {
@@ -113,14 +116,14 @@ impl Progress {
         alloc: Global,
         input: &mut Input<R>,
     ) -> Result<Option<Record>, CaptureFault>
-        requires { input.old.1 < 2 ^ 64 - 1 }
+        requires { CanFail input.old }
         ensures next { (version : AVersion) (text : Option (List ℕ)) (start : ℕ) (records : List ARecord)
-            → Fits version text start records self.old input.old.0
-            → Gave version text start records result self.new input.new.0 }
+            → ReaderAfter version text start records self.old input.old.bytes
+            → Gave version text start records result self.new input.new.bytes }
         // Where a read failed, no whole record after these had been taken.
         ensures failed { (version : AVersion) (text : Option (List ℕ)) (start : ℕ) (records : List ARecord)
-            → Fits version text start records self.old input.old.0
-            → FailsNext version text start records result input.new.0 }
+            → ReaderAfter version text start records self.old input.old.bytes
+            → FailsNext version text start records result input.new.bytes }
         ensures room { IfOk result (λ next. IfSome next (λ r. size_of r + 1 + self.new.room ≡ self.old.room)) }
         // Whatever the bytes of the device are.
         ensures limits { IfOk result (λ next. IfSome next (IsRecord self.old.version)) }
@@ -128,7 +131,7 @@ impl Progress {
         ensures start { self.new.start ≡ self.old.start }
         ensures stage { self.new.stage ≡ stage_after result }
         ensures again { Repeats self.old.stage result ((self.new ≡ self.old) × (input.new ≡ input.old)) }
-        ensures count { CountsNext self.old.stage input.old.1 input.new.1 result }
+        ensures count { CountsNext self.old.stage input.old.failures input.new.failures result }
     {
         match self.stage {
             Stage::Reading => {}

@@ -1,7 +1,10 @@
+//! Reading a record by the line that announces it.
+
 ghost use Rattle.std.specs.Prelude.{◌≡◌, ◌<◌, ◌≤◌, ◌-◌, ◌^◌, length, IfOk, IfErr, IfSome, ◌≢◌};
+ghost use Rattle.paths.specs.Devices.{CanFail};
 ghost use Rattle.paths.specs.Texts.{Counts, Gives, line_at};
 ghost use Rattle.paths.specs.Parts.{FailsAtOnce, FailsAfter, FailsWithin};
-ghost use Rattle.captures.specs.Captures.{Follows};
+ghost use Rattle.captures.specs.Captures.{Follows, latest_start};
 ghost use Rattle.captures.specs.CaptureFaults.{CountsKind, IsUnfinished, IsHeadingOf, is_unforeseen_kind, header_at};
 ghost use Rattle.captures.specs.CaptureFaults.{body_at, piece_at, close_at, announced, record_at};
 ghost use Rattle.captures.specs.Readers.{seen};
@@ -27,10 +30,10 @@ pub(crate) fn read_header<R: Read>(
     input: &mut Input<R>,
     left: &mut usize,
 ) -> Result<(Version, u64), CaptureFaultKind>
-    requires { input.old.1 < 2 ^ 64 - 1 }
-    ensures line { Gives is_unforeseen_kind header_at input.old.0 left.old input.new.0 left.new result }
-    ensures limit { IfOk result (λ first. first.1 ≤ 4102444800) }
-    ensures count { CountsKind input.old.1 input.new.1 result }
+    requires { CanFail input.old }
+    ensures line { Gives is_unforeseen_kind header_at input.old.bytes left.old input.new.bytes left.new result }
+    ensures limit { IfOk result (λ first. first.1 ≤ latest_start) }
+    ensures count { CountsKind input.old.failures input.new.failures result }
     // It takes no memory.
     ensures memory { IfErr result (λ kind. kind ≢ CaptureFaultKind.Memory) }
 {
@@ -48,13 +51,13 @@ fn read_body<R: Read>(
     left: &mut usize,
     len: usize,
 ) -> Result<Bytes, CaptureFaultKind>
-    requires { input.old.1 < 2 ^ 64 - 1 }
-    ensures bytes { Gives is_unforeseen_kind (body_at len) input.old.0 left.old input.new.0 left.new result }
+    requires { CanFail input.old }
+    ensures bytes { Gives is_unforeseen_kind (body_at len) input.old.bytes left.old input.new.bytes left.new result }
     // Where a read failed, no whole run had been taken.
     ensures part { FailsWithin CaptureFaultKind.Read CaptureFaultKind.Cut (body_at len)
-        input.old.0 left.old input.new.0 left.new result }
+        input.old.bytes left.old input.new.bytes left.new result }
     ensures length { IfOk result (λ bytes. length bytes ≡ len) }
-    ensures count { CountsKind input.old.1 input.new.1 result }
+    ensures count { CountsKind input.old.failures input.new.failures result }
 {
     let bytes = read_run(alloc, input, left, len)?;
     let end = read_byte_of(input, left)?;
@@ -73,14 +76,14 @@ fn read_piece<R: Read>(
     so_far: &SoFar,
     line: PieceLine,
 ) -> Result<Record, CaptureFaultKind>
-    requires { input.old.1 < 2 ^ 64 - 1 }
+    requires { CanFail input.old }
     ensures piece { Gives is_unforeseen_kind
-        (piece_at version (seen so_far.now) line) input.old.0 left.old input.new.0 left.new result }
+        (piece_at version (seen so_far.now) line) input.old.bytes left.old input.new.bytes left.new result }
     // Where a read failed, no whole piece had been taken.
     ensures part { FailsWithin CaptureFaultKind.Read CaptureFaultKind.Cut (piece_at version (seen so_far.now) line)
-        input.old.0 left.old input.new.0 left.new result }
+        input.old.bytes left.old input.new.bytes left.new result }
     ensures fits { IfOk result (Follows version (seen so_far.now)) }
-    ensures count { CountsKind input.old.1 input.new.1 result }
+    ensures count { CountsKind input.old.failures input.new.failures result }
 {
     let conn = so_far.allow(version, line.tick, line.conn)?;
     if line.len == 0 || line.len > MOST_BYTES {
@@ -96,11 +99,11 @@ fn read_piece<R: Read>(
 
 /// Looks for the end of the input.
 fn read_close<R: Read>(input: &mut Input<R>, left: usize) -> Result<(), CaptureFaultKind>
-    requires { input.old.1 < 2 ^ 64 - 1 }
-    ensures close { Gives is_unforeseen_kind close_at input.old.0 left input.new.0 left result }
+    requires { CanFail input.old }
+    ensures close { Gives is_unforeseen_kind close_at input.old.bytes left input.new.bytes left result }
     // A read that failed took nothing.
-    ensures part { FailsAtOnce CaptureFaultKind.Read input.old.0 left input.new.0 left result }
-    ensures count { CountsKind input.old.1 input.new.1 result }
+    ensures part { FailsAtOnce CaptureFaultKind.Read input.old.bytes left input.new.bytes left result }
+    ensures count { CountsKind input.old.failures input.new.failures result }
     // It takes no memory.
     ensures memory { IfErr result (λ kind. kind ≢ CaptureFaultKind.Memory) }
 {
@@ -120,16 +123,16 @@ fn read_announced<R: Read>(
     so_far: &SoFar,
     heading: Heading,
 ) -> Result<Option<Record>, CaptureFaultKind>
-    requires failures { input.old.1 < 2 ^ 64 - 1 }
+    requires failures { CanFail input.old }
     requires version { IsHeadingOf version heading }
     ensures record { Gives is_unforeseen_kind
-        (announced version (seen so_far.now) heading) input.old.0 left.old input.new.0 left.new result }
+        (announced version (seen so_far.now) heading) input.old.bytes left.old input.new.bytes left.new result }
     // Where a read failed, no whole record had been taken.
     ensures part { FailsAfter CaptureFaultKind.Read
         (λ part. IsUnfinished (announced version (seen so_far.now) heading (record { bytes = part; left = left.old })))
-        input.old.0 left.old input.new.0 left.new result }
+        input.old.bytes left.old input.new.bytes left.new result }
     ensures fits { IfOk result (λ next. IfSome next (Follows version (seen so_far.now))) }
-    ensures count { CountsKind input.old.1 input.new.1 result }
+    ensures count { CountsKind input.old.failures input.new.failures result }
 {
     match heading {
         Heading::Piece(line) => match read_piece(alloc, input, left, version, so_far, line) {
@@ -166,11 +169,11 @@ fn read_record_line<R: Read>(
     left: &mut usize,
     _version: Version,
 ) -> Result<Line, Stop>
-    requires { input.old.1 < 2 ^ 64 - 1 }
-    ensures line { GivesLine _version input.old.0 left.old input.new.0 left.new result }
+    requires { CanFail input.old }
+    ensures line { GivesLine _version input.old.bytes left.old input.new.bytes left.new result }
     // Where a read failed, no whole line had been taken.
-    ensures part { FailsWithin Stop.Read Stop.Cut line_at input.old.0 left.old input.new.0 left.new result }
-    ensures count { Counts input.old.1 input.new.1 result }
+    ensures part { FailsWithin Stop.Read Stop.Cut line_at input.old.bytes left.old input.new.bytes left.new result }
+    ensures count { Counts input.old.failures input.new.failures result }
     // It takes no memory.
     ensures memory { IfErr result (λ e. e ≢ Stop.Memory) }
 {
@@ -185,15 +188,15 @@ pub(crate) fn read_record<R: Read>(
     version: Version,
     so_far: &SoFar,
 ) -> Result<Option<Record>, CaptureFaultKind>
-    requires { input.old.1 < 2 ^ 64 - 1 }
+    requires { CanFail input.old }
     ensures record { Gives is_unforeseen_kind
-        (record_at version (seen so_far.now)) input.old.0 left.old input.new.0 left.new result }
+        (record_at version (seen so_far.now)) input.old.bytes left.old input.new.bytes left.new result }
     // Where a read failed, no whole record had been taken.
     ensures part { FailsAfter CaptureFaultKind.Read
         (λ part. IsUnfinished (record_at version (seen so_far.now) (record { bytes = part; left = left.old })))
-        input.old.0 left.old input.new.0 left.new result }
+        input.old.bytes left.old input.new.bytes left.new result }
     ensures fits { IfOk result (λ next. IfSome next (Follows version (seen so_far.now))) }
-    ensures count { CountsKind input.old.1 input.new.1 result }
+    ensures count { CountsKind input.old.failures input.new.failures result }
 {
     let line = read_record_line(input, left, version)?;
     let heading = read_heading(version, line.as_slice())?;

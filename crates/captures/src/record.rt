@@ -1,3 +1,5 @@
+//! A record of a capture.
+
 ghost use Rattle.std.specs.Prelude.{◌≡◌};
 ghost use Rattle.captures.specs.Captures.{size_of};
 

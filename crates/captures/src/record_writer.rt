@@ -1,7 +1,10 @@
+//! Writing records in version 2.
+
 ghost use Rattle.std.specs.Prelude.{◌≡◌, ◌<◌, ◌-◌, ◌^◌, ◌++◌, ◌∷◌, [], codes, decimal, IfOk, IfErr};
 ghost use Rattle.std.specs.String.{string_bytes};
+ghost use Rattle.paths.specs.Devices.{CanFail, CountsBy};
 ghost use Rattle.captures.specs.Captures.{first_line, piece_line, record_text};
-ghost use Rattle.captures.specs.Upgrades.{CountsBy, writer_failures, IsWriteOrMemory};
+ghost use Rattle.captures.specs.Upgrades.{writer_failures, IsWriteOrMemory};
 ghost use Rattle.captures.specs.Writing.{WritesPrefix, line_of, rest_of};
 ghost use Rattle.captures.specs.declared.version.Version.TheVariants.{Two};
 
@@ -12,9 +15,9 @@ use std::io::Write;
 
 /// Writes all the bytes, in as many writes as it takes. At an `Err` a prefix of them was written.
 fn write_all<W: Write>(output: &mut Output<W>, bytes: &[u8]) -> Result<(), UpgradeFault>
-    requires { output.old.1 < 2 ^ 64 - 1 }
-    ensures prefix { WritesPrefix output.old.0 output.new.0 result bytes.now }
-    ensures count { CountsBy writer_failures output.old.1 output.new.1 result }
+    requires { CanFail output.old }
+    ensures prefix { WritesPrefix output.old.bytes output.new.bytes result bytes.now }
+    ensures count { CountsBy writer_failures output.old.failures output.new.failures result }
     ensures own { IfErr result IsWriteOrMemory }
 {
     let mut written = 0;
@@ -33,9 +36,9 @@ fn write_both<W: Write>(
     first: &[u8],
     second: &[u8],
 ) -> Result<(), UpgradeFault>
-    requires { output.old.1 < 2 ^ 64 - 1 }
-    ensures prefix { WritesPrefix output.old.0 output.new.0 result (first.now ++ second.now) }
-    ensures count { CountsBy writer_failures output.old.1 output.new.1 result }
+    requires { CanFail output.old }
+    ensures prefix { WritesPrefix output.old.bytes output.new.bytes result (first.now ++ second.now) }
+    ensures count { CountsBy writer_failures output.old.failures output.new.failures result }
     ensures own { IfErr result IsWriteOrMemory }
 {
     match write_all(output, first) {
@@ -50,9 +53,9 @@ pub(crate) fn write_first_line<W: Write>(
     output: &mut Output<W>,
     start: u64,
 ) -> Result<(), UpgradeFault>
-    requires { output.old.1 < 2 ^ 64 - 1 }
-    ensures prefix { WritesPrefix output.old.0 output.new.0 result (first_line Two start ++ 10 ∷ []) }
-    ensures count { CountsBy writer_failures output.old.1 output.new.1 result }
+    requires { CanFail output.old }
+    ensures prefix { WritesPrefix output.old.bytes output.new.bytes result (first_line Two start ++ 10 ∷ []) }
+    ensures count { CountsBy writer_failures output.old.failures output.new.failures result }
     ensures own { IfErr result IsWriteOrMemory }
 {
     match format!(in alloc; "haboob-capture 2 {start}\n") {
@@ -87,9 +90,9 @@ fn write_line<W: Write>(
     output: &mut Output<W>,
     next: &Record,
 ) -> Result<(), UpgradeFault>
-    requires { output.old.1 < 2 ^ 64 - 1 }
-    ensures prefix { WritesPrefix output.old.0 output.new.0 result (line_of next.now) }
-    ensures count { CountsBy writer_failures output.old.1 output.new.1 result }
+    requires { CanFail output.old }
+    ensures prefix { WritesPrefix output.old.bytes output.new.bytes result (line_of next.now) }
+    ensures count { CountsBy writer_failures output.old.failures output.new.failures result }
     ensures own { IfErr result IsWriteOrMemory }
 {
     match record_line(alloc, next) {
@@ -100,9 +103,9 @@ fn write_line<W: Write>(
 
 /// Writes what comes after the line of a record: the bytes of a piece, with a line feed.
 fn write_rest<W: Write>(output: &mut Output<W>, next: &Record) -> Result<(), UpgradeFault>
-    requires { output.old.1 < 2 ^ 64 - 1 }
-    ensures prefix { WritesPrefix output.old.0 output.new.0 result (rest_of next.now) }
-    ensures count { CountsBy writer_failures output.old.1 output.new.1 result }
+    requires { CanFail output.old }
+    ensures prefix { WritesPrefix output.old.bytes output.new.bytes result (rest_of next.now) }
+    ensures count { CountsBy writer_failures output.old.failures output.new.failures result }
     ensures own { IfErr result IsWriteOrMemory }
 {
     match next {
@@ -117,9 +120,9 @@ pub(crate) fn write_record<W: Write>(
     output: &mut Output<W>,
     next: &Record,
 ) -> Result<(), UpgradeFault>
-    requires { output.old.1 < 2 ^ 64 - 1 }
-    ensures prefix { WritesPrefix output.old.0 output.new.0 result (record_text next.now) }
-    ensures count { CountsBy writer_failures output.old.1 output.new.1 result }
+    requires { CanFail output.old }
+    ensures prefix { WritesPrefix output.old.bytes output.new.bytes result (record_text next.now) }
+    ensures count { CountsBy writer_failures output.old.failures output.new.failures result }
     ensures own { IfErr result IsWriteOrMemory }
 {
     match write_line(alloc, output, next) {
@@ -134,9 +137,10 @@ pub(crate) fn write_last_line<W: Write>(
     output: &mut Output<W>,
     count: usize,
 ) -> Result<(), UpgradeFault>
-    requires { output.old.1 < 2 ^ 64 - 1 }
-    ensures prefix { WritesPrefix output.old.0 output.new.0 result ((codes "stop " ++ decimal count) ++ 10 ∷ []) }
-    ensures count { CountsBy writer_failures output.old.1 output.new.1 result }
+    requires { CanFail output.old }
+    ensures prefix { WritesPrefix output.old.bytes output.new.bytes result
+        ((codes "stop " ++ decimal count) ++ 10 ∷ []) }
+    ensures count { CountsBy writer_failures output.old.failures output.new.failures result }
     ensures own { IfErr result IsWriteOrMemory }
 {
     match format!(in alloc; "stop {count}\n") {

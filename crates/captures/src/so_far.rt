@@ -1,3 +1,5 @@
+//! What the rules ask of the records so far: order of ticks, ends, tiers, connections.
+
 ghost use Rattle.std.specs.Prelude.{◌≡◌, ◌≤◌, ◌<◌, ◌-◌, ◌^◌, [], IfOk};
 ghost use Rattle.captures.specs.Captures.{Follows, past_of};
 ghost use Rattle.captures.specs.CaptureFaults.{allowed, open_connection, tier_record};

@@ -1,3 +1,5 @@
+//! Whether a reader is reading, at the end, or at a fault.
+
 use crate::CaptureFault;
 
 /// How far a reader of a capture has come.

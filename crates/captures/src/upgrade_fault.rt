@@ -1,3 +1,5 @@
+//! Why an upgrade stopped.
+
 ghost use Rattle.std.specs.Prelude.{◌≡◌};
 
 use crate::{CaptureFault, CaptureFaultKind};

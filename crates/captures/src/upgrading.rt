@@ -1,6 +1,9 @@
+//! A capture of either version becomes one of version 2.
+
 ghost use Rattle.std.specs.Prelude.{◌≡◌, ◌≢◌, ◌<◌, ◌-◌, ◌^◌, [], true, is_some, unwrap_or, OnOk, IfErr};
+ghost use Rattle.paths.specs.Devices.{CanFail, CountsBy};
 ghost use Rattle.captures.specs.Upgrades.{Upgrades, Stops, IsCutShort, IfCapture, IfCutShort};
-ghost use Rattle.captures.specs.Upgrades.{CountsBy, reader_failures, writer_failures};
+ghost use Rattle.captures.specs.Upgrades.{reader_failures, writer_failures};
 
 use crate::record_writer::{write_first_line, write_last_line, write_record};
 use crate::{CaptureFaultKind, CaptureReader, UpgradeFault};
@@ -21,21 +24,21 @@ pub fn upgrade<R: Read, W: Write>(
     reader: &mut Input<R>,
     writer: &mut Output<W>,
 ) -> Result<(), UpgradeFault>
-    requires reading { reader.old.1 < 2 ^ 64 - 1 }
-    requires writing { writer.old.1 < 2 ^ 64 - 1 }
-    ensures ok { OnOk result (is_some reader.old.0 ≡ true
-        → Upgrades (unwrap_or reader.old.0 []) writer.old.0 writer.new.0) }
+    requires reading { CanFail reader.old }
+    requires writing { CanFail writer.old }
+    ensures ok { OnOk result (is_some reader.old.bytes ≡ true
+        → Upgrades (unwrap_or reader.old.bytes []) writer.old.bytes writer.new.bytes) }
     // After a capture's fault, the first line and the whole records before it stand.
-    ensures stops { IfErr result (λ f. IfCapture f (λ fault. is_some reader.old.0 ≡ true
-        → Stops (unwrap_or reader.old.0 []) reader.new.0 writer.old.0 writer.new.0 fault)) }
+    ensures stops { IfErr result (λ f. IfCapture f (λ fault. is_some reader.old.bytes ≡ true
+        → Stops (unwrap_or reader.old.bytes []) reader.new.bytes writer.old.bytes writer.new.bytes fault)) }
     // After a failed write and out of memory, a prefix of what was due stands.
-    ensures part { IfErr result (λ f. IfCutShort f (is_some reader.old.0 ≡ true
-        → IsCutShort (unwrap_or reader.old.0 []) writer.old.0 writer.new.0)) }
+    ensures part { IfErr result (λ f. IfCutShort f (is_some reader.old.bytes ≡ true
+        → IsCutShort (unwrap_or reader.old.bytes []) writer.old.bytes writer.new.bytes)) }
     // Out of memory has a name of its own.
     ensures memory { IfErr result (λ f. IfCapture f (λ fault. fault.kind ≢ CaptureFaultKind.Memory)) }
     // A device is blamed only where it failed in this call.
-    ensures reads { CountsBy reader_failures reader.old.1 reader.new.1 result }
-    ensures writes { CountsBy writer_failures writer.old.1 writer.new.1 result }
+    ensures reads { CountsBy reader_failures reader.old.failures reader.new.failures result }
+    ensures writes { CountsBy writer_failures writer.old.failures writer.new.failures result }
 {
     let mut capture = match CaptureReader::open(reader) {
         Ok(capture) => capture,

@@ -1,3 +1,5 @@
+//! The two versions of the format, and in what they differ.
+
 ghost use Rattle.std.specs.Prelude.{◌≡◌};
 ghost use Rattle.captures.specs.Captures.{has_tiers, last_connection};
 

@@ -1,3 +1,5 @@
+//! From arguments to a job.
+
 ghost use Rattle.std.specs.Prelude.{◌≡◌, [], Ok, codes, map, option_map, IfOk, IfErr};
 ghost use Rattle.clap.specs.Words.{fault_of, kind_of, subcommand_of, subcommand_rows_of};
 ghost use Rattle.command_line.specs.CommandLine.{Asks, AsksBy, Becomes, IsEngineFault, IsRefusal, Refuses};

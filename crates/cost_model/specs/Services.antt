@@ -30,3 +30,7 @@ service costs (File file) head unmodified len =
     if head || unmodified then costs.file
     else costs.file + bytes_cost costs len
 service costs _ head unmodified len = costs.error
+
+-- the most ticks that a service takes
+abbrev pub longest_service : ℕ
+longest_service = 20000000000

@@ -1,5 +1,8 @@
+//! The service times of a document, and the time of one answer.
+
 ghost use Rattle.std.specs.Prelude.{◌≡◌, ◌≤◌, true, false, IfOk, IfErr};
-ghost use Rattle.cost_model.specs.Services.{is_in_range, bytes_cost, service};
+ghost use Rattle.paths.specs.Snapshots.{most_bytes};
+ghost use Rattle.cost_model.specs.Services.{is_in_range, bytes_cost, service, longest_service};
 
 use crate::MAX_COST;
 use paths::Outcome;
@@ -58,9 +61,9 @@ impl Costs {
 /// How many ticks the server works on a request with this outcome: `head` and `unmodified` say that a file's bytes are
 /// not given, `len` is its length.
 pub fn service(costs: Costs, outcome: &Outcome, head: bool, unmodified: bool, len: u64) -> u64
-    requires { len ≤ 16777216 }
+    requires { len ≤ most_bytes }
     ensures ticks { result ≡ service costs outcome.now head unmodified len }
-    ensures range { (1 ≤ result) × (result ≤ 20000000000) }
+    ensures range { (1 ≤ result) × (result ≤ longest_service) }
 {
     match outcome {
         Outcome::File(_) if head || unmodified => costs.file,

@@ -1,3 +1,5 @@
+//! Costs by the table, and outside their ranges.
+
 use crate::{CostFault, Costs, service};
 use paths::{Bytes, Outcome};
 

@@ -1,3 +1,5 @@
+//! The text of a row.
+
 ghost use Rattle.std.specs.Prelude.{◌≡◌, ◌≤◌, ◌+◌, ◌++◌, length};
 ghost use Rattle.arrayvec.specs.ArrayVec.{array_vec_len};
 ghost use Rattle.explaining.specs.Rows.{number_field, row_line, offered_fields, decision_field, found_fields};

@@ -1,3 +1,5 @@
+//! A row of the table of decisions: what is told of one message.
+
 use admission::{Decision, Outlook};
 
 /// A request that was offered to the admission control.

@@ -1,4 +1,7 @@
+//! Writing the table: its heading, and its rows.
+
 ghost use Rattle.std.specs.Prelude.{◌≡◌, ◌<◌, ◌-◌, ◌^◌};
+ghost use Rattle.paths.specs.Devices.{CanFail};
 ghost use Rattle.responses.specs.Records.{WritesFront, CountsWrite};
 ghost use Rattle.explaining.specs.Rows.{heading, row_text};
 
@@ -11,9 +14,9 @@ use std::io::Write;
 
 /// Writes the heading. At an `Err` the writer failed in this call, and a prefix of the heading stands there.
 pub fn write_heading<W: Write>(output: &mut Output<W>) -> Result<(), Failed>
-    requires { output.old.1 < 2 ^ 64 - 1 }
-    ensures front { WritesFront output.old.0 output.new.0 result heading }
-    ensures count { CountsWrite output.old.1 output.new.1 result }
+    requires { CanFail output.old }
+    ensures front { WritesFront output.old.bytes output.new.bytes result heading }
+    ensures count { CountsWrite output.old.failures output.new.failures result }
 {
     write_all(
         output,
@@ -29,9 +32,9 @@ pub fn write_row<W: Write>(
     method: &[u8],
     target: &[u8],
 ) -> Result<(), Failed>
-    requires { output.old.1 < 2 ^ 64 - 1 }
-    ensures front { WritesFront output.old.0 output.new.0 result (row_text row.now method.now target.now) }
-    ensures count { CountsWrite output.old.1 output.new.1 result }
+    requires { CanFail output.old }
+    ensures front { WritesFront output.old.bytes output.new.bytes result (row_text row.now method.now target.now) }
+    ensures count { CountsWrite output.old.failures output.new.failures result }
 {
     let line = row_line(row);
     write_all(output, line.as_slice())?;

@@ -1,4 +1,7 @@
+//! A field of bytes, percent-encoded where they would part fields or lines.
+
 ghost use Rattle.std.specs.Prelude.{◌≡◌, ◌<◌, ◌-◌, ◌^◌};
+ghost use Rattle.paths.specs.Devices.{CanFail};
 ghost use Rattle.responses.specs.Records.{WritesFront, CountsWrite};
 ghost use Rattle.explaining.specs.Rows.{text_field};
 
@@ -12,9 +15,9 @@ const ESCAPED: AsciiSet = ascii_set!(CONTROLS.add(b' ').add(b'"').add(b'%').add(
 
 /// Writes bytes as a field. It takes no memory.
 pub(crate) fn write_text<W: Write>(output: &mut Output<W>, bytes: &[u8]) -> Result<(), Failed>
-    requires { output.old.1 < 2 ^ 64 - 1 }
-    ensures front { WritesFront output.old.0 output.new.0 result (text_field bytes.now) }
-    ensures count { CountsWrite output.old.1 output.new.1 result }
+    requires { CanFail output.old }
+    ensures front { WritesFront output.old.bytes output.new.bytes result (text_field bytes.now) }
+    ensures count { CountsWrite output.old.failures output.new.failures result }
 {
     for piece in percent_encode(bytes, ESCAPED) {
         write_all(output, piece.as_bytes())?;

@@ -1,3 +1,4 @@
+//! The table of decisions: rows, limits, faults, and devices that fail.
 mod controls;
 mod devices;
 mod faults;

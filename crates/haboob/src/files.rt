@@ -1,3 +1,5 @@
+//! Each job with the files that its arguments name.
+
 use crate::folder::{FileFolder, list_folder};
 use crate::overwritten::{Node, Overwritten};
 use command_line::{Job, WordFault, read_words};

@@ -1,3 +1,5 @@
+//! An output that is emptied at its first byte, and is no input.
+
 use runs::{Fault, Place};
 use std::fs::{File, Metadata, OpenOptions};
 use std::io;

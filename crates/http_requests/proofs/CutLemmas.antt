@@ -9,7 +9,7 @@ use Rattle.http_requests.specs.declared.heads.Verdict.{Verdict}
 use Rattle.http_requests.specs.declared.cutting.Stage.{Stage}
 use Rattle.http_requests.specs.declared.cutting.Stage.TheVariants.{Seeking, Body, Closed, Failed}
 use Rattle.http_requests.specs.Framing.{blank_len, NoBlock, IsWhole, IsOver, IsNext, Messages}
-use Rattle.http_requests.specs.Cutting.{Progress, BodyMessages, Yields, YieldsIn, IsFront, IsStage, IsSound, HasFailed, EndBetween, Enters, Cuts, Begins, Waits, Took, Fits, Fed, FedSome}
+use Rattle.http_requests.specs.Cutting.{Progress, BodyMessages, Yields, YieldsIn, IsFront, IsStage, IsSound, HasFailed, EndBetween, Enters, Cuts, Begins, Waits, Took, CutterAfter, Fed, FedSome}
 use Rattle.http_requests.proofs.FoundLemmas.{front_empty}
 use Rattle.http_requests.proofs.MessageLemmas.{messages_prefix, body_step}
 
@@ -198,7 +198,7 @@ cuts_then a b c text at n old mid new le read g t =
 -- what was taken of a piece
 cuts_fit : (before after : Progress) (taken : List ℕ) (old new : List Message)
     → IsSound after → ¬ (HasFailed after) → after.read ≡ before.read + length taken → (cuts : Cuts before taken after old new)
-    → (past : List ℕ) (sofar : List Message) → Fits past sofar before → Fits (past ++ taken) (sofar ++ cuts.more) after
+    → (past : List ℕ) (sofar : List Message) → CutterAfter past sofar before → CutterAfter (past ++ taken) (sofar ++ cuts.more) after
 cuts_fit before after taken old new sound live read cuts past sofar fits =
     let step : (y : List ℕ) (ms : List Message) → YieldsIn after y ms → Messages 0 ((past ++ taken) ++ y) ((sofar ++ cuts.more) ++ ms) =
     λ y ms h. rw (append_assoc past taken y, append_assoc sofar cuts.more ms) (fits.goes_on (taken ++ y) (cuts.more ++ ms) (cuts.yields y ms h)) in
@@ -215,7 +215,7 @@ take_whole piece at h = grind (arith, common_steps)
 -- a whole piece was cut
 pub cuts_fed : (before after : Progress) (piece : List ℕ) (at : ℕ) (old new : List Message) → length piece ≤ at → at ≤ length piece
     → IsSound after → ¬ (HasFailed after) → after.read ≡ before.read + at → Cuts before (take at piece) after old new
-    → (past : List ℕ) (sofar : List Message) → Fits past sofar before → Fed past sofar after piece old new
+    → (past : List ℕ) (sofar : List Message) → CutterAfter past sofar before → Fed past sofar after piece old new
 cuts_fed before after piece at old new a b sound live read cuts past sofar fits =
     let all = rw (take_whole piece at a) at cuts in
     let n : at ≡ length piece = omega (arith, a, b) in
@@ -233,7 +233,7 @@ cuts_fed before after piece at old new a b sound live read cuts past sofar fits 
 -- memory ran out in the middle of a piece
 pub cuts_some : (before after : Progress) (piece : List ℕ) (at : ℕ) (old new : List Message) → at ≤ length piece
     → IsSound after → ¬ (HasFailed after) → after.read ≡ before.read + at → Cuts before (take at piece) after old new
-    → (past : List ℕ) (sofar : List Message) → Fits past sofar before → FedSome past sofar piece old new
+    → (past : List ℕ) (sofar : List Message) → CutterAfter past sofar before → FedSome past sofar piece old new
 cuts_some before after piece at old new b sound live read cuts past sofar fits =
     let f = cuts_fit before after (take at piece) old new sound live (rw (taken_len piece at b) read) cuts past sofar fits in
     let whole : past ++ piece ≡ (past ++ take at piece) ++ drop at piece = rw (append_assoc past (take at piece) (drop at piece), take-append-drop at piece) refl in
@@ -254,7 +254,7 @@ pub took_rest : (text : List ℕ) (at n : ℕ) → at ≤ length text → n ≤ 
 took_rest text at n h k = let l = length-drop at text in omega (arith, h, k, l)
 
 -- a new cutter fits the empty text
-pub fits_new : (c : Progress) → c.held ≡ [] → c.stage ≡ Seeking → c.read ≡ 0 → Fits [] [] c
+pub fits_new : (c : Progress) → c.held ≡ [] → c.stage ≡ Seeking → c.read ≡ 0 → CutterAfter [] [] c
 fits_new c h e r =
     let step : (y : List ℕ) (ms : List Message) → YieldsIn c y ms → Messages 0 y ms =
     λ y ms yields. rw (h, r) at (of_seeking_yields c y ms e yields) in

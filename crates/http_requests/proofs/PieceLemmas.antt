@@ -2,7 +2,7 @@
 use Rattle.std.proofs.Common.{◌≡◌, ℕ, zero, suc, ◌+◌, ◌<◌, ◌≤◌, List, [], ◌∷◌, ◌++◌, length, take, get_or, ap, arith, length-append, append_assoc, append-nil, map, Bor}
 use Rattle.std.proofs.lemmas.Grind.{common_steps}
 use Rattle.http_requests.specs.declared.messages.Message.{Message}
-use Rattle.http_requests.specs.Cutting.{Progress, joined, Fits, Fed}
+use Rattle.http_requests.specs.Cutting.{Progress, joined, CutterAfter, Fed}
 
 pub joined_step : (ps : List (List ℕ)) (i : ℕ) (d : List ℕ) → i < length ps → joined (take (i + 1) ps) ≡ joined (take i ps) ++ get_or ps i d
 joined_step [] i d h = absurd (omega (arith, h))
@@ -30,7 +30,7 @@ piece_room ps i read d h e room =
     let r = joined_room (map (λ piece. piece.now) ps) (i + 1) in
     omega (arith, s, a, r, e, room)
 
-pub fed_fits : (past piece : List ℕ) (after : Progress) (old new : List Message) → Fed past old after piece old new → Fits (past ++ piece) new after
+pub fed_fits : (past piece : List ℕ) (after : Progress) (old new : List Message) → Fed past old after piece old new → CutterAfter (past ++ piece) new after
 fed_fits past piece after old new f = rw f.appended f.fits
 
 pub all_taken : (ps : List (Bor (List ℕ))) (i : ℕ) → length ps ≤ i → take i (map (λ piece. piece.now) ps) ≡ map (λ piece. piece.now) ps

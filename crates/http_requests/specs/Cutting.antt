@@ -1,5 +1,6 @@
 -- What a cutter holds between two pieces, and what it has done with the pieces so far.
 use Rattle.std.specs.Prelude.{◌≡◌, ℕ, ◌+◌, ◌-◌, ◌<◌, ◌≤◌, List, [], ◌∷◌, ◌++◌, length, take, drop, MatchBool}
+use Rattle.http_requests.specs.Limits.{longest_block, longest_body}
 use Rattle.http_requests.specs.declared.messages.What.{What}
 use Rattle.http_requests.specs.declared.messages.Message.{Message}
 use Rattle.http_requests.specs.declared.heads.Verdict.{Verdict}
@@ -36,12 +37,12 @@ YieldsIn c y ms = Yields c.stage c.read c.held y ms
 
 -- the front of a block that isn't whole
 abbrev pub IsFront : List ℕ → Type 0
-IsFront held = (blank_len held ≡ 0) × NoBlock held × (length held < 8192)
+IsFront held = (blank_len held ≡ 0) × NoBlock held × (length held < longest_block)
 
 -- what is held at each stage: the front of a block that was read, or nothing
 abbrev pub IsStage : Stage → ℕ → List ℕ → Type 0
 IsStage Seeking read held = IsFront held × (length held ≤ read)
-IsStage (Body what left) read held = (0 < left) × (left ≤ 65_536) × (held ≡ [])
+IsStage (Body what left) read held = (0 < left) × (left ≤ longest_body) × (held ≡ [])
 IsStage Closed read held = Unit {0}
 IsStage Failed read held = Unit {0}
 
@@ -103,7 +104,7 @@ pub record Took (before : Progress) (text : List ℕ) (after : Progress) (old ne
 
 -- the cutter has read this text, whose messages are these; and whatever follows, the messages of
 -- the whole are these and then what the cutter yields. No cutter that ran out of memory fits
-pub record Fits (past : List ℕ) (sofar : List Message) (c : Progress) : Type 0 where
+pub record CutterAfter (past : List ℕ) (sofar : List Message) (c : Progress) : Type 0 where
   pub live : ¬ (HasFailed c)
   pub read : c.read ≡ length past
   pub messages : MessagesOf past sofar
@@ -117,7 +118,7 @@ pub record Fed
   pub appended : new ≡ old ++ more
   pub messages : MessagesOf (past ++ piece) (sofar ++ more)
   pub in_piece : EndBetween (length past) (length past + length piece) more
-  pub fits : Fits (past ++ piece) (sofar ++ more) after
+  pub fits : CutterAfter (past ++ piece) (sofar ++ more) after
 
 -- memory ran out in a piece: what was appended are the messages of the text so far and the first
 -- bytes of the piece, and so the first of those of the longer text

@@ -1,6 +1,7 @@
 -- The messages of a whole text (RFC 9112, sections 2 and 6).
 use Rattle.std.specs.Prelude.{◌≡◌, ℕ, suc, ◌+◌, ◌-◌, ◌<◌, ◌≤◌, ◌⊎◌, Bool, true, ◌&&◌, ◌||◌, if◌then◌else◌, ◌==◌, IsTrue}
 use Rattle.std.specs.Prelude.{nat_le, false, List, [], ◌∷◌, length, take, drop, slice_index, MatchBool}
+use Rattle.http_requests.specs.Limits.{longest_block}
 use Rattle.http_requests.specs.declared.messages.Fault.TheVariants.{TooLong}
 use Rattle.http_requests.specs.declared.messages.What.{What}
 use Rattle.http_requests.specs.declared.messages.What.TheVariants.{Request, Bad}
@@ -33,13 +34,13 @@ EndsAt s e = IsTrue (ends_at s e)
 
 -- no block of at most 8,192 bytes stands in front
 abbrev pub NoBlock : List ℕ → Type 0
-NoBlock s = (e : ℕ) → e ≤ 8192 → EndsAt s e → ⊥
+NoBlock s = (e : ℕ) → e ≤ longest_block → EndsAt s e → ⊥
 
 -- the block in front ends before the place e: its first end, within the limit
 pub record IsBlock (s : List ℕ) (e : ℕ) : Type 0 where
   pub ends : EndsAt s e
   pub first : (k : ℕ) → k < e → EndsAt s k → ⊥
-  pub short : e ≤ 8192
+  pub short : e ≤ longest_block
 
 -- a message after which nothing is read: a fault, or a request that closes
 abbrev pub closes : What → Bool
@@ -60,8 +61,8 @@ pub record IsWhole (s : List ℕ) (what : What) (k : ℕ) : Type 0 where
 pub record IsOver (s : List ℕ) (what : What) (k : ℕ) : Type 0 where
   pub none : NoBlock s
   pub what_is : what ≡ Bad TooLong
-  pub k_is : k ≡ 8192
-  pub within : 8192 ≤ length s
+  pub k_is : k ≡ longest_block
+  pub within : longest_block ≤ length s
 
 -- the message at the front of the rest of a text, after the empty lines there: what it is, and the
 -- place after it

@@ -5,6 +5,7 @@ use Rattle.std.specs.Prelude.{[], ◌∷◌, map, length, Option, Some, None, Ma
 use Rattle.std.specs.List.{flat_map, list_all, list_any, slice_split}
 use Rattle.std.specs.Char.{is_ascii_alphanumeric, is_ascii_digit, to_ascii_lowercase}
 use Rattle.std.specs.Str.Parse.{digits_value}
+use Rattle.http_requests.specs.Limits.{longest_body}
 use Rattle.httparse.specs.Grammar.{RequestHead, ReadsRequest, trim_ows}
 use Rattle.httparse.specs.Spans.{name_and_value}
 use Rattle.httpdate.specs.declared.date.HttpDate.{HttpDate}
@@ -73,7 +74,7 @@ head_fault minor lines =
     if is_host_fault minor (values_of (codes "host") lines) then Some Host
     else (if is_given (values_of (codes "transfer-encoding") lines) then Some Coding
     else (if is_length_fault (values_of (codes "content-length") lines) then Some Length
-    else (if nat_lt 65_536 (body_length (values_of (codes "content-length") lines)) then Some BodySize
+    else (if nat_lt longest_body (body_length (values_of (codes "content-length") lines)) then Some BodySize
     else None)))
 
 -- the options of the comma list that all lines together form, each without the spaces and tabs at

@@ -1,5 +1,6 @@
 -- Where the messages of a text lie in it, and what each was read from.
 use Rattle.std.specs.Prelude.{◌≡◌, ℕ, ◌+◌, ◌≤◌, Bool, List, [], ◌∷◌, ◌++◌, length, Option, None, codes}
+use Rattle.http_requests.specs.Limits.{longest_block}
 use Rattle.httparse.specs.Grammar.{LineEnd, print_blank, RequestHead, ReadsRequest}
 use Rattle.http_requests.specs.declared.messages.Version.{Version}
 use Rattle.http_requests.specs.declared.messages.Fault.TheVariants.{TooLong}
@@ -30,7 +31,7 @@ pub record IsReadFrom
 abbrev pub Means : What → List ℕ → List ℕ → Type 0
 Means (Request method target version closing since) block body =
     IsReadFrom block body method target version closing since
-Means (Bad TooLong) block body = (length block ≡ 8192) × NoBlock block × (body ≡ [])
+Means (Bad TooLong) block body = (length block ≡ longest_block) × NoBlock block × (body ≡ [])
 Means (Bad fault) block body = IsVerdict block (bad fault) × (body ≡ [])
 
 -- the rest of a text, from place p of it, is empty lines, a message's block, which doesn't begin

@@ -1,5 +1,6 @@
 //! Cutting a text that comes in pieces.
 ghost use Rattle.std.specs.Prelude.{◌≡◌, ◌<◌, ◌≤◌, [], drop, length, IfNone, IfOk, IfSome, OnSome};
+ghost use Rattle.http_requests.specs.Limits.{longest_body, longest_text};
 ghost use Rattle.http_requests.specs.Framing.{closes};
 ghost use Rattle.http_requests.specs.Cutting.{Begins, IsFront, Waits};
 
@@ -52,7 +53,7 @@ fn take_here(
     requires empty { held.old.items ≡ [] }
     requires some { 0 < length text.now }
     ensures begins { IfOk result (λ took. IfSome took.1 (Begins held.old.items text.now took.0)) }
-    ensures small { IfOk result (λ took. IfSome took.1 (λ verdict. verdict.length ≤ 65_536)) }
+    ensures small { IfOk result (λ took. IfSome took.1 (λ verdict. verdict.length ≤ longest_body)) }
     ensures waits { IfOk result (λ took. IfNone took.1 (Waits held.old.items text.now took.0 held.new.items)) }
     ensures empty { IfOk result (λ took. OnSome took.1 (held.new.items ≡ [])) }
 {
@@ -78,7 +79,7 @@ fn take_joined(
     requires front { IsFront held.old.items }
     requires some { 0 < length text.now }
     ensures begins { IfOk result (λ took. IfSome took.1 (Begins held.old.items text.now took.0)) }
-    ensures small { IfOk result (λ took. IfSome took.1 (λ verdict. verdict.length ≤ 65_536)) }
+    ensures small { IfOk result (λ took. IfSome took.1 (λ verdict. verdict.length ≤ longest_body)) }
     ensures waits { IfOk result (λ took. IfNone took.1 (Waits held.old.items text.now took.0 held.new.items)) }
     ensures empty { IfOk result (λ took. OnSome took.1 (held.new.items ≡ [])) }
 {
@@ -111,7 +112,7 @@ fn take_block(
     requires front { IsFront held.old.items }
     requires some { 0 < length text.now }
     ensures begins { IfOk result (λ took. IfSome took.1 (Begins held.old.items text.now took.0)) }
-    ensures small { IfOk result (λ took. IfSome took.1 (λ verdict. verdict.length ≤ 65_536)) }
+    ensures small { IfOk result (λ took. IfSome took.1 (λ verdict. verdict.length ≤ longest_body)) }
     ensures waits { IfOk result (λ took. IfNone took.1 (Waits held.old.items text.now took.0 held.new.items)) }
     ensures empty { IfOk result (λ took. OnSome took.1 (held.new.items ≡ [])) }
 {
@@ -134,13 +135,13 @@ struct State {
 impl State {
     ghost use Rattle.std.specs.Prelude.{◌≡◌, ◌+◌, ◌<◌, ◌≤◌, ℕ, List, [], length, IfOk, IsErr, OnErr, OnOk};
     ghost use Rattle.http_requests.specs.declared.messages.Message.{Message as AMessage};
-    ghost use Rattle.http_requests.specs.Cutting.{IsSound, HasFailed, Enters, Took, Fits, Fed, FedSome};
+    ghost use Rattle.http_requests.specs.Cutting.{IsSound, HasFailed, Enters, Took, CutterAfter, Fed, FedSome};
     ghost use Rattle.http_requests.specs.State.{progress};
 
     /// A cutter at the start of a text.
     fn new(alloc: Global) -> State
         ensures sound { IsSound (progress result) }
-        ensures fits { Fits [] [] (progress result) }
+        ensures fits { CutterAfter [] [] (progress result) }
     {
         State {
             alloc,
@@ -153,7 +154,7 @@ impl State {
     /// Goes on after a block: with its body, or by adding the message that ends here.
     fn enter(&mut self, what: What, left: u64, out: &mut Vec<Message>) -> Result<(), AllocError>
         requires empty { self.old.held.items ≡ [] }
-        requires small { left ≤ 65_536 }
+        requires small { left ≤ longest_body }
         ensures sound { OnOk result (IsSound (progress self.new)) }
         ensures live { OnOk result (¬ (HasFailed (progress self.new))) }
         ensures enters { OnOk result (Enters what left self.old.read (progress self.new) out.old.items out.new.items) }
@@ -182,7 +183,7 @@ impl State {
     fn cut(&mut self, text: &[u8], out: &mut Vec<Message>) -> Result<usize, AllocError>
         requires sound { IsSound (progress self.old) }
         requires some { 0 < length text.now }
-        requires room { self.old.read + length text.now ≤ 1_073_741_824 }
+        requires room { self.old.read + length text.now ≤ longest_text }
         ensures ok { IfOk result (Took (progress self.old) text.now (progress self.new) out.old.items out.new.items) }
         ensures out { OnErr result (out.new.items ≡ out.old.items) }
         ensures read { OnErr result (self.new.read ≤ self.old.read + length text.now) }
@@ -216,10 +217,11 @@ impl State {
     /// Takes a piece of the text.
     fn feed(&mut self, piece: &[u8], out: &mut Vec<Message>) -> Result<(), AllocError>
         requires sound { IsSound (progress self.old) }
-        requires room { self.old.read + length piece.now ≤ 1_073_741_824 }
-        ensures ok { OnOk result ((past : List ℕ) (sofar : List AMessage) → Fits past sofar (progress self.old)
+        requires room { self.old.read + length piece.now ≤ longest_text }
+        ensures ok { OnOk result ((past : List ℕ) (sofar : List AMessage) → CutterAfter past sofar (progress self.old)
             → Fed past sofar (progress self.new) piece.now out.old.items out.new.items) }
-        ensures some { OnErr result ((past : List ℕ) (sofar : List AMessage) → Fits past sofar (progress self.old)
+        ensures some { OnErr result ((past : List ℕ) (sofar : List AMessage)
+            → CutterAfter past sofar (progress self.old)
             → FedSome past sofar piece.now out.old.items out.new.items) }
         ensures failed { HasFailed (progress self.old) → IsErr result }
         ensures out { HasFailed (progress self.old) → out.new.items ≡ out.old.items }
@@ -261,11 +263,11 @@ impl Model for Cutter {
 impl Cutter {
     ghost use Rattle.std.specs.Prelude.{◌≡◌, ◌+◌, ◌≤◌, ℕ, List, [], length, IsErr, OnErr, OnOk};
     ghost use Rattle.http_requests.specs.declared.messages.Message.{Message as AMessage};
-    ghost use Rattle.http_requests.specs.Cutting.{HasFailed, Fits, Fed, FedSome};
+    ghost use Rattle.http_requests.specs.Cutting.{HasFailed, CutterAfter, Fed, FedSome};
 
     /// A cutter at the start of a text. It takes no memory before the first piece.
     pub fn new(alloc: Global) -> Cutter
-        ensures { Fits [] [] result }
+        ensures { CutterAfter [] [] result }
     {
         Cutter {
             state: State::new(alloc),
@@ -278,12 +280,12 @@ impl Cutter {
     /// the first of those messages, and each later call is answered by the same error and adds
     /// nothing.
     pub fn feed(&mut self, piece: &[u8], out: &mut Vec<Message>) -> Result<(), AllocError>
-        requires { self.old.read + length piece.now ≤ 1_073_741_824 }
+        requires { self.old.read + length piece.now ≤ longest_text }
 
         // Whatever the text so far was, its messages and the new ones are those of the longer text.
-        ensures ok { OnOk result ((past : List ℕ) (sofar : List AMessage) → Fits past sofar self.old
+        ensures ok { OnOk result ((past : List ℕ) (sofar : List AMessage) → CutterAfter past sofar self.old
             → Fed past sofar self.new piece.now out.old.items out.new.items) }
-        ensures memory { OnErr result ((past : List ℕ) (sofar : List AMessage) → Fits past sofar self.old
+        ensures memory { OnErr result ((past : List ℕ) (sofar : List AMessage) → CutterAfter past sofar self.old
             → FedSome past sofar piece.now out.old.items out.new.items) }
 
         // Out of memory is answered for good.

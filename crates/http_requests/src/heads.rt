@@ -5,6 +5,7 @@ ghost use Rattle.httparse.specs.Grammar.{is_ows, trim_ows};
 ghost use Rattle.httparse.specs.Spans.{IsHeaderWithin, IsWithin, span_bytes};
 ghost use Rattle.std.specs.Str.Parse.{digits_value};
 ghost use Rattle.std.specs.List.{list_all, list_any, slice_split};
+ghost use Rattle.http_requests.specs.Limits.{longest_body};
 ghost use Rattle.http_requests.specs.Heads.{IsVerdict, same_text, values_of, is_host_byte, is_host_fault, is_given};
 ghost use Rattle.http_requests.specs.Heads.{is_numeral, body_length, head_fault, has_option, is_closing};
 ghost use Rattle.http_requests.specs.Heads.{is_get_or_head, IsModifiedSince, PartsSay, bad};
@@ -149,7 +150,7 @@ fn body_length(minor: u8, block: &[u8], headers: &[HeaderSpan]) -> Result<u64, F
         (λ n. (head_fault minor (lines_at block.now headers.now) ≡ None)
         × (n ≡ body_length (values_of (codes "content-length") (lines_at block.now headers.now))))
         (λ fault. head_fault minor (lines_at block.now headers.now) ≡ Some fault) }
-    ensures small { IfOk result (λ n. n ≤ 65_536) }
+    ensures small { IfOk result (λ n. n ≤ longest_body) }
 {
     if is_host_fault(minor, block, headers) {
         return Err(Fault::Host);
@@ -249,7 +250,7 @@ fn read_head(
     ensures says { IfOk result
         (PartsSay (span_bytes block.now head.method) (span_bytes block.now head.path) head.version
         (lines_at block.now headers.now)) }
-    ensures small { IfOk result (λ verdict. verdict.length ≤ 65_536) }
+    ensures small { IfOk result (λ verdict. verdict.length ≤ longest_body) }
 {
     let length = match body_length(head.version, block, headers) {
         Ok(length) => length,
@@ -289,7 +290,7 @@ fn measure_head(block: &[u8], head: RequestSpans, headers: &[HeaderSpan]) -> Ext
     ensures says { (verdict : AVerdict) × PartsSay (span_bytes block.now head.method)
         (span_bytes block.now head.path) head.version (lines_at block.now headers.now) verdict
         × IsExtent verdict result }
-    ensures small { result.length ≤ 65_536 }
+    ensures small { result.length ≤ longest_body }
 {
     match body_length(head.version, block, headers) {
         Ok(length) => {
@@ -310,7 +311,7 @@ fn measure_head(block: &[u8], head: RequestSpans, headers: &[HeaderSpan]) -> Ext
 /// How a message of this block goes on. It takes no memory.
 pub fn measure_block(block: &[u8]) -> Extent
     ensures says { (verdict : AVerdict) × IsVerdict block.now verdict × IsExtent verdict result }
-    ensures small { result.length ≤ 65_536 }
+    ensures small { result.length ≤ longest_body }
 {
     let mut headers = [EMPTY_HEADER_SPAN; FIELD_LIMIT];
     let fault = Extent {
@@ -332,7 +333,7 @@ pub fn measure_block(block: &[u8]) -> Extent
 /// The verdict of a block. The parser is called once.
 pub fn read_block(alloc: Global, block: &[u8]) -> Result<Verdict, AllocError>
     ensures says { IfOk result (IsVerdict block.now) }
-    ensures small { IfOk result (λ verdict. verdict.length ≤ 65_536) }
+    ensures small { IfOk result (λ verdict. verdict.length ≤ longest_body) }
 {
     let mut headers = [EMPTY_HEADER_SPAN; FIELD_LIMIT];
     match parse_request(block, &mut headers) {

@@ -1,5 +1,6 @@
 //! The empty lines and the block at the start of a text.
 ghost use Rattle.std.specs.Prelude.{◌≡◌, ◌≤◌, length, IfSome, IfNone};
+ghost use Rattle.http_requests.specs.Limits.{longest_block};
 ghost use Rattle.http_requests.specs.Framing.{ends_at, NoBlock, IsBlock, blank_len};
 ghost use Rattle.http_requests.specs.Scanning.{IsFound, NoEndIn};
 
@@ -49,7 +50,7 @@ fn blanks(s: &[u8]) -> usize
 /// line feeds after those are looked at.
 fn block_end(s: &[u8], seen: usize) -> Option<usize>
     requires within { seen ≤ length s.now }
-    requires limit { seen ≤ 8192 }
+    requires limit { seen ≤ longest_block }
     requires none { NoEndIn seen s.now }
     ensures some { IfSome result (λ e. IsBlock s.now e) }
     ensures none { IfNone result (NoBlock s.now) }
@@ -76,7 +77,7 @@ fn block_end(s: &[u8], seen: usize) -> Option<usize>
 #[tactic(auto, using(crate::proofs::FrontLemmas::ends_within))]
 pub fn find(r: &[u8], seen: usize) -> Found
     requires within { seen ≤ length r.now }
-    requires limit { seen ≤ 8192 }
+    requires limit { seen ≤ longest_block }
     requires none { NoEndIn seen r.now }
     ensures { IsFound r.now result }
 {

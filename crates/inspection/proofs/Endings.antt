@@ -10,7 +10,7 @@ use Rattle.captures.specs.declared.capture_fault.CaptureFault.{CaptureFault}
 use Rattle.captures.specs.declared.capture_fault.CaptureFaultKind.{CaptureFaultKind}
 use Rattle.captures.specs.declared.capture_fault.CaptureFaultKind.TheVariants as kinds
 use Rattle.captures.specs.Captures.{IsCapture, tick_of, ticks_of}
-use Rattle.captures.specs.Readers.{Fits, Gave, FailsNext}
+use Rattle.captures.specs.Readers.{ReaderAfter, Gave, FailsNext}
 use Rattle.captures.proofs.UpgradeLemmas.{all_read}
 use Rattle.arrivals.specs.Arrivals.{Arrival}
 use Rattle.arrivals.specs.declared.connection.Connection.{Connection}
@@ -36,7 +36,7 @@ no_earlier v start records (Tier conn tier) rules = tt
 -- ---- the end
 
 pub holds_all : (v : Version) (text now : Option (List ℕ)) (start : ℕ) (records : List Record) (arrivals : List Arrival) (connections : List Connection) (f : Found) (p q : Progress) (ahead : Option (List ℕ))
-    (x : Option Record) (i : Inspection) → Fits v text start records p now → x ≡ None → Gave v text start records (Ok x) q ahead → Holds records arrivals connections f
+    (x : Option Record) (i : Inspection) → ReaderAfter v text start records p now → x ≡ None → Gave v text start records (Ok x) q ahead → Holds records arrivals connections f
     → i.version ≡ v → i.start ≡ start → AreFigures records arrivals i → HoldsAll text i
 holds_all v text now start records arrivals connections f p q ahead x i fits none gave holds version begun figures = record {
   records = records;
@@ -50,7 +50,7 @@ holds_all v text now start records arrivals connections f p q ahead x i fits non
 -- ---- faults
 
 pub holds_before : (v : Version) (text now : Option (List ℕ)) (start : ℕ) (records : List Record) (arrivals : List Arrival) (connections : List Connection) (f : Found) (p q : Progress) (ahead : Option (List ℕ))
-    (fault : CaptureFault) (i : Inspection) → Fits v text start records p now → Gave v text start records (Err fault) q ahead → FailsNext v text start records (Err fault) ahead
+    (fault : CaptureFault) (i : Inspection) → ReaderAfter v text start records p now → Gave v text start records (Err fault) q ahead → FailsNext v text start records (Err fault) ahead
     → Holds records arrivals connections f → i.version ≡ v → i.start ≡ start → AreFigures records arrivals i → HoldsBefore text ahead i fault
 holds_before v text now start records arrivals connections f p q ahead fault i fits gave failed holds version begun figures = record {
   records = records;

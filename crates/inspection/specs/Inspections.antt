@@ -1,6 +1,6 @@
 -- What an inspection comes to: the figures of the whole capture, or those of the records before its fault.
-use Rattle.std.specs.Prelude.{◌≡◌, ◌≢◌, ℕ, ◌+◌, ◌≤◌, true, false, List, [], ◌++◌, length, Option, Result, Err}
-use Rattle.std.specs.Prelude.{MatchResult, is_some, unwrap_or}
+use Rattle.std.specs.Prelude.{◌≡◌, ◌≢◌, ℕ, ◌+◌, ◌≤◌, false, List, ◌++◌, length, Option, Result, Err, MatchResult}
+use Rattle.paths.specs.KnownText.{WhereKnown}
 use Rattle.captures.specs.declared.record.Record.{Record}
 use Rattle.captures.specs.declared.capture_fault.CaptureFault.{CaptureFault}
 use Rattle.captures.specs.declared.capture_fault.CaptureFaultKind.{CaptureFaultKind}
@@ -13,10 +13,6 @@ use Rattle.inspection.specs.declared.inspection.Inspection.{Inspection}
 use Rattle.inspection.specs.declared.inspect_fault.InspectFault.{InspectFault}
 use Rattle.inspection.specs.declared.inspect_fault.InspectFault.TheVariants.{FirstLine, Stopped, Memory}
 use Rattle.inspection.specs.Figures.{AreFigures}
-
--- what holds of the input's bytes, where they are known
-abbrev pub WhereKnown : Option (List ℕ) → (List ℕ → Type 0) → Type 0
-WhereKnown input P = is_some input ≡ true → P (unwrap_or input [])
 
 -- The input is the text of a capture with this version and start, and with these records, of which these are the
 -- arrivals. The figures are theirs.
@@ -69,7 +65,3 @@ abbrev pub reader_failures : InspectFault → ℕ
 reader_failures (FirstLine f) = failures_of f.kind
 reader_failures (Stopped held f) = failures_of f.kind
 reader_failures Memory = 0
-
--- its count of failures rose by one exactly where a read failed in the call
-abbrev pub CountsBy : {X : Type 0} → (InspectFault → ℕ) → ℕ → ℕ → Result X InspectFault → Type 0
-CountsBy failures old new r = MatchResult r (λ _. new ≡ old) (λ f. new ≡ old + failures f)

@@ -1,3 +1,5 @@
+//! The second in which the most messages arrived.
+
 ghost use Rattle.std.specs.Prelude.{◌≡◌, ℕ, ◌+◌, ◌<◌, ◌≤◌, ◌==◌, ◌^◌, ◌++◌, List, nat_lt, replicate, if◌then◌else◌};
 ghost use Rattle.inspection.specs.Running.{IsBusy};
 

@@ -1,3 +1,5 @@
+//! Counting records, messages, methods, versions and faults.
+
 ghost use Rattle.std.specs.Prelude.{◌≡◌, ◌+◌, ◌-◌, ◌<◌, ◌^◌, ◌++◌, List, length, map};
 ghost use Rattle.http_requests.specs.declared.messages.What.{What as AWhat};
 ghost use Rattle.inspection.specs.Figures.{messages_by_kind};

@@ -1,3 +1,5 @@
+//! What was found in the records so far.
+
 ghost use Rattle.std.specs.Prelude.{◌≡◌, ℕ, ◌+◌, ◌-◌, ◌<◌, ◌≤◌, ◌^◌, [], List, length, OnOk};
 ghost use Rattle.http_requests.specs.declared.messages.What.{What as AWhat};
 ghost use Rattle.captures.specs.declared.record.Record.{Record as ARecord};

@@ -1,3 +1,5 @@
+//! Why an inspection stopped, and what was found until then.
+
 ghost use Rattle.std.specs.Prelude.{◌≡◌};
 
 use crate::Inspection;

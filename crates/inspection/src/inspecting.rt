@@ -1,8 +1,11 @@
+//! Reading a capture to its end, and counting what it holds.
+
 ghost use Rattle.std.specs.Prelude.{◌≡◌, ◌-◌, ◌<◌, ◌^◌, List, OnOk, IfOk, IfErr};
+ghost use Rattle.paths.specs.Devices.{CanFail, CountsBy};
 ghost use Rattle.captures.specs.declared.record.Record.{Record as ARecord};
 ghost use Rattle.arrivals.specs.Arrivals.{Arrival};
 ghost use Rattle.inspection.specs.Running.{Holds, HoldsMore, HasRoomFor, IsNoEarlier};
-ghost use Rattle.inspection.specs.Inspections.{HoldsAll, Stops, CountsBy, reader_failures, stop_of};
+ghost use Rattle.inspection.specs.Inspections.{HoldsAll, Stops, reader_failures, stop_of};
 
 use crate::found::{Found, inspection_of};
 use crate::{InspectFault, Inspection};
@@ -61,12 +64,12 @@ fn stopped(held: Inspection, fault: CaptureFault) -> InspectFault
 /// `FirstLine` where the first line has the capture's first fault, or its reader failed there. `Stopped` where a record
 /// after it has, or its reader failed: the figures are those of the whole records before the fault. `Memory`.
 pub fn inspect<R: Read>(alloc: Global, reader: &mut Input<R>) -> Result<Inspection, InspectFault>
-    requires { reader.old.1 < 2 ^ 64 - 1 }
-    ensures ok { IfOk result (HoldsAll reader.old.0) }
+    requires { CanFail reader.old }
+    ensures ok { IfOk result (HoldsAll reader.old.bytes) }
     // After a fault of the capture, the figures are those of the whole records before it.
-    ensures stops { IfErr result (Stops reader.old.0 reader.new.0) }
+    ensures stops { IfErr result (Stops reader.old.bytes reader.new.bytes) }
     // The reader is blamed only where it failed in this call.
-    ensures reads { CountsBy reader_failures reader.old.1 reader.new.1 result }
+    ensures reads { CountsBy reader_failures reader.old.failures reader.new.failures result }
 {
     let mut capture = match CaptureReader::open(reader) {
         Ok(capture) => capture,

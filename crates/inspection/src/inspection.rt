@@ -1,3 +1,5 @@
+//! What a capture holds.
+
 use crate::{MessageCounts, RecordCounts};
 use captures::Version;
 

@@ -1,3 +1,5 @@
+//! How many messages of each kind there are.
+
 /// How many requests have each method.
 #[derive(Clone, Copy, Debug, PartialEq, Eq)]
 pub struct MethodCounts {

@@ -1,3 +1,5 @@
+//! How many records of each kind there are.
+
 /// How many records a capture has.
 #[derive(Clone, Copy, Debug, PartialEq, Eq)]
 pub struct RecordCounts {

@@ -1,3 +1,5 @@
+//! How the messages spread over the connections.
+
 ghost use Rattle.std.specs.Prelude.{◌≡◌, ◌+◌, ◌≤◌, ◌<◌, ◌^◌, All, length};
 ghost use Rattle.captures.specs.Captures.{longest_text};
 ghost use Rattle.inspection.specs.Figures.{share_over};

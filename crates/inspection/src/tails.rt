@@ -1,3 +1,5 @@
+//! The bytes of each connection that belong to no message.
+
 ghost use Rattle.std.specs.Prelude.{◌≡◌, ◌≢◌, ℕ, ◌+◌, ◌<◌, ◌≤◌, ◌^◌, ◌++◌, [], List, length, OnOk};
 ghost use Rattle.http_requests.specs.declared.messages.Message.{Message as AMessage};
 ghost use Rattle.http_requests.specs.Framing.{closes};

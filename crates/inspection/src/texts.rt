@@ -1,3 +1,5 @@
+//! What is written of an inspection, line by line.
+
 ghost use Rattle.std.specs.Prelude.{◌≡◌, ◌++◌, OnOk, IfOk};
 ghost use Rattle.std.specs.String.{string_bytes};
 ghost use Rattle.inspection.specs.Texts.{version_number, line, line_of_two, capture_lines, record_lines, tick_line};

@@ -3,7 +3,7 @@ use Rattle.std.proofs.Common.{◌≡◌, ℕ, ◌≤◌, Bool, true, false, List
 use Rattle.std.proofs.lemmas.Bool.Decides.{nat_tests}
 use Rattle.std.specs.Str.{is_utf8}
 use Rattle.toml.specs.Parse.{parse_document}
-use Rattle.stage_graph.specs.Stands.{last_cut}
+use Rattle.stage_graph.specs.After.{last_cut}
 use Rattle.replay.specs.Choices.{Choice, settings_fault}
 use Rattle.replay.specs.declared.settings.SettingsFault.{SettingsFault}
 use Rattle.options.specs.SettingsTable.{document_of}

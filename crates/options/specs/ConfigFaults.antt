@@ -45,5 +45,5 @@ abbrev pub fault_text : ConfigFault → List ℕ
 fault_text fault = kind_name fault.kind ++ key_text fault.key
 
 -- The call answers what is reported. Out of memory comes where it happens: no definition foresees it.
-abbrev pub Answers : {X : Type 0} → Result X ConfigFault → Result X ConfigFault → Type 0
-Answers told r = MatchResult r (λ x. told ≡ Ok x) (λ fault. is_memory fault ≡ false → told ≡ Err fault)
+abbrev pub IsAnswer : {X : Type 0} → Result X ConfigFault → Result X ConfigFault → Type 0
+IsAnswer told r = MatchResult r (λ x. told ≡ Ok x) (λ fault. is_memory fault ≡ false → told ≡ Err fault)

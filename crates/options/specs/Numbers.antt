@@ -36,8 +36,12 @@ pub record AreWithin (p : Rules) : Type 0 where
   pub low : p.low ≤ 100
   pub depth : (1 ≤ p.depth) × (p.depth ≤ 1000000)
 
--- so are the other numbers
+-- so are those of each policy, and the other numbers
 pub record AreChoices (c : Choices) : Type 0 where
   pub batch : (1 ≤ c.batch) × (c.batch ≤ 65536)
   pub cache : c.cache ≤ 1073741824
   pub retry_after : c.retry_after ≤ 86400
+  pub policy : AreWithin c.policy
+  pub tier1 : AreWithin c.tier1
+  pub tier2 : AreWithin c.tier2
+  pub tier3 : AreWithin c.tier3

@@ -6,7 +6,7 @@ use Rattle.toml.specs.Data.{Members}
 use Rattle.toml.specs.Parse.{parse_document}
 use Rattle.stage_graph.specs.Layouts.{Layout, layout_of}
 use Rattle.stage_graph.specs.PlanFaults.{plan_fault}
-use Rattle.stage_graph.specs.Stands.{last_cut}
+use Rattle.stage_graph.specs.After.{last_cut}
 use Rattle.cost_model.specs.Services.{CostTable}
 use Rattle.admission.specs.Rules.{Rules}
 use Rattle.replay.specs.Choices.{Choice}

@@ -1,15 +1,18 @@
+//! From a document to settings.
+
 ghost use Rattle.std.specs.Prelude.{◌≡◌, IfOk, false, None, Some, MatchResult};
 ghost use Rattle.toml.specs.View.{table_view};
-ghost use Rattle.stage_graph.specs.Stands.{last_cut};
-ghost use Rattle.options.specs.ConfigFaults.{Answers, is_memory, no_text};
+ghost use Rattle.stage_graph.specs.After.{last_cut};
+ghost use Rattle.options.specs.ConfigFaults.{IsAnswer, is_memory, no_text};
+ghost use Rattle.options.specs.Numbers.{AreWithin};
 ghost use Rattle.options.specs.SettingsTable.{front_of, back_of, costs_of, policy_in, default_policy, written_in};
 ghost use Rattle.options.specs.SettingsTable.{plan_of, in_order, choices_of, chosen, document_of, settings_of};
 ghost use Rattle.options.specs.SettingsTable.{settings_read};
 
 use crate::document::{members_known, number, numbers};
-use crate::numbers::{Choices, CostNumbers, FloorLists, PolicyNumbers};
+use crate::numbers::{Choices, CostNumbers, FloorLists};
 use crate::{ConfigFault, Key, PolicyKey, PolicyTable};
-use admission::Policy;
+use admission::{Policy, PolicyNumbers};
 use cost_model::Costs;
 use replay::{BACK_STEPS, FRONT_STEPS, Settings};
 use stage_graph::{Plan, PlanFault};
@@ -25,7 +28,7 @@ pub const LONGEST_SETTINGS: usize = 65_536;
 ///
 /// The first fault of the document, in the order that docs/FORMATS.md states, or `Memory`.
 pub fn read_settings(alloc: Global, bytes: &[u8]) -> Result<Settings, ConfigFault>
-    ensures { Answers (settings_read bytes.now) result }
+    ensures { IsAnswer (settings_read bytes.now) result }
 {
     let document = document_of(alloc, bytes)?;
     settings_of(alloc, &document)
@@ -56,7 +59,7 @@ pub(crate) fn document_of(alloc: Global, bytes: &[u8]) -> Result<Table, ConfigFa
 
 /// The settings of a document that has been read.
 pub(crate) fn settings_of(alloc: Global, document: &Table) -> Result<Settings, ConfigFault>
-    ensures { Answers (settings_of (table_view document.now)) result }
+    ensures { IsAnswer (settings_of (table_view document.now)) result }
 {
     let written = choices_of(alloc, document)?;
     chosen(alloc, &written)
@@ -64,7 +67,7 @@ pub(crate) fn settings_of(alloc: Global, document: &Table) -> Result<Settings, C
 
 /// What a document says of its keys, if it has no other.
 pub(crate) fn choices_of(alloc: Global, document: &Table) -> Result<Choices, ConfigFault>
-    ensures { Answers (choices_of (table_view document.now)) result }
+    ensures { IsAnswer (choices_of (table_view document.now)) result }
 {
     if !members_known(document, None) {
         return Err(ConfigFault::UNKNOWN);
@@ -74,7 +77,7 @@ pub(crate) fn choices_of(alloc: Global, document: &Table) -> Result<Choices, Con
 
 /// Every key in its order. A value of a wrong shape and a number outside its range are the faults here.
 fn written_in(alloc: Global, document: &Table) -> Result<Choices, ConfigFault>
-    ensures { Answers (written_in (table_view document.now)) result }
+    ensures { IsAnswer (written_in (table_view document.now)) result }
 {
     let front = front_of(alloc, document)?;
     let back = back_of(alloc, document)?;
@@ -101,7 +104,7 @@ fn written_in(alloc: Global, document: &Table) -> Result<Choices, ConfigFault>
 }
 
 fn front_of(alloc: Global, document: &Table) -> Result<FloorLists, ConfigFault>
-    ensures { Answers (front_of (table_view document.now)) result }
+    ensures { IsAnswer (front_of (table_view document.now)) result }
 {
     let cuts = numbers(alloc, document, Key::FrontCuts, &[1, 2, 3])?;
     let workers = numbers(alloc, document, Key::FrontWorkers, &[2, 2, 2])?;
@@ -114,7 +117,7 @@ fn front_of(alloc: Global, document: &Table) -> Result<FloorLists, ConfigFault>
 }
 
 fn back_of(alloc: Global, document: &Table) -> Result<FloorLists, ConfigFault>
-    ensures { Answers (back_of (table_view document.now)) result }
+    ensures { IsAnswer (back_of (table_view document.now)) result }
 {
     let cuts = numbers(alloc, document, Key::BackCuts, &[1, 2])?;
     let workers = numbers(alloc, document, Key::BackWorkers, &[2, 2])?;
@@ -137,7 +140,8 @@ fn costs_of(document: &Table) -> Result<CostNumbers, ConfigFault>
 
 /// The policy of a document that says nothing of it.
 fn default_policy() -> PolicyNumbers
-    ensures { result ≡ default_policy }
+    ensures numbers { result ≡ default_policy }
+    ensures within { AreWithin result }
 {
     PolicyNumbers {
         window: 100,
@@ -161,7 +165,9 @@ fn policy_in(
     table: PolicyTable,
     otherwise: PolicyNumbers,
 ) -> Result<PolicyNumbers, ConfigFault>
-    ensures { result ≡ policy_in (table_view document.now) table otherwise }
+    requires { AreWithin otherwise }
+    ensures numbers { result ≡ policy_in (table_view document.now) table otherwise }
+    ensures within { IfOk result (λ numbers. AreWithin numbers) }
 {
     use PolicyKey::{
         Depth, Down, Every, Low, Rate, RateMax, RateMin, Smoothing, Target, Up, Window,
@@ -195,7 +201,7 @@ fn policy_in(
 
 /// The settings of these numbers and lists, if they fit together.
 pub(crate) fn chosen(alloc: Global, written: &Choices) -> Result<Settings, ConfigFault>
-    ensures { Answers (chosen written.now) result }
+    ensures { IsAnswer (chosen written.now) result }
 {
     let front = plan_of(alloc, Key::Front, FRONT_STEPS, &written.front)?;
     let back = plan_of(alloc, Key::Back, BACK_STEPS, &written.back)?;
@@ -231,7 +237,7 @@ fn costs_with(numbers: CostNumbers) -> Costs
 
 /// The plan of a floor whose last stage ends with this step.
 fn plan_of(alloc: Global, floor: Key, steps: usize, lists: &FloorLists) -> Result<Plan, ConfigFault>
-    ensures plan { Answers (plan_of floor steps lists.now) result }
+    ensures plan { IsAnswer (plan_of floor steps lists.now) result }
     ensures steps { IfOk result (λ plan. last_cut plan ≡ steps) }
 {
     match Plan::new(alloc, &lists.cuts, &lists.workers, &lists.capacities) {
@@ -243,25 +249,13 @@ fn plan_of(alloc: Global, floor: Key, steps: usize, lists: &FloorLists) -> Resul
 
 /// The policy of the numbers that this table has, where the rate lies between its two ends.
 fn policy_of(table: PolicyTable, numbers: PolicyNumbers) -> Result<Policy, ConfigFault>
+    requires { AreWithin numbers }
     ensures { result ≡ in_order table numbers }
 {
     if numbers.rate < numbers.rate_min || numbers.rate > numbers.rate_max {
         return Err(ConfigFault::range(Key::InPolicy(table, PolicyKey::Rate)));
     }
-    let policy = Policy::new(
-        numbers.window,
-        numbers.every,
-        numbers.smoothing,
-        numbers.rate,
-        numbers.rate_min,
-        numbers.rate_max,
-        numbers.up,
-        numbers.down,
-        numbers.target,
-        numbers.low,
-        numbers.depth,
-    );
-    match policy {
+    match Policy::of(numbers) {
         Ok(policy) => Ok(policy),
         Err(_) => unreachable!(),
     }

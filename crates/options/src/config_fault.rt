@@ -1,3 +1,5 @@
+//! What is wrong with a document, and at which key.
+
 ghost use Rattle.std.specs.Prelude.{◌≡◌, ◌≤◌, length};
 ghost use Rattle.options.specs.Keys.{is_table, keys_in, name_of, table_of};
 ghost use Rattle.options.specs.ConfigFaults.{kind_name, range, shape};

@@ -1,3 +1,5 @@
+//! The settings of a document without keys.
+
 ghost use Rattle.std.specs.Prelude.{◌≡◌, Ok, IfOk};
 ghost use Rattle.toml.specs.Data.{no_members};
 ghost use Rattle.options.specs.SettingsTable.{default_choice, settings_of};

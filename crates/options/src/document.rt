@@ -1,3 +1,5 @@
+//! The keys that a document may have, and the numbers that stand there.
+
 ghost use Rattle.std.specs.Prelude.{◌≡◌, ◌≤◌, false, Ok, Err, IfOk, MatchResult, bytes_eq, find, option_map};
 ghost use Rattle.toml.specs.View.{view, array_view, table_view};
 ghost use Rattle.options.specs.Keys.{key_at, keys_in, name_of, policy_key_name, policy_keys};

@@ -1,7 +1,10 @@
+//! The numbers of a document, each within its range.
+
 ghost use Rattle.std.specs.Prelude.{◌≡◌};
 ghost use Rattle.options.specs.WrittenOut.{number_in, rules_in};
 
 use crate::{PolicyKey, PolicyTable};
+use admission::PolicyNumbers;
 use std::marker::Model;
 
 /// The lists of a floor, as a document gives them: where its stages end, how many workers each has, and how much each
@@ -21,89 +24,22 @@ impl Model for FloorLists {
     ghost view = { λ l. record { cuts = l.cuts.items; workers = l.workers.items; capacities = l.capacities.items } };
 }
 
-/// The numbers of a policy, each within its own range. The rate need not lie between its two ends.
-#[derive(Clone, Copy)]
-pub(crate) struct PolicyNumbers {
-    pub(crate) window: u64,
-    pub(crate) every: u64,
-    pub(crate) smoothing: u64,
-    pub(crate) rate: u64,
-    pub(crate) rate_min: u64,
-    pub(crate) rate_max: u64,
-    pub(crate) up: u64,
-    pub(crate) down: u64,
-    pub(crate) target: u64,
-    pub(crate) low: u64,
-    pub(crate) depth: u64,
-}
-
-impl Model for PolicyNumbers {
-    ghost use Rattle.admission.specs.Rules.{Rules};
-    ghost use Rattle.options.specs.Numbers.{AreWithin};
-
-    ghost Value = { Rules };
-
-    ghost view = { λ p. record {
-      window = p.window;
-      every = p.every;
-      smoothing = p.smoothing;
-      rate = p.rate;
-      rate_min = p.rate_min;
-      rate_max = p.rate_max;
-      up = p.up;
-      down = p.down;
-      target = p.target;
-      low = p.low;
-      depth = p.depth;
-    } };
-
-    ghost invariant = { λ p. AreWithin (record {
-      window = p.window;
-      every = p.every;
-      smoothing = p.smoothing;
-      rate = p.rate;
-      rate_min = p.rate_min;
-      rate_max = p.rate_max;
-      up = p.up;
-      down = p.down;
-      target = p.target;
-      low = p.low;
-      depth = p.depth;
-    }) };
-
-    ghost inverse = { λ p. record {
-      window = p.window;
-      every = p.every;
-      smoothing = p.smoothing;
-      rate = p.rate;
-      rate_min = p.rate_min;
-      rate_max = p.rate_max;
-      up = p.up;
-      down = p.down;
-      target = p.target;
-      low = p.low;
-      depth = p.depth;
-    } };
-}
-
-impl PolicyNumbers {
-    /// The number of a key.
-    pub(crate) fn number(self, key: PolicyKey) -> u64
-        ensures { result ≡ number_in self key }
-    {
-        match key {
-            PolicyKey::Window => self.window,
-            PolicyKey::Every => self.every,
-            PolicyKey::Smoothing => self.smoothing,
-            PolicyKey::Rate => self.rate,
-            PolicyKey::RateMin => self.rate_min,
-            PolicyKey::RateMax => self.rate_max,
-            PolicyKey::Up => self.up,
-            PolicyKey::Down => self.down,
-            PolicyKey::Target => self.target,
-            PolicyKey::Low => self.low,
-            PolicyKey::Depth => self.depth,
-        }
+/// The number of a key.
+pub(crate) fn number_in(numbers: PolicyNumbers, key: PolicyKey) -> u64
+    ensures { result ≡ number_in numbers key }
+{
+    match key {
+        PolicyKey::Window => numbers.window,
+        PolicyKey::Every => numbers.every,
+        PolicyKey::Smoothing => numbers.smoothing,
+        PolicyKey::Rate => numbers.rate,
+        PolicyKey::RateMin => numbers.rate_min,
+        PolicyKey::RateMax => numbers.rate_max,
+        PolicyKey::Up => numbers.up,
+        PolicyKey::Down => numbers.down,
+        PolicyKey::Target => numbers.target,
+        PolicyKey::Low => numbers.low,
+        PolicyKey::Depth => numbers.depth,
     }
 }
 

@@ -1,3 +1,5 @@
+//! The tables and keys of policies.
+
 ghost use Rattle.std.specs.Prelude.{◌≡◌, ◌≤◌, length};
 ghost use Rattle.options.specs.Keys.{policy_keys, policy_key_name, policy_table_name};
 

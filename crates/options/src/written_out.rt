@@ -1,3 +1,5 @@
+//! Settings written out as a document: each table and key with its comment.
+
 ghost use Rattle.std.specs.Prelude.{◌≡◌, ◌++◌, false, Ok, Err, OnOk, IfOk, MatchResult, flat_map};
 ghost use Rattle.std.specs.String.{string_bytes};
 ghost use Rattle.toml.specs.View.{table_view};
@@ -10,7 +12,7 @@ ghost use Rattle.options.specs.WrittenOut.{row_text, rows_text, settings_text, t
 
 use crate::config::{choices_of, chosen, document_of};
 use crate::config_fault::keys_in;
-use crate::numbers::Choices;
+use crate::numbers::{Choices, number_in};
 use crate::policy_key::policy_keys;
 use crate::{ConfigFault, Key, PolicyKey, PolicyTable};
 use std::alloc::{AllocError, Global};
@@ -115,7 +117,7 @@ fn write_value(text: &mut String, written: &Choices, key: Key) -> Result<(), All
         Key::File => write!(text, "{}", written.costs.file),
         Key::Kib => write!(text, "{}", written.costs.kib),
         Key::Error => write!(text, "{}", written.costs.error),
-        Key::InPolicy(table, key) => write!(text, "{}", written.policy_of(table).number(key)),
+        Key::InPolicy(table, key) => write!(text, "{}", number_in(written.policy_of(table), key)),
         Key::RetryAfter => write!(text, "{}", written.retry_after),
         _ => Ok(()),
     }

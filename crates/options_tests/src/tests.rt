@@ -1,2 +1,3 @@
+//! Documents, their faults, and settings written out.
 mod config;
 mod written;

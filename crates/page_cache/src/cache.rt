@@ -1,3 +1,5 @@
+//! The cache: pages by the numbers of their files, the latest used first.
+
 ghost use Rattle.std.specs.Prelude.{◌≡◌, ◌≤◌, [], length, option_map, true, IfOk, IfSome, OnErr};
 ghost use Rattle.std.specs.Arc.{arc_value};
 ghost use Rattle.page_cache.specs.CacheLists.{found, has, looked, sizes};

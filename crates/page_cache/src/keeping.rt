@@ -1,3 +1,5 @@
+//! What became of a page that was to be kept.
+
 /// What became of a page that was to be kept.
 #[derive(Clone, Copy, Debug, PartialEq, Eq)]
 pub enum Keeping {

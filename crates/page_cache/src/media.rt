@@ -1,3 +1,5 @@
+//! Media types by extensions, and the fields of a file.
+
 ghost use Rattle.std.specs.Prelude.{◌≡◌, IfOk, string_bytes, map, unwrap_or};
 ghost use Rattle.std.specs.Option.{option_map};
 ghost use Rattle.std.specs.Char.{to_ascii_lowercase};

@@ -1,3 +1,5 @@
+//! A page: the fields and the bytes of a file, built once.
+
 ghost use Rattle.std.specs.Prelude.{◌≡◌, ◌<◌, length, IfOk};
 ghost use Rattle.std.specs.Arc.{arc_value};
 ghost use Rattle.paths.specs.Snapshots.{file_of};

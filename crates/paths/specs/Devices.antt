@@ -1,7 +1,29 @@
--- What one read of a byte and one write do to a device whose bytes are known.
-use Rattle.std.specs.Prelude.{ℕ, ◌<◌, ◌≤◌, List, [], ◌∷◌, take, length, None, Some, Option, MatchResult, Result}
+-- A device that is lent to a call, and what one read of a byte and one write do to it where its bytes are known.
+use Rattle.std.specs.Prelude.{ℕ, ◌≡◌, ◌<◌, ◌≤◌, ◌+◌, ◌-◌, ◌^◌, List, [], ◌∷◌, take, length, None, Some, Option}
+use Rattle.std.specs.Prelude.{MatchResult, Result}
 use Rattle.std.specs.Io.KnownBytes.{Keeps, Consumes, Appends, IsAtEnd}
 use Rattle.paths.specs.declared.device.Failed.{Failed}
+
+-- the bytes that a reader has left, or that a writer holds, where these are known; and how often it has failed
+pub record Device : Type 0 where
+  pub bytes : Option (List ℕ)
+  pub failures : ℕ
+
+-- its count of failures can rise
+abbrev pub CanFail : Device → Type 0
+CanFail device = device.failures < 2 ^ 64 - 1
+
+-- its count rose by what the answer blames on it, and by nothing at Ok
+abbrev pub CountsBy : {X E : Type 0} → (E → ℕ) → ℕ → ℕ → Result X E → Type 0
+CountsBy blamed old new r = MatchResult r (λ _. new ≡ old) (λ e. new ≡ old + blamed e)
+
+-- it failed at most once in a call, and is blamed only where it did
+abbrev pub BlamedOnce : {X E : Type 0} → (E → ℕ) → ℕ → ℕ → Result X E → Type 0
+BlamedOnce blamed old new r = MatchResult r (λ _. new ≡ old) (λ e. (old + blamed e ≤ new) × (new ≤ old + 1))
+
+-- a device that has not failed yet
+abbrev pub fresh : Option (List ℕ) → Device
+fresh bytes = record { bytes = bytes; failures = 0 }
 
 -- one byte was taken, or the end was met
 abbrev pub TakesByte : Option (List ℕ) → Option (List ℕ) → Option ℕ → Type 0

@@ -1,5 +1,6 @@
 pub mod Above
 pub mod Devices
+pub mod KnownText
 pub mod Numbers
 pub mod Owed
 pub mod Parts

@@ -3,6 +3,7 @@ use Rattle.std.specs.Prelude.{◌≡◌, ℕ, ◌+◌, ◌-◌, ◌≤◌, ◌==
 use Rattle.std.specs.Prelude.{length, Option, Some, None, Result, Ok, Err, MatchResult, codes, nat_eq, nat_lt, nat_le}
 use Rattle.std.specs.Prelude.{bytes_eq, if◌then◌else◌, is_some, unwrap_or}
 use Rattle.std.specs.List.{list_all, list_any, starts_with}
+use Rattle.paths.specs.Devices.{CountsBy}
 use Rattle.paths.specs.Numbers.{number_of, three_numbers}
 use Rattle.paths.specs.Texts.{Ahead, line_at, run_at, byte_at}
 use Rattle.paths.specs.Snapshots.{feed, most_files, most_bytes, longest_name, latest_time, longest_text, first_line}
@@ -122,7 +123,7 @@ failures_of _ = 0
 
 -- the count of failures rose by one exactly where the fault is a failed read
 abbrev pub CountsKind : {X : Type 0} → ℕ → ℕ → Result X SnapshotFaultKind → Type 0
-CountsKind old new r = MatchResult r (λ _. new ≡ old) (λ k. new ≡ old + failures_of k)
+CountsKind old new r = CountsBy failures_of old new r
 
 -- The first fault of bytes of which no front is a snapshot text: the first line's, or that of the entry after the files
 -- whose texts stand whole before it. Entry 0 is the first line.
@@ -164,4 +165,4 @@ pub record ReadsWhole (old new : Option (List ℕ)) (files : List File) : Type 0
   pub text : is_some old ≡ true → IsSnapshotText (unwrap_or old []) files
 
 abbrev pub CountsFault : {X : Type 0} → ℕ → ℕ → Result X SnapshotFault → Type 0
-CountsFault old new r = MatchResult r (λ _. new ≡ old) (λ f. new ≡ old + failures_of f.kind)
+CountsFault old new r = CountsBy (λ f. failures_of f.kind) old new r

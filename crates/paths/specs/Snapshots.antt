@@ -7,12 +7,21 @@ use Rattle.std.specs.Ordering.{is_lt, nat_cmp}
 use Rattle.std.specs.Cmp.Lexicographic.{slice_cmp}
 use Rattle.paths.specs.declared.file.File.{File}
 
--- a line feed, and a slash
+-- a line feed, and bytes that mean something in a target: `/`, `?`, `#` and `%`
 abbrev pub feed : ℕ
 feed = 10
 
 abbrev pub slash : ℕ
 slash = 47
+
+abbrev pub question_mark : ℕ
+question_mark = 63
+
+abbrev pub number_sign : ℕ
+number_sign = 35
+
+abbrev pub percent_sign : ℕ
+percent_sign = 37
 
 -- the greatest number of files, of bytes of a file, of bytes of a name and of bytes of a text, and the greatest time
 abbrev pub most_files : ℕ

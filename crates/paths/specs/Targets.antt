@@ -6,7 +6,7 @@ use Rattle.std.specs.Option.{option_map}
 use Rattle.std.specs.Char.{is_digit, to_ascii_lowercase}
 use Rattle.std.specs.Str.{is_utf8}
 use Rattle.percent_encoding.specs.Percent.{percent_decode}
-use Rattle.paths.specs.Snapshots.{slash}
+use Rattle.paths.specs.Snapshots.{slash, question_mark, number_sign, percent_sign}
 use Rattle.paths.specs.declared.asked.Asked.{Asked}
 use Rattle.paths.specs.declared.asked.Asked.TheVariants.{Path, Missing, BadTarget, NotAllowed, NotKnown}
 
@@ -20,7 +20,7 @@ is_known method = list_any (bytes_eq method)
 
 -- what stands after the authority of a target in absolute form; an authority has at least one byte
 abbrev pub is_authority_end : ℕ → Bool
-is_authority_end b = b == slash || b == 63
+is_authority_end b = b == slash || b == question_mark
 
 abbrev pub after_authority : List ℕ → Option (List ℕ)
 after_authority rest =
@@ -31,10 +31,10 @@ after_authority rest =
 -- means the same as a slash. A target with a `#`, or of another form, has none.
 abbrev pub path_of : List ℕ → Option (List ℕ)
 path_of target =
-    if list_any (λ b. b == 35) target then None
-    else if starts_with nat_eq target (codes "/") then Some (before_first (λ b. b == 63) target)
+    if list_any (λ b. b == number_sign) target then None
+    else if starts_with nat_eq target (codes "/") then Some (before_first (λ b. b == question_mark) target)
     else if bytes_eq (map to_ascii_lowercase (take 7 target)) (codes "http://")
-    then option_map (before_first (λ b. b == 63)) (after_authority (drop 7 target))
+    then option_map (before_first (λ b. b == question_mark)) (after_authority (drop 7 target))
     else None
 
 -- two hexadecimal digits stand in front
@@ -46,7 +46,7 @@ begins_hexadecimal (h ∷ l ∷ bytes) = is_digit h 16 && is_digit l 16
 -- after each `%` two hexadecimal digits stand (RFC 3986, 2.1)
 abbrev pub has_good_escapes : List ℕ → Bool
 has_good_escapes [] = true
-has_good_escapes (b ∷ bytes) = (not (b == 37) || begins_hexadecimal bytes) && has_good_escapes bytes
+has_good_escapes (b ∷ bytes) = (not (b == percent_sign) || begins_hexadecimal bytes) && has_good_escapes bytes
 
 -- the segments of a path: what stands between the slashes after its first byte, each decoded by itself
 abbrev pub segments_of : List ℕ → List (List ℕ)

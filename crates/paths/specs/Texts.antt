@@ -3,6 +3,7 @@ use Rattle.std.specs.Prelude.{◌≡◌, ℕ, ◌+◌, ◌-◌, ◌==◌, ◌<�
 use Rattle.std.specs.Prelude.{Option, Result, Ok, Err, MatchResult, nat_lt, nat_le, if◌then◌else◌, unwrap_or, is_some}
 use Rattle.std.specs.Prelude.{slice_index}
 use Rattle.std.specs.List.{before_first}
+use Rattle.paths.specs.Devices.{CountsBy}
 use Rattle.paths.specs.declared.stop.Stop.{Stop}
 use Rattle.paths.specs.declared.stop.Stop.TheVariants.{TooLong, Cut, TooLarge, Read, Memory}
 
@@ -81,4 +82,4 @@ failures_in _ = 0
 
 -- the count of failures rose by one exactly where the fault is a failed read
 abbrev pub Counts : {X : Type 0} → ℕ → ℕ → Result X Stop → Type 0
-Counts old new r = MatchResult r (λ _. new ≡ old) (λ e. new ≡ old + failures_in e)
+Counts old new r = CountsBy failures_in old new r

@@ -1,3 +1,5 @@
+//! What a request asks for.
+
 use crate::Segments;
 
 /// What a request asks for, by its method and its target alone.

@@ -1,3 +1,5 @@
+//! A list of bytes that contracts see as such.
+
 ghost use Rattle.std.specs.Prelude.{◌≡◌, ◌≤◌, length, take, vec_items};
 ghost use Rattle.std.specs.Str.{is_utf8};
 

@@ -1,7 +1,9 @@
+//! A reader that is lent to a call, and the count of its failures.
+
 ghost use Rattle.std.specs.Prelude.{◌≡◌, ◌+◌, ◌-◌, ◌<◌, ◌^◌, OnOk, OnErr};
 ghost use Rattle.std.specs.Io.{ReadsAtMost};
 ghost use Rattle.std.specs.Io.KnownBytes.{ReadConsumes};
-ghost use Rattle.paths.specs.Devices.{ByteConsumes};
+ghost use Rattle.paths.specs.Devices.{ByteConsumes, fresh, CanFail};
 
 use std::io::Read;
 use std::marker::Model;
@@ -22,17 +24,17 @@ pub struct Input<R: Read> {
 }
 
 impl<R: Read> Model for Input<R> {
-    ghost use Rattle.std.specs.Prelude.{ℕ, List, Option};
+    ghost use Rattle.paths.specs.Devices.{Device};
 
-    ghost Value = { Option (List ℕ) × ℕ };
+    ghost Value = { Device };
 
-    ghost view = { λ i. (R.remaining i.reader, i.failures) };
+    ghost view = { λ i. record { bytes = R.remaining i.reader; failures = i.failures } };
 }
 
 impl<R: Read> Input<R> {
     /// A reader that has not failed yet.
     pub fn new(reader: R) -> Input<R>
-        ensures { result ≡ (R.remaining reader, 0) }
+        ensures { result ≡ fresh (R.remaining reader) }
     {
         Input {
             reader,
@@ -42,7 +44,7 @@ impl<R: Read> Input<R> {
 
     /// How often a call answered [`Failed`].
     pub fn failures(&self) -> u64
-        ensures { result ≡ self.now.1 }
+        ensures { result ≡ self.now.failures }
     {
         self.failures
     }
@@ -50,11 +52,11 @@ impl<R: Read> Input<R> {
     /// Makes one read into the front of `room`, and answers how many bytes came. None come at the end of the input
     /// alone, or where there is no room. A read that was interrupted is a failure.
     pub fn read_some(&mut self, room: &mut [u8]) -> Result<usize, Failed>
-        requires { self.old.1 < 2 ^ 64 - 1 }
+        requires { CanFail self.old }
         ensures bound { ReadsAtMost result room.new }
-        ensures bytes { ReadConsumes self.old.0 self.new.0 result room.new }
-        ensures ok { OnOk result (self.new.1 ≡ self.old.1) }
-        ensures err { OnErr result (self.new.1 ≡ self.old.1 + 1) }
+        ensures bytes { ReadConsumes self.old.bytes self.new.bytes result room.new }
+        ensures ok { OnOk result (self.new.failures ≡ self.old.failures) }
+        ensures err { OnErr result (self.new.failures ≡ self.old.failures + 1) }
     {
         match self.reader.read(room) {
             Ok(count) => Ok(count),
@@ -67,10 +69,10 @@ impl<R: Read> Input<R> {
 
     /// Makes one read of one byte; `None` at the end of the input.
     pub fn read_byte(&mut self) -> Result<Option<u8>, Failed>
-        requires { self.old.1 < 2 ^ 64 - 1 }
-        ensures bytes { ByteConsumes self.old.0 self.new.0 result }
-        ensures ok { OnOk result (self.new.1 ≡ self.old.1) }
-        ensures err { OnErr result (self.new.1 ≡ self.old.1 + 1) }
+        requires { CanFail self.old }
+        ensures bytes { ByteConsumes self.old.bytes self.new.bytes result }
+        ensures ok { OnOk result (self.new.failures ≡ self.old.failures) }
+        ensures err { OnErr result (self.new.failures ≡ self.old.failures + 1) }
     {
         let mut room = [0];
         if self.read_some(&mut room)? == 0 {

@@ -1,5 +1,8 @@
+//! Reading the first line, the entries and the last line of a snapshot.
+
 ghost use Rattle.std.specs.Prelude.{◌≡◌, ◌<◌, ◌≤◌, ◌-◌, ◌^◌, ◌&&◌, ◌==◌, not, length, IfOk, IfErr, IfSome, ◌≢◌};
 ghost use Rattle.std.specs.List.{list_all, list_any, slice_split};
+ghost use Rattle.paths.specs.Devices.{CanFail};
 ghost use Rattle.paths.specs.Texts.{Gives};
 ghost use Rattle.paths.specs.Parts.{FailsWithin};
 ghost use Rattle.paths.specs.Snapshots.{slash, is_name, is_part, FitsName, Follows};
@@ -10,19 +13,11 @@ use crate::bytes::is_text;
 use crate::file::{FileLine, Heading};
 use crate::heading::{read_entry_line, read_heading};
 use crate::{
-    Bytes, File, Input, Snapshot, SnapshotFaultKind, Stop, read_byte_of, read_line, read_run,
+    Bytes, File, Input, LATEST_TIME, LONGEST_NAME, MOST_BYTES, MOST_FILES, Snapshot,
+    SnapshotFaultKind, Stop, read_byte_of, read_line, read_run,
 };
 use std::alloc::Global;
 use std::io::Read;
-
-/// The greatest time of a file, in seconds since 1970-01-01.
-const LATEST_TIME: u64 = 253_402_300_799;
-/// The most bytes of a file.
-const MOST_BYTES: u64 = 16_777_216;
-/// The most bytes of a name.
-const LONGEST_NAME: u64 = 1_024;
-/// The most files.
-const MOST_FILES: usize = 65_536;
 
 /// Whether these bytes may be a file's name: UTF-8 without byte 0, whose parts between slashes are names of their own.
 pub fn is_name(name: &[u8]) -> bool
@@ -57,12 +52,12 @@ pub(crate) fn read_header<R: Read>(
     input: &mut Input<R>,
     left: &mut usize,
 ) -> Result<(), SnapshotFaultKind>
-    requires { input.old.1 < 2 ^ 64 - 1 }
-    ensures line { Gives is_unforeseen_kind header_at input.old.0 left.old input.new.0 left.new result }
+    requires { CanFail input.old }
+    ensures line { Gives is_unforeseen_kind header_at input.old.bytes left.old input.new.bytes left.new result }
     // Where a read failed, no whole line had been taken.
     ensures part { FailsWithin SnapshotFaultKind.Read SnapshotFaultKind.Cut header_at
-        input.old.0 left.old input.new.0 left.new result }
-    ensures count { CountsKind input.old.1 input.new.1 result }
+        input.old.bytes left.old input.new.bytes left.new result }
+    ensures count { CountsKind input.old.failures input.new.failures result }
     // It takes no memory.
     ensures memory { IfErr result (λ kind. kind ≢ SnapshotFaultKind.Memory) }
 {
@@ -87,13 +82,14 @@ fn read_name<R: Read>(
     files: &Snapshot,
     len: usize,
 ) -> Result<Bytes, SnapshotFaultKind>
-    requires { input.old.1 < 2 ^ 64 - 1 }
-    ensures name { Gives is_unforeseen_kind (name_at files.now len) input.old.0 left.old input.new.0 left.new result }
+    requires { CanFail input.old }
+    ensures name { Gives is_unforeseen_kind (name_at files.now len)
+        input.old.bytes left.old input.new.bytes left.new result }
     // Where a read failed, no whole name had been taken.
     ensures part { FailsWithin SnapshotFaultKind.Read SnapshotFaultKind.Cut (name_at files.now len)
-        input.old.0 left.old input.new.0 left.new result }
+        input.old.bytes left.old input.new.bytes left.new result }
     ensures fits { IfOk result (λ name. FitsName files.now len name) }
-    ensures count { CountsKind input.old.1 input.new.1 result }
+    ensures count { CountsKind input.old.failures input.new.failures result }
 {
     let name = read_run(alloc, input, left, len)?;
     let end = read_byte_of(input, left)?;
@@ -116,13 +112,13 @@ fn read_body<R: Read>(
     left: &mut usize,
     len: usize,
 ) -> Result<Bytes, SnapshotFaultKind>
-    requires { input.old.1 < 2 ^ 64 - 1 }
-    ensures bytes { Gives is_unforeseen_kind (body_at len) input.old.0 left.old input.new.0 left.new result }
+    requires { CanFail input.old }
+    ensures bytes { Gives is_unforeseen_kind (body_at len) input.old.bytes left.old input.new.bytes left.new result }
     // Where a read failed, no whole run had been taken.
     ensures part { FailsWithin SnapshotFaultKind.Read SnapshotFaultKind.Cut (body_at len)
-        input.old.0 left.old input.new.0 left.new result }
+        input.old.bytes left.old input.new.bytes left.new result }
     ensures length { IfOk result (λ bytes. length bytes ≡ len) }
-    ensures count { CountsKind input.old.1 input.new.1 result }
+    ensures count { CountsKind input.old.failures input.new.failures result }
 {
     let bytes = read_run(alloc, input, left, len)?;
     let end = read_byte_of(input, left)?;
@@ -140,13 +136,14 @@ fn read_file<R: Read>(
     files: &Snapshot,
     line: FileLine,
 ) -> Result<File, SnapshotFaultKind>
-    requires { input.old.1 < 2 ^ 64 - 1 }
-    ensures file { Gives is_unforeseen_kind (file_at files.now line) input.old.0 left.old input.new.0 left.new result }
+    requires { CanFail input.old }
+    ensures file { Gives is_unforeseen_kind (file_at files.now line)
+        input.old.bytes left.old input.new.bytes left.new result }
     // Where a read failed, no whole file had been taken.
     ensures part { FailsWithin SnapshotFaultKind.Read SnapshotFaultKind.Cut (file_at files.now line)
-        input.old.0 left.old input.new.0 left.new result }
+        input.old.bytes left.old input.new.bytes left.new result }
     ensures fits { IfOk result (λ file. Follows files.now file) }
-    ensures count { CountsKind input.old.1 input.new.1 result }
+    ensures count { CountsKind input.old.failures input.new.failures result }
 {
     if line.mtime > LATEST_TIME {
         return Err(SnapshotFaultKind::Number);
@@ -174,14 +171,14 @@ fn read_announced<R: Read>(
     files: &Snapshot,
     heading: Heading,
 ) -> Result<Option<File>, SnapshotFaultKind>
-    requires { input.old.1 < 2 ^ 64 - 1 }
+    requires { CanFail input.old }
     ensures entry { Gives is_unforeseen_kind
-        (announced files.now heading) input.old.0 left.old input.new.0 left.new result }
+        (announced files.now heading) input.old.bytes left.old input.new.bytes left.new result }
     // Where a read failed, no whole file had been taken.
     ensures part { FailsWithin SnapshotFaultKind.Read SnapshotFaultKind.Cut (announced files.now heading)
-        input.old.0 left.old input.new.0 left.new result }
+        input.old.bytes left.old input.new.bytes left.new result }
     ensures fits { IfOk result (λ entry. IfSome entry (λ file. Follows files.now file)) }
-    ensures count { CountsKind input.old.1 input.new.1 result }
+    ensures count { CountsKind input.old.failures input.new.failures result }
 {
     match heading {
         Heading::File(line) => match read_file(alloc, input, left, files, line) {
@@ -205,13 +202,14 @@ pub(crate) fn read_entry<R: Read>(
     left: &mut usize,
     files: &Snapshot,
 ) -> Result<Option<File>, SnapshotFaultKind>
-    requires { input.old.1 < 2 ^ 64 - 1 }
-    ensures entry { Gives is_unforeseen_kind (entry_at files.now) input.old.0 left.old input.new.0 left.new result }
+    requires { CanFail input.old }
+    ensures entry { Gives is_unforeseen_kind (entry_at files.now)
+        input.old.bytes left.old input.new.bytes left.new result }
     // Where a read failed, no whole entry had been taken.
     ensures part { FailsWithin SnapshotFaultKind.Read SnapshotFaultKind.Cut (entry_at files.now)
-        input.old.0 left.old input.new.0 left.new result }
+        input.old.bytes left.old input.new.bytes left.new result }
     ensures fits { IfOk result (λ entry. IfSome entry (λ file. Follows files.now file)) }
-    ensures count { CountsKind input.old.1 input.new.1 result }
+    ensures count { CountsKind input.old.failures input.new.failures result }
 {
     let line = read_entry_line(input, left)?;
     let heading = read_heading(line.as_slice())?;

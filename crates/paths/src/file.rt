@@ -1,3 +1,5 @@
+//! A file of a snapshot, and the lines that announce one.
+
 use crate::Bytes;
 
 /// A file of a snapshot.

@@ -1,4 +1,7 @@
+//! Reading a line that announces something, no further than it owes.
+
 ghost use Rattle.std.specs.Prelude.{◌≡◌, ◌+◌, ◌-◌, ◌<◌, ◌≤◌, ◌^◌, length, IfErr, ◌≢◌};
+ghost use Rattle.paths.specs.Devices.{CanFail};
 ghost use Rattle.paths.specs.SnapshotFaults.{heading_of};
 ghost use Rattle.paths.specs.Texts.{Counts, line_at};
 ghost use Rattle.paths.specs.Parts.{FailsWithin};
@@ -46,13 +49,13 @@ pub fn read_long_line<R: Read>(
     kind: &[u8],
     longer: usize,
 ) -> Result<Line, Stop>
-    requires healthy { input.old.1 < 2 ^ 64 - 1 }
+    requires healthy { CanFail input.old }
     requires least { (1 ≤ least) × (least ≤ 8) }
     requires longer { (least < longer) × (longer ≤ least + 8) }
-    ensures line { GivesLongLine least kind.now longer input.old.0 left.old input.new.0 left.new result }
+    ensures line { GivesLongLine least kind.now longer input.old.bytes left.old input.new.bytes left.new result }
     // Where a read failed, no whole line had been taken.
-    ensures part { FailsWithin Stop.Read Stop.Cut line_at input.old.0 left.old input.new.0 left.new result }
-    ensures count { Counts input.old.1 input.new.1 result }
+    ensures part { FailsWithin Stop.Read Stop.Cut line_at input.old.bytes left.old input.new.bytes left.new result }
+    ensures count { Counts input.old.failures input.new.failures result }
     // It takes no memory.
     ensures memory { IfErr result (λ e. e ≢ Stop.Memory) }
 {
@@ -75,11 +78,11 @@ pub fn read_long_line<R: Read>(
 /// Reads the line of an entry of a text that may take `left` more bytes. Bytes after a line that announces nothing
 /// may have been read too.
 pub(crate) fn read_entry_line<R: Read>(input: &mut Input<R>, left: &mut usize) -> Result<Line, Stop>
-    requires { input.old.1 < 2 ^ 64 - 1 }
-    ensures line { GivesLine input.old.0 left.old input.new.0 left.new result }
+    requires { CanFail input.old }
+    ensures line { GivesLine input.old.bytes left.old input.new.bytes left.new result }
     // Where a read failed, no whole line had been taken.
-    ensures part { FailsWithin Stop.Read Stop.Cut line_at input.old.0 left.old input.new.0 left.new result }
-    ensures count { Counts input.old.1 input.new.1 result }
+    ensures part { FailsWithin Stop.Read Stop.Cut line_at input.old.bytes left.old input.new.bytes left.new result }
+    ensures count { Counts input.old.failures input.new.failures result }
     // It takes no memory.
     ensures memory { IfErr result (λ e. e ≢ Stop.Memory) }
 {

@@ -1,3 +1,5 @@
+//! Decimal numbers, one or several in a line.
+
 ghost use Rattle.std.specs.Prelude.{◌≡◌, ◌==◌, ◌<◌, length, position, IfSome};
 ghost use Rattle.std.specs.Option.{option_map};
 ghost use Rattle.paths.specs.Numbers.{number_of, number_and_rest, three_numbers};

@@ -1,3 +1,5 @@
+//! What a request is answered with.
+
 use crate::Bytes;
 
 /// What a request is answered with.

@@ -1,5 +1,7 @@
+//! A writer that is lent to a call, and the count of its failures.
+
 ghost use Rattle.std.specs.Prelude.{◌≡◌, ◌+◌, ◌-◌, ◌<◌, ◌^◌, OnOk, OnErr};
-ghost use Rattle.paths.specs.Devices.{WritesSome};
+ghost use Rattle.paths.specs.Devices.{WritesSome, fresh, CanFail};
 
 use crate::Failed;
 use std::io::Write;
@@ -15,17 +17,17 @@ pub struct Output<W: Write> {
 }
 
 impl<W: Write> Model for Output<W> {
-    ghost use Rattle.std.specs.Prelude.{ℕ, List, Option};
+    ghost use Rattle.paths.specs.Devices.{Device};
 
-    ghost Value = { Option (List ℕ) × ℕ };
+    ghost Value = { Device };
 
-    ghost view = { λ o. (W.contents o.writer, o.failures) };
+    ghost view = { λ o. record { bytes = W.contents o.writer; failures = o.failures } };
 }
 
 impl<W: Write> Output<W> {
     /// A writer that has not failed yet.
     pub fn new(writer: W) -> Output<W>
-        ensures { result ≡ (W.contents writer, 0) }
+        ensures { result ≡ fresh (W.contents writer) }
     {
         Output {
             writer,
@@ -35,14 +37,14 @@ impl<W: Write> Output<W> {
 
     /// The writer again.
     pub fn into_writer(self) -> W
-        ensures { W.contents result ≡ self.0 }
+        ensures { W.contents result ≡ self.bytes }
     {
         self.writer
     }
 
     /// How often a call answered [`Failed`].
     pub fn failures(&self) -> u64
-        ensures { result ≡ self.now.1 }
+        ensures { result ≡ self.now.failures }
     {
         self.failures
     }
@@ -50,10 +52,10 @@ impl<W: Write> Output<W> {
     /// Makes one write, and answers how many bytes of the front were taken. A writer that takes none of at least one
     /// byte has failed, and so has one that was interrupted.
     pub fn write_some(&mut self, bytes: &[u8]) -> Result<usize, Failed>
-        requires { self.old.1 < 2 ^ 64 - 1 }
-        ensures bytes { WritesSome self.old.0 self.new.0 result bytes.now }
-        ensures ok { OnOk result (self.new.1 ≡ self.old.1) }
-        ensures err { OnErr result (self.new.1 ≡ self.old.1 + 1) }
+        requires { CanFail self.old }
+        ensures bytes { WritesSome self.old.bytes self.new.bytes result bytes.now }
+        ensures ok { OnOk result (self.new.failures ≡ self.old.failures) }
+        ensures err { OnErr result (self.new.failures ≡ self.old.failures + 1) }
     {
         match self.writer.write(bytes) {
             Ok(count) if count > 0 || bytes.is_empty() => Ok(count),

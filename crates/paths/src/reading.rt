@@ -1,16 +1,16 @@
+//! Reading a snapshot, as a whole input or as a prefix of one.
+
 ghost use Rattle.std.specs.Prelude.{◌≡◌, ◌<◌, ◌-◌, ◌^◌, ◌++◌, IfOk, IfErr, false, true, Option, ℕ, List, ◌≢◌};
 ghost use Rattle.std.specs.Option.{unwrap_or};
+ghost use Rattle.paths.specs.Devices.{CanFail};
 ghost use Rattle.paths.specs.Parts.{NamesFailed, NamesLacking, FailsInSnapshot, FailsInText};
 ghost use Rattle.paths.specs.SnapshotFaults.{ReadsFront, IsFrontFault, IsFirstFault, ReadsWhole, IsForeseen};
 ghost use Rattle.paths.specs.SnapshotFaults.{CountsFault};
 
 use crate::entry::{read_entry, read_header};
-use crate::{Input, Snapshot, SnapshotFault, SnapshotFaultKind};
+use crate::{Input, LONGEST_TEXT, Snapshot, SnapshotFault, SnapshotFaultKind};
 use std::alloc::Global;
 use std::io::Read;
-
-/// The most bytes of a snapshot text.
-const LONGEST_TEXT: usize = 1_073_741_824;
 
 impl Snapshot {
     /// Reads a snapshot text, to its last line. What follows is left unread, byte for byte.
@@ -20,14 +20,14 @@ impl Snapshot {
         alloc: Global,
         input: &mut Input<R>,
     ) -> Result<Snapshot, SnapshotFault>
-        requires { input.old.1 < 2 ^ 64 - 1 }
-        ensures ok { IfOk result (ReadsFront input.old.0 input.new.0) }
-        ensures fault { IfErr result (IsForeseen IsFrontFault input.old.0) }
+        requires { CanFail input.old }
+        ensures ok { IfOk result (ReadsFront input.old.bytes input.new.bytes) }
+        ensures fault { IfErr result (IsForeseen IsFrontFault input.old.bytes) }
         // Where a read failed, the fault names the entry of which a part had been taken.
-        ensures failed { IfErr result (NamesFailed FailsInSnapshot input.old.0 input.new.0) }
-        ensures count { CountsFault input.old.1 input.new.1 result }
+        ensures failed { IfErr result (NamesFailed FailsInSnapshot input.old.bytes input.new.bytes) }
+        ensures count { CountsFault input.old.failures input.new.failures result }
         // Where memory ran out, the fault names an entry after files that stand whole.
-        ensures lacking { IfErr result (NamesLacking input.old.0) }
+        ensures lacking { IfErr result (NamesLacking input.old.bytes) }
         // The first line takes no memory.
         ensures memory { IfErr result (λ f. f.entry ≡ 0 → f.kind ≢ SnapshotFaultKind.Memory) }
     {
@@ -57,15 +57,15 @@ impl Snapshot {
     ///
     /// An `Err` names the first fault of the text; the input is left somewhere after what was read.
     pub fn read<R: Read>(alloc: Global, input: &mut Input<R>) -> Result<Snapshot, SnapshotFault>
-        requires { input.old.1 < 2 ^ 64 - 1 }
-        ensures ok { IfOk result (ReadsWhole input.old.0 input.new.0) }
-        ensures fault { IfErr result (IsForeseen IsFirstFault input.old.0) }
+        requires { CanFail input.old }
+        ensures ok { IfOk result (ReadsWhole input.old.bytes input.new.bytes) }
+        ensures fault { IfErr result (IsForeseen IsFirstFault input.old.bytes) }
         // Where a read failed, the fault names the entry of which a part had been taken, or the one after the last
         // line.
-        ensures failed { IfErr result (NamesFailed FailsInText input.old.0 input.new.0) }
-        ensures count { CountsFault input.old.1 input.new.1 result }
+        ensures failed { IfErr result (NamesFailed FailsInText input.old.bytes input.new.bytes) }
+        ensures count { CountsFault input.old.failures input.new.failures result }
         // Where memory ran out, the fault names an entry after files that stand whole.
-        ensures lacking { IfErr result (NamesLacking input.old.0) }
+        ensures lacking { IfErr result (NamesLacking input.old.bytes) }
         // The first line takes no memory.
         ensures memory { IfErr result (λ f. f.entry ≡ 0 → f.kind ≢ SnapshotFaultKind.Memory) }
     {

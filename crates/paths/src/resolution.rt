@@ -1,3 +1,5 @@
+//! From what is asked to the file, the location or the fault that answers it.
+
 ghost use Rattle.std.specs.Prelude.{◌≡◌, ◌++◌, [], ◌∷◌, true, false, IfOk, IfSome, OnOk, string_bytes, codes, flat_map};
 ghost use Rattle.std.specs.Prelude.{List, ℕ};
 ghost use Rattle.std.specs.List.{list_all};

@@ -1,3 +1,5 @@
+//! The segments of a path.
+
 ghost use Rattle.std.specs.Prelude.{◌≡◌, ◌-◌, ◌==◌, ◌++◌, [], ◌∷◌, length, take, OnOk, OnErr};
 
 use crate::Bytes;

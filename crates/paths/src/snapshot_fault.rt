@@ -1,3 +1,5 @@
+//! What is wrong with a snapshot, and at which entry.
+
 ghost use Rattle.std.specs.Prelude.{◌≡◌};
 
 use crate::Stop;

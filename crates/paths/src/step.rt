@@ -1,3 +1,5 @@
+//! Whether a walk through segments goes on.
+
 /// What a segment did to a walk.
 #[derive(Clone, Copy)]
 pub enum Step {

@@ -1,3 +1,5 @@
+//! Why a line, a byte or a run was not read.
+
 use thiserror::Error;
 
 /// Why a part of a text could not be read.

@@ -1,9 +1,11 @@
+//! From a method and a target to what is asked for (RFC 9110, 9; 9112, 3.2; 3986, 3.3).
+
 ghost use Rattle.std.specs.Prelude.{◌≡◌, ◌==◌, ◌||◌, ◌<◌, ◌≤◌, length, position, IfOk, IfSome, OnOk, OnErr, Option};
 ghost use Rattle.std.specs.Prelude.{map, List, ℕ, true, [], ◌∷◌};
 ghost use Rattle.std.specs.Option.{option_map};
 ghost use Rattle.std.specs.List.{list_any, before_first, slice_split};
 ghost use Rattle.percent_encoding.specs.Percent.{percent_decode};
-ghost use Rattle.paths.specs.Snapshots.{slash};
+ghost use Rattle.paths.specs.Snapshots.{slash, question_mark, number_sign, percent_sign};
 ghost use Rattle.paths.specs.Steps.{after_step};
 ghost use Rattle.paths.specs.Targets.{is_served, is_known, path_of, begins_hexadecimal, has_good_escapes, is_nameless};
 ghost use Rattle.paths.specs.Targets.{is_here, is_up, walked, asked_by, asked, segments_of, is_authority_end};
@@ -58,14 +60,14 @@ fn is_known(method: &[u8]) -> bool
 
 /// Where the query begins.
 fn first_query(text: &[u8]) -> Option<usize>
-    ensures { result ≡ position (λ b. b == 63) text.now }
+    ensures { result ≡ position (λ b. b == question_mark) text.now }
 {
     text.iter().position(|byte| *byte == b'?')
 }
 
 /// What stands before the query.
 fn without_query(text: &[u8]) -> &[u8]
-    ensures { result.now ≡ before_first (λ b. b == 63) text.now }
+    ensures { result.now ≡ before_first (λ b. b == question_mark) text.now }
 {
     match first_query(text) {
         Some(at) => &text[..at],
@@ -94,7 +96,7 @@ fn after_authority(text: &[u8]) -> Option<&[u8]>
 
 /// Whether a fragment stands in the target.
 fn has_fragment(target: &[u8]) -> bool
-    ensures { result ≡ list_any (λ b. b == 35) target.now }
+    ensures { result ≡ list_any (λ b. b == number_sign) target.now }
 {
     target.iter().any(|byte| *byte == b'#')
 }
@@ -182,7 +184,7 @@ fn first_slash(text: &[u8]) -> Option<usize>
 
 /// Whether an escape may stand in a segment.
 fn has_escape(part: &[u8]) -> bool
-    ensures { result ≡ list_any (λ b. b == 37) part.now }
+    ensures { result ≡ list_any (λ b. b == percent_sign) part.now }
 {
     part.iter().any(|byte| *byte == b'%')
 }

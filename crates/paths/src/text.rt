@@ -1,6 +1,9 @@
+//! Reading lines, bytes and runs of a text of limited size.
+
 ghost use Rattle.std.specs.Prelude.{◌≡◌, ℕ, ◌+◌, ◌-◌, ◌<◌, ◌≤◌, ◌==◌, ◌^◌, ◌++◌, [], ◌∷◌, length, nat_lt, IfOk, IfErr};
 ghost use Rattle.std.specs.Prelude.{◌≢◌};
 ghost use Rattle.std.specs.List.{before_first};
+ghost use Rattle.paths.specs.Devices.{CanFail};
 ghost use Rattle.paths.specs.Parts.{FailsAtOnce, FailsWithin};
 ghost use Rattle.paths.specs.Texts.{Gives, Counts, TakesSome, Fills, is_unforeseen, byte_at, line_at, run_at};
 
@@ -73,12 +76,12 @@ pub(crate) fn read_some_of<R: Read>(
     left: &mut usize,
     room: &mut [u8],
 ) -> Result<usize, Stop>
-    requires healthy { input.old.1 < 2 ^ 64 - 1 }
+    requires healthy { CanFail input.old }
     requires room { 0 < length room.old }
-    ensures some { TakesSome input.old.0 left.old input.new.0 left.new room.new result }
+    ensures some { TakesSome input.old.bytes left.old input.new.bytes left.new room.new result }
     // A read that failed took nothing.
-    ensures part { FailsAtOnce Stop.Read input.old.0 left.old input.new.0 left.new result }
-    ensures count { Counts input.old.1 input.new.1 result }
+    ensures part { FailsAtOnce Stop.Read input.old.bytes left.old input.new.bytes left.new result }
+    ensures count { Counts input.old.failures input.new.failures result }
     // It takes no memory.
     ensures memory { IfErr result (λ e. e ≢ Stop.Memory) }
 {
@@ -102,11 +105,11 @@ pub(crate) fn read_some_of<R: Read>(
 
 /// Reads the next byte of a text that may take `left` more bytes.
 pub fn read_byte_of<R: Read>(input: &mut Input<R>, left: &mut usize) -> Result<u8, Stop>
-    requires { input.old.1 < 2 ^ 64 - 1 }
-    ensures byte { Gives is_unforeseen byte_at input.old.0 left.old input.new.0 left.new result }
+    requires { CanFail input.old }
+    ensures byte { Gives is_unforeseen byte_at input.old.bytes left.old input.new.bytes left.new result }
     // A read that failed took nothing.
-    ensures part { FailsAtOnce Stop.Read input.old.0 left.old input.new.0 left.new result }
-    ensures count { Counts input.old.1 input.new.1 result }
+    ensures part { FailsAtOnce Stop.Read input.old.bytes left.old input.new.bytes left.new result }
+    ensures count { Counts input.old.failures input.new.failures result }
     // It takes no memory.
     ensures memory { IfErr result (λ e. e ≢ Stop.Memory) }
 {
@@ -119,11 +122,11 @@ pub fn read_byte_of<R: Read>(input: &mut Input<R>, left: &mut usize) -> Result<u
 
 /// Reads the next line of a text that may take `left` more bytes, byte by byte, and leaves what follows its line feed.
 pub fn read_line<R: Read>(input: &mut Input<R>, left: &mut usize) -> Result<Line, Stop>
-    requires { input.old.1 < 2 ^ 64 - 1 }
-    ensures line { Gives is_unforeseen line_at input.old.0 left.old input.new.0 left.new result }
+    requires { CanFail input.old }
+    ensures line { Gives is_unforeseen line_at input.old.bytes left.old input.new.bytes left.new result }
     // Where a read failed, no whole line had been taken.
-    ensures part { FailsWithin Stop.Read Stop.Cut line_at input.old.0 left.old input.new.0 left.new result }
-    ensures count { Counts input.old.1 input.new.1 result }
+    ensures part { FailsWithin Stop.Read Stop.Cut line_at input.old.bytes left.old input.new.bytes left.new result }
+    ensures count { Counts input.old.failures input.new.failures result }
     // It takes no memory.
     ensures memory { IfErr result (λ e. e ≢ Stop.Memory) }
 {
@@ -140,12 +143,12 @@ pub fn read_line<R: Read>(input: &mut Input<R>, left: &mut usize) -> Result<Line
 
 /// Fills the room with the next bytes of a text that may take `left` more bytes.
 fn fill<R: Read>(input: &mut Input<R>, left: &mut usize, room: &mut [u8]) -> Result<(), Stop>
-    requires { input.old.1 < 2 ^ 64 - 1 }
-    ensures run { Fills input.old.0 left.old input.new.0 left.new room.new result }
+    requires { CanFail input.old }
+    ensures run { Fills input.old.bytes left.old input.new.bytes left.new room.new result }
     // Where a read failed, no whole run had been taken.
     ensures part { FailsWithin Stop.Read Stop.Cut (run_at (length room.new))
-        input.old.0 left.old input.new.0 left.new result }
-    ensures count { Counts input.old.1 input.new.1 result }
+        input.old.bytes left.old input.new.bytes left.new result }
+    ensures count { Counts input.old.failures input.new.failures result }
     // It takes no memory.
     ensures memory { IfErr result (λ e. e ≢ Stop.Memory) }
 {
@@ -166,12 +169,13 @@ pub fn read_run<R: Read>(
     left: &mut usize,
     count: usize,
 ) -> Result<Bytes, Stop>
-    requires { input.old.1 < 2 ^ 64 - 1 }
-    ensures run { Gives is_unforeseen (run_at count) input.old.0 left.old input.new.0 left.new result }
+    requires { CanFail input.old }
+    ensures run { Gives is_unforeseen (run_at count) input.old.bytes left.old input.new.bytes left.new result }
     // Where a read failed, no whole run had been taken.
-    ensures part { FailsWithin Stop.Read Stop.Cut (run_at count) input.old.0 left.old input.new.0 left.new result }
+    ensures part { FailsWithin Stop.Read Stop.Cut (run_at count)
+        input.old.bytes left.old input.new.bytes left.new result }
     ensures length { IfOk result (λ run. length run ≡ count) }
-    ensures count { Counts input.old.1 input.new.1 result }
+    ensures count { Counts input.old.failures input.new.failures result }
 {
     let Ok(mut bytes) = vec![in alloc; 0; count] else {
         return Err(Stop::Memory);

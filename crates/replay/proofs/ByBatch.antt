@@ -14,7 +14,7 @@ use Rattle.captures.specs.declared.version.Version.{Version}
 use Rattle.arrivals.proofs.Tiered.{tier_in_range}
 use Rattle.captures.specs.declared.progress.Progress.{Progress}
 use Rattle.captures.specs.Captures.{IsCapture, IsRecord, size_of, sizes_of, ticks_of}
-use Rattle.captures.specs.Readers.{Fits}
+use Rattle.captures.specs.Readers.{ReaderAfter}
 use Rattle.http_requests.specs.declared.messages.Message.{Message}
 use Rattle.replay.specs.Choices.{Terms}
 use Rattle.arrivals.specs.Arrivals.{Arrival, ArrivesWith, AreArrivals, Precedes, text_of, messages_of}
@@ -52,7 +52,7 @@ serves_same terms records arrivals old new desk same serves = record {
 
 -- a batch was read
 pub come_next : (terms : Terms) (text ahead : Option (List ℕ)) (start : ℕ) (records rs : List Record) (arrivals : List Arrival) (old new : List Place) (origins : List Origin) (desk : Desk) (p : Progress) (v : Version)
-    → Serves terms records arrivals (connections_of old) desk → Waiting [] old → Adds rs old new → origins ≡ origins_of (tiers_of records) rs → Fits v text start (records ++ rs) p ahead → start ≡ desk.start
+    → Serves terms records arrivals (connections_of old) desk → Waiting [] old → Adds rs old new → origins ≡ origins_of (tiers_of records) rs → ReaderAfter v text start (records ++ rs) p ahead → start ≡ desk.start
     → ComeNext terms records rs arrivals new origins desk
 come_next terms text ahead start records rs arrivals old new origins desk p v serves idle adds from fits begun = record {
   serves = serves_same terms records arrivals old new desk (λ c. ap (λ (q : Place). q.connection) (adds c)) serves;

@@ -25,7 +25,7 @@ use Rattle.admission.specs.Requests.{Offer, Decided, of_tier, served, samples, i
 use Rattle.admission.specs.Controls.{control_at, controls_until}
 use Rattle.admission.specs.Decisions.{decided}
 use Rattle.admission.specs.OneTier.{decided_alone, decided_alone_next, decided_alone_from, AreOfTier}
-use Rattle.admission.specs.Fits.{tick_from}
+use Rattle.admission.specs.After.{tick_from}
 use Rattle.admission.proofs.RequestLemmas.{of_tier-other, of_tier-none}
 use Rattle.admission.proofs.OneTierLemmas.{one_tier_as_before}
 use Rattle.arrivals.specs.declared.origin.Origin.{Origin}

@@ -9,7 +9,7 @@ use Rattle.admission.specs.declared.control.Decision.TheVariants.{Admitted, Reje
 use Rattle.admission.specs.Requests.{Offer, served}
 use Rattle.admission.specs.Decisions.{decide, decided, decided_from}
 use Rattle.admission.specs.Standing.{Standing, policies_of}
-use Rattle.admission.specs.Fits.{Fits}
+use Rattle.admission.specs.After.{ControllerAfter}
 use Rattle.responses.specs.declared.link.Link.{Link}
 use Rattle.responses.specs.declared.slip.Slip.{Slip}
 use Rattle.responses.specs.Replies.{status_of, reply_text}
@@ -36,7 +36,7 @@ use Rattle.replay.specs.Offers.{is_unmodified_file, length_given, offer_at, offe
 use Rattle.replay.specs.Counting.{bypassed_of, samples_of, tally_of, breaks_a_rule, AreBelow}
 use Rattle.replay.specs.Totals.{no_counts, totals_of, noted}
 use Rattle.replay.specs.Deciding.{decided_totals, Decides}
-use Rattle.replay.specs.Serving.{Stands, AreBy, records_after}
+use Rattle.replay.specs.Serving.{DeskAfter, AreBy, records_after}
 use Rattle.http_requests.specs.declared.messages.Message.{Message}
 use Rattle.arrivals.specs.Connections.{arrivals_with}
 use Rattle.std.proofs.lemmas.List.Elements.{All-nil, All-cons, All-append}
@@ -51,7 +51,7 @@ use Rattle.replay.proofs.CountMore.{counts_more, bypassed_more, bypassed_few, re
 -- ---- offers
 
 -- nothing is offered
-pub decides_none : (offers : List Offer) (desk : Desk) → Fits offers desk.controller → desk.totals.samples ≡ samples_of (policies_of desk.controller) offers → Decides offers [] desk desk false
+pub decides_none : (offers : List Offer) (desk : Desk) → ControllerAfter offers desk.controller → desk.totals.samples ≡ samples_of (policies_of desk.controller) offers → Decides offers [] desk desk false
 decides_none offers desk fits samples = record {
   policies = refl;
   fits = rw (append-nil offers) fits;
@@ -62,7 +62,7 @@ decides_none offers desk fits samples = record {
 
 pub decides_admitted : (offers : List Offer) (offer : Offer) (finish : ℕ) (decision : Decision) (old new : Desk) (controller : Standing) → decision ≡ Admitted finish
     → decision ≡ decide (policies_of old.controller) (decided (policies_of old.controller) offers) offer
-    → policies_of controller ≡ policies_of old.controller → Fits (offers ++ offer ∷ []) controller → old.totals.samples ≡ samples_of (policies_of old.controller) offers
+    → policies_of controller ≡ policies_of old.controller → ControllerAfter (offers ++ offer ∷ []) controller → old.totals.samples ≡ samples_of (policies_of old.controller) offers
     → new ≡ record { start = old.start; controller = controller; totals = decided_totals old.totals (old.totals.samples ++ (finish - offer.tick) ∷ []) false }
     → Decides offers (offer ∷ []) old new false
 decides_admitted offers offer finish decision old new controller is e rules fits samples told =
@@ -77,7 +77,7 @@ decides_admitted offers offer finish decision old new controller is e rules fits
 
 pub decides_rejected : (offers : List Offer) (offer : Offer) (decision : Decision) (old new : Desk) (controller : Standing) → decision ≡ Rejected
     → decision ≡ decide (policies_of old.controller) (decided (policies_of old.controller) offers) offer
-    → policies_of controller ≡ policies_of old.controller → Fits (offers ++ offer ∷ []) controller → old.totals.samples ≡ samples_of (policies_of old.controller) offers
+    → policies_of controller ≡ policies_of old.controller → ControllerAfter (offers ++ offer ∷ []) controller → old.totals.samples ≡ samples_of (policies_of old.controller) offers
     → new ≡ record { start = old.start; controller = controller; totals = decided_totals old.totals old.totals.samples true }
     → Decides offers (offer ∷ []) old new true
 decides_rejected offers offer decision old new controller is e rules fits samples told =
@@ -154,11 +154,11 @@ totals_more terms arrivals a away e =
       offers_more terms arrivals a,
     ) refl
 
-pub stands_more : (terms : Terms) (arrivals : List Arrival) (a : Arrival) (away : Bool) (old mid new : Desk) (status : ℕ) → Stands terms arrivals old
+pub stands_more : (terms : Terms) (arrivals : List Arrival) (a : Arrival) (away : Bool) (old mid new : Desk) (status : ℕ) → DeskAfter terms arrivals old
     → Decides (offers_of terms arrivals) (offer_at terms a.origin a.message.what) old mid away
     → status ≡ status_of (given {X = Unit {0}} terms away a.message.what)
     → new.controller ≡ mid.controller → new.totals ≡ noted mid.totals status (breaks_a_rule a.message.what)
-    → length arrivals < 1048576 → Stands terms (arrivals ++ a ∷ []) new
+    → length arrivals < 1048576 → DeskAfter terms (arrivals ++ a ∷ []) new
 stands_more terms arrivals a away old mid new status stands decides told same counted few =
     let away_is : away ≡ is_turned_away terms arrivals a = rw stands.policies at decides.is_away in
     record {
@@ -168,47 +168,47 @@ stands_more terms arrivals a away old mid new status stands decides told same co
       few = let len = length-append arrivals (a ∷ []) in omega (arith, len, few);
     }
 
-pub stands_none : (terms : Terms) (desk : Desk) → (policies_of desk.controller) ≡ terms.policies → Fits [] desk.controller
-    → desk.totals ≡ record { answered = 0; counts = no_counts; bypassed = 0; rejected = []; samples = [] } → Stands terms [] desk
+pub stands_none : (terms : Terms) (desk : Desk) → (policies_of desk.controller) ≡ terms.policies → ControllerAfter [] desk.controller
+    → desk.totals ≡ record { answered = 0; counts = no_counts; bypassed = 0; rejected = []; samples = [] } → DeskAfter terms [] desk
 unfolding offers_of samples_of handled_after served decided_from
 stands_none terms desk rules fits totals = record { policies = rules; fits = fits; totals = totals; few = omega arith }
 
 -- ---- what the desk's calls ask
 
-pub answered_is : (terms : Terms) (arrivals : List Arrival) (desk : Desk) → Stands terms arrivals desk → desk.totals.answered ≡ length arrivals
+pub answered_is : (terms : Terms) (arrivals : List Arrival) (desk : Desk) → DeskAfter terms arrivals desk → desk.totals.answered ≡ length arrivals
 answered_is terms arrivals desk stands = ap (λ t. t.answered) stands.totals
 
-pub samples_are : (terms : Terms) (arrivals : List Arrival) (desk : Desk) → Stands terms arrivals desk → desk.totals.samples ≡ samples_of (policies_of desk.controller) (offers_of terms arrivals)
+pub samples_are : (terms : Terms) (arrivals : List Arrival) (desk : Desk) → DeskAfter terms arrivals desk → desk.totals.samples ≡ samples_of (policies_of desk.controller) (offers_of terms arrivals)
 samples_are terms arrivals desk stands = rw stands.policies (ap (λ t. t.samples) stands.totals)
 
-pub counts_room : (terms : Terms) (arrivals : List Arrival) (desk : Desk) (n : ℕ) → Stands terms arrivals desk → length arrivals < n → AreBelow n desk.totals.counts
+pub counts_room : (terms : Terms) (arrivals : List Arrival) (desk : Desk) (n : ℕ) → DeskAfter terms arrivals desk → length arrivals < n → AreBelow n desk.totals.counts
 counts_room terms arrivals desk n stands lt =
     let len : length (handled terms arrivals) ≡ length arrivals = handled_count terms [] arrivals in
     rw (ap (λ t. t.counts) stands.totals) (counts_below terms (handled terms arrivals) n (omega (arith, len, lt)))
 
-pub bypassed_room : (terms : Terms) (arrivals : List Arrival) (desk : Desk) (n : ℕ) → Stands terms arrivals desk → length arrivals < n → desk.totals.bypassed < n
+pub bypassed_room : (terms : Terms) (arrivals : List Arrival) (desk : Desk) (n : ℕ) → DeskAfter terms arrivals desk → length arrivals < n → desk.totals.bypassed < n
 bypassed_room terms arrivals desk n stands lt =
     let is : desk.totals.bypassed ≡ bypassed_of arrivals = ap (λ t. t.bypassed) stands.totals in
     let few = bypassed_few arrivals in
     omega (arith, is, few, lt)
 
 -- what became of the requests of a tier
-pub tally_is : (terms : Terms) (arrivals : List Arrival) (desk : Desk) (tally : Tally) (tier : ℕ) → Stands terms arrivals desk
-    → ((offers : List Offer) → Fits offers desk.controller → tally ≡ tally_of (policies_of desk.controller) offers tier)
+pub tally_is : (terms : Terms) (arrivals : List Arrival) (desk : Desk) (tally : Tally) (tier : ℕ) → DeskAfter terms arrivals desk
+    → ((offers : List Offer) → ControllerAfter offers desk.controller → tally ≡ tally_of (policies_of desk.controller) offers tier)
     → tally ≡ tally_of terms.policies (offers_of terms arrivals) tier
 tally_is terms arrivals desk tally tier stands told = rw stands.policies at (told (offers_of terms arrivals) stands.fits)
 
 -- ---- one message at the desk
 
 -- the message may still be counted
-pub room_left : (terms : Terms) (arrivals : List Arrival) (desk : Desk) → Stands terms arrivals desk → desk.totals.answered ≢ 1048576 → desk.totals.answered < 1048576
+pub room_left : (terms : Terms) (arrivals : List Arrival) (desk : Desk) → DeskAfter terms arrivals desk → desk.totals.answered ≢ 1048576 → desk.totals.answered < 1048576
 room_left terms arrivals desk stands full = let e = answered_is terms arrivals desk stands in let few = stands.few in omega (arith, e, few, full)
 
 -- what the desk has made of a message that is told this
 abbrev pub Judged : {X : Type 0} → Terms → List Offer → Origin → Meaning → Desk → Desk → Given X → Type 0
 Judged terms offers origin what old mid told = (away : Bool) × Decides offers (offer_at terms origin what) old mid away × (told ≡ given terms away what)
 
-pub counts_kept : (X : Type 0) (terms : Terms) (arrivals : List Arrival) (origin : Origin) (what : Meaning) (old mid : Desk) (told : Given X) (n : ℕ) → Stands terms arrivals old
+pub counts_kept : (X : Type 0) (terms : Terms) (arrivals : List Arrival) (origin : Origin) (what : Meaning) (old mid : Desk) (told : Given X) (n : ℕ) → DeskAfter terms arrivals old
     → Judged terms (offers_of terms arrivals) origin what old mid told → length arrivals < n → AreBelow n mid.totals.counts × (mid.totals.bypassed < n) × (mid.totals.answered ≡ old.totals.answered)
 counts_kept X terms arrivals origin what old mid told n stands judged lt =
     let kept = judged.1.totals in (
@@ -217,17 +217,17 @@ counts_kept X terms arrivals origin what old mid told n stands judged lt =
       ap (λ t. t.answered) kept,
     )
 
-pub stands_after : (X : Type 0) (terms : Terms) (arrivals : List Arrival) (a : Arrival) (origin : Origin) (what : Meaning) (old mid : Desk) (totals : Totals) (told : Given X) → Stands terms arrivals old
+pub stands_after : (X : Type 0) (terms : Terms) (arrivals : List Arrival) (a : Arrival) (origin : Origin) (what : Meaning) (old mid : Desk) (totals : Totals) (told : Given X) → DeskAfter terms arrivals old
     → a.origin ≡ origin → a.message.what ≡ what → old.totals.answered < 1048576 → Judged terms (offers_of terms arrivals) origin what old mid told
     → totals ≡ noted mid.totals (status_of told) (breaks_a_rule what)
-    → Stands terms (arrivals ++ a ∷ []) (record { start = mid.start; controller = mid.controller; totals = totals })
+    → DeskAfter terms (arrivals ++ a ∷ []) (record { start = mid.start; controller = mid.controller; totals = totals })
 stands_after X terms arrivals a origin what old mid totals told stands from meaning room judged counted =
     let e = answered_is terms arrivals old stands in
     let status : status_of told ≡ status_of (given {X = Unit {0}} terms judged.0 a.message.what) = rw (judged.2, meaning) (status_same X (Unit {0}) terms judged.0 what) in
     stands_more terms arrivals a judged.0 old mid _ (status_of told) stands (rw (from, meaning) judged.1) status refl (rw meaning counted) (omega (arith, e, room))
 
 pub slip_is : (X : Type 0) (terms : Terms) (start : ℕ) (arrivals : List Arrival) (a : Arrival) (origin : Origin) (what : Meaning) (old mid : Desk) (told : Given X) (conn : ℕ) (head : Bool) (link : Link) (slip : Slip X)
-    → Stands terms arrivals old → a.origin ≡ origin → a.message.what ≡ what → Judged terms (offers_of terms arrivals) origin what old mid told
+    → DeskAfter terms arrivals old → a.origin ≡ origin → a.message.what ≡ what → Judged terms (offers_of terms arrivals) origin what old mid told
     → conn ≡ origin.conn → head ≡ answers_head what → link ≡ link_of what
     → slip ≡ record { number = old.totals.answered; conn = conn; date = start + origin.tick / 1000000; head = head; link = link; what = told }
     → slip ≡ slip_of terms start (handled_next terms arrivals a)

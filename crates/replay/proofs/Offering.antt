@@ -11,7 +11,7 @@ use Rattle.admission.specs.declared.control.Decision.TheVariants.{Admitted, Reje
 use Rattle.admission.specs.Rules.{Rules}
 use Rattle.admission.specs.Requests.{Offer, Decided, served, as_served, finish_after}
 use Rattle.admission.specs.Decisions.{decide, decided, decided_next}
-use Rattle.admission.specs.Fits.{tick_from}
+use Rattle.admission.specs.After.{tick_from}
 use Rattle.admission.proofs.RequestLemmas.{decided_from-push, served-push, last_finish-push}
 use Rattle.replay.specs.Choices.{Terms}
 use Rattle.arrivals.specs.Arrivals.{Arrival}

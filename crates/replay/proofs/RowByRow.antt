@@ -18,7 +18,7 @@ use Rattle.admission.specs.declared.control.Decision.TheVariants.{Admitted, Reje
 use Rattle.admission.specs.Rules.{Rules}
 use Rattle.admission.specs.Requests.{Offer, served, last_finish, finish_after, is_rejected}
 use Rattle.admission.specs.Decisions.{decide, decided, outlook}
-use Rattle.admission.specs.Fits.{Fits}
+use Rattle.admission.specs.After.{ControllerAfter}
 use Rattle.admission.specs.Standing.{policies_of}
 use Rattle.admission.proofs.RequestLemmas.{last_finish-push}
 use Rattle.responses.specs.Replies.{status_of}
@@ -33,7 +33,7 @@ use Rattle.replay.specs.Answers.{given, outcome_answer, is_unmodified, is_head}
 use Rattle.replay.specs.Offers.{service_of, offer_at, offers_of, rejects, is_turned_away, handled_next}
 use Rattle.replay.specs.Replies.{slip_of}
 use Rattle.replay.specs.Fronts.{sight_of}
-use Rattle.replay.specs.Serving.{Stands}
+use Rattle.replay.specs.Serving.{DeskAfter}
 use Rattle.replay.specs.Telling.{IsTelling}
 use Rattle.replay.specs.Explaining.{first_offered, row_of, method_of, target_of, row_after, rows_after, table, rows_told}
 use Rattle.replay.specs.Rowing.{service_in, turns_away, offered_with}
@@ -138,8 +138,8 @@ row_is X terms start arrivals a origin service found slip row from costs finds s
 -- ---- one row written
 
 -- what the desk foresees
-pub foreseen : (terms : Terms) (arrivals : List Arrival) (desk : Desk) (found : Outlook) (tier tick : ℕ) → Stands terms arrivals desk
-    → ((offers : List Offer) → Fits offers desk.controller → found ≡ outlook (policies_of desk.controller) (decided (policies_of desk.controller) offers) tier tick)
+pub foreseen : (terms : Terms) (arrivals : List Arrival) (desk : Desk) (found : Outlook) (tier tick : ℕ) → DeskAfter terms arrivals desk
+    → ((offers : List Offer) → ControllerAfter offers desk.controller → found ≡ outlook (policies_of desk.controller) (decided (policies_of desk.controller) offers) tier tick)
     → found ≡ outlook terms.policies (decided terms.policies (offers_of terms arrivals)) tier tick
 foreseen terms arrivals desk found tier tick stands finds = rw stands.policies at (finds (offers_of terms arrivals) stands.fits)
 

@@ -19,7 +19,7 @@ use Rattle.captures.specs.declared.capture_fault.CaptureFaultKind.TheVariants as
 use Rattle.captures.specs.CaptureFaults.{IsForeseen, IsHeaderFault, IsFaultAfter, failures_of}
 use Rattle.captures.specs.declared.version.Version.{Version}
 use Rattle.captures.specs.Captures.{tier_of, IsCapture, IsRecord, IsCaptureText, size_of, sizes_of, tick_of, ticks_of}
-use Rattle.captures.specs.Readers.{Fits, Gave, FailsNext}
+use Rattle.captures.specs.Readers.{ReaderAfter, Gave, FailsNext}
 use Rattle.captures.proofs.Tiers.{tier_of_none, tier_of_piece, tier_of_end, tier_of_tier}
 use Rattle.arrivals.specs.Tiers.{tier_at, AreTiers}
 use Rattle.arrivals.specs.Batches.{with_tier}
@@ -37,9 +37,10 @@ use Rattle.arrivals.specs.Connections.{HasRead, HasRoom, ReadMore, HaveRead, con
 use Rattle.replay.specs.Offers.{handled}
 use Rattle.replay.specs.Replies.{replies_of, first_line, last_line, text_before_stop}
 use Rattle.replay.specs.Counting.{summary_of}
-use Rattle.replay.specs.Serving.{Stands, AreBy, IsLater, Serves, Written, ServesFull, ServesInPart, TellsMore, TellsFull, TellsInPart, HasTold}
+use Rattle.replay.specs.Serving.{DeskAfter, AreBy, IsLater, Serves, Written, ServesFull, ServesInPart, TellsMore, TellsFull, TellsInPart, HasTold}
 use Rattle.replay.specs.Telling.{Telling, IsTelling, Told, ToldInPart, replies_told}
-use Rattle.replay.specs.Outcomes.{Answers, AppendsInPart, told_as, capture_fault, IfCapture, IfTooMany, IfCutShort, IsOwn, IsWriteOrMemory, IsCutShort, IsCutOff, StopsBeyond, StopsFull, StopsTelling, Stops, Taken, WhereKnown, reader_failures, writer_failures}
+use Rattle.paths.specs.KnownText.{WhereKnown}
+use Rattle.replay.specs.Outcomes.{Answers, AppendsInPart, told_as, capture_fault, IfCapture, IfTooMany, IfCutShort, IsOwn, IsWriteOrMemory, IsCutShort, IsCutOff, StopsBeyond, StopsFull, StopsTelling, Stops, Taken, reader_failures, writer_failures}
 use Rattle.arrivals.proofs.Arriving.{from_piece, reads_none, arrives_none, reads_piece, reads_end, reads_tier, arrives_piece, arrives_end, arrives_tier}
 use Rattle.replay.proofs.Writing.{part_all, replies_laws}
 use Rattle.replay.proofs.Texts.{told_none, text_begun, text_told, text_part, text_ended, text_ended_part}
@@ -137,7 +138,7 @@ is_later v start records arrivals (Tier conn tier) rules arrived = tt
 
 -- ---- one more record
 
-pub serves_none : (terms : Terms) (connections : List Connection) (desk : Desk) → connections ≡ [] → Stands terms [] desk → Serves terms [] [] connections desk
+pub serves_none : (terms : Terms) (connections : List Connection) (desk : Desk) → connections ≡ [] → DeskAfter terms [] desk → Serves terms [] [] connections desk
 serves_none terms connections desk none stands = record { reads = rw none reads_none; arrived = arrives_none; stands = stands }
 
 -- a piece and an end leave the tiers as they are
@@ -200,7 +201,7 @@ brought terms tier tick conn n bytes piece ms out records arrivals r before afte
 
 pub serves_piece : (t : Telling) (terms : Terms) (tier tick conn : ℕ) (ms : List Message) (records : List Record) (arrivals : List Arrival) (r : Record) (after : List Connection) (desk now : Desk) (old new : Option (List ℕ))
     → Brought records arrivals r after (arrivals_with (length records) (from_piece tier tick conn) ms) → now.start ≡ desk.start
-    → Stands terms (arrivals ++ arrivals_with (length records) (from_piece tier tick conn) ms) now
+    → DeskAfter terms (arrivals ++ arrivals_with (length records) (from_piece tier tick conn) ms) now
     → Told t desk.start arrivals (arrivals_with (length records) (from_piece tier tick conn) ms) old new → TellsMore t terms records arrivals (r ∷ []) after now old new
 serves_piece t terms tier tick conn ms records arrivals r after desk now old new brings start stands written = record {
   more = arrivals_with (length records) (from_piece tier tick conn) ms;
@@ -270,12 +271,12 @@ err_cut (Err faults.Memory) P Q more h = more h
 -- ---- the capture
 
 -- the record that came is within the limits
-pub record_is : (v : Version) (text now : Option (List ℕ)) (start : ℕ) (records : List Record) (p : Progress) (r : Record) → Fits v text start (records ++ r ∷ []) p now → IsRecord v r
+pub record_is : (v : Version) (text now : Option (List ℕ)) (start : ℕ) (records : List Record) (p : Progress) (r : Record) → ReaderAfter v text start (records ++ r ∷ []) p now → IsRecord v r
 record_is v text now start records p r h =
     let lt : length records < length (records ++ r ∷ []) = let l = length-append records (r ∷ []) in omega (arith, l) in
     rw (get_or-append_seam records r [] r) at (h.rules.each (length records) r lt)
 
-pub sizes_left : (v : Version) (text now : Option (List ℕ)) (start room : ℕ) (records : List Record) (p : Progress) (r : Record) → Fits v text start records p now
+pub sizes_left : (v : Version) (text now : Option (List ℕ)) (start room : ℕ) (records : List Record) (p : Progress) (r : Record) → ReaderAfter v text start records p now
     → size_of r + 1 + room ≡ p.room → sizes_of records + size_of r ≤ 1073741824
 sizes_left v text now start room records p r fits e = let h = fits.room in omega (arith, h, e)
 
@@ -438,7 +439,7 @@ halts_first t input ahead old new f written at fault = inl (record { at = at; wr
 
 -- the records that a reader has given
 abbrev pub taken : (v : Version) (input now : Option (List ℕ)) (start : ℕ) (records : List Record) (arrivals : List Arrival) (p : Progress)
-    → Fits v input start records p now → AreArrivals records arrivals → Taken input
+    → ReaderAfter v input start records p now → AreArrivals records arrivals → Taken input
 taken v input now start records arrivals p fits arrived = record {
   version = v;
   start = start;
@@ -452,7 +453,7 @@ taken v input now start records arrivals p fits arrived = record {
 }
 
 pub halts_after : (t : Telling) (terms : Terms) (v : Version) (input now ahead left old new : Option (List ℕ)) (start : ℕ) (records : List Record) (arrivals : List Arrival) (p : Progress) (connections : List Connection) (desk : Desk)
-    (f : CaptureFault) → Fits v input start records p now → Serves terms records arrivals connections desk → Appends old new (t.so_far start arrivals)
+    (f : CaptureFault) → ReaderAfter v input start records p now → Serves terms records arrivals connections desk → Appends old new (t.so_far start arrivals)
     → (f.at ≡ length records + 1) × IsForeseen (λ bytes. IsFaultAfter v bytes start records) input f → FailsNext v input start records (Err f) left
     → ahead ≡ left → StopsTelling t input ahead old new f
 halts_after t terms v input now ahead left old new start records arrivals p connections desk f fits serves written fault failed same = inr (record {
@@ -467,7 +468,7 @@ halts_after t terms v input now ahead left old new start records arrivals p conn
 -- a fault of the reader that was reported
 pub halts_told : (t : Telling) (terms : Terms) (v : Version) (input now ahead left old new : Option (List ℕ)) (start : ℕ) (records : List Record) (arrivals : List Arrival) (p : Progress) (connections : List Connection) (desk : Desk)
     (f : CaptureFault) (r : ReplayFault) → r ≡ capture_fault f
-    → Fits v input start records p now → Serves terms records arrivals connections desk → Appends old new (t.so_far start arrivals)
+    → ReaderAfter v input start records p now → Serves terms records arrivals connections desk → Appends old new (t.so_far start arrivals)
     → (f.at ≡ length records + 1) × IsForeseen (λ bytes. IsFaultAfter v bytes start records) input f → FailsNext v input start records (Err f) left
     → ahead ≡ left → IfCapture r (StopsTelling t input ahead old new)
 halts_told t terms v input now ahead left old new start records arrivals p connections desk f r is fits serves written fault failed same =
@@ -480,7 +481,7 @@ take_all xs = grind (arith, common_steps)
 
 -- all of the messages so far were answered, and nothing of the next
 pub cut_among : (t : Telling) (terms : Terms) (v : Version) (input now old new : Option (List ℕ)) (start : ℕ) (records : List Record) (arrivals : List Arrival) (p : Progress) (connections : List Connection) (desk : Desk)
-    → Fits v input start records p now → Serves terms records arrivals connections desk → Appends old new (t.so_far start arrivals)
+    → ReaderAfter v input start records p now → Serves terms records arrivals connections desk → Appends old new (t.so_far start arrivals)
     → IsCutOff t input old new
 cut_among t terms v input now old new start records arrivals p connections desk fits serves written = inr (inl (record {
   taken = taken v input now start records arrivals p fits serves.arrived;
@@ -490,7 +491,7 @@ cut_among t terms v input now old new start records arrivals p connections desk 
 }))
 
 pub halts_full : (t : Telling) (v : Version) (input now old mid new : Option (List ℕ)) (start n : ℕ) (records : List Record) (arrivals : List Arrival) (rs : List Record) (p : Progress)
-    → IsTelling t → Fits v input start (records ++ rs) p now → Appends old mid (t.so_far start arrivals) → n ≡ 1048576
+    → IsTelling t → ReaderAfter v input start (records ++ rs) p now → Appends old mid (t.so_far start arrivals) → n ≡ 1048576
     → TellsFull t start records arrivals rs mid new → StopsBeyond t input old new n
 halts_full t v input now old mid new start n records arrivals rs p laws fits written number full =
     let here : take 1048576 (arrivals ++ full.more) ≡ arrivals ++ take full.within full.more = rw (← full.full) (take-append-add arrivals full.more full.within) in
@@ -502,7 +503,7 @@ halts_full t v input now old mid new start n records arrivals rs p laws fits wri
     }
 
 pub cut_part : (t : Telling) (v : Version) (input now old mid new : Option (List ℕ)) (start : ℕ) (records : List Record) (arrivals : List Arrival) (rs : List Record) (p : Progress)
-    → IsTelling t → Fits v input start (records ++ rs) p now → Appends old mid (t.so_far start arrivals)
+    → IsTelling t → ReaderAfter v input start (records ++ rs) p now → Appends old mid (t.so_far start arrivals)
     → TellsInPart t start records arrivals rs mid new → IsCutOff t input old new
 cut_part t v input now old mid new start records arrivals rs p laws fits written part =
     let here : take (length arrivals + part.within) (arrivals ++ part.more) ≡ arrivals ++ take part.within part.more = take-append-add arrivals part.more part.within in
@@ -590,26 +591,26 @@ stops_first terms input ahead old new f written at fault = halts_first (replies_
 
 pub stops_told : (terms : Terms) (v : Version) (input now ahead left old new : Option (List ℕ)) (start : ℕ) (records : List Record) (arrivals : List Arrival) (p : Progress) (connections : List Connection) (desk : Desk)
     (f : CaptureFault) (r : ReplayFault) → r ≡ capture_fault f
-    → Fits v input start records p now → Serves terms records arrivals connections desk → Appends old new (text_before_stop (replies_of terms start (handled terms arrivals)))
+    → ReaderAfter v input start records p now → Serves terms records arrivals connections desk → Appends old new (text_before_stop (replies_of terms start (handled terms arrivals)))
     → (f.at ≡ length records + 1) × IsForeseen (λ bytes. IsFaultAfter v bytes start records) input f → FailsNext v input start records (Err f) left
     → ahead ≡ left → IfCapture r (Stops terms input ahead old new)
 stops_told terms v input now ahead left old new start records arrivals p connections desk f r is fits serves written fault failed same =
     halts_told (replies_told terms) terms v input now ahead left old new start records arrivals p connections desk f r is fits serves written fault failed same
 
 pub short_among : (terms : Terms) (v : Version) (input now old new : Option (List ℕ)) (start : ℕ) (records : List Record) (arrivals : List Arrival) (p : Progress) (connections : List Connection) (desk : Desk)
-    → Fits v input start records p now → Serves terms records arrivals connections desk → Appends old new (text_before_stop (replies_of terms start (handled terms arrivals)))
+    → ReaderAfter v input start records p now → Serves terms records arrivals connections desk → Appends old new (text_before_stop (replies_of terms start (handled terms arrivals)))
     → IsCutShort terms input old new
 short_among terms v input now old new start records arrivals p connections desk fits serves written =
     cut_among (replies_told terms) terms v input now old new start records arrivals p connections desk fits serves written
 
 pub stops_full : (terms : Terms) (v : Version) (input now old mid new : Option (List ℕ)) (start n : ℕ) (records : List Record) (arrivals : List Arrival) (rs : List Record) (p : Progress)
-    → Fits v input start (records ++ rs) p now → Appends old mid (text_before_stop (replies_of terms start (handled terms arrivals))) → n ≡ 1048576
+    → ReaderAfter v input start (records ++ rs) p now → Appends old mid (text_before_stop (replies_of terms start (handled terms arrivals))) → n ≡ 1048576
     → ServesFull terms start records arrivals rs mid new → StopsFull terms input old new n
 stops_full terms v input now old mid new start n records arrivals rs p fits written number full =
     halts_full (replies_told terms) v input now old mid new start n records arrivals rs p (replies_laws terms) fits written number full
 
 pub short_part : (terms : Terms) (v : Version) (input now old mid new : Option (List ℕ)) (start : ℕ) (records : List Record) (arrivals : List Arrival) (rs : List Record) (p : Progress)
-    → Fits v input start (records ++ rs) p now → Appends old mid (text_before_stop (replies_of terms start (handled terms arrivals)))
+    → ReaderAfter v input start (records ++ rs) p now → Appends old mid (text_before_stop (replies_of terms start (handled terms arrivals)))
     → ServesInPart terms start records arrivals rs mid new → IsCutShort terms input old new
 short_part terms v input now old mid new start records arrivals rs p fits written part =
     cut_part (replies_told terms) v input now old mid new start records arrivals rs p (replies_laws terms) fits written part

@@ -8,7 +8,7 @@ use Rattle.replay.specs.Choices.{Terms}
 use Rattle.arrivals.specs.Arrivals.{Arrival}
 use Rattle.replay.specs.Offers.{handled_next, handled_after}
 use Rattle.replay.specs.Replies.{slip_of}
-use Rattle.replay.specs.Serving.{Stands, AreBy}
+use Rattle.replay.specs.Serving.{DeskAfter, AreBy}
 use Rattle.replay.specs.Fronts.{front_value, sight_of}
 use Rattle.replay.specs.Backs.{is_back, slip_of_ticket}
 use Rattle.replay.specs.Ticketing.{incoming_of, AreSighted, InTime}
@@ -24,8 +24,8 @@ use Rattle.replay.proofs.Judging.{answered_is}
 pub record Settled {X : Type 0} (files : List File) (terms : Terms) (costs : CostTable) (sights : List Sighted) (old now : Desk) (rest : List Sighted) (tickets : List (Ticket X)) (k : ℕ) : Type 0 where
   pub count : length tickets ≡ k
   pub rest_is : rest ≡ drop k sights
-  pub stands : (arrivals more : List Arrival) → Stands terms arrivals old → AreSighted files costs more sights → Stands terms (arrivals ++ take k more) now
-  pub slips : (arrivals more : List Arrival) → Stands terms arrivals old → AreSighted files costs more sights
+  pub stands : (arrivals more : List Arrival) → DeskAfter terms arrivals old → AreSighted files costs more sights → DeskAfter terms (arrivals ++ take k more) now
+  pub slips : (arrivals more : List Arrival) → DeskAfter terms arrivals old → AreSighted files costs more sights
       → map slip_of_ticket tickets ≡ map (slip_of terms old.start) (handled_after terms arrivals (take k more))
   pub ready : list_all (λ t. is_back files (Waits t)) tickets ≡ true
   pub start : now.start ≡ old.start
@@ -73,7 +73,7 @@ list_all-push p (y ∷ xs) x h e = go (p y) (list_all p xs) (list_all p (xs ++ x
 -- what `settle` asks of the next message
 pub record Next (terms : Terms) (desk : Desk) (message : Incoming) : Type 0 where
   pub arrivals : List Arrival
-  pub stands : Stands terms arrivals desk
+  pub stands : DeskAfter terms arrivals desk
   pub by : AreBy message.origin.tick arrivals
   pub tick : message.origin.tick ≤ 1000000000000000
   pub tier : message.origin.tier < 4
@@ -81,7 +81,7 @@ pub record Next (terms : Terms) (desk : Desk) (message : Incoming) : Type 0 wher
 
 pub next_is : {X : Type 0} (files : List File) (terms : Terms) (costs : CostTable) (sights : List Sighted) (old now : Desk) (rest after : List Sighted) (tickets : List (Ticket X)) (k : ℕ)
     (arrivals more : List Arrival) (s : Sighted) → Settled files terms costs sights old now rest tickets k → rest ≡ s ∷ after
-    → Stands terms arrivals old → AreSighted files costs more sights → InTime arrivals more → length arrivals + length more ≤ 1048576
+    → DeskAfter terms arrivals old → AreSighted files costs more sights → InTime arrivals more → length arrivals + length more ≤ 1048576
     → Next terms now s.message × (s ≡ front_value files costs s.message) × (s.sight ≡ sight_of files costs s.message.what)
 next_is files terms costs sights old now rest after tickets k arrivals more s settled steps stands sighted timely few =
     let here = at_place (λ a. front_value files costs (incoming_of a)) more k s after (sym steps ∙ settled.rest_is ∙ ap (drop k) sighted) in
@@ -114,8 +114,8 @@ next_is files terms costs sights old now rest after tickets k arrivals more s se
 -- one more of them is
 pub settled_more : {X : Type 0} (files : List File) (terms : Terms) (costs : CostTable) (sights : List Sighted) (old now next : Desk) (rest after : List Sighted) (tickets : List (Ticket X)) (t : Ticket X) (k : ℕ)
     (s : Sighted) → Settled files terms costs sights old now rest tickets k → rest ≡ s ∷ after
-    → ((arrivals : List Arrival) (a : Arrival) → Stands terms arrivals now → incoming_of a ≡ s.message → Stands terms (arrivals ++ a ∷ []) next)
-    → ((arrivals : List Arrival) (a : Arrival) → Stands terms arrivals now → incoming_of a ≡ s.message → slip_of_ticket t ≡ slip_of terms now.start (handled_next terms arrivals a))
+    → ((arrivals : List Arrival) (a : Arrival) → DeskAfter terms arrivals now → incoming_of a ≡ s.message → DeskAfter terms (arrivals ++ a ∷ []) next)
+    → ((arrivals : List Arrival) (a : Arrival) → DeskAfter terms arrivals now → incoming_of a ≡ s.message → slip_of_ticket t ≡ slip_of terms now.start (handled_next terms arrivals a))
     → is_back files (Waits t) ≡ true → next.start ≡ now.start
     → Settled files terms costs sights old next after (tickets ++ t ∷ []) (k + 1)
 settled_more {X} files terms costs sights old now next rest after tickets t k s settled steps stands slip ready start = rw (one_more k) (record {

@@ -12,7 +12,7 @@ use Rattle.replay.specs.Choices.{Terms}
 use Rattle.arrivals.specs.Arrivals.{Arrival}
 use Rattle.replay.specs.Offers.{Handled}
 use Rattle.replay.specs.Replies.{slip_of, replies_of, reply_of}
-use Rattle.replay.specs.Serving.{Stands, records_after, Written, WrittenInPart}
+use Rattle.replay.specs.Serving.{DeskAfter, records_after, Written, WrittenInPart}
 use Rattle.replay.specs.Fronts.{front_value}
 use Rattle.replay.specs.Backs.{slip_of_ticket, reply_to}
 use Rattle.arrivals.specs.Batches.{joined}
@@ -97,7 +97,7 @@ none_come terms arrivals more messages desk up none = go more (come_count terms 
     go [] e = refl
     go (x ∷ xs) e = absurd (let z : ⊥ = omega (arith, e) in z)
 
-pub none_stands : (terms : Terms) (arrivals more : List Arrival) (messages : List Incoming) (desk : Desk) → Upcoming terms arrivals more messages desk → messages ≡ [] → Stands terms (arrivals ++ more) desk
+pub none_stands : (terms : Terms) (arrivals more : List Arrival) (messages : List Incoming) (desk : Desk) → Upcoming terms arrivals more messages desk → messages ≡ [] → DeskAfter terms (arrivals ++ more) desk
 none_stands terms arrivals more messages desk up none = rw (none_come terms arrivals more messages desk up none, append-nil arrivals) up.stands
 
 pub none_written : (terms : Terms) (arrivals more : List Arrival) (messages : List Incoming) (desk : Desk) (old : Option (List ℕ)) → Upcoming terms arrivals more messages desk → messages ≡ []
@@ -210,7 +210,7 @@ pub record Served (terms : Terms) (messages : List Incoming) (old now : Desk) (b
   pub count : ℕ
   pub below : count ≤ length messages
   pub rest_is : joined rest ≡ drop count messages
-  pub stands : (arrivals more : List Arrival) → Upcoming terms arrivals more messages old → Stands terms (arrivals ++ take count more) now
+  pub stands : (arrivals more : List Arrival) → Upcoming terms arrivals more messages old → DeskAfter terms (arrivals ++ take count more) now
   pub written : (arrivals more : List Arrival) → Upcoming terms arrivals more messages old → Written terms old.start arrivals (take count more) before after
   pub start : now.start ≡ old.start
 
@@ -280,7 +280,7 @@ taken_after k n m more le = take_add k m more ∙ ap (λ xs. take k more ++ xs) 
 
 pub served_more : (terms : Terms) (messages part : List Incoming) (old now next : Desk) (before after later : Option (List ℕ)) (rest following : List (List Incoming))
     → Served terms messages old now before after rest → rest ≡ part ∷ following → next.start ≡ now.start
-    → ((arrivals more : List Arrival) → Upcoming terms arrivals more part now → Stands terms (arrivals ++ more) next)
+    → ((arrivals more : List Arrival) → Upcoming terms arrivals more part now → DeskAfter terms (arrivals ++ more) next)
     → ((arrivals more : List Arrival) → Upcoming terms arrivals more part now → Written terms now.start arrivals more after later)
     → Served terms messages old next before later following
 served_more terms messages part old now next before after later rest following s steps start stands written =

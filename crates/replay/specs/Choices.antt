@@ -1,7 +1,7 @@
 -- What an operator sets.
 use Rattle.std.specs.Prelude.{◌≡◌, ℕ, ◌≤◌, ◌&&◌, List, nat_eq, nat_le, Option, Some, None, if◌then◌else◌}
 use Rattle.stage_graph.specs.Layouts.{Layout}
-use Rattle.stage_graph.specs.Stands.{last_cut}
+use Rattle.stage_graph.specs.After.{last_cut}
 use Rattle.cost_model.specs.Services.{CostTable}
 use Rattle.admission.specs.Rules.{Rules}
 use Rattle.paths.specs.declared.file.File.{File}

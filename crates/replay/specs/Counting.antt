@@ -8,7 +8,7 @@ use Rattle.admission.specs.Rules.{Rules, rules_of}
 use Rattle.admission.specs.Requests.{Offer, Decided, served, samples, of_tier, is_rejected}
 use Rattle.admission.specs.Controls.{controls_until}
 use Rattle.admission.specs.Decisions.{decided}
-use Rattle.admission.specs.Fits.{tick_from}
+use Rattle.admission.specs.After.{tick_from}
 use Rattle.replay.specs.Choices.{Terms}
 use Rattle.arrivals.specs.Arrivals.{Arrival}
 use Rattle.replay.specs.Answers.{given}

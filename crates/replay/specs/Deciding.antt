@@ -2,7 +2,7 @@
 use Rattle.std.specs.Prelude.{◌≡◌, ℕ, Bool, List, [], ◌∷◌, ◌++◌, if◌then◌else◌}
 use Rattle.std.specs.List.{list_any}
 use Rattle.admission.specs.Requests.{Offer}
-use Rattle.admission.specs.Fits.{Fits}
+use Rattle.admission.specs.After.{ControllerAfter}
 use Rattle.admission.specs.Standing.{policies_of}
 use Rattle.replay.specs.Offers.{rejects}
 use Rattle.replay.specs.Counting.{samples_of}
@@ -22,7 +22,7 @@ decided_totals t samples away = record {
 -- after these offers the next (one, or none) was decided on: whether it was turned away
 pub record Decides (offers next : List Offer) (old new : Desk) (away : Bool) : Type 0 where
   pub policies : policies_of new.controller ≡ policies_of old.controller
-  pub fits : Fits (offers ++ next) new.controller
+  pub fits : ControllerAfter (offers ++ next) new.controller
   pub is_away : away ≡ list_any (rejects (policies_of old.controller) offers) next
   pub totals : new.totals ≡ decided_totals old.totals (samples_of (policies_of old.controller) (offers ++ next)) away
   pub start : new.start ≡ old.start

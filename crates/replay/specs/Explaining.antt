@@ -16,7 +16,8 @@ use Rattle.replay.specs.Choices.{Terms}
 use Rattle.replay.specs.Offers.{offer_at, offers_of, handled_next, handled}
 use Rattle.replay.specs.Counting.{status_for, rejected_of, summary_of}
 use Rattle.replay.specs.Telling.{Telling}
-use Rattle.replay.specs.Outcomes.{WhereKnown, most_messages}
+use Rattle.paths.specs.KnownText.{WhereKnown}
+use Rattle.replay.specs.Outcomes.{most_messages}
 use Rattle.replay.specs.declared.outcome.Outcome.{Outcome}
 
 -- an offer after those of the earlier messages: what it finds, and the decision on it

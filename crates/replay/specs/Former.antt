@@ -26,13 +26,14 @@ use Rattle.admission.specs.Rules.{Rules}
 use Rattle.admission.specs.Requests.{Offer, served, samples, is_rejected}
 use Rattle.admission.specs.Controls.{controls_until}
 use Rattle.admission.specs.OneTier.{decide_alone, decided_alone}
-use Rattle.admission.specs.Fits.{tick_from}
+use Rattle.admission.specs.After.{tick_from}
 use Rattle.replay.specs.declared.summary.Counts.{Counts}
 use Rattle.arrivals.specs.Arrivals.{Arrival, Precedes, text_of, messages_of}
 use Rattle.replay.specs.Answers.{is_head, answers_head, link_of, answer}
 use Rattle.replay.specs.Offers.{Handled, length_given, is_unmodified_file}
 use Rattle.replay.specs.Counting.{bypassed_of, rejected_of}
-use Rattle.replay.specs.Outcomes.{WhereKnown, most_messages}
+use Rattle.paths.specs.KnownText.{WhereKnown}
+use Rattle.replay.specs.Outcomes.{most_messages}
 use Rattle.replay.specs.Replies.{replies_text}
 
 -- what an answer depended on besides its capture: the rules are those of the one policy

@@ -1,7 +1,8 @@
 -- What a replay comes to: its outcome, or a fault, and what it has written.
-use Rattle.std.specs.Prelude.{◌≡◌, ℕ, ◌+◌, ◌<◌, ◌≤◌, ◌⊎◌, Bool, true, false, List, [], ◌++◌, length, take, Option}
-use Rattle.std.specs.Prelude.{Result, Err, MatchResult, is_some, unwrap_or}
+use Rattle.std.specs.Prelude.{◌≡◌, ℕ, ◌+◌, ◌<◌, ◌≤◌, ◌⊎◌, Bool, true, false, List, ◌++◌, length, take, Option, Result}
+use Rattle.std.specs.Prelude.{Err, MatchResult}
 use Rattle.std.specs.Io.KnownBytes.{Appends}
+use Rattle.paths.specs.KnownText.{WhereKnown}
 use Rattle.captures.specs.declared.record.Record.{Record}
 use Rattle.captures.specs.declared.capture_fault.CaptureFault.{CaptureFault}
 use Rattle.captures.specs.declared.capture_fault.CaptureFaultKind.{CaptureFaultKind}
@@ -30,10 +31,6 @@ told_as other f = Capture f
 
 abbrev pub capture_fault : CaptureFault → ReplayFault
 capture_fault f = told_as f.kind f
-
--- what holds of the input's bytes, where they are known
-abbrev pub WhereKnown : Option (List ℕ) → (List ℕ → Type 0) → Type 0
-WhereKnown input P = is_some input ≡ true → P (unwrap_or input [])
 
 -- The answer of the reference server to a capture, and that it was written: the input is the text of a capture with
 -- this start and these records, of which these are the arrivals; and each was answered, in their order.
@@ -171,11 +168,3 @@ reader_failures other = 0
 abbrev pub writer_failures : ReplayFault → ℕ
 writer_failures Unwritten = 1
 writer_failures other = 0
-
--- a device's count rose by one exactly where the fault is its own
-abbrev pub CountsBy : {X : Type 0} → (ReplayFault → ℕ) → ℕ → ℕ → Result X ReplayFault → Type 0
-CountsBy failures old new r = MatchResult r (λ _. new ≡ old) (λ f. new ≡ old + failures f)
-
--- a device failed at most once in a call, and is blamed only where it did
-abbrev pub BlamedOnce : {X : Type 0} → (ReplayFault → ℕ) → ℕ → ℕ → Result X ReplayFault → Type 0
-BlamedOnce failures old new r = MatchResult r (λ _. new ≡ old) (λ f. (old + failures f ≤ new) × (new ≤ old + 1))

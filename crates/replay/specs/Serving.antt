@@ -6,14 +6,15 @@ use Rattle.captures.specs.declared.record.Record.TheVariants.{Piece, End, Tier}
 use Rattle.captures.specs.declared.version.Version.{Version}
 use Rattle.captures.specs.Captures.{IsCapture, IsCaptureText}
 use Rattle.responses.specs.Records.{record_text}
-use Rattle.admission.specs.Fits.{Fits}
+use Rattle.admission.specs.After.{ControllerAfter}
 use Rattle.admission.specs.Standing.{policies_of}
 use Rattle.replay.specs.Choices.{Terms}
 use Rattle.arrivals.specs.Arrivals.{Arrival, AreArrivals}
 use Rattle.arrivals.specs.Connections.{HaveRead}
 use Rattle.replay.specs.Offers.{offers_of, handled, handled_after}
 use Rattle.replay.specs.Counting.{rejected_of, summary_of}
-use Rattle.replay.specs.Outcomes.{most_messages, WhereKnown}
+use Rattle.paths.specs.KnownText.{WhereKnown}
+use Rattle.replay.specs.Outcomes.{most_messages}
 use Rattle.replay.specs.Replies.{replies_of}
 use Rattle.replay.specs.Telling.{Telling, Told, ToldInPart, replies_told}
 use Rattle.replay.specs.Totals.{totals_of}
@@ -22,9 +23,9 @@ use Rattle.replay.specs.declared.desk.Desk.{Desk}
 use Rattle.replay.specs.declared.outcome.Outcome.{Outcome}
 
 -- these messages were decided on and counted
-pub record Stands (terms : Terms) (arrivals : List Arrival) (desk : Desk) : Type 0 where
+pub record DeskAfter (terms : Terms) (arrivals : List Arrival) (desk : Desk) : Type 0 where
   pub policies : policies_of desk.controller ≡ terms.policies
-  pub fits : Fits (offers_of terms arrivals) desk.controller
+  pub fits : ControllerAfter (offers_of terms arrivals) desk.controller
   pub totals : desk.totals ≡ totals_of terms arrivals
   pub few : length arrivals ≤ most_messages
 
@@ -56,7 +57,7 @@ pub record Serves (terms : Terms) (records : List Record) (arrivals : List Arriv
     (desk : Desk) : Type 0 where
   pub reads : HaveRead records arrivals connections
   pub arrived : AreArrivals records arrivals
-  pub stands : Stands terms arrivals desk
+  pub stands : DeskAfter terms arrivals desk
 
 -- these messages arrive with the records that come next
 abbrev pub ArriveNext : List Record → List Arrival → List Record → List Arrival → Type 0

@@ -10,7 +10,7 @@ use Rattle.arrivals.specs.declared.connection.Connection.{Connection}
 use Rattle.arrivals.specs.declared.incoming.Incoming.{Incoming}
 use Rattle.arrivals.specs.declared.origin.Origin.{Origin}
 use Rattle.replay.specs.Choices.{Terms}
-use Rattle.replay.specs.Serving.{Serves, Stands}
+use Rattle.replay.specs.Serving.{Serves, DeskAfter}
 use Rattle.replay.specs.Ticketing.{AreOf, InTime}
 use Rattle.replay.specs.declared.desk.Desk.{Desk}
 
@@ -35,6 +35,6 @@ pub record ComeNext (terms : Terms) (records rs : List Record) (arrivals : List 
 -- these messages come next, after those that were served: they are those of the arrivals, in time
 pub record Upcoming (terms : Terms) (arrivals more : List Arrival) (messages : List Incoming)
     (desk : Desk) : Type 0 where
-  pub stands : Stands terms arrivals desk
+  pub stands : DeskAfter terms arrivals desk
   pub are : AreOf more messages
   pub timely : InTime arrivals more

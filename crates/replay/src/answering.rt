@@ -1,15 +1,18 @@
+//! One reply to one message, and all replies to the messages of a piece.
+
 ghost use Rattle.std.specs.Prelude.{◌≡◌, ◌<◌, ◌≤◌, ◌-◌, ◌+◌, ◌^◌, ◌++◌, ◌∷◌, [], ℕ, List, true, length, take, OnOk};
 ghost use Rattle.std.specs.Prelude.{IfOk, IfErr, OnErr};
 ghost use Rattle.std.specs.Io.KnownBytes.{Appends};
-ghost use Rattle.paths.specs.Snapshots.{file_of};
+ghost use Rattle.paths.specs.Devices.{CanFail, CountsBy};
+ghost use Rattle.paths.specs.Snapshots.{file_of, latest_time};
 ghost use Rattle.responses.specs.Records.{record_text};
-ghost use Rattle.captures.specs.Captures.{latest_start};
+ghost use Rattle.captures.specs.Captures.{latest_start, latest_tick};
 ghost use Rattle.replay.specs.Choices.{Terms, terms_of};
 ghost use Rattle.arrivals.specs.Arrivals.{Arrival};
 ghost use Rattle.arrivals.specs.Connections.{arrivals_with};
-ghost use Rattle.replay.specs.Outcomes.{CountsBy, writer_failures, IsOwn, IfTooMany, IfCutShort};
+ghost use Rattle.replay.specs.Outcomes.{writer_failures, IsOwn, IfTooMany, IfCutShort};
 ghost use Rattle.replay.specs.Outcomes.{AppendsInPart, IsWriteOrMemory};
-ghost use Rattle.replay.specs.Serving.{Stands, AreBy};
+ghost use Rattle.replay.specs.Serving.{DeskAfter, AreBy};
 ghost use Rattle.replay.specs.Telling.{IsTelling, Told, ToldInPart};
 ghost use Rattle.replay.specs.Fronts.{sight_of};
 ghost use Rattle.replay.specs.Backs.{slip_of_ticket, reply_to, given_as, is_back};
@@ -26,7 +29,7 @@ use arrivals::Origin;
 use cost_model::Costs;
 use http_requests::{Message, What as Meaning};
 use paths::{Output, Snapshot, Tree, resolve};
-use responses::{Slip, render, render_head, write_record, write_reply};
+use responses::{HeadRenderer, Slip, render, write_record, write_reply};
 use std::alloc::{AllocError, Global};
 use std::io::Write;
 
@@ -57,43 +60,44 @@ pub(crate) fn look_into(
 /// Writes the reply that gives a file, by the slip of the answer to HEAD. The bytes go to the writer as they stand in
 /// the snapshot.
 fn give_file<F: Tree, W: Write>(
-    alloc: Global,
+    heads: &mut HeadRenderer,
     snapshot: &Snapshot,
     slip: &Slip<F>,
     file: usize,
     writer: &mut Output<W>,
 ) -> Result<(), ReplayFault>
     requires file { file < length snapshot.now }
-    requires date { slip.now.date ≤ 253402300799 }
-    requires failures { writer.old.1 < 2 ^ 64 - 1 }
-    ensures written { OnOk result (Appends writer.old.0 writer.new.0
+    requires date { slip.now.date ≤ latest_time }
+    requires failures { CanFail writer.old }
+    ensures written { OnOk result (Appends writer.old.bytes writer.new.bytes
         (record_text (given_as F.files slip.now (file_of snapshot.now file).bytes))) }
-    ensures part { OnErr result (AppendsInPart writer.old.0 writer.new.0
+    ensures part { OnErr result (AppendsInPart writer.old.bytes writer.new.bytes
         (record_text (given_as F.files slip.now (file_of snapshot.now file).bytes))) }
-    ensures failures { CountsBy writer_failures writer.old.1 writer.new.1 result }
+    ensures failures { CountsBy writer_failures writer.old.failures writer.new.failures result }
     ensures own { IfErr result IsWriteOrMemory }
 {
-    let front = render_head(alloc, slip)?;
+    heads.render(slip)?;
     let body: &[u8] = if slip.head { &[] } else { snapshot.bytes(file) };
-    write_record(writer, slip.number, slip.conn, &front, body)?;
+    write_record(writer, slip.number, slip.conn, heads.as_slice(), body)?;
     Ok(())
 }
 
 /// Answers a message that was decided on.
 pub(crate) fn answer_ticket<F: Tree, W: Write>(
     alloc: Global,
+    heads: &mut HeadRenderer,
     snapshot: &Snapshot,
     ticket: Ticket<F>,
     writer: &mut Output<W>,
 ) -> Result<(), ReplayFault>
     requires snapshot { snapshot.now ≡ F.files }
     requires ready { is_back F.files (Waits ticket) ≡ true }
-    requires failures { writer.old.1 < 2 ^ 64 - 1 }
-    ensures written { OnOk result (Appends writer.old.0 writer.new.0
+    requires failures { CanFail writer.old }
+    ensures written { OnOk result (Appends writer.old.bytes writer.new.bytes
         (record_text (reply_to F.files (slip_of_ticket ticket)))) }
-    ensures part { OnErr result (AppendsInPart writer.old.0 writer.new.0
+    ensures part { OnErr result (AppendsInPart writer.old.bytes writer.new.bytes
         (record_text (reply_to F.files (slip_of_ticket ticket)))) }
-    ensures failures { CountsBy writer_failures writer.old.1 writer.new.1 result }
+    ensures failures { CountsBy writer_failures writer.old.failures writer.new.failures result }
     ensures own { IfErr result IsWriteOrMemory }
 {
     let Ticket {
@@ -114,7 +118,7 @@ pub(crate) fn answer_ticket<F: Tree, W: Write>(
                 link,
                 what: known_file(snapshot, file, mtime),
             };
-            give_file::<F, W>(alloc, snapshot, &slip, file, writer)
+            give_file::<F, W>(heads, snapshot, &slip, file, writer)
         }
         Due::Told(what) => {
             let slip = Slip {
@@ -135,6 +139,7 @@ pub(crate) fn answer_ticket<F: Tree, W: Write>(
 /// Answers the next message.
 fn answer_message<T: Tells, F: Tree, W: Write>(
     alloc: Global,
+    heads: &mut HeadRenderer,
     snapshot: &Snapshot,
     settings: &Settings,
     origin: Origin,
@@ -144,39 +149,41 @@ fn answer_message<T: Tells, F: Tree, W: Write>(
 ) -> Result<(), ReplayFault>
     requires snapshot { snapshot.now ≡ F.files }
     requires start { desk.old.start ≤ latest_start }
-    requires tick { origin.tick ≤ 1000000000000000 }
+    requires tick { origin.tick ≤ latest_tick }
     requires tier { origin.tier < 4 }
-    requires stands { (arrivals : List Arrival) × Stands (terms_of F.files settings.now) arrivals desk.old
+    requires stands { (arrivals : List Arrival) × DeskAfter (terms_of F.files settings.now) arrivals desk.old
         × AreBy origin.tick arrivals }
-    requires failures { writer.old.1 < 2 ^ 64 - 1 }
+    requires failures { CanFail writer.old }
     ensures stands { OnOk result ((arrivals : List Arrival) (a : Arrival)
-        → Stands (terms_of F.files settings.now) arrivals desk.old → a.origin ≡ origin → a.message.what ≡ what.now
-        → Stands (terms_of F.files settings.now) (arrivals ++ a ∷ []) desk.new) }
+        → DeskAfter (terms_of F.files settings.now) arrivals desk.old → a.origin ≡ origin → a.message.what ≡ what.now
+        → DeskAfter (terms_of F.files settings.now) (arrivals ++ a ∷ []) desk.new) }
     ensures written { OnOk result ((arrivals : List Arrival) (a : Arrival)
-        → Stands (terms_of F.files settings.now) arrivals desk.old → a.origin ≡ origin → a.message.what ≡ what.now
-        → Told (T.telling (terms_of F.files settings.now)) desk.old.start arrivals (a ∷ []) writer.old.0 writer.new.0) }
+        → DeskAfter (terms_of F.files settings.now) arrivals desk.old → a.origin ≡ origin → a.message.what ≡ what.now
+        → Told (T.telling (terms_of F.files settings.now)) desk.old.start arrivals (a ∷ [])
+        writer.old.bytes writer.new.bytes) }
     ensures start { OnOk result (desk.new.start ≡ desk.old.start) }
     ensures number { OnOk result (desk.new.totals.answered ≡ desk.old.totals.answered + 1) }
     ensures many { IfErr result (λ f. IfTooMany f (λ n. (n ≡ MOST_MESSAGES)
         × (desk.old.totals.answered ≡ MOST_MESSAGES) × (writer.new ≡ writer.old))) }
     ensures part { IfErr result (λ f. IfCutShort f ((desk.old.totals.answered < MOST_MESSAGES)
-        × ((arrivals : List Arrival) (a : Arrival) → Stands (terms_of F.files settings.now) arrivals desk.old
+        × ((arrivals : List Arrival) (a : Arrival) → DeskAfter (terms_of F.files settings.now) arrivals desk.old
         → a.origin ≡ origin → a.message.what ≡ what.now
         → ToldInPart (T.telling (terms_of F.files settings.now)) desk.old.start arrivals (a ∷ [])
-        writer.old.0 writer.new.0))) }
-    ensures failures { CountsBy writer_failures writer.old.1 writer.new.1 result }
+        writer.old.bytes writer.new.bytes))) }
+    ensures failures { CountsBy writer_failures writer.old.failures writer.new.failures result }
     ensures own { IfErr result IsOwn }
 {
     let number = desk.totals.answered;
     if number == MOST_MESSAGES {
         return Err(ReplayFault::TooMany(MOST_MESSAGES));
     }
-    T::tell::<F, W>(alloc, snapshot, settings, origin, what, desk, writer)
+    T::tell::<F, W>(alloc, heads, snapshot, settings, origin, what, desk, writer)
 }
 
 /// Answers the messages that ended in a piece, in their order.
 pub(crate) fn answer_all<T: Tells, F: Tree, W: Write>(
     alloc: Global,
+    heads: &mut HeadRenderer,
     snapshot: &Snapshot,
     settings: &Settings,
     origin: Origin,
@@ -187,35 +194,36 @@ pub(crate) fn answer_all<T: Tells, F: Tree, W: Write>(
     requires snapshot { snapshot.now ≡ F.files }
     requires texts { (terms : Terms) → IsTelling (T.telling terms) }
     requires start { desk.old.start ≤ latest_start }
-    requires tick { origin.tick ≤ 1000000000000000 }
+    requires tick { origin.tick ≤ latest_tick }
     requires tier { origin.tier < 4 }
-    requires stands { (arrivals : List Arrival) × Stands (terms_of F.files settings.now) arrivals desk.old
+    requires stands { (arrivals : List Arrival) × DeskAfter (terms_of F.files settings.now) arrivals desk.old
         × AreBy origin.tick arrivals }
-    requires failures { writer.old.1 < 2 ^ 64 - 1 }
+    requires failures { CanFail writer.old }
     ensures stands { OnOk result ((arrivals : List Arrival) (place : ℕ)
-        → Stands (terms_of F.files settings.now) arrivals desk.old
-        → Stands (terms_of F.files settings.now) (arrivals ++ arrivals_with place origin messages.now) desk.new) }
+        → DeskAfter (terms_of F.files settings.now) arrivals desk.old
+        → DeskAfter (terms_of F.files settings.now) (arrivals ++ arrivals_with place origin messages.now) desk.new) }
     ensures written { OnOk result ((arrivals : List Arrival) (place : ℕ)
-        → Stands (terms_of F.files settings.now) arrivals desk.old
+        → DeskAfter (terms_of F.files settings.now) arrivals desk.old
         → Told (T.telling (terms_of F.files settings.now)) desk.old.start arrivals
-        (arrivals_with place origin messages.now) writer.old.0 writer.new.0) }
+        (arrivals_with place origin messages.now) writer.old.bytes writer.new.bytes) }
     ensures start { OnOk result (desk.new.start ≡ desk.old.start) }
     ensures many { IfErr result (λ f. IfTooMany f (λ n. (n ≡ MOST_MESSAGES) × (i : ℕ) × (i < length messages.now)
         × (desk.old.totals.answered + i ≡ MOST_MESSAGES)
-        × ((arrivals : List Arrival) (place : ℕ) → Stands (terms_of F.files settings.now) arrivals desk.old
+        × ((arrivals : List Arrival) (place : ℕ) → DeskAfter (terms_of F.files settings.now) arrivals desk.old
         → Told (T.telling (terms_of F.files settings.now)) desk.old.start arrivals
-        (arrivals_with place origin (take i messages.now)) writer.old.0 writer.new.0))) }
+        (arrivals_with place origin (take i messages.now)) writer.old.bytes writer.new.bytes))) }
     ensures part { IfErr result (λ f. IfCutShort f ((i : ℕ) × (i ≤ length messages.now)
         × (desk.old.totals.answered + i ≤ MOST_MESSAGES) × ((arrivals : List Arrival) (place : ℕ)
-        → Stands (terms_of F.files settings.now) arrivals desk.old
+        → DeskAfter (terms_of F.files settings.now) arrivals desk.old
         → ToldInPart (T.telling (terms_of F.files settings.now)) desk.old.start arrivals
-        (arrivals_with place origin (take i messages.now)) writer.old.0 writer.new.0))) }
-    ensures failures { CountsBy writer_failures writer.old.1 writer.new.1 result }
+        (arrivals_with place origin (take i messages.now)) writer.old.bytes writer.new.bytes))) }
+    ensures failures { CountsBy writer_failures writer.old.failures writer.new.failures result }
     ensures own { IfErr result IsOwn }
 {
     for message in messages {
         answer_message::<T, F, W>(
             alloc,
+            heads,
             snapshot,
             settings,
             origin,

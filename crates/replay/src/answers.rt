@@ -1,4 +1,7 @@
+//! What answers a message, apart from whether it is turned away.
+
 ghost use Rattle.std.specs.Prelude.{◌≡◌, ◌<◌, ◌≤◌, ◌&&◌, true, length};
+ghost use Rattle.admission.specs.Limits.{MAX_SERVICE};
 ghost use Rattle.paths.specs.Resolution.{IsOutcome};
 ghost use Rattle.paths.specs.Snapshots.{file_of};
 ghost use Rattle.page_cache.specs.Media.{media_of};
@@ -126,7 +129,7 @@ pub(crate) fn service_of(
     ensures ticks { result
         ≡ service costs outcome.now head (is_unmodified_file snapshot.now since outcome.now)
         (length_given snapshot.now outcome.now) }
-    ensures range { (1 ≤ result) × (result ≤ 20000000000) }
+    ensures range { (1 ≤ result) × (result ≤ MAX_SERVICE) }
 {
     match outcome {
         Outcome::File(file) => {

@@ -1,6 +1,8 @@
+//! The back floor: a ticket becomes a reply, with its page out of the cache.
+
 ghost use Rattle.std.specs.Prelude.{◌≡◌, ◌<◌, true, ℕ, List, length, map, flat_map, IfOk, IfErr};
 ghost use Rattle.std.specs.List.{list_all, range_with_len};
-ghost use Rattle.stage_graph.specs.Stands.{last_cut, with_steps};
+ghost use Rattle.stage_graph.specs.After.{last_cut, with_steps};
 ghost use Rattle.replay.specs.declared.back_state.BackState.TheVariants.{Due as Waits};
 ghost use Rattle.std.specs.Arc.{arc_value};
 ghost use Rattle.stage_graph.specs.Steps.{value_of};

@@ -1,3 +1,5 @@
+//! Counting replies by status, and messages that are no requests.
+
 ghost use Rattle.std.specs.Prelude.{◌≡◌, ◌-◌, ◌^◌};
 ghost use Rattle.responses.specs.Replies.{status_of, plain_status};
 ghost use Rattle.replay.specs.Counting.{AreBelow, with_status, breaks_a_rule};

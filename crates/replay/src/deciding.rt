@@ -1,12 +1,14 @@
+//! Deciding on messages in the order of their arrival.
+
 ghost use Rattle.std.specs.Prelude.{◌≡◌, ◌<◌, ◌≤◌, ◌+◌, ◌∷◌, ◌++◌, [], true, List, length, map, IfOk, OnOk};
 ghost use Rattle.std.specs.List.{list_all};
-ghost use Rattle.captures.specs.Captures.{latest_start};
+ghost use Rattle.captures.specs.Captures.{latest_start, latest_tick};
 ghost use Rattle.replay.specs.Choices.{terms_of};
 ghost use Rattle.arrivals.specs.Arrivals.{Arrival};
 ghost use Rattle.replay.specs.Offers.{handled_next, handled_after};
 ghost use Rattle.replay.specs.Outcomes.{most_messages};
 ghost use Rattle.replay.specs.Replies.{slip_of};
-ghost use Rattle.replay.specs.Serving.{Stands, AreBy};
+ghost use Rattle.replay.specs.Serving.{DeskAfter, AreBy};
 ghost use Rattle.replay.specs.Fronts.{sight_of};
 ghost use Rattle.replay.specs.Ticketing.{AreSighted, InTime};
 ghost use Rattle.replay.specs.Backs.{is_back, slip_of_ticket};
@@ -33,17 +35,17 @@ pub(crate) fn settle<F: Tree>(
 ) -> Result<Ticket<F>, AllocError>
     requires snapshot { snapshot.now ≡ F.files }
     requires start { desk.old.start ≤ latest_start }
-    requires tick { origin.tick ≤ 1000000000000000 }
+    requires tick { origin.tick ≤ latest_tick }
     requires tier { origin.tier < 4 }
     requires few { desk.old.totals.answered < MOST_MESSAGES }
-    requires stands { (arrivals : List Arrival) × Stands (terms_of F.files settings.now) arrivals desk.old
+    requires stands { (arrivals : List Arrival) × DeskAfter (terms_of F.files settings.now) arrivals desk.old
         × AreBy origin.tick arrivals }
     requires sight { sight ≡ sight_of F.files settings.now.costs what.now }
     ensures stands { OnOk result ((arrivals : List Arrival) (a : Arrival)
-        → Stands (terms_of F.files settings.now) arrivals desk.old → a.origin ≡ origin → a.message.what ≡ what.now
-        → Stands (terms_of F.files settings.now) (arrivals ++ a ∷ []) desk.new) }
+        → DeskAfter (terms_of F.files settings.now) arrivals desk.old → a.origin ≡ origin → a.message.what ≡ what.now
+        → DeskAfter (terms_of F.files settings.now) (arrivals ++ a ∷ []) desk.new) }
     ensures slip { IfOk result (λ t. (arrivals : List Arrival) (a : Arrival)
-        → Stands (terms_of F.files settings.now) arrivals desk.old → a.origin ≡ origin → a.message.what ≡ what.now
+        → DeskAfter (terms_of F.files settings.now) arrivals desk.old → a.origin ≡ origin → a.message.what ≡ what.now
         → slip_of_ticket t ≡ slip_of (terms_of F.files settings.now) desk.old.start
         (handled_next (terms_of F.files settings.now) arrivals a)) }
     ensures ready { IfOk result (λ t. is_back F.files (Waits t) ≡ true) }
@@ -77,15 +79,15 @@ pub(crate) fn decide_all<F: Tree>(
     requires snapshot { snapshot.now ≡ F.files }
     requires start { desk.old.start ≤ latest_start }
     requires arrived { (arrivals : List Arrival) × (more : List Arrival)
-        × Stands (terms_of F.files settings.now) arrivals desk.old
+        × DeskAfter (terms_of F.files settings.now) arrivals desk.old
         × AreSighted F.files settings.now.costs more sights.items × InTime arrivals more
         × (length arrivals + length more ≤ most_messages) }
     ensures stands { OnOk result ((arrivals more : List Arrival)
-        → Stands (terms_of F.files settings.now) arrivals desk.old
+        → DeskAfter (terms_of F.files settings.now) arrivals desk.old
         → AreSighted F.files settings.now.costs more sights.items
-        → Stands (terms_of F.files settings.now) (arrivals ++ more) desk.new) }
+        → DeskAfter (terms_of F.files settings.now) (arrivals ++ more) desk.new) }
     ensures slips { IfOk result (λ v. (arrivals more : List Arrival)
-        → Stands (terms_of F.files settings.now) arrivals desk.old
+        → DeskAfter (terms_of F.files settings.now) arrivals desk.old
         → AreSighted F.files settings.now.costs more sights.items
         → map slip_of_ticket v.items
         ≡ map (slip_of (terms_of F.files settings.now) desk.old.start)

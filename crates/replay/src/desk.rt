@@ -1,6 +1,8 @@
+//! The desk: the controller and the totals, which see each message in its order.
+
 ghost use Rattle.std.specs.Prelude.{◌≡◌, ◌<◌, ◌≤◌, ◌∷◌, ◌&&◌, [], true, Bool, List, length, IfOk};
 ghost use Rattle.admission.specs.Requests.{Offer};
-ghost use Rattle.admission.specs.Fits.{Fits, tick_from};
+ghost use Rattle.admission.specs.After.{ControllerAfter, tick_from};
 ghost use Rattle.admission.specs.Standing.{policies_of};
 ghost use Rattle.replay.specs.Choices.{terms_of};
 ghost use Rattle.replay.specs.Answers.{answers_head, given};
@@ -34,12 +36,13 @@ pub struct Desk {
 impl Desk {
     /// Offers a request of `tier` that comes at `tick` and takes `service` ticks: whether it is turned away.
     fn offer(&mut self, tier: u8, tick: u64, service: u64) -> Result<bool, AllocError>
-        requires offers { (offers : List Offer) × Fits offers self.old.controller × (tick_from 0 offers ≤ tick)
+        requires offers { (offers : List Offer) × ControllerAfter offers self.old.controller
+            × (tick_from 0 offers ≤ tick)
             × (length offers < MOST_MESSAGES) }
         requires tier { tier < 4 }
         requires tick { tick ≤ MAX_TICK }
         requires service { (1 ≤ service) × (service ≤ MAX_SERVICE) }
-        ensures { IfOk result (λ away. (offers : List Offer) → Fits offers self.old.controller
+        ensures { IfOk result (λ away. (offers : List Offer) → ControllerAfter offers self.old.controller
             → self.old.totals.samples ≡ samples_of (policies_of self.old.controller) offers
             → Decides offers (record { tier = tier; tick = tick; service = service } ∷ []) self.old self.new away) }
     {
@@ -65,12 +68,13 @@ impl Desk {
         sight: Sight,
     ) -> Result<Due<F>, AllocError>
         requires snapshot { snapshot.now ≡ F.files }
-        requires offers { (offers : List Offer) × Fits offers self.old.controller × (tick_from 0 offers ≤ origin.tick)
+        requires offers { (offers : List Offer) × ControllerAfter offers self.old.controller
+            × (tick_from 0 offers ≤ origin.tick)
             × (length offers < MOST_MESSAGES) }
         requires tier { origin.tier < 4 }
         requires tick { origin.tick ≤ MAX_TICK }
         requires sight { sight ≡ sight_of F.files settings.now.costs what.now }
-        ensures told { IfOk result (λ due. (offers : List Offer) → Fits offers self.old.controller
+        ensures told { IfOk result (λ due. (offers : List Offer) → ControllerAfter offers self.old.controller
             → self.old.totals.samples ≡ samples_of (policies_of self.old.controller) offers
             → (away : Bool) × Decides offers
             (offer_at (terms_of F.files settings.now) origin what.now) self.old self.new away

@@ -1,8 +1,11 @@
+//! The table of decisions of a capture.
+
 ghost use Rattle.std.specs.Prelude.{◌≡◌, ◌-◌, ◌<◌, ◌^◌, IfOk, IfErr};
+ghost use Rattle.paths.specs.Devices.{CanFail, CountsBy};
 ghost use Rattle.replay.specs.Choices.{terms_of};
 ghost use Rattle.replay.specs.Explaining.{Explains, rows_told};
 ghost use Rattle.replay.specs.Outcomes.{IfCapture, IfTooMany, IfCutShort, StopsTelling, StopsBeyond, IsCutOff};
-ghost use Rattle.replay.specs.Outcomes.{CountsBy, reader_failures, writer_failures};
+ghost use Rattle.replay.specs.Outcomes.{reader_failures, writer_failures};
 
 use crate::outcome::Outcome;
 use crate::plain::replay_telling;
@@ -29,23 +32,23 @@ pub fn explain_replay<F: Tree, R: Read, W: Write>(
     writer: &mut Output<W>,
 ) -> Result<Outcome, ReplayFault>
     requires snapshot { snapshot.now ≡ F.files }
-    requires reading { reader.old.1 < 2 ^ 64 - 1 }
-    requires writing { writer.old.1 < 2 ^ 64 - 1 }
+    requires reading { CanFail reader.old }
+    requires writing { CanFail writer.old }
     // Read, and each other fault of the capture, only with the rows of the messages of the whole records before it.
     ensures stops { IfErr result (λ f. IfCapture f
         (StopsTelling (rows_told (terms_of F.files settings.now))
-        reader.old.0 reader.new.0 writer.old.0 writer.new.0)) }
+        reader.old.bytes reader.new.bytes writer.old.bytes writer.new.bytes)) }
     // Too many messages, only with the rows of those within the limit.
     ensures many { IfErr result (λ f. IfTooMany f
-        (StopsBeyond (rows_told (terms_of F.files settings.now)) reader.old.0 writer.old.0 writer.new.0)) }
+        (StopsBeyond (rows_told (terms_of F.files settings.now)) reader.old.bytes writer.old.bytes writer.new.bytes)) }
     // After a failed write and out of memory, a prefix of what was due stands.
     ensures part { IfErr result (λ f. IfCutShort f
-        (IsCutOff (rows_told (terms_of F.files settings.now)) reader.old.0 writer.old.0 writer.new.0)) }
+        (IsCutOff (rows_told (terms_of F.files settings.now)) reader.old.bytes writer.old.bytes writer.new.bytes)) }
     // A device is blamed only where it failed in this call.
-    ensures reads { CountsBy reader_failures reader.old.1 reader.new.1 result }
-    ensures writes { CountsBy writer_failures writer.old.1 writer.new.1 result }
+    ensures reads { CountsBy reader_failures reader.old.failures reader.new.failures result }
+    ensures writes { CountsBy writer_failures writer.old.failures writer.new.failures result }
     ensures ok { IfOk result
-        (Explains (terms_of F.files settings.now) reader.old.0 writer.old.0 writer.new.0) }
+        (Explains (terms_of F.files settings.now) reader.old.bytes writer.old.bytes writer.new.bytes) }
 {
     replay_telling::<Rows, F, R, W>(alloc, snapshot, settings, reader, writer)
 }

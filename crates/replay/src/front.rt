@@ -1,6 +1,8 @@
+//! The front floor: what answers each message of a part, and how long that takes.
+
 ghost use Rattle.std.specs.Prelude.{◌≡◌, ℕ, List, IfOk, IfErr, length, map, slice_index_or};
 ghost use Rattle.std.specs.List.{range_with_len};
-ghost use Rattle.stage_graph.specs.Stands.{last_cut, with_steps};
+ghost use Rattle.stage_graph.specs.After.{last_cut, with_steps};
 ghost use Rattle.replay.specs.Fronts.{front_value};
 ghost use Rattle.stage_graph.specs.Steps.{value_of};
 ghost use Rattle.replay.specs.Fronts.{sight_after, front_step, unseen, unseen_at, IsSight};

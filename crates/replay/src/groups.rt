@@ -1,3 +1,5 @@
+//! Tickets in groups whose pages fit into memory.
+
 ghost use Rattle.std.specs.Prelude.{◌≡◌, ◌++◌, IfOk};
 ghost use Rattle.replay.specs.Groups.{all_of};
 

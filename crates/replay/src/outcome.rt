@@ -1,3 +1,5 @@
+//! What a replay answers: which requests were rejected, and its figures.
+
 use crate::Summary;
 use arrivals::Series;
 

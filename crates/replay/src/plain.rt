@@ -1,6 +1,9 @@
+//! The plain engine: one thread, message by message.
+
 ghost use Rattle.std.specs.Prelude.{◌≡◌, ◌+◌, ◌≤◌, ◌<◌, ◌-◌, ◌^◌, ◌⊎◌, ◌∷◌, [], ℕ, List, ◌++◌};
 ghost use Rattle.std.specs.Prelude.{IfOk, IfErr, OnOk, OnErr};
 ghost use Rattle.std.specs.Io.KnownBytes.{Appends};
+ghost use Rattle.paths.specs.Devices.{CanFail, CountsBy};
 ghost use Rattle.captures.specs.declared.version.Version.{Version as AVersion};
 ghost use Rattle.captures.specs.Captures.{IsRecord, Follows, past_of, size_of, sizes_of, latest_start, longest_text};
 ghost use Rattle.captures.specs.declared.record.Record.{Record as ARecord};
@@ -8,15 +11,15 @@ ghost use Rattle.replay.specs.Choices.{Terms, terms_of};
 ghost use Rattle.arrivals.specs.Arrivals.{Arrival};
 ghost use Rattle.replay.specs.Replies.{first_line, last_line};
 ghost use Rattle.replay.specs.Telling.{IsTelling};
-ghost use Rattle.replay.specs.Serving.{IsLater, Serves, TellsMore, TellsFull, TellsInPart, Stands, HasTold};
+ghost use Rattle.replay.specs.Serving.{IsLater, Serves, TellsMore, TellsFull, TellsInPart, DeskAfter, HasTold};
 ghost use Rattle.replay.specs.Counting.{rejected_of, summary_of, tally_of};
 ghost use Rattle.arrivals.specs.Tiers.{AreTiers};
 ghost use Rattle.admission.specs.Requests.{Offer};
-ghost use Rattle.admission.specs.Fits.{Fits};
+ghost use Rattle.admission.specs.After.{ControllerAfter};
 ghost use Rattle.admission.specs.Standing.{policies_of};
 ghost use Rattle.replay.specs.Offers.{handled};
 ghost use Rattle.replay.specs.Outcomes.{Answers, AppendsInPart, IfCapture, IfTooMany, IfCutShort, IsCutShort, IsOwn};
-ghost use Rattle.replay.specs.Outcomes.{Stops, StopsFull, CountsBy, reader_failures, writer_failures};
+ghost use Rattle.replay.specs.Outcomes.{Stops, StopsFull, reader_failures, writer_failures};
 ghost use Rattle.replay.specs.Outcomes.{IsWriteOrMemory, StopsTelling, StopsBeyond, IsCutOff};
 
 use crate::answering::answer_all;
@@ -29,17 +32,18 @@ use crate::{MOST_MESSAGES, ReplayFault, Settings, Summary, Tally};
 use admission::Controller;
 use arrivals::{Connections, Origin, Series, Tiers};
 use captures::{CaptureReader, Record};
+use http_requests::Message;
 use paths::{Input, Output, Snapshot, Tree};
-use responses::write_all;
+use responses::{HeadRenderer, write_all};
 use std::alloc::{AllocError, Global};
 use std::io::{Read, Write};
 
 /// Writes the line before the replies.
 pub(crate) fn write_first_line<W: Write>(writer: &mut Output<W>) -> Result<(), ReplayFault>
-    requires { writer.old.1 < 2 ^ 64 - 1 }
-    ensures written { OnOk result (Appends writer.old.0 writer.new.0 first_line) }
-    ensures part { OnErr result (AppendsInPart writer.old.0 writer.new.0 first_line) }
-    ensures failures { CountsBy writer_failures writer.old.1 writer.new.1 result }
+    requires { CanFail writer.old }
+    ensures written { OnOk result (Appends writer.old.bytes writer.new.bytes first_line) }
+    ensures part { OnErr result (AppendsInPart writer.old.bytes writer.new.bytes first_line) }
+    ensures failures { CountsBy writer_failures writer.old.failures writer.new.failures result }
     ensures own { IfErr result IsWriteOrMemory }
 {
     write_all(writer, b"haboob-replies 1\n")?;
@@ -52,10 +56,10 @@ pub(crate) fn write_last_line<W: Write>(
     writer: &mut Output<W>,
     count: usize,
 ) -> Result<(), ReplayFault>
-    requires { writer.old.1 < 2 ^ 64 - 1 }
-    ensures written { OnOk result (Appends writer.old.0 writer.new.0 (last_line count)) }
-    ensures part { OnErr result (AppendsInPart writer.old.0 writer.new.0 (last_line count)) }
-    ensures failures { CountsBy writer_failures writer.old.1 writer.new.1 result }
+    requires { CanFail writer.old }
+    ensures written { OnOk result (Appends writer.old.bytes writer.new.bytes (last_line count)) }
+    ensures part { OnErr result (AppendsInPart writer.old.bytes writer.new.bytes (last_line count)) }
+    ensures failures { CountsBy writer_failures writer.old.failures writer.new.failures result }
     ensures own { IfErr result IsWriteOrMemory }
 {
     let line = format!(in alloc; "stop {count}\n")?;
@@ -66,7 +70,7 @@ pub(crate) fn write_last_line<W: Write>(
 /// What became of the requests of a tier.
 fn tally_of(alloc: Global, controller: &Controller, tier: u8) -> Result<Tally, AllocError>
     requires { tier < 4 }
-    ensures { IfOk result (λ tally. (offers : List Offer) → Fits offers controller.now
+    ensures { IfOk result (λ tally. (offers : List Offer) → ControllerAfter offers controller.now
         → tally ≡ tally_of (policies_of controller.now) offers tier) }
 {
     let controls = Vec::from_slice(alloc, controller.controls(tier))?;
@@ -81,7 +85,7 @@ fn tally_of(alloc: Global, controller: &Controller, tier: u8) -> Result<Tally, A
 pub(crate) fn outcome_of(alloc: Global, desk: Desk) -> Result<Outcome, AllocError>
     ensures rejected { IfOk result (λ outcome. outcome.rejected ≡ desk.totals.rejected) }
     ensures summary { IfOk result (λ outcome. (terms : Terms) (arrivals : List Arrival)
-        → Stands terms arrivals desk → outcome.summary ≡ summary_of terms arrivals) }
+        → DeskAfter terms arrivals desk → outcome.summary ≡ summary_of terms arrivals) }
 {
     let tiers = [
         tally_of(alloc, &desk.controller, 0)?,
@@ -101,9 +105,11 @@ pub(crate) fn outcome_of(alloc: Global, desk: Desk) -> Result<Outcome, AllocErro
     })
 }
 
-/// Reads one more record: answers the messages that arrive with it.
+/// Reads one more record: answers the messages that arrive with it. `messages` is room for them.
 fn answer_record<T: Tells, F: Tree, W: Write>(
     alloc: Global,
+    heads: &mut HeadRenderer,
+    messages: &mut Vec<Message>,
     snapshot: &Snapshot,
     settings: &Settings,
     next: &Record,
@@ -119,25 +125,25 @@ fn answer_record<T: Tells, F: Tree, W: Write>(
     requires room { (records : List ARecord) × (arrivals : List Arrival)
         × Serves (terms_of F.files settings.now) records arrivals connections.old desk.old
         × (sizes_of records + size_of next.now ≤ longest_text) × IsLater next.now arrivals }
-    requires failures { writer.old.1 < 2 ^ 64 - 1 }
+    requires failures { CanFail writer.old }
     ensures tiers { OnOk result ((records : List ARecord) → AreTiers records tiers.old
         → AreTiers (records ++ next.now ∷ []) tiers.new) }
     ensures serves { OnOk result ((records : List ARecord) (arrivals : List Arrival) → AreTiers records tiers.old
         → Serves (terms_of F.files settings.now) records arrivals connections.old desk.old
         → TellsMore (T.telling (terms_of F.files settings.now)) (terms_of F.files settings.now) records arrivals
-        (next.now ∷ []) connections.new desk.new writer.old.0 writer.new.0) }
+        (next.now ∷ []) connections.new desk.new writer.old.bytes writer.new.bytes) }
     ensures start { OnOk result (desk.new.start ≡ desk.old.start) }
     ensures many { IfErr result (λ f. IfTooMany f (λ n. (n ≡ MOST_MESSAGES)
         × ((records : List ARecord) (arrivals : List Arrival) → AreTiers records tiers.old
         → Serves (terms_of F.files settings.now) records arrivals connections.old desk.old
         → TellsFull (T.telling (terms_of F.files settings.now)) desk.old.start records arrivals
-        (next.now ∷ []) writer.old.0 writer.new.0))) }
-    ensures part { IfErr result (λ f. IfCutShort f ((writer.new.0
-        ≡ writer.old.0) ⊎ ((records : List ARecord) (arrivals : List Arrival) → AreTiers records tiers.old
+        (next.now ∷ []) writer.old.bytes writer.new.bytes))) }
+    ensures part { IfErr result (λ f. IfCutShort f ((writer.new.bytes
+        ≡ writer.old.bytes) ⊎ ((records : List ARecord) (arrivals : List Arrival) → AreTiers records tiers.old
         → Serves (terms_of F.files settings.now) records arrivals connections.old desk.old
         → TellsInPart (T.telling (terms_of F.files settings.now)) desk.old.start records arrivals
-        (next.now ∷ []) writer.old.0 writer.new.0))) }
-    ensures failures { CountsBy writer_failures writer.old.1 writer.new.1 result }
+        (next.now ∷ []) writer.old.bytes writer.new.bytes))) }
+    ensures failures { CountsBy writer_failures writer.old.failures writer.new.failures result }
     ensures own { IfErr result IsOwn }
 {
     match next {
@@ -147,14 +153,16 @@ fn answer_record<T: Tells, F: Tree, W: Write>(
             Ok(())
         }
         Record::Piece { tick, conn, bytes } => {
-            let mut messages = Vec::new(alloc);
-            connections.take(alloc, usize::from(*conn), bytes.as_slice(), &mut messages)?;
+            messages.clear();
+            connections.take(alloc, usize::from(*conn), bytes.as_slice(), messages)?;
             let origin = Origin {
                 conn: *conn,
                 tick: *tick,
                 tier: tiers.of(*conn),
             };
-            answer_all::<T, F, W>(alloc, snapshot, settings, origin, &messages, desk, writer)
+            answer_all::<T, F, W>(
+                alloc, heads, snapshot, settings, origin, messages, desk, writer,
+            )
         }
     }
 }
@@ -169,25 +177,27 @@ pub(crate) fn replay_telling<T: Tells, F: Tree, R: Read, W: Write>(
     writer: &mut Output<W>,
 ) -> Result<Outcome, ReplayFault>
     requires snapshot { snapshot.now ≡ F.files }
-    requires reading { reader.old.1 < 2 ^ 64 - 1 }
-    requires writing { writer.old.1 < 2 ^ 64 - 1 }
+    requires reading { CanFail reader.old }
+    requires writing { CanFail writer.old }
     ensures stops { IfErr result (λ f. IfCapture f
         (StopsTelling (T.telling (terms_of F.files settings.now))
-        reader.old.0 reader.new.0 writer.old.0 writer.new.0)) }
+        reader.old.bytes reader.new.bytes writer.old.bytes writer.new.bytes)) }
     ensures many { IfErr result (λ f. IfTooMany f
-        (StopsBeyond (T.telling (terms_of F.files settings.now)) reader.old.0 writer.old.0 writer.new.0)) }
+        (StopsBeyond (T.telling (terms_of F.files settings.now)) reader.old.bytes writer.old.bytes writer.new.bytes)) }
     ensures part { IfErr result (λ f. IfCutShort f
-        (IsCutOff (T.telling (terms_of F.files settings.now)) reader.old.0 writer.old.0 writer.new.0)) }
-    ensures reads { CountsBy reader_failures reader.old.1 reader.new.1 result }
-    ensures writes { CountsBy writer_failures writer.old.1 writer.new.1 result }
+        (IsCutOff (T.telling (terms_of F.files settings.now)) reader.old.bytes writer.old.bytes writer.new.bytes)) }
+    ensures reads { CountsBy reader_failures reader.old.failures reader.new.failures result }
+    ensures writes { CountsBy writer_failures writer.old.failures writer.new.failures result }
     ensures ok { IfOk result (HasTold (T.telling (terms_of F.files settings.now)) (terms_of F.files settings.now)
-        reader.old.0 writer.old.0 writer.new.0) }
+        reader.old.bytes writer.old.bytes writer.new.bytes) }
 {
     T::begin(writer)?;
     let mut capture = match CaptureReader::open(reader) {
         Ok(capture) => capture,
         Err(fault) => return Err(ReplayFault::from(fault)),
     };
+    let mut heads = HeadRenderer::new(alloc);
+    let mut messages = Vec::new(alloc);
     let mut connections = Connections::new(alloc);
     let mut tiers = Tiers::new(alloc);
     let mut desk = Desk {
@@ -203,6 +213,8 @@ pub(crate) fn replay_telling<T: Tells, F: Tree, R: Read, W: Write>(
         };
         answer_record::<T, F, W>(
             alloc,
+            &mut heads,
+            &mut messages,
             snapshot,
             settings,
             &next,
@@ -233,22 +245,22 @@ pub fn plain_replay<F: Tree, R: Read, W: Write>(
     writer: &mut Output<W>,
 ) -> Result<Outcome, ReplayFault>
     requires snapshot { snapshot.now ≡ F.files }
-    requires reading { reader.old.1 < 2 ^ 64 - 1 }
-    requires writing { writer.old.1 < 2 ^ 64 - 1 }
+    requires reading { CanFail reader.old }
+    requires writing { CanFail writer.old }
     // Read, and each other fault of the capture, only with the replies to the messages of the whole records before it.
     ensures stops { IfErr result (λ f. IfCapture f
-        (Stops (terms_of F.files settings.now) reader.old.0 reader.new.0 writer.old.0 writer.new.0)) }
+        (Stops (terms_of F.files settings.now) reader.old.bytes reader.new.bytes writer.old.bytes writer.new.bytes)) }
     // Too many messages, only with the replies to those within the limit.
     ensures many { IfErr result (λ f. IfTooMany f
-        (StopsFull (terms_of F.files settings.now) reader.old.0 writer.old.0 writer.new.0)) }
+        (StopsFull (terms_of F.files settings.now) reader.old.bytes writer.old.bytes writer.new.bytes)) }
     // After a failed write and out of memory, a prefix of what was due stands.
     ensures part { IfErr result (λ f. IfCutShort f
-        (IsCutShort (terms_of F.files settings.now) reader.old.0 writer.old.0 writer.new.0)) }
+        (IsCutShort (terms_of F.files settings.now) reader.old.bytes writer.old.bytes writer.new.bytes)) }
     // A device is blamed only where it failed in this call.
-    ensures reads { CountsBy reader_failures reader.old.1 reader.new.1 result }
-    ensures writes { CountsBy writer_failures writer.old.1 writer.new.1 result }
+    ensures reads { CountsBy reader_failures reader.old.failures reader.new.failures result }
+    ensures writes { CountsBy writer_failures writer.old.failures writer.new.failures result }
     ensures ok { IfOk result
-        (Answers (terms_of F.files settings.now) reader.old.0 writer.old.0 writer.new.0) }
+        (Answers (terms_of F.files settings.now) reader.old.bytes writer.old.bytes writer.new.bytes) }
 {
     replay_telling::<Replies, F, R, W>(alloc, snapshot, settings, reader, writer)
 }

@@ -1,3 +1,5 @@
+//! Why a replay stopped.
+
 ghost use Rattle.std.specs.Prelude.{◌≡◌};
 
 use captures::{CaptureFault, CaptureFaultKind};

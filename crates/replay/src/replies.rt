@@ -1,3 +1,5 @@
+//! What a replay writes of its messages: replies.
+
 use crate::answering::{answer_ticket, look_into};
 use crate::deciding::settle;
 use crate::desk::Desk;
@@ -7,6 +9,7 @@ use crate::{ReplayFault, Settings};
 use arrivals::Origin;
 use http_requests::What as Meaning;
 use paths::{Output, Snapshot, Tree};
+use responses::HeadRenderer;
 use std::alloc::Global;
 use std::io::Write;
 
@@ -24,6 +27,7 @@ impl Tells for Replies {
 
     fn tell<F: Tree, W: Write>(
         alloc: Global,
+        heads: &mut HeadRenderer,
         snapshot: &Snapshot,
         settings: &Settings,
         origin: Origin,
@@ -33,7 +37,7 @@ impl Tells for Replies {
     ) -> Result<(), ReplayFault> {
         let sight = look_into(alloc, snapshot, settings.costs, what)?;
         let ticket = settle::<F>(snapshot, settings, origin, what, sight, desk)?;
-        answer_ticket(alloc, snapshot, ticket, writer)
+        answer_ticket(alloc, heads, snapshot, ticket, writer)
     }
 
     fn finish<W: Write>(

@@ -1,3 +1,5 @@
+//! What a replay writes of its messages where a table is asked for: rows.
+
 ghost use Rattle.std.specs.Prelude.{◌≡◌, ◌≤◌, ◌+◌, ◌*◌, ℕ, List, IfSome};
 ghost use Rattle.std.specs.Option.{option_map};
 ghost use Rattle.responses.specs.Replies.{status_of};
@@ -23,7 +25,7 @@ use arrivals::Origin;
 use explaining::{Offered, Row, write_heading, write_row};
 use http_requests::What as Meaning;
 use paths::{Output, Snapshot, Tree};
-use responses::{Status, What};
+use responses::{HeadRenderer, Status, What};
 use std::alloc::Global;
 use std::io::Write;
 
@@ -153,6 +155,7 @@ impl Tells for Rows {
 
     fn tell<F: Tree, W: Write>(
         alloc: Global,
+        _heads: &mut HeadRenderer,
         snapshot: &Snapshot,
         settings: &Settings,
         origin: Origin,

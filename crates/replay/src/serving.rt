@@ -1,3 +1,5 @@
+//! A batch: both floors, the decisions between them, and the writing.
+
 ghost use Rattle.std.specs.Prelude.{◌≡◌, ◌<◌, ◌≤◌, ◌-◌, ◌+◌, ◌^◌, ◌++◌, ℕ, List, take, flat_map, length, IfErr, OnOk};
 ghost use Rattle.std.specs.Prelude.{OnErr, true};
 ghost use Rattle.std.specs.List.{list_all};
@@ -9,11 +11,12 @@ ghost use Rattle.responses.specs.Records.{record_text};
 ghost use Rattle.arrivals.specs.Arrivals.{Arrival};
 ghost use Rattle.arrivals.specs.Batches.{joined};
 ghost use Rattle.replay.specs.Choices.{terms_of};
-ghost use Rattle.replay.specs.Outcomes.{AppendsInPart, CountsBy, writer_failures, IsOwn, IsWriteOrMemory, IfTooMany};
+ghost use Rattle.replay.specs.Outcomes.{AppendsInPart, writer_failures, IsOwn, IsWriteOrMemory, IfTooMany};
 ghost use Rattle.replay.specs.Outcomes.{IfCutShort, most_messages};
-ghost use Rattle.replay.specs.Serving.{Stands, Written, WrittenInPart};
+ghost use Rattle.replay.specs.Serving.{DeskAfter, Written, WrittenInPart};
 ghost use Rattle.replay.specs.Waiting.{Upcoming};
 ghost use Rattle.std.specs.Io.KnownBytes.{Appends};
+ghost use Rattle.paths.specs.Devices.{CanFail, CountsBy};
 
 use crate::back::run_back;
 use crate::deciding::decide_all;
@@ -38,10 +41,10 @@ fn write_replies<F: Tree, W: Write>(
     replies: &[Reply<F>],
     writer: &mut Output<W>,
 ) -> Result<(), ReplayFault>
-    requires { writer.old.1 < 2 ^ 64 - 1 }
-    ensures written { OnOk result (Appends writer.old.0 writer.new.0 (flat_map record_text replies.now)) }
-    ensures part { OnErr result (AppendsInPart writer.old.0 writer.new.0 (flat_map record_text replies.now)) }
-    ensures failures { CountsBy writer_failures writer.old.1 writer.new.1 result }
+    requires { CanFail writer.old }
+    ensures written { OnOk result (Appends writer.old.bytes writer.new.bytes (flat_map record_text replies.now)) }
+    ensures part { OnErr result (AppendsInPart writer.old.bytes writer.new.bytes (flat_map record_text replies.now)) }
+    ensures failures { CountsBy writer_failures writer.old.failures writer.new.failures result }
     ensures own { IfErr result IsWriteOrMemory }
 {
     for reply in replies {
@@ -64,10 +67,10 @@ fn answer_group<F: Tree + Send + Sync, G: Gate + Sync, T: Threads + Wait + Sync,
 ) -> Result<(), ReplayFault>
     requires snapshot { snapshot.now ≡ F.files }
     requires ready { list_all (λ t. is_back F.files (Waits t)) group.items ≡ true }
-    requires failures { writer.old.1 < 2 ^ 64 - 1 }
-    ensures written { OnOk result (Appends writer.old.0 writer.new.0 (records_of F.files group.items)) }
-    ensures part { OnErr result (AppendsInPart writer.old.0 writer.new.0 (records_of F.files group.items)) }
-    ensures failures { CountsBy writer_failures writer.old.1 writer.new.1 result }
+    requires failures { CanFail writer.old }
+    ensures written { OnOk result (Appends writer.old.bytes writer.new.bytes (records_of F.files group.items)) }
+    ensures part { OnErr result (AppendsInPart writer.old.bytes writer.new.bytes (records_of F.files group.items)) }
+    ensures failures { CountsBy writer_failures writer.old.failures writer.new.failures result }
     ensures own { IfErr result IsWriteOrMemory }
 {
     let first = match group.first() {
@@ -104,10 +107,10 @@ fn answer_tickets<F: Tree + Send + Sync, G: Gate + Sync, T: Threads + Wait + Syn
 ) -> Result<(), ReplayFault>
     requires snapshot { snapshot.now ≡ F.files }
     requires ready { list_all (λ t. is_back F.files (Waits t)) tickets.items ≡ true }
-    requires failures { writer.old.1 < 2 ^ 64 - 1 }
-    ensures written { OnOk result (Appends writer.old.0 writer.new.0 (records_of F.files tickets.items)) }
-    ensures part { OnErr result (AppendsInPart writer.old.0 writer.new.0 (records_of F.files tickets.items)) }
-    ensures failures { CountsBy writer_failures writer.old.1 writer.new.1 result }
+    requires failures { CanFail writer.old }
+    ensures written { OnOk result (Appends writer.old.bytes writer.new.bytes (records_of F.files tickets.items)) }
+    ensures part { OnErr result (AppendsInPart writer.old.bytes writer.new.bytes (records_of F.files tickets.items)) }
+    ensures failures { CountsBy writer_failures writer.old.failures writer.new.failures result }
     ensures own { IfErr result IsWriteOrMemory }
 {
     for group in groups_of(alloc, snapshot, pages.room, tickets)? {
@@ -142,18 +145,19 @@ fn serve_few<F: Tree + Send + Sync, G: Gate + Sync, T: Threads + Wait + Sync, W:
     requires next { (arrivals : List Arrival) × (more : List Arrival)
         × Upcoming (terms_of F.files settings.now) arrivals more messages.items desk.old
         × (length arrivals + length more ≤ most_messages) }
-    requires failures { writer.old.1 < 2 ^ 64 - 1 }
+    requires failures { CanFail writer.old }
     ensures stands { OnOk result ((arrivals more : List Arrival)
         → Upcoming (terms_of F.files settings.now) arrivals more messages.items desk.old
-        → Stands (terms_of F.files settings.now) (arrivals ++ more) desk.new) }
+        → DeskAfter (terms_of F.files settings.now) (arrivals ++ more) desk.new) }
     ensures written { OnOk result ((arrivals more : List Arrival)
         → Upcoming (terms_of F.files settings.now) arrivals more messages.items desk.old
-        → Written (terms_of F.files settings.now) desk.old.start arrivals more writer.old.0 writer.new.0) }
+        → Written (terms_of F.files settings.now) desk.old.start arrivals more writer.old.bytes writer.new.bytes) }
     ensures part { OnErr result ((arrivals more : List Arrival)
         → Upcoming (terms_of F.files settings.now) arrivals more messages.items desk.old
-        → WrittenInPart (terms_of F.files settings.now) desk.old.start arrivals more writer.old.0 writer.new.0) }
+        → WrittenInPart (terms_of F.files settings.now) desk.old.start arrivals more
+        writer.old.bytes writer.new.bytes) }
     ensures start { OnOk result (desk.new.start ≡ desk.old.start) }
-    ensures failures { CountsBy writer_failures writer.old.1 writer.new.1 result }
+    ensures failures { CountsBy writer_failures writer.old.failures writer.new.failures result }
     ensures own { IfErr result IsWriteOrMemory }
 {
     if messages.is_empty() {
@@ -194,26 +198,27 @@ fn serve_part<F: Tree + Send + Sync, G: Gate + Sync, T: Threads + Wait + Sync, W
     requires start { desk.old.start ≤ latest_start }
     requires next { (arrivals : List Arrival) × (more : List Arrival)
         × Upcoming (terms_of F.files settings.now) arrivals more messages.items desk.old }
-    requires failures { writer.old.1 < 2 ^ 64 - 1 }
+    requires failures { CanFail writer.old }
     ensures stands { OnOk result ((arrivals more : List Arrival)
         → Upcoming (terms_of F.files settings.now) arrivals more messages.items desk.old
-        → Stands (terms_of F.files settings.now) (arrivals ++ more) desk.new) }
+        → DeskAfter (terms_of F.files settings.now) (arrivals ++ more) desk.new) }
     ensures written { OnOk result ((arrivals more : List Arrival)
         → Upcoming (terms_of F.files settings.now) arrivals more messages.items desk.old
-        → Written (terms_of F.files settings.now) desk.old.start arrivals more writer.old.0 writer.new.0) }
+        → Written (terms_of F.files settings.now) desk.old.start arrivals more writer.old.bytes writer.new.bytes) }
     ensures many { IfErr result (λ f. IfTooMany f (λ n. (n ≡ MOST_MESSAGES) × (i : ℕ) × (i < length messages.items)
         × (desk.old.totals.answered + i ≡ MOST_MESSAGES)
         × ((arrivals more : List Arrival)
         → Upcoming (terms_of F.files settings.now) arrivals more messages.items desk.old
-        → Written (terms_of F.files settings.now) desk.old.start arrivals (take i more) writer.old.0 writer.new.0))) }
+        → Written (terms_of F.files settings.now) desk.old.start arrivals (take i more)
+        writer.old.bytes writer.new.bytes))) }
     ensures part { IfErr result (λ f. IfCutShort f ((i : ℕ) × (i ≤ length messages.items)
         × (desk.old.totals.answered + i ≤ MOST_MESSAGES)
         × ((arrivals more : List Arrival)
         → Upcoming (terms_of F.files settings.now) arrivals more messages.items desk.old
         → WrittenInPart (terms_of F.files settings.now) desk.old.start arrivals
-        (take i more) writer.old.0 writer.new.0))) }
+        (take i more) writer.old.bytes writer.new.bytes))) }
     ensures start { OnOk result (desk.new.start ≡ desk.old.start) }
-    ensures failures { CountsBy writer_failures writer.old.1 writer.new.1 result }
+    ensures failures { CountsBy writer_failures writer.old.failures writer.new.failures result }
     ensures own { IfErr result IsOwn }
 {
     let room = MOST_MESSAGES - desk.totals.answered;
@@ -251,26 +256,27 @@ pub(crate) fn serve_parts<
     requires start { desk.old.start ≤ latest_start }
     requires next { (arrivals : List Arrival) × (more : List Arrival)
         × Upcoming (terms_of F.files settings.now) arrivals more (joined parts.items) desk.old }
-    requires failures { writer.old.1 < 2 ^ 64 - 1 }
+    requires failures { CanFail writer.old }
     ensures stands { OnOk result ((arrivals more : List Arrival)
         → Upcoming (terms_of F.files settings.now) arrivals more (joined parts.items) desk.old
-        → Stands (terms_of F.files settings.now) (arrivals ++ more) desk.new) }
+        → DeskAfter (terms_of F.files settings.now) (arrivals ++ more) desk.new) }
     ensures written { OnOk result ((arrivals more : List Arrival)
         → Upcoming (terms_of F.files settings.now) arrivals more (joined parts.items) desk.old
-        → Written (terms_of F.files settings.now) desk.old.start arrivals more writer.old.0 writer.new.0) }
+        → Written (terms_of F.files settings.now) desk.old.start arrivals more writer.old.bytes writer.new.bytes) }
     ensures many { IfErr result (λ f. IfTooMany f (λ n. (n ≡ MOST_MESSAGES) × (i : ℕ)
         × (i < length (joined parts.items)) × (desk.old.totals.answered + i ≡ MOST_MESSAGES)
         × ((arrivals more : List Arrival)
         → Upcoming (terms_of F.files settings.now) arrivals more (joined parts.items) desk.old
-        → Written (terms_of F.files settings.now) desk.old.start arrivals (take i more) writer.old.0 writer.new.0))) }
+        → Written (terms_of F.files settings.now) desk.old.start arrivals (take i more)
+        writer.old.bytes writer.new.bytes))) }
     ensures part { IfErr result (λ f. IfCutShort f ((i : ℕ) × (i ≤ length (joined parts.items))
         × (desk.old.totals.answered + i ≤ MOST_MESSAGES)
         × ((arrivals more : List Arrival)
         → Upcoming (terms_of F.files settings.now) arrivals more (joined parts.items) desk.old
         → WrittenInPart (terms_of F.files settings.now) desk.old.start arrivals
-        (take i more) writer.old.0 writer.new.0))) }
+        (take i more) writer.old.bytes writer.new.bytes))) }
     ensures start { OnOk result (desk.new.start ≡ desk.old.start) }
-    ensures failures { CountsBy writer_failures writer.old.1 writer.new.1 result }
+    ensures failures { CountsBy writer_failures writer.old.failures writer.new.failures result }
     ensures own { IfErr result IsOwn }
 {
     for part in parts {

@@ -1,3 +1,5 @@
+//! What an operator may set.
+
 ghost use Rattle.std.specs.Prelude.{◌≡◌, Some, None, IfOk, IfErr};
 ghost use Rattle.replay.specs.Choices.{Choice, settings_fault};
 

@@ -1,3 +1,5 @@
+//! A gate that sees the numbers of messages, where a floor counts from 0.
+
 use stage_graph::Gate;
 
 /// A gate at a floor whose stages come after other stages, and whose items after other messages: the gate that it

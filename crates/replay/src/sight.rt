@@ -1,3 +1,5 @@
+//! What the front floor has seen of a message.
+
 use crate::service_time::ServiceTime;
 use arrivals::Incoming;
 use paths::{Asked, Outcome};

@@ -1,11 +1,14 @@
+//! The staged engine: batch by batch, each over floors of threads.
+
 ghost use Rattle.std.specs.Prelude.{◌≡◌, ◌<◌, ◌≤◌, ◌-◌, ◌+◌, ◌^◌, ◌++◌, ◌⊎◌, [], ℕ, List};
 ghost use Rattle.std.specs.Prelude.{IfOk, IfErr, OnOk, OnErr};
+ghost use Rattle.paths.specs.Devices.{CanFail, BlamedOnce, CountsBy};
 ghost use Rattle.captures.specs.Captures.{latest_start};
 ghost use Rattle.captures.specs.declared.record.Record.{Record as ARecord};
 ghost use Rattle.arrivals.specs.Arrivals.{Arrival};
 ghost use Rattle.replay.specs.Choices.{terms_of};
 ghost use Rattle.replay.specs.Outcomes.{Answers, IfCapture, IfTooMany, IfCutShort, IsCutShort, IsOwn, Stops};
-ghost use Rattle.replay.specs.Outcomes.{StopsFull, CountsBy, BlamedOnce, reader_failures, writer_failures};
+ghost use Rattle.replay.specs.Outcomes.{StopsFull, reader_failures, writer_failures};
 ghost use Rattle.replay.specs.Serving.{ServesMore, ServesFull, ServesInPart};
 ghost use Rattle.replay.specs.Waiting.{ComeNext, Waiting, connections_of};
 
@@ -45,22 +48,24 @@ fn serve_batch<F: Tree + Send + Sync, G: Gate + Sync, T: Threads + Wait + Sync, 
     requires start { desk.old.start ≤ latest_start }
     requires next { (records : List ARecord) × (rs : List ARecord) × (arrivals : List Arrival)
         × ComeNext (terms_of F.files settings.now) records rs arrivals seats origins.now desk.old }
-    requires failures { writer.old.1 < 2 ^ 64 - 1 }
+    requires failures { CanFail writer.old }
     ensures serves { IfOk result (λ after. (records rs : List ARecord) (arrivals : List Arrival)
         → ComeNext (terms_of F.files settings.now) records rs arrivals seats origins.now desk.old
         → ServesMore (terms_of F.files settings.now) records arrivals rs
-        (connections_of after) desk.new writer.old.0 writer.new.0) }
+        (connections_of after) desk.new writer.old.bytes writer.new.bytes) }
     ensures idle { IfOk result (Waiting []) }
     ensures start { OnOk result (desk.new.start ≡ desk.old.start) }
     ensures many { IfErr result (λ f. IfTooMany f (λ n. (n ≡ MOST_MESSAGES)
         × ((records rs : List ARecord) (arrivals : List Arrival)
         → ComeNext (terms_of F.files settings.now) records rs arrivals seats origins.now desk.old
-        → ServesFull (terms_of F.files settings.now) desk.old.start records arrivals rs writer.old.0 writer.new.0))) }
-    ensures part { IfErr result (λ f. IfCutShort f ((writer.new.0
-        ≡ writer.old.0) ⊎ ((records rs : List ARecord) (arrivals : List Arrival)
+        → ServesFull (terms_of F.files settings.now) desk.old.start records arrivals rs
+        writer.old.bytes writer.new.bytes))) }
+    ensures part { IfErr result (λ f. IfCutShort f ((writer.new.bytes
+        ≡ writer.old.bytes) ⊎ ((records rs : List ARecord) (arrivals : List Arrival)
         → ComeNext (terms_of F.files settings.now) records rs arrivals seats origins.now desk.old
-        → ServesInPart (terms_of F.files settings.now) desk.old.start records arrivals rs writer.old.0 writer.new.0))) }
-    ensures failures { CountsBy writer_failures writer.old.1 writer.new.1 result }
+        → ServesInPart (terms_of F.files settings.now) desk.old.start records arrivals rs
+        writer.old.bytes writer.new.bytes))) }
+    ensures failures { CountsBy writer_failures writer.old.failures writer.new.failures result }
     ensures own { IfErr result IsOwn }
 {
     let mut seats = seats.cut(rt, alloc)?;
@@ -98,23 +103,23 @@ pub fn staged_replay<
     writer: &mut Output<W>,
 ) -> Result<Outcome, ReplayFault>
     requires snapshot { snapshot.now ≡ F.files }
-    requires reading { reader.old.1 < 2 ^ 64 - 1 }
-    requires writing { writer.old.1 < 2 ^ 64 - 1 }
+    requires reading { CanFail reader.old }
+    requires writing { CanFail writer.old }
     // Read, and each other fault of the capture, only with the replies to the messages of the whole records before it.
     ensures stops { IfErr result (λ f. IfCapture f
-        (Stops (terms_of F.files settings.now) reader.old.0 reader.new.0 writer.old.0 writer.new.0)) }
+        (Stops (terms_of F.files settings.now) reader.old.bytes reader.new.bytes writer.old.bytes writer.new.bytes)) }
     // Too many messages, only with the replies to those within the limit.
     ensures many { IfErr result (λ f. IfTooMany f
-        (StopsFull (terms_of F.files settings.now) reader.old.0 writer.old.0 writer.new.0)) }
+        (StopsFull (terms_of F.files settings.now) reader.old.bytes writer.old.bytes writer.new.bytes)) }
     // After a failed write and out of memory, a prefix of what was due stands.
     ensures part { IfErr result (λ f. IfCutShort f
-        (IsCutShort (terms_of F.files settings.now) reader.old.0 writer.old.0 writer.new.0)) }
+        (IsCutShort (terms_of F.files settings.now) reader.old.bytes writer.old.bytes writer.new.bytes)) }
     // A device is blamed only where it failed in this call. A read that failed may not be reported: where the messages
     // before it are too many, where they can't be written, and where memory runs out.
-    ensures reads { BlamedOnce reader_failures reader.old.1 reader.new.1 result }
-    ensures writes { CountsBy writer_failures writer.old.1 writer.new.1 result }
+    ensures reads { BlamedOnce reader_failures reader.old.failures reader.new.failures result }
+    ensures writes { CountsBy writer_failures writer.old.failures writer.new.failures result }
     ensures ok { IfOk result
-        (Answers (terms_of F.files settings.now) reader.old.0 writer.old.0 writer.new.0) }
+        (Answers (terms_of F.files settings.now) reader.old.bytes writer.old.bytes writer.new.bytes) }
 {
     write_first_line(writer)?;
     let mut capture = match CaptureReader::open(reader) {

@@ -1,3 +1,5 @@
+//! The figures of a replay.
+
 use admission::Control;
 use arrivals::Series;
 

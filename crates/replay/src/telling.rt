@@ -1,10 +1,13 @@
+//! What an engine writes, seen as a first line, a text for each message, and a last line.
+
 ghost use Rattle.std.specs.Prelude.{◌≡◌, ◌<◌, ◌≤◌, ◌-◌, ◌+◌, ◌^◌, ◌++◌, ◌∷◌, [], List, OnOk, OnErr, IfErr};
 ghost use Rattle.std.specs.Io.KnownBytes.{Appends};
-ghost use Rattle.captures.specs.Captures.{latest_start};
+ghost use Rattle.paths.specs.Devices.{CanFail, CountsBy};
+ghost use Rattle.captures.specs.Captures.{latest_start, latest_tick};
 ghost use Rattle.arrivals.specs.Arrivals.{Arrival};
 ghost use Rattle.replay.specs.Choices.{Terms, terms_of};
-ghost use Rattle.replay.specs.Outcomes.{AppendsInPart, CountsBy, writer_failures, IsWriteOrMemory};
-ghost use Rattle.replay.specs.Serving.{Stands, AreBy};
+ghost use Rattle.replay.specs.Outcomes.{AppendsInPart, writer_failures, IsWriteOrMemory};
+ghost use Rattle.replay.specs.Serving.{DeskAfter, AreBy};
 ghost use Rattle.replay.specs.Telling.{Telling, IsTelling, Told, ToldInPart};
 
 use crate::desk::Desk;
@@ -12,6 +15,7 @@ use crate::{MOST_MESSAGES, ReplayFault, Settings};
 use arrivals::Origin;
 use http_requests::What as Meaning;
 use paths::{Output, Snapshot, Tree};
+use responses::HeadRenderer;
 use std::alloc::Global;
 use std::io::Write;
 
@@ -25,18 +29,20 @@ pub(crate) trait Tells {
 
     /// Writes what stands before any message.
     fn begin<W: Write>(writer: &mut Output<W>) -> Result<(), ReplayFault>
-        requires { writer.old.1 < 2 ^ 64 - 1 }
+        requires { CanFail writer.old }
         // Each text is written from the first line to the last.
         ensures texts { (terms : Terms) → IsTelling (telling terms) }
-        ensures written { OnOk result ((terms : Terms) → Appends writer.old.0 writer.new.0 (telling terms).first) }
+        ensures written { OnOk result ((terms : Terms)
+            → Appends writer.old.bytes writer.new.bytes (telling terms).first) }
         ensures part { OnErr result
-            ((terms : Terms) → AppendsInPart writer.old.0 writer.new.0 (telling terms).first) }
-        ensures failures { CountsBy writer_failures writer.old.1 writer.new.1 result }
+            ((terms : Terms) → AppendsInPart writer.old.bytes writer.new.bytes (telling terms).first) }
+        ensures failures { CountsBy writer_failures writer.old.failures writer.new.failures result }
         ensures own { IfErr result IsWriteOrMemory };
 
-    /// Decides on the next message, counts it, and writes what is told of it.
+    /// Decides on the next message, counts it, and writes what is told of it. `heads` renders the head of a reply.
     fn tell<F: Tree, W: Write>(
         alloc: Global,
+        heads: &mut HeadRenderer,
         snapshot: &Snapshot,
         settings: &Settings,
         origin: Origin,
@@ -46,26 +52,29 @@ pub(crate) trait Tells {
     ) -> Result<(), ReplayFault>
         requires snapshot { snapshot.now ≡ F.files }
         requires start { desk.old.start ≤ latest_start }
-        requires tick { origin.tick ≤ 1000000000000000 }
+        requires tick { origin.tick ≤ latest_tick }
         requires tier { origin.tier < 4 }
         requires few { desk.old.totals.answered < MOST_MESSAGES }
-        requires stands { (arrivals : List Arrival) × Stands (terms_of F.files settings.now) arrivals desk.old
+        requires stands { (arrivals : List Arrival) × DeskAfter (terms_of F.files settings.now) arrivals desk.old
             × AreBy origin.tick arrivals }
-        requires failures { writer.old.1 < 2 ^ 64 - 1 }
+        requires failures { CanFail writer.old }
         ensures stands { OnOk result ((arrivals : List Arrival) (a : Arrival)
-            → Stands (terms_of F.files settings.now) arrivals desk.old → a.origin ≡ origin → a.message.what ≡ what.now
-            → Stands (terms_of F.files settings.now) (arrivals ++ a ∷ []) desk.new) }
+            → DeskAfter (terms_of F.files settings.now) arrivals desk.old
+            → a.origin ≡ origin → a.message.what ≡ what.now
+            → DeskAfter (terms_of F.files settings.now) (arrivals ++ a ∷ []) desk.new) }
         ensures written { OnOk result ((arrivals : List Arrival) (a : Arrival)
-            → Stands (terms_of F.files settings.now) arrivals desk.old → a.origin ≡ origin → a.message.what ≡ what.now
+            → DeskAfter (terms_of F.files settings.now) arrivals desk.old
+            → a.origin ≡ origin → a.message.what ≡ what.now
             → Told (telling (terms_of F.files settings.now)) desk.old.start arrivals (a ∷ [])
-            writer.old.0 writer.new.0) }
+            writer.old.bytes writer.new.bytes) }
         ensures start { OnOk result (desk.new.start ≡ desk.old.start) }
         ensures number { OnOk result (desk.new.totals.answered ≡ desk.old.totals.answered + 1) }
         ensures part { OnErr result ((arrivals : List Arrival) (a : Arrival)
-            → Stands (terms_of F.files settings.now) arrivals desk.old → a.origin ≡ origin → a.message.what ≡ what.now
+            → DeskAfter (terms_of F.files settings.now) arrivals desk.old
+            → a.origin ≡ origin → a.message.what ≡ what.now
             → ToldInPart (telling (terms_of F.files settings.now)) desk.old.start arrivals (a ∷ [])
-            writer.old.0 writer.new.0) }
-        ensures failures { CountsBy writer_failures writer.old.1 writer.new.1 result }
+            writer.old.bytes writer.new.bytes) }
+        ensures failures { CountsBy writer_failures writer.old.failures writer.new.failures result }
         ensures own { IfErr result IsWriteOrMemory };
 
     /// Writes what stands after n messages, where no other comes.
@@ -74,11 +83,11 @@ pub(crate) trait Tells {
         writer: &mut Output<W>,
         count: usize,
     ) -> Result<(), ReplayFault>
-        requires { writer.old.1 < 2 ^ 64 - 1 }
+        requires { CanFail writer.old }
         ensures written { OnOk result
-            ((terms : Terms) → Appends writer.old.0 writer.new.0 ((telling terms).last count)) }
+            ((terms : Terms) → Appends writer.old.bytes writer.new.bytes ((telling terms).last count)) }
         ensures part { OnErr result
-            ((terms : Terms) → AppendsInPart writer.old.0 writer.new.0 ((telling terms).last count)) }
-        ensures failures { CountsBy writer_failures writer.old.1 writer.new.1 result }
+            ((terms : Terms) → AppendsInPart writer.old.bytes writer.new.bytes ((telling terms).last count)) }
+        ensures failures { CountsBy writer_failures writer.old.failures writer.new.failures result }
         ensures own { IfErr result IsWriteOrMemory };
 }

@@ -1,3 +1,5 @@
+//! The figures so far.
+
 ghost use Rattle.std.specs.Prelude.{◌≡◌, ◌-◌, ◌<◌, ◌^◌, []};
 ghost use Rattle.responses.specs.Replies.{status_of};
 ghost use Rattle.replay.specs.Counting.{AreBelow, breaks_a_rule};

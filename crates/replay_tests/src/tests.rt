@@ -1,3 +1,4 @@
+//! Both engines: rows, faults, limits, gates, and devices that fail.
 mod batches;
 mod devices;
 mod faults;

@@ -1,3 +1,5 @@
+//! Percentiles by the nearest rank.
+
 ghost use Rattle.std.specs.Prelude.{◌≡◌, ◌≤◌, IfOk};
 ghost use Rattle.admission.specs.Percentile.{sorted};
 ghost use Rattle.report.specs.Reports.{percentile, rank};

@@ -1,3 +1,5 @@
+//! The report of an outcome, line by line.
+
 ghost use Rattle.std.specs.Prelude.{◌≡◌, ◌++◌, ◌≤◌, ◌+◌, OnOk, IfOk};
 ghost use Rattle.std.specs.String.{string_bytes};
 ghost use Rattle.report.specs.Reports.{total_lines, status_line, status_lines, percentile_line, percentile_lines};

@@ -1,3 +1,4 @@
+//! Reports of outcomes worked by hand.
 mod memory;
 mod outcomes;
 mod rows;

@@ -1,6 +1,7 @@
 -- The record of a reply in a text of replies, and what writing it does to a device.
 use Rattle.std.specs.Prelude.{◌≡◌, ℕ, ◌+◌, ◌<◌, List, ◌++◌, length, take, codes, decimal, Option, Result, MatchResult}
 use Rattle.std.specs.Io.KnownBytes.{Appends}
+use Rattle.paths.specs.Devices.{CountsBy}
 
 -- the line before a reply of n bytes
 abbrev pub record_line : ℕ → ℕ → ℕ → List ℕ
@@ -19,4 +20,4 @@ WritesFront old new r bytes = MatchResult r
 
 -- the device failed once at `Err`, and not at `Ok`
 abbrev pub CountsWrite : {E : Type 0} → ℕ → ℕ → Result Unit E → Type 0
-CountsWrite old new r = MatchResult r (λ _. new ≡ old) (λ _. new ≡ old + 1)
+CountsWrite old new r = CountsBy (λ _. 1) old new r

@@ -1,9 +1,13 @@
+//! The fields of a reply, in their order.
+
 ghost use Rattle.std.specs.Prelude.{◌≡◌, ◌≤◌, ◌++◌, OnOk, decimal, codes, min};
 ghost use Rattle.std.specs.Option.{option_map};
+ghost use Rattle.paths.specs.Snapshots.{latest_time};
 ghost use Rattle.responses.specs.Dates.{imf_date};
 ghost use Rattle.responses.specs.Replies.{plain_words, status_words, content_type, content_length, last_modified};
 ghost use Rattle.responses.specs.Replies.{location_of, allow_of, retry_after_of, connection_of, field_line};
 
+use crate::dates::DateText;
 use crate::head::{push_date, push_field, push_number};
 use crate::{Link, Status, What};
 use paths::Tree;
@@ -66,17 +70,18 @@ fn push_entity(head: &mut Vec<u8>, media: &[u8], len: u64) -> Result<(), AllocEr
 /// Adds Last-Modified, where a file is spoken of: it is never later than the date of the reply (RFC 9110, 8.8.2.1).
 pub(crate) fn push_last_modified<F: Tree>(
     head: &mut Vec<u8>,
+    kept: &mut DateText,
     what: &What<F>,
     date: u64,
 ) -> Result<(), AllocError>
-    requires { date ≤ 253402300799 }
+    requires { date ≤ latest_time }
     ensures { OnOk result (head.new.items ≡ head.old.items
         ++ field_line (codes "Last-Modified")
         (option_map (λ mtime. imf_date (min mtime date)) (last_modified what.now))) }
 {
     match what {
         What::Page { mtime, .. } | What::Known { mtime, .. } | What::Unmodified { mtime } => {
-            push_date(head, b"Last-Modified", date.min(*mtime))
+            push_date(head, kept, b"Last-Modified", date.min(*mtime))
         }
         What::Moved { .. } | What::Plain { .. } => Ok(()),
     }

@@ -1,12 +1,16 @@
+//! Pushing a field, a number or a date.
+
 ghost use Rattle.std.specs.Prelude.{◌≡◌, ◌≤◌, ◌++◌, OnOk, Some, codes, decimal};
+ghost use Rattle.paths.specs.Snapshots.{latest_time};
 ghost use Rattle.responses.specs.Dates.{imf_date};
 ghost use Rattle.responses.specs.Replies.{field_line};
 
-use httpdate::HttpDate;
+use crate::dates::DateText;
 use itoa::Buffer;
 use std::alloc::AllocError;
 
 /// Adds a field after a head.
+#[inline(always)]
 pub(crate) fn push_field(head: &mut Vec<u8>, name: &[u8], value: &[u8]) -> Result<(), AllocError>
     ensures { OnOk result (head.new.items ≡ head.old.items ++ field_line name.now (Some value.now)) }
 {
@@ -25,11 +29,16 @@ pub(crate) fn push_number(head: &mut Vec<u8>, name: &[u8], number: u64) -> Resul
     push_field(head, name, buffer.format(number).as_bytes())
 }
 
-/// Adds a field whose value is a date.
-pub(crate) fn push_date(head: &mut Vec<u8>, name: &[u8], second: u64) -> Result<(), AllocError>
-    requires { second ≤ 253402300799 }
+/// Adds a field whose value is the date of a second. `date` turns to that second.
+pub(crate) fn push_date(
+    head: &mut Vec<u8>,
+    date: &mut DateText,
+    name: &[u8],
+    second: u64,
+) -> Result<(), AllocError>
+    requires { second ≤ latest_time }
     ensures { OnOk result (head.new.items ≡ head.old.items ++ field_line name.now (Some (imf_date second))) }
 {
-    let date = HttpDate::from_unix_secs(second).unwrap();
-    push_field(head, name, &date.to_bytes())
+    date.turn_to(second);
+    push_field(head, name, &date.text)
 }

@@ -1,11 +1,13 @@
 //! The reply to a request, byte for byte, and its record in a text of replies.
 #![tactic(auto)]
 
+mod dates;
 mod device;
 mod fields;
 mod head;
 mod link;
 mod record;
+mod rendering;
 mod reply;
 mod shared_page;
 mod slip;
@@ -16,7 +18,8 @@ mod write_fault;
 pub use device::write_all;
 pub use link::Link;
 pub use record::{write_record, write_reply};
-pub use reply::{Reply, render, render_head, try_render};
+pub use rendering::HeadRenderer;
+pub use reply::{Reply, render, try_render};
 pub use shared_page::SharedPage;
 pub use slip::Slip;
 pub use status::Status;

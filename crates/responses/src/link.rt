@@ -1,3 +1,5 @@
+//! Where a client is sent.
+
 /// What a reply tells of its connection (RFC 9112, section 9.3).
 #[derive(Clone, Copy, Debug, PartialEq, Eq)]
 pub enum Link {

@@ -1,4 +1,7 @@
+//! A reply as a record of the replies text.
+
 ghost use Rattle.std.specs.Prelude.{◌≡◌, ◌<◌, ◌≤◌, ◌+◌, ◌-◌, ◌^◌, ◌++◌, [], ◌∷◌, decimal};
+ghost use Rattle.paths.specs.Devices.{CanFail};
 ghost use Rattle.arrayvec.specs.ArrayVec.{array_vec_len};
 ghost use Rattle.responses.specs.Records.{record_line, record_text, WritesFront, CountsWrite};
 
@@ -46,10 +49,10 @@ pub fn write_record<W: io::Write>(
     front: &[u8],
     body: &[u8],
 ) -> Result<(), Write>
-    requires { output.old.1 < 2 ^ 64 - 1 }
-    ensures record { WritesFront output.old.0 output.new.0 result
+    requires { CanFail output.old }
+    ensures record { WritesFront output.old.bytes output.new.bytes result
         (record_text (number, conn, front.now ++ body.now)) }
-    ensures count { CountsWrite output.old.1 output.new.1 result }
+    ensures count { CountsWrite output.old.failures output.new.failures result }
 {
     let line = record_line(number, conn, front.len() + body.len());
     write_all(output, line.as_slice())?;
@@ -64,9 +67,9 @@ pub fn write_reply<F: Tree, W: io::Write>(
     output: &mut Output<W>,
     reply: &Reply<F>,
 ) -> Result<(), Write>
-    requires { output.old.1 < 2 ^ 64 - 1 }
-    ensures record { WritesFront output.old.0 output.new.0 result (record_text reply.now) }
-    ensures count { CountsWrite output.old.1 output.new.1 result }
+    requires { CanFail output.old }
+    ensures record { WritesFront output.old.bytes output.new.bytes result (record_text reply.now) }
+    ensures count { CountsWrite output.old.failures output.new.failures result }
 {
     let (front, body) = reply.parts();
     write_record(output, reply.number(), reply.conn(), front, body)

@@ -1,10 +1,14 @@
+//! A reply, rendered from its slip.
+
 ghost use Rattle.std.specs.Prelude.{◌≡◌, ◌≤◌, ◌+◌, ◌<◌, ◌^◌, ◌++◌, length, IfOk, IfErr, OnOk};
+ghost use Rattle.paths.specs.Snapshots.{latest_time};
 ghost use Rattle.responses.specs.Replies.{reply_text, head_text, body_text, status_of, OnlyHead, HasLocation};
 ghost use Rattle.responses.specs.Replies.{held_body, content_of, note_of, front_text};
 ghost use Rattle.responses.specs.Messages.{IsReply};
 
-use crate::fields::{push_connection, push_content, push_last_modified, push_own, status_words};
-use crate::head::push_date;
+use crate::dates::Dates;
+use crate::fields::status_words;
+use crate::rendering::push_head;
 use crate::{SharedPage, Slip, What};
 use paths::Tree;
 use std::alloc::{AllocError, Global};
@@ -62,20 +66,12 @@ impl<F: Tree> Reply<F> {
 }
 
 /// The head of a reply, with the empty line that ends it. An `Err` is out of memory.
-pub fn render_head<F: Tree>(alloc: Global, slip: &Slip<F>) -> Result<Vec<u8>, AllocError>
-    requires { slip.now.date ≤ 253402300799 }
+fn render_head<F: Tree>(alloc: Global, slip: &Slip<F>) -> Result<Vec<u8>, AllocError>
+    requires { slip.now.date ≤ latest_time }
     ensures { IfOk result (λ head. head.items ≡ head_text F.files slip.now) }
 {
     let mut head = Vec::with_capacity(alloc, HEAD_ROOM)?;
-    head.extend_from_slice(b"HTTP/1.1 ")?;
-    head.extend_from_slice(status_words(&slip.what))?;
-    head.extend_from_slice(b"\r\n")?;
-    push_date(&mut head, b"Date", slip.date)?;
-    push_content(&mut head, &slip.what)?;
-    push_last_modified(&mut head, &slip.what, slip.date)?;
-    push_own(&mut head, &slip.what)?;
-    push_connection(&mut head, slip.link)?;
-    head.extend_from_slice(b"\r\n")?;
+    push_head(&mut head, &mut Dates::of(slip.date), slip)?;
     Ok(head)
 }
 
@@ -117,7 +113,7 @@ fn shared_page<F: Tree>(what: What<F>) -> Option<SharedPage<F>>
 ///
 /// A client that reads it from a connection finds this status and this body, whatever follows (RFC 9112, section 6.3).
 pub fn render<F: Tree>(alloc: Global, slip: Slip<F>) -> Result<Reply<F>, AllocError>
-    requires date { slip.date ≤ 253402300799 }
+    requires date { slip.date ≤ latest_time }
     // The length alone is known only where HEAD is answered.
     requires known { OnlyHead slip.head slip.what }
     requires location { HasLocation slip.what }
@@ -145,7 +141,7 @@ pub fn render<F: Tree>(alloc: Global, slip: Slip<F>) -> Result<Reply<F>, AllocEr
 
 /// The head of a slip's reply, and the body where it is no file's.
 fn render_front<F: Tree>(alloc: Global, slip: &Slip<F>) -> Result<Vec<u8>, AllocError>
-    requires { slip.now.date ≤ 253402300799 }
+    requires { slip.now.date ≤ latest_time }
     ensures { IfOk result (λ front. front.items ≡ front_text F.files slip.now) }
 {
     let mut front = render_head(alloc, slip)?;
@@ -181,7 +177,7 @@ fn with_page<F: Tree>(slip: Slip<F>, front: Vec<u8>) -> Reply<F>
 /// The reply of a slip, or the slip again where memory ran out. It asks less than [`render`], and promises the text
 /// alone.
 pub fn try_render<F: Tree>(alloc: Global, slip: Slip<F>) -> Result<Reply<F>, Slip<F>>
-    requires date { slip.date ≤ 253402300799 }
+    requires date { slip.date ≤ latest_time }
     ensures text { IfOk result (λ r. r ≡ (slip.number, slip.conn, reply_text F.files slip)) }
     ensures err { IfErr result (λ s. s ≡ slip) }
 {

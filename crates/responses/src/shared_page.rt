@@ -1,3 +1,5 @@
+//! A page that several replies may hold.
+
 ghost use Rattle.std.specs.Prelude.{◌≡◌};
 ghost use Rattle.std.specs.Arc.{arc_value};
 ghost use Rattle.paths.specs.Snapshots.{file_of};

@@ -1,3 +1,5 @@
+//! All that a reply is made of.
+
 use crate::{Link, What};
 use paths::Tree;
 

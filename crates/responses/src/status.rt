@@ -1,3 +1,5 @@
+//! The statuses, and their codes (RFC 9110, 15).
+
 ghost use Rattle.std.specs.Prelude.{◌≡◌};
 ghost use Rattle.responses.specs.Replies.{plain_status};
 

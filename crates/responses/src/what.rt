@@ -1,3 +1,5 @@
+//! What a reply tells: a page, a link, or a status alone.
+
 use crate::{SharedPage, Status};
 use page_cache::MediaType;
 use paths::{Bytes, Tree};

@@ -1,3 +1,5 @@
+//! That a reply was not written.
+
 use paths::Failed;
 use thiserror::Error;
 

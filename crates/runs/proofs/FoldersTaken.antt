@@ -1,4 +1,5 @@
 -- From what becomes of each file to what the run that writes a snapshot says.
+use Rattle.paths.specs.Devices.{Device}
 use Rattle.std.proofs.Common.{◌≡◌, ◌≢◌, inl, inr, ℕ, ◌+◌, ◌<◌, ◌≤◌, Bool, true, false, List, [], ◌∷◌, ◌++◌, length, take, drop, get_or, is_some, Option, Some, None, Result, Ok, Err, IfOk, IfErr, refl, sym, ap, ◌∙◌, subst, arith, decimal, append-nil}
 use Rattle.std.proofs.lemmas.Fmt.{length-decimal-le}
 use Rattle.std.proofs.lemmas.List.{append_assoc, length-append, take_more, take_all, take-append-drop}
@@ -46,12 +47,12 @@ no_files = record {
 
 -- ---- one file
 
-still : (files : List File) (before : Option (List ℕ)) (old new : Option (List ℕ) × ℕ) (s next : SoFar) → (next ≡ s) × (new ≡ old) → Took files before old.0 s → Took files before new.0 next
+still : (files : List File) (before : Option (List ℕ)) (old new : Device) (s next : SoFar) → (next ≡ s) × (new ≡ old) → Took files before old.bytes s → Took files before new.bytes next
 still files before old new s next same took = rw (same.0, same.1) took
 
-pub file_refused : (files : List File) (before : Option (List ℕ)) (f : File) (old new : Option (List ℕ) × ℕ) (s next : SoFar) (fault : WriteFault) (why : FileFault) → refusal fault ≡ Ok why
-    → (fault ≢ rules.Write → (next ≡ s) × (new ≡ old)) → refused_for (Err fault) ≡ broken_rule files f → Took files before old.0 s
-    → Breaks files f why × Took files before new.0 next
+pub file_refused : (files : List File) (before : Option (List ℕ)) (f : File) (old new : Device) (s next : SoFar) (fault : WriteFault) (why : FileFault) → refusal fault ≡ Ok why
+    → (fault ≢ rules.Write → (next ≡ s) × (new ≡ old)) → refused_for (Err fault) ≡ broken_rule files f → Took files before old.bytes s
+    → Breaks files f why × Took files before new.bytes next
 file_refused files before f old new s next rules.Time why is same rule took = ((rules.Time, sym rule, is), still files before old new s next (same (λ e. cc)) took)
 file_refused files before f old new s next rules.Size why is same rule took = ((rules.Size, sym rule, is), still files before old new s next (same (λ e. cc)) took)
 file_refused files before f old new s next rules.Count why is same rule took = ((rules.Count, sym rule, is), still files before old new s next (same (λ e. cc)) took)
@@ -62,10 +63,10 @@ file_refused files before f old new s next rules.Text why is same rule took = ((
 file_refused files before f old new s next rules.Write why is same rule took = cc
 file_refused files before f old new s next rules.Memory why is same rule took = cc
 
-pub file_cut : (files : List File) (before : Option (List ℕ)) (f : File) (old new : Option (List ℕ) × ℕ) (s next : SoFar) (fault : WriteFault) (told : Fault) → refusal fault ≡ Err told
-    → (fault ≡ rules.Write → AppendsPrefix before new.0 (text_before_end (files ++ f ∷ [])))
-    → (fault ≢ rules.Write → (next ≡ s) × (new ≡ old)) → refused_for (Err fault) ≡ broken_rule files f → Took files before old.0 s
-    → CutsFile files before f new.0 told
+pub file_cut : (files : List File) (before : Option (List ℕ)) (f : File) (old new : Device) (s next : SoFar) (fault : WriteFault) (told : Fault) → refusal fault ≡ Err told
+    → (fault ≡ rules.Write → AppendsPrefix before new.bytes (text_before_end (files ++ f ∷ [])))
+    → (fault ≢ rules.Write → (next ≡ s) × (new ≡ old)) → refused_for (Err fault) ≡ broken_rule files f → Took files before old.bytes s
+    → CutsFile files before f new.bytes told
 file_cut files before f old new s next rules.Time told is part same rule took = cc
 file_cut files before f old new s next rules.Size told is part same rule took = cc
 file_cut files before f old new s next rules.Count told is part same rule took = cc

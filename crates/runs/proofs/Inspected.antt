@@ -1,11 +1,12 @@
 -- From what an inspection says to what the program says.
+use Rattle.paths.specs.Devices.{Device, fresh}
 use Rattle.std.proofs.Common.{◌≡◌, ◌⊎◌, inl, inr, ℕ, List, Option, false, Result, Ok, Err, OnOk, IfErr, subst}
 use Rattle.captures.specs.declared.capture_fault.CaptureFault.{CaptureFault}
 use Rattle.captures.specs.CaptureFaults.{is_unforeseen_kind, IsFirstFault}
 use Rattle.inspection.specs.declared.inspection.Inspection.{Inspection}
 use Rattle.inspection.specs.Texts.{inspection_text}
 use Rattle.replay.specs.declared.replay_fault.ReplayFault.TheVariants as replays
-use Rattle.replay.specs.Outcomes.{WhereKnown}
+use Rattle.paths.specs.KnownText.{WhereKnown}
 use Rattle.runs.specs.declared.fault.Fault.{Fault}
 use Rattle.runs.specs.declared.fault.Fault.TheVariants.{Replay, Write, Memory}
 use Rattle.runs.specs.declared.place.Place.TheVariants as places
@@ -15,31 +16,31 @@ use Rattle.runs.specs.Inspecting.{Inspects, InspectsBefore, AreDue, IsInspectFau
 use Rattle.runs.proofs.Settling.{told_by}
 
 -- the text that was due wasn't written
-pub due_fault : (input ahead : Option (List ℕ)) (i : Inspection) (old new : Option (List ℕ) × ℕ) (f : Fault) → AreDue input ahead i → IsReportFault (inspection_text i) old new f → IsInspectFault input ahead old new f
+pub due_fault : (input ahead : Option (List ℕ)) (i : Inspection) (old new : Device) (f : Fault) → AreDue input ahead i → IsReportFault (inspection_text i) old new f → IsInspectFault input ahead old new f
 due_fault input ahead i old new (Write places.Report) due says = (i, due, says)
 due_fault input ahead i old new Memory due says = says
 due_fault input ahead i old new other due says = absurd says
 
-pub inspect_says : (input old : Option (List ℕ)) (seen left before after : Option (List ℕ) × ℕ) (ran : Result Unit Fault) → seen ≡ (input, 0) → before ≡ (old, 0)
-    → OnOk ran (Inspects seen.0 before.0 after.0)
-    → IfErr ran (IsInspectFault seen.0 left.0 before after) → InspectSays input old ran after.0
+pub inspect_says : (input old : Option (List ℕ)) (seen left before after : Device) (ran : Result Unit Fault) → seen ≡ fresh input → before ≡ fresh old
+    → OnOk ran (Inspects seen.bytes before.bytes after.bytes)
+    → IfErr ran (IsInspectFault seen.bytes left.bytes before after) → InspectSays input old ran after.bytes
 inspect_says input old seen left before after (Ok done) shows is ok fault =
-    let P : Option (List ℕ) × ℕ → Type 0 = λ s. Inspects s.0 before.0 after.0 in
-    let Q : Option (List ℕ) × ℕ → Type 0 = λ b. Inspects input b.0 after.0 in
-    (left.0, after.1, subst Q is (subst P shows ok))
+    let P : Device → Type 0 = λ s. Inspects s.bytes before.bytes after.bytes in
+    let Q : Device → Type 0 = λ b. Inspects input b.bytes after.bytes in
+    (left.bytes, after.failures, subst Q is (subst P shows ok))
 inspect_says input old seen left before after (Err f) shows is ok fault =
-    let P : Option (List ℕ) × ℕ → Type 0 = λ s. IsInspectFault s.0 left.0 before after f in
-    let Q : Option (List ℕ) × ℕ → Type 0 = λ b. IsInspectFault input left.0 b after f in
-    (left.0, after.1, subst Q is (subst P shows fault))
+    let P : Device → Type 0 = λ s. IsInspectFault s.bytes left.bytes before after f in
+    let Q : Device → Type 0 = λ b. IsInspectFault input left.bytes b after f in
+    (left.bytes, after.failures, subst Q is (subst P shows fault))
 
 -- where an inspection stops, the capture's fault is the first of its text
-first_of_inspection : (input ahead : Option (List ℕ)) (old new : Option (List ℕ) × ℕ) (f : CaptureFault) → InspectsBefore input ahead old new f
+first_of_inspection : (input ahead : Option (List ℕ)) (old new : Device) (f : CaptureFault) → InspectsBefore input ahead old new f
     → is_unforeseen_kind f.kind ≡ false → WhereKnown input (λ bytes. IsFirstFault bytes f)
 first_of_inspection input ahead old new f (memory, inl first) foreseen = λ known. inl (first.0.fault foreseen known)
 first_of_inspection input ahead old new f (memory, inr later) foreseen = λ known. (let held = later.1 in inr (later.0.version, later.0.start, held.records, held.fault foreseen known))
 
 -- a fault of the run is one of the program
-told_of_inspection : (input ahead : Option (List ℕ)) (old new : Option (List ℕ) × ℕ) (f : Fault) → IsInspectFault input ahead old new f → IsInspectFilesFault input f
+told_of_inspection : (input ahead : Option (List ℕ)) (old new : Device) (f : Fault) → IsInspectFault input ahead old new f → IsInspectFilesFault input f
 told_of_inspection input ahead old new (Replay (replays.Capture f)) says = first_of_inspection input ahead old new f says
 told_of_inspection input ahead old new (Write places.Report) says = tt
 told_of_inspection input ahead old new Memory says = tt
@@ -47,7 +48,7 @@ told_of_inspection input ahead old new other says = absurd says
 
 told_of_ran : (input old whole : Option (List ℕ)) (ran : Result Unit Fault) → InspectSays input old ran whole → IfErr ran (IsInspectFilesFault input)
 told_of_ran input old whole (Ok done) says = tt
-told_of_ran input old whole (Err f) says = told_of_inspection input says.0 (old, 0) (whole, says.1) f says.2
+told_of_ran input old whole (Err f) says = told_of_inspection input says.0 (fresh old) (record { bytes = whole; failures = says.1 }) f says.2
 
 told_of_rest : (input : Option (List ℕ)) (ran told : Result Unit Fault) → IfErr ran (IsInspectFilesFault input)
     → (told ≡ ran) ⊎ (told ≡ Err (Write places.Report)) → IfErr told (IsInspectFilesFault input)

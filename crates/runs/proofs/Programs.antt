@@ -1,4 +1,5 @@
 -- From what a run says to what the program says.
+use Rattle.paths.specs.Devices.{Device}
 use Rattle.std.proofs.Common.{◌≡◌, ◌⊎◌, inl, inr, ℕ, List, Option, Some, false, refl, Result, Ok, Err, IfErr}
 use Rattle.paths.specs.declared.file.File.{File}
 use Rattle.captures.specs.declared.capture_fault.CaptureFault.{CaptureFault}
@@ -6,7 +7,8 @@ use Rattle.captures.specs.CaptureFaults.{is_unforeseen_kind, IsFirstFault}
 use Rattle.replay.specs.declared.replay_fault.ReplayFault.{ReplayFault}
 use Rattle.replay.specs.declared.replay_fault.ReplayFault.TheVariants as replays
 use Rattle.replay.specs.Choices.{Terms}
-use Rattle.replay.specs.Outcomes.{IfCapture, StopsTelling, WhereKnown}
+use Rattle.paths.specs.KnownText.{WhereKnown}
+use Rattle.replay.specs.Outcomes.{IfCapture, StopsTelling}
 use Rattle.replay.specs.Telling.{Telling, replies_told}
 use Rattle.runs.specs.declared.fault.Fault.{Fault}
 use Rattle.runs.specs.declared.fault.Fault.TheVariants.{Words, Settings, Snapshot, Replay, Upgrade, Folder, Open, Read, Write, Memory}
@@ -47,11 +49,11 @@ after_weaker input P Q weaker b = record {
 }
 
 -- a fault of the run is one of the program
-pub told_of_run : (input ahead : Option (List ℕ)) (old new : Option (List ℕ) × ℕ) (f : Fault) → IsBundleFault input ahead old new f → IsProgramFault input f
+pub told_of_run : (input ahead : Option (List ℕ)) (old new : Device) (f : Fault) → IsBundleFault input ahead old new f → IsProgramFault input f
 told_of_run input ahead old new (Words f) says = absurd says
 told_of_run input ahead old new (Settings f) says = absurd says
 told_of_run input ahead old new (Snapshot f) says = says.0
-told_of_run input ahead old new (Replay f) says = λ known. after_weaker _ _ _ (λ files bytes told. first_of_bytes bytes f (first_of_replay (replies_told (default_terms files)) (Some bytes) ahead old.0 new.0 f told.stops)) (says known)
+told_of_run input ahead old new (Replay f) says = λ known. after_weaker _ _ _ (λ files bytes told. first_of_bytes bytes f (first_of_replay (replies_told (default_terms files)) (Some bytes) ahead old.bytes new.bytes f told.stops)) (says known)
 told_of_run input ahead old new (Upgrade f) says = absurd says
 told_of_run input ahead old new (Folder f) says = absurd says
 told_of_run input ahead old new (Open place) says = absurd says
@@ -60,7 +62,7 @@ told_of_run input ahead old new (Write place) says = absurd says
 told_of_run input ahead old new Memory says = tt
 
 -- the fault of the program is that of the run, or that the rest of the replies can't be written
-pub told_of_program : (input ahead : Option (List ℕ)) (old new : Option (List ℕ) × ℕ) (ran told : Result Unit Fault) → IfErr ran (IsBundleFault input ahead old new)
+pub told_of_program : (input ahead : Option (List ℕ)) (old new : Device) (ran told : Result Unit Fault) → IfErr ran (IsBundleFault input ahead old new)
     → (told ≡ ran) ⊎ (told ≡ Err (Write Replies)) → IfErr told (IsProgramFault input)
 told_of_program input ahead old new (Ok x) told says (inl same) = rw same tt
 told_of_program input ahead old new (Err f) told says (inl same) = rw same (told_of_run input ahead old new f says)

@@ -1,11 +1,13 @@
 -- From what the parts of a run with a report say to what the run says, and to what the program says.
+use Rattle.paths.specs.Devices.{Device}
 use Rattle.std.proofs.Common.{◌≡◌, ◌⊎◌, inl, inr, ℕ, List, Option, Result, Ok, Err, OnOk, IfErr}
 use Rattle.paths.specs.declared.file.File.{File}
 use Rattle.paths.specs.SnapshotFaults.{ReadsWhole}
 use Rattle.replay.specs.declared.outcome.Outcome.{Outcome}
 use Rattle.replay.specs.declared.replay_fault.ReplayFault.{ReplayFault}
 use Rattle.replay.specs.Choices.{Choice, Terms, terms_of}
-use Rattle.replay.specs.Outcomes.{IfCapture, IfTooMany, IfCutShort, StopsTelling, StopsBeyond, IsCutOff, WhereKnown}
+use Rattle.paths.specs.KnownText.{WhereKnown}
+use Rattle.replay.specs.Outcomes.{IfCapture, IfTooMany, IfCutShort, StopsTelling, StopsBeyond, IsCutOff}
 use Rattle.runs.specs.declared.fault.Fault.{Fault}
 use Rattle.runs.specs.declared.fault.Fault.TheVariants.{Words, Settings, Snapshot, Replay, Upgrade, Folder, Open, Read, Write, Memory}
 use Rattle.runs.specs.declared.place.Place.{Place}
@@ -40,12 +42,12 @@ inputs_weaker snapshot P Q weaker holds known =
     }
 
 -- a fault of the run is one of the program
-pub told_of_replay : (wanted : Wanted) (choice : Choice) (snapshot capture ahead : Option (List ℕ)) (old new out_old out_new : Option (List ℕ) × ℕ) (f : Fault) → IsReplayFault wanted choice snapshot capture ahead old new out_old out_new f → IsFilesFault snapshot capture f
+pub told_of_replay : (wanted : Wanted) (choice : Choice) (snapshot capture ahead : Option (List ℕ)) (old new out_old out_new : Device) (f : Fault) → IsReplayFault wanted choice snapshot capture ahead old new out_old out_new f → IsFilesFault snapshot capture f
 told_of_replay wanted choice snapshot capture ahead old new out_old out_new (Words f) says = absurd says
 told_of_replay wanted choice snapshot capture ahead old new out_old out_new (Settings f) says = absurd says
 told_of_replay wanted choice snapshot capture ahead old new out_old out_new (Snapshot f) says = says.0
 told_of_replay wanted choice snapshot capture ahead old new out_old out_new (Replay f) says =
-    inputs_weaker snapshot (λ files. StopsAs (wanted_of wanted (terms_of files choice)) capture ahead old.0 new.0 f) _ (λ files told. first_of_replay (wanted_of wanted (terms_of files choice)) capture ahead old.0 new.0 f told.stops) says.0
+    inputs_weaker snapshot (λ files. StopsAs (wanted_of wanted (terms_of files choice)) capture ahead old.bytes new.bytes f) _ (λ files told. first_of_replay (wanted_of wanted (terms_of files choice)) capture ahead old.bytes new.bytes f told.stops) says.0
 told_of_replay wanted choice snapshot capture ahead old new out_old out_new (Upgrade f) says = absurd says
 told_of_replay wanted choice snapshot capture ahead old new out_old out_new (Folder f) says = absurd says
 told_of_replay wanted choice snapshot capture ahead old new out_old out_new (Open place) says = absurd says
@@ -60,7 +62,7 @@ told_of_replay wanted choice snapshot capture ahead old new out_old out_new (Wri
 told_of_replay wanted choice snapshot capture ahead old new out_old out_new (Write places.Folder) says = absurd says
 told_of_replay wanted choice snapshot capture ahead old new out_old out_new Memory says = tt
 
-told_of_ran : (wanted : Wanted) (choice : Choice) (snapshot capture ahead : Option (List ℕ)) (old new out_old out_new : Option (List ℕ) × ℕ) (ran : Result Unit Fault) → IfErr ran (IsReplayFault wanted choice snapshot capture ahead old new out_old out_new) → IfErr ran (IsFilesFault snapshot capture)
+told_of_ran : (wanted : Wanted) (choice : Choice) (snapshot capture ahead : Option (List ℕ)) (old new out_old out_new : Device) (ran : Result Unit Fault) → IfErr ran (IsReplayFault wanted choice snapshot capture ahead old new out_old out_new) → IfErr ran (IsFilesFault snapshot capture)
 told_of_ran wanted choice snapshot capture ahead old new out_old out_new (Ok x) says = tt
 told_of_ran wanted choice snapshot capture ahead old new out_old out_new (Err f) says = told_of_replay wanted choice snapshot capture ahead old new out_old out_new f says
 
@@ -70,7 +72,7 @@ told_of_rest : (snapshot capture : Option (List ℕ)) (place : Place) (ran told 
 told_of_rest snapshot capture place ran told allowed says (inl same) = rw same says
 told_of_rest snapshot capture place ran told allowed says (inr unwritten) = rw unwritten allowed
 
-pub told_of_files : (wanted : Wanted) (choice : Choice) (snapshot capture ahead : Option (List ℕ)) (old new out_old out_new : Option (List ℕ) × ℕ) (ran rest told : Result Unit Fault)
+pub told_of_files : (wanted : Wanted) (choice : Choice) (snapshot capture ahead : Option (List ℕ)) (old new out_old out_new : Device) (ran rest told : Result Unit Fault)
     → IfErr ran (IsReplayFault wanted choice snapshot capture ahead old new out_old out_new)
     → (rest ≡ ran) ⊎ (rest ≡ Err (Write places.Replies))
     → (told ≡ rest) ⊎ (told ≡ Err (Write places.Report)) → IfErr told (IsFilesFault snapshot capture)

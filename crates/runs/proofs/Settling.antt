@@ -1,10 +1,11 @@
 -- From what a run says and what its buffers leave to what the program says.
+use Rattle.paths.specs.Devices.{Device, fresh}
 use Rattle.std.proofs.Common.{◌≡◌, ◌⊎◌, inl, inr, ℕ, Bool, true, List, [], Option, refl, subst, ◌∙◌, Result, Ok, Err, OnOk, IfErr, is_some, unwrap_or}
 use Rattle.std.specs.Io.KnownBytes.{Appends, append_known}
 use Rattle.captures.specs.Upgrades.{Upgrades}
 use Rattle.replay.specs.Choices.{Choice, terms_of}
 use Rattle.runs.specs.declared.wanted.Wanted.{Wanted}
-use Rattle.replay.specs.Outcomes.{WhereKnown}
+use Rattle.paths.specs.KnownText.{WhereKnown}
 use Rattle.report.specs.Reports.{report_text}
 use Rattle.runs.specs.declared.fault.Fault.{Fault}
 use Rattle.runs.specs.declared.fault.Fault.TheVariants.{Write}
@@ -30,29 +31,29 @@ told_by cut place old whole new ran told (inr (inl stopped)) = inl stopped.0
 told_by cut place old whole new ran told (inr (inr failed)) = inr failed.0
 
 -- a buffer that is empty shows what stands at its device
-pub opened : (known its : Option (List ℕ)) (items : List ℕ) (view : Option (List ℕ) × ℕ) → view ≡ (append_known its items, 0) → its ≡ known → items ≡ [] → view ≡ (known, 0)
+pub opened : (known its : Option (List ℕ)) (items : List ℕ) (view : Device) → view ≡ fresh (append_known its items) → its ≡ known → items ≡ [] → view ≡ fresh known
 opened known its items view is same none = is ∙ rw (same, none, append_nothing known) refl
 
-pub bundle_says : (input old : Option (List ℕ)) (seen left before after : Option (List ℕ) × ℕ) (ran : Result Unit Fault) → seen ≡ (input, 0) → before ≡ (old, 0)
-    → OnOk ran (is_some seen.0 ≡ true → AfterSnapshot (unwrap_or seen.0 []) (WritesAnswer before.0 after.0))
-    → IfErr ran (IsBundleFault seen.0 left.0 before after) → BundleSays input old ran after.0
+pub bundle_says : (input old : Option (List ℕ)) (seen left before after : Device) (ran : Result Unit Fault) → seen ≡ fresh input → before ≡ fresh old
+    → OnOk ran (is_some seen.bytes ≡ true → AfterSnapshot (unwrap_or seen.bytes []) (WritesAnswer before.bytes after.bytes))
+    → IfErr ran (IsBundleFault seen.bytes left.bytes before after) → BundleSays input old ran after.bytes
 bundle_says input old seen left before after (Ok done) shows is answer fault =
-    let P : Option (List ℕ) × ℕ → Type 0 = λ s. is_some s.0 ≡ true → AfterSnapshot (unwrap_or s.0 []) (WritesAnswer before.0 after.0) in
-    let Q : Option (List ℕ) × ℕ → Type 0 = λ b. is_some input ≡ true → AfterSnapshot (unwrap_or input []) (WritesAnswer b.0 after.0) in
-    (left.0, after.1, subst Q is (subst P shows answer))
+    let P : Device → Type 0 = λ s. is_some s.bytes ≡ true → AfterSnapshot (unwrap_or s.bytes []) (WritesAnswer before.bytes after.bytes) in
+    let Q : Device → Type 0 = λ b. is_some input ≡ true → AfterSnapshot (unwrap_or input []) (WritesAnswer b.bytes after.bytes) in
+    (left.bytes, after.failures, subst Q is (subst P shows answer))
 bundle_says input old seen left before after (Err f) shows is answer fault =
-    let P : Option (List ℕ) × ℕ → Type 0 = λ s. IsBundleFault s.0 left.0 before after f in
-    let Q : Option (List ℕ) × ℕ → Type 0 = λ b. IsBundleFault input left.0 b after f in
-    (left.0, after.1, subst Q is (subst P shows fault))
+    let P : Device → Type 0 = λ s. IsBundleFault s.bytes left.bytes before after f in
+    let Q : Device → Type 0 = λ b. IsBundleFault input left.bytes b after f in
+    (left.bytes, after.failures, subst Q is (subst P shows fault))
 
 fault_of : (input ahead old whole : Option (List ℕ)) (count : ℕ) (ran : Result Unit Fault) (says : BundleSays input old ran whole)
-    → IfErr ran (IsBundleFault input says.0 (old, 0) (whole, says.1))
+    → IfErr ran (IsBundleFault input says.0 (fresh old) (record { bytes = whole; failures = says.1 }))
 fault_of input ahead old whole count (Ok done) says = tt
 fault_of input ahead old whole count (Err f) says = says.2
 
 pub program_fault : (input old new : Option (List ℕ)) (told : Result Unit Fault) → AtDevice places.Replies (BundleSays input old) old new told → IfErr told (IsProgramFault input)
 program_fault input old new told at =
-    told_of_program input at.says.0 (old, 0) (at.whole, at.says.1) at.ran told (fault_of input at.says.0 old at.whole at.says.1 at.ran at.says)
+    told_of_program input at.says.0 (fresh old) (record { bytes = at.whole; failures = at.says.1 }) at.ran told (fault_of input at.says.0 old at.whole at.says.1 at.ran at.says)
     (told_by (is_cut at.ran) places.Replies old at.whole new at.ran told at.stands)
 
 answered : (input old whole : Option (List ℕ)) (ran told : Result Unit Fault) → BundleSays input old ran whole
@@ -66,17 +67,17 @@ pub program_ok : (input old new : Option (List ℕ)) (told : Result Unit Fault) 
     → OnOk told (is_some input ≡ true → AfterSnapshot (unwrap_or input []) HoldsCapture)
 program_ok input old new told at = answered input old at.whole at.ran told at.says (told_by (is_cut at.ran) places.Replies old at.whole new at.ran told at.stands)
 
-pub upgrade_says : (input old : Option (List ℕ)) (seen left before after : Option (List ℕ) × ℕ) (ran : Result Unit Fault) → seen ≡ (input, 0) → before ≡ (old, 0)
-    → OnOk ran (is_some seen.0 ≡ true → Upgrades (unwrap_or seen.0 []) before.0 after.0)
-    → IfErr ran (IsUpgradeFault seen.0 left.0 before.0 after.0) → UpgradeSays input old ran after.0
+pub upgrade_says : (input old : Option (List ℕ)) (seen left before after : Device) (ran : Result Unit Fault) → seen ≡ fresh input → before ≡ fresh old
+    → OnOk ran (is_some seen.bytes ≡ true → Upgrades (unwrap_or seen.bytes []) before.bytes after.bytes)
+    → IfErr ran (IsUpgradeFault seen.bytes left.bytes before.bytes after.bytes) → UpgradeSays input old ran after.bytes
 upgrade_says input old seen left before after (Ok done) shows is upgraded fault =
-    let P : Option (List ℕ) × ℕ → Type 0 = λ s. is_some s.0 ≡ true → Upgrades (unwrap_or s.0 []) before.0 after.0 in
-    let Q : Option (List ℕ) × ℕ → Type 0 = λ b. is_some input ≡ true → Upgrades (unwrap_or input []) b.0 after.0 in
-    (left.0, subst Q is (subst P shows upgraded))
+    let P : Device → Type 0 = λ s. is_some s.bytes ≡ true → Upgrades (unwrap_or s.bytes []) before.bytes after.bytes in
+    let Q : Device → Type 0 = λ b. is_some input ≡ true → Upgrades (unwrap_or input []) b.bytes after.bytes in
+    (left.bytes, subst Q is (subst P shows upgraded))
 upgrade_says input old seen left before after (Err f) shows is upgraded fault =
-    let P : Option (List ℕ) × ℕ → Type 0 = λ s. IsUpgradeFault s.0 left.0 before.0 after.0 f in
-    let Q : Option (List ℕ) × ℕ → Type 0 = λ b. IsUpgradeFault input left.0 b.0 after.0 f in
-    (left.0, subst Q is (subst P shows fault))
+    let P : Device → Type 0 = λ s. IsUpgradeFault s.bytes left.bytes before.bytes after.bytes f in
+    let Q : Device → Type 0 = λ b. IsUpgradeFault input left.bytes b.bytes after.bytes f in
+    (left.bytes, subst Q is (subst P shows fault))
 
 upgrade_fault_of : (input old whole : Option (List ℕ)) (ran : Result Unit Fault) (says : UpgradeSays input old ran whole) → IfErr ran (IsUpgradeFault input says.0 old whole)
 upgrade_fault_of input old whole (Ok done) says = tt
@@ -96,25 +97,25 @@ upgraded_ok input old new told at =
     ok_of_upgraded_files input old at.whole at.ran told (upgrade_ok_of input old at.whole at.ran at.says)
     (told_by (is_cut at.ran) places.Output old at.whole new at.ran told at.stands)
 
-pub files_says : (wanted : Wanted) (choice : Choice) (snapshot capture old out_old : Option (List ℕ)) (snapshot_seen capture_seen left before after out_before out_after : Option (List ℕ) × ℕ) (ran : Result Unit Fault)
-    → snapshot_seen ≡ (snapshot, 0) → capture_seen ≡ (capture, 0) → before ≡ (old, 0) → out_before ≡ (out_old, 0)
-    → OnOk ran (OfInput snapshot_seen.0 (λ files. AnswersAnd wanted (terms_of files choice) capture_seen.0 before.0 after.0 (λ outcome. Appends out_before.0 out_after.0 (report_text outcome))))
-    → IfErr ran (IsReplayFault wanted choice snapshot_seen.0 capture_seen.0 left.0 before after out_before out_after) → FilesSays wanted choice snapshot capture old out_old ran after.0 out_after.0
+pub files_says : (wanted : Wanted) (choice : Choice) (snapshot capture old out_old : Option (List ℕ)) (snapshot_seen capture_seen left before after out_before out_after : Device) (ran : Result Unit Fault)
+    → snapshot_seen ≡ fresh snapshot → capture_seen ≡ fresh capture → before ≡ fresh old → out_before ≡ fresh out_old
+    → OnOk ran (OfInput snapshot_seen.bytes (λ files. AnswersAnd wanted (terms_of files choice) capture_seen.bytes before.bytes after.bytes (λ outcome. Appends out_before.bytes out_after.bytes (report_text outcome))))
+    → IfErr ran (IsReplayFault wanted choice snapshot_seen.bytes capture_seen.bytes left.bytes before after out_before out_after) → FilesSays wanted choice snapshot capture old out_old ran after.bytes out_after.bytes
 files_says wanted choice snapshot capture old out_old snapshot_seen capture_seen left before after out_before out_after (Ok done) shows capture_shows is out_is answer fault =
-    let P : Option (List ℕ) × ℕ → Type 0 = λ s. OfInput s.0 (λ files. AnswersAnd wanted (terms_of files choice) capture_seen.0 before.0 after.0 (λ outcome. Appends out_before.0 out_after.0 (report_text outcome))) in
-    let Q : Option (List ℕ) × ℕ → Type 0 = λ s. OfInput snapshot (λ files. AnswersAnd wanted (terms_of files choice) s.0 before.0 after.0 (λ outcome. Appends out_before.0 out_after.0 (report_text outcome))) in
-    let R : Option (List ℕ) × ℕ → Type 0 = λ b. OfInput snapshot (λ files. AnswersAnd wanted (terms_of files choice) capture b.0 after.0 (λ outcome. Appends out_before.0 out_after.0 (report_text outcome))) in
-    let S : Option (List ℕ) × ℕ → Type 0 = λ b. OfInput snapshot (λ files. AnswersAnd wanted (terms_of files choice) capture old after.0 (λ outcome. Appends b.0 out_after.0 (report_text outcome))) in
-    (left.0, after.1, out_after.1, subst S out_is (subst R is (subst Q capture_shows (subst P shows answer))))
+    let P : Device → Type 0 = λ s. OfInput s.bytes (λ files. AnswersAnd wanted (terms_of files choice) capture_seen.bytes before.bytes after.bytes (λ outcome. Appends out_before.bytes out_after.bytes (report_text outcome))) in
+    let Q : Device → Type 0 = λ s. OfInput snapshot (λ files. AnswersAnd wanted (terms_of files choice) s.bytes before.bytes after.bytes (λ outcome. Appends out_before.bytes out_after.bytes (report_text outcome))) in
+    let R : Device → Type 0 = λ b. OfInput snapshot (λ files. AnswersAnd wanted (terms_of files choice) capture b.bytes after.bytes (λ outcome. Appends out_before.bytes out_after.bytes (report_text outcome))) in
+    let S : Device → Type 0 = λ b. OfInput snapshot (λ files. AnswersAnd wanted (terms_of files choice) capture old after.bytes (λ outcome. Appends b.bytes out_after.bytes (report_text outcome))) in
+    (left.bytes, after.failures, out_after.failures, subst S out_is (subst R is (subst Q capture_shows (subst P shows answer))))
 files_says wanted choice snapshot capture old out_old snapshot_seen capture_seen left before after out_before out_after (Err f) shows capture_shows is out_is answer fault =
-    let P : Option (List ℕ) × ℕ → Type 0 = λ s. IsReplayFault wanted choice s.0 capture_seen.0 left.0 before after out_before out_after f in
-    let Q : Option (List ℕ) × ℕ → Type 0 = λ s. IsReplayFault wanted choice snapshot s.0 left.0 before after out_before out_after f in
-    let R : Option (List ℕ) × ℕ → Type 0 = λ b. IsReplayFault wanted choice snapshot capture left.0 b after out_before out_after f in
-    let S : Option (List ℕ) × ℕ → Type 0 = λ b. IsReplayFault wanted choice snapshot capture left.0 (old, 0) after b out_after f in
-    (left.0, after.1, out_after.1, subst S out_is (subst R is (subst Q capture_shows (subst P shows fault))))
+    let P : Device → Type 0 = λ s. IsReplayFault wanted choice s.bytes capture_seen.bytes left.bytes before after out_before out_after f in
+    let Q : Device → Type 0 = λ s. IsReplayFault wanted choice snapshot s.bytes left.bytes before after out_before out_after f in
+    let R : Device → Type 0 = λ b. IsReplayFault wanted choice snapshot capture left.bytes b after out_before out_after f in
+    let S : Device → Type 0 = λ b. IsReplayFault wanted choice snapshot capture left.bytes (fresh old) after b out_after f in
+    (left.bytes, after.failures, out_after.failures, subst S out_is (subst R is (subst Q capture_shows (subst P shows fault))))
 
 files_fault_of : (wanted : Wanted) (choice : Choice) (snapshot capture old whole out_old out_whole : Option (List ℕ)) (ran : Result Unit Fault) (says : FilesSays wanted choice snapshot capture old out_old ran whole out_whole)
-    → IfErr ran (IsReplayFault wanted choice snapshot capture says.0 (old, 0) (whole, says.1) (out_old, 0) (out_whole, says.2))
+    → IfErr ran (IsReplayFault wanted choice snapshot capture says.0 (fresh old) (record { bytes = whole; failures = says.1 }) (fresh out_old) (record { bytes = out_whole; failures = says.2 }))
 files_fault_of wanted choice snapshot capture old whole out_old out_whole (Ok done) says = tt
 files_fault_of wanted choice snapshot capture old whole out_old out_whole (Err f) says = says.3
 
@@ -126,7 +127,7 @@ files_ok_of wanted choice snapshot capture old whole out_old out_whole (Err f) s
 pub files_fault : (wanted : Wanted) (choice : Choice) (snapshot capture old new out_old out_new : Option (List ℕ)) (told : Result Unit Fault)
     → AtDevices (FilesSays wanted choice snapshot capture old out_old) old new out_old out_new told → IfErr told (IsFilesFault snapshot capture)
 files_fault wanted choice snapshot capture old new out_old out_new told at =
-    told_of_files wanted choice snapshot capture at.says.0 (old, 0) (at.whole, at.says.1) (out_old, 0) (at.out_whole, at.says.2) at.ran at.rest told
+    told_of_files wanted choice snapshot capture at.says.0 (fresh old) (record { bytes = at.whole; failures = at.says.1 }) (fresh out_old) (record { bytes = at.out_whole; failures = at.says.2 }) at.ran at.rest told
     (files_fault_of wanted choice snapshot capture old at.whole out_old at.out_whole at.ran at.says)
     (told_by (is_cut at.ran) places.Replies old at.whole new at.ran at.rest at.replies)
     (told_by (is_fault at.rest) places.Report out_old at.out_whole out_new at.rest told at.report)

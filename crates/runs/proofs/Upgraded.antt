@@ -5,7 +5,7 @@ use Rattle.captures.specs.declared.upgrade_fault.UpgradeFault.{UpgradeFault}
 use Rattle.captures.specs.declared.upgrade_fault.UpgradeFault.TheVariants as upgrades
 use Rattle.captures.specs.CaptureFaults.{is_unforeseen_kind, IsFirstFault}
 use Rattle.captures.specs.Upgrades.{IfCapture, Stops, Upgrades}
-use Rattle.replay.specs.Outcomes.{WhereKnown}
+use Rattle.paths.specs.KnownText.{WhereKnown}
 use Rattle.runs.specs.declared.fault.Fault.{Fault}
 use Rattle.runs.specs.declared.fault.Fault.TheVariants.{Words, Settings, Snapshot, Replay, Upgrade, Folder, Open, Read, Write, Memory}
 use Rattle.runs.specs.declared.place.Place.TheVariants.{Output}

@@ -1,4 +1,5 @@
 -- From what a run that writes settings out says to what the program says.
+use Rattle.paths.specs.Devices.{Device, fresh}
 use Rattle.std.proofs.Common.{◌≡◌, ◌⊎◌, inl, inr, ℕ, List, Option, Result, Ok, Err, OnOk, IfErr, subst}
 use Rattle.runs.specs.declared.fault.Fault.{Fault}
 use Rattle.runs.specs.declared.fault.Fault.TheVariants.{Settings, Write}
@@ -7,24 +8,24 @@ use Rattle.runs.specs.Inspecting.{AtReport, is_unwritten}
 use Rattle.runs.specs.InForce.{IsSettingsFault, IsSettingsFilesFault, SettingsSays, WritesSettings}
 use Rattle.runs.proofs.Settling.{told_by}
 
-pub settings_say : (document : List ℕ) (old : Option (List ℕ)) (before after : Option (List ℕ) × ℕ) (ran : Result Unit Fault) → before ≡ (old, 0)
-    → OnOk ran (WritesSettings document before.0 after.0) → IfErr ran (IsSettingsFault document before after) → SettingsSays document old ran after.0
+pub settings_say : (document : List ℕ) (old : Option (List ℕ)) (before after : Device) (ran : Result Unit Fault) → before ≡ fresh old
+    → OnOk ran (WritesSettings document before.bytes after.bytes) → IfErr ran (IsSettingsFault document before after) → SettingsSays document old ran after.bytes
 settings_say document old before after (Ok done) is ok fault =
-    let P : Option (List ℕ) × ℕ → Type 0 = λ b. WritesSettings document b.0 after.0 in
-    (after.1, subst P is ok)
+    let P : Device → Type 0 = λ b. WritesSettings document b.bytes after.bytes in
+    (after.failures, subst P is ok)
 settings_say document old before after (Err f) is ok fault =
-    let P : Option (List ℕ) × ℕ → Type 0 = λ b. IsSettingsFault document b after f in
-    (after.1, subst P is fault)
+    let P : Device → Type 0 = λ b. IsSettingsFault document b after f in
+    (after.failures, subst P is fault)
 
 -- a fault of the run is one of the program
-told_of_settings : (document : List ℕ) (old new : Option (List ℕ) × ℕ) (f : Fault) → IsSettingsFault document old new f → IsSettingsFilesFault document f
+told_of_settings : (document : List ℕ) (old new : Device) (f : Fault) → IsSettingsFault document old new f → IsSettingsFilesFault document f
 told_of_settings document old new (Settings f) says = says.0
 told_of_settings document old new (Write places.Report) says = tt
 told_of_settings document old new other says = absurd says
 
 told_of_ran : (document : List ℕ) (old whole : Option (List ℕ)) (ran : Result Unit Fault) → SettingsSays document old ran whole → IfErr ran (IsSettingsFilesFault document)
 told_of_ran document old whole (Ok done) says = tt
-told_of_ran document old whole (Err f) says = told_of_settings document (old, 0) (whole, says.0) f says.1
+told_of_ran document old whole (Err f) says = told_of_settings document (fresh old) (record { bytes = whole; failures = says.0 }) f says.1
 
 told_of_rest : (document : List ℕ) (ran told : Result Unit Fault) → IfErr ran (IsSettingsFilesFault document)
     → (told ≡ ran) ⊎ (told ≡ Err (Write places.Report)) → IfErr told (IsSettingsFilesFault document)

@@ -1,4 +1,5 @@
 -- The run over one input that holds a snapshot's text and, after it, a capture.
+use Rattle.paths.specs.Devices.{Device, fresh}
 use Rattle.std.specs.Prelude.{◌≡◌, ℕ, ◌+◌, ◌≤◌, true, false, List, [], ◌++◌, length, Option, Some, is_some, unwrap_or}
 use Rattle.std.specs.Prelude.{Result, MatchResult}
 use Rattle.paths.specs.declared.file.File.{File}
@@ -46,12 +47,12 @@ pub record StopsAs (t : Telling) (capture ahead old new : Option (List ℕ)) (f 
 -- after. One of the snapshot is its first and nothing was written; one of the replay comes after a whole snapshot, and
 -- says what it says of the rest; memory may run out between the two, and then nothing was written either. None else
 -- comes.
-abbrev pub IsBundleFault : Option (List ℕ) → Option (List ℕ) → Option (List ℕ) × ℕ → Option (List ℕ) × ℕ → Fault
+abbrev pub IsBundleFault : Option (List ℕ) → Option (List ℕ) → Device → Device → Fault
     → Type 0
 IsBundleFault input ahead old new (Snapshot f) = IsForeseen IsFrontFault input f × (new ≡ old)
 IsBundleFault input ahead old new (Replay f) = is_some input ≡ true →
     AfterSnapshot (unwrap_or input [])
-    (λ files capture. StopsAs (replies_told (default_terms files)) (Some capture) ahead old.0 new.0 f)
+    (λ files capture. StopsAs (replies_told (default_terms files)) (Some capture) ahead old.bytes new.bytes f)
 IsBundleFault input ahead old new Memory = new ≡ old
 IsBundleFault input ahead old new other = ⊥
 
@@ -66,14 +67,6 @@ abbrev pub writer_failures : Fault → ℕ
 writer_failures (Replay f) = replays.writer_failures f
 writer_failures (Upgrade f) = upgrades.writer_failures f
 writer_failures other = 0
-
--- a device's count rose by one exactly where the fault is its own
-abbrev pub CountsBy : {X : Type 0} → (Fault → ℕ) → ℕ → ℕ → Result X Fault → Type 0
-CountsBy failures old new r = MatchResult r (λ _. new ≡ old) (λ f. new ≡ old + failures f)
-
--- a device failed at most once in a run, and is blamed only where it did
-abbrev pub BlamedOnce : {X : Type 0} → (Fault → ℕ) → ℕ → ℕ → Result X Fault → Type 0
-BlamedOnce failures old new r = MatchResult r (λ _. new ≡ old) (λ f. (old + failures f ≤ new) × (new ≤ old + 1))
 
 -- the bytes after the snapshot are the text of a capture
 abbrev pub HoldsCapture : List File → List ℕ → Type 0
@@ -96,4 +89,4 @@ IsProgramFault input other = ⊥
 abbrev pub BundleSays : Option (List ℕ) → Option (List ℕ) → Result Unit Fault → Option (List ℕ) → Type 0
 BundleSays input old ran whole = (ahead : Option (List ℕ)) × (count : ℕ) × MatchResult ran
     (λ done. is_some input ≡ true → AfterSnapshot (unwrap_or input []) (WritesAnswer old whole))
-    (λ f. IsBundleFault input ahead (old, 0) (whole, count) f)
+    (λ f. IsBundleFault input ahead (fresh old) (record { bytes = whole; failures = count }) f)

@@ -1,6 +1,7 @@
 -- How a fault is reported: the status that the program ends with, and the line on standard error.
 use Rattle.std.specs.Prelude.{ℕ, ◌==◌, ◌||◌, List, ◌++◌, codes, decimal, nat_lt, string_bytes, Option, Some, None}
 use Rattle.std.specs.Prelude.{unwrap_or, if◌then◌else◌}
+use Rattle.paths.specs.Snapshots.{question_mark}
 use Rattle.paths.specs.declared.snapshot_fault.SnapshotFault.{SnapshotFault}
 use Rattle.paths.specs.declared.snapshot_fault.SnapshotFaultKind.{SnapshotFaultKind}
 use Rattle.paths.specs.declared.snapshot_fault.SnapshotFaultKind.TheVariants as entries
@@ -171,7 +172,7 @@ named_line_of t name = codes "haboob: " ++ text_of t ++ codes " " ++ name ++ cod
 
 -- how a byte of a name stands in a line: a control character as a question mark
 abbrev pub shown_byte : ℕ → ℕ
-shown_byte b = if nat_lt b 32 || b == 127 then 63 else b
+shown_byte b = if nat_lt b 32 || b == 127 then question_mark else b
 
 -- what the command line says of words that it doesn't take
 abbrev pub usage_in : WordFault → Option (List ℕ)

@@ -1,4 +1,5 @@
 -- The run that writes out the settings that are in force.
+use Rattle.paths.specs.Devices.{Device, fresh}
 use Rattle.std.specs.Prelude.{◌≡◌, ℕ, false, List, Option, Result, Ok, Err, MatchResult}
 use Rattle.std.specs.Io.KnownBytes.{Appends}
 use Rattle.options.specs.ConfigFaults.{is_memory}
@@ -20,10 +21,10 @@ IsOfSettings document other = ⊥
 
 -- What a fault of the run says, with the output's bytes and failures before and after. One of the settings is that of a
 -- replay, and nothing was written; else a write failed, and a prefix of the text stands. None else comes.
-abbrev pub IsSettingsFault : List ℕ → Option (List ℕ) × ℕ → Option (List ℕ) × ℕ → Fault → Type 0
+abbrev pub IsSettingsFault : List ℕ → Device → Device → Fault → Type 0
 IsSettingsFault document old new (Settings f) = IsOfSettings document (Settings f) × (new ≡ old)
 IsSettingsFault document old new (Write Report) =
-    (text : List ℕ) × (settings_text document ≡ Ok text) × WritesPart old.0 new.0 text
+    (text : List ℕ) × (settings_text document ≡ Ok text) × WritesPart old.bytes new.bytes text
 IsSettingsFault document old new other = ⊥
 
 -- What a fault of the program says of its document. Other faults are that the output can't be written to its end, and
@@ -38,4 +39,4 @@ IsSettingsFilesFault document other = ⊥
 abbrev pub SettingsSays : List ℕ → Option (List ℕ) → Result Unit Fault → Option (List ℕ) → Type 0
 SettingsSays document old ran whole = (count : ℕ) × MatchResult ran
     (λ done. WritesSettings document old whole)
-    (λ f. IsSettingsFault document (old, 0) (whole, count) f)
+    (λ f. IsSettingsFault document (fresh old) (record { bytes = whole; failures = count }) f)

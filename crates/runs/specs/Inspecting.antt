@@ -8,10 +8,11 @@ use Rattle.inspection.specs.declared.inspection.Inspection.{Inspection}
 use Rattle.inspection.specs.Inspections.{HoldsAll, HoldsBefore, StopsFirst}
 use Rattle.inspection.specs.Texts.{inspection_text}
 use Rattle.replay.specs.declared.replay_fault.ReplayFault.TheVariants.{Capture}
-use Rattle.replay.specs.Outcomes.{WhereKnown}
+use Rattle.paths.specs.KnownText.{WhereKnown}
 use Rattle.runs.specs.declared.fault.Fault.{Fault}
 use Rattle.runs.specs.declared.fault.Fault.TheVariants.{Replay, Write, Memory}
 use Rattle.runs.specs.declared.place.Place.TheVariants.{Report}
+use Rattle.paths.specs.Devices.{Device, fresh}
 use Rattle.runs.specs.Devices.{Settles}
 use Rattle.runs.specs.Replays.{WritesPart}
 
@@ -22,23 +23,23 @@ Inspects input old new = (i : Inspection) × HoldsAll input i × Appends old new
 -- The capture has a fault, and the figures of the whole records before it were written: nothing, where it is in the
 -- first line.
 abbrev pub InspectsBefore :
-    Option (List ℕ) → Option (List ℕ) → Option (List ℕ) × ℕ → Option (List ℕ) × ℕ → CaptureFault → Type 0
+    Option (List ℕ) → Option (List ℕ) → Device → Device → CaptureFault → Type 0
 InspectsBefore input ahead old new f = (f.kind ≢ kinds.Memory)
     × ((StopsFirst input f × (new ≡ old))
-    ⊎ ((i : Inspection) × HoldsBefore input ahead i f × Appends old.0 new.0 (inspection_text i)))
+    ⊎ ((i : Inspection) × HoldsBefore input ahead i f × Appends old.bytes new.bytes (inspection_text i)))
 
 -- the figures that are due: those of the whole capture, or of the records before its fault
 abbrev pub AreDue : Option (List ℕ) → Option (List ℕ) → Inspection → Type 0
 AreDue input ahead i = HoldsAll input i ⊎ ((f : CaptureFault) × HoldsBefore input ahead i f)
 
 -- What a fault of the run says, with what of the input wasn't read, and the bytes and failures of the output before and
--- after. One of the capture comes after its figures; it is reported as a replay tells it. Else a write failed, and a prefix
--- of what was due stands; or there was no memory, and nothing was written. None else comes.
+-- after. One of the capture comes after its figures; it is reported as a replay tells it. Else a write failed, and
+-- a prefix of what was due stands; or there was no memory, and nothing was written. None else comes.
 abbrev pub IsInspectFault :
-    Option (List ℕ) → Option (List ℕ) → Option (List ℕ) × ℕ → Option (List ℕ) × ℕ → Fault → Type 0
+    Option (List ℕ) → Option (List ℕ) → Device → Device → Fault → Type 0
 IsInspectFault input ahead old new (Replay (Capture f)) = InspectsBefore input ahead old new f
 IsInspectFault input ahead old new (Write Report) =
-    (i : Inspection) × AreDue input ahead i × WritesPart old.0 new.0 (inspection_text i)
+    (i : Inspection) × AreDue input ahead i × WritesPart old.bytes new.bytes (inspection_text i)
 IsInspectFault input ahead old new Memory = new ≡ old
 IsInspectFault input ahead old new other = ⊥
 
@@ -60,7 +61,7 @@ is_unwritten other = false
 abbrev pub InspectSays : Option (List ℕ) → Option (List ℕ) → Result Unit Fault → Option (List ℕ) → Type 0
 InspectSays input old ran whole = (ahead : Option (List ℕ)) × (count : ℕ) × MatchResult ran
     (λ done. Inspects input old whole)
-    (λ f. IsInspectFault input ahead (old, 0) (whole, count) f)
+    (λ f. IsInspectFault input ahead (fresh old) (record { bytes = whole; failures = count }) f)
 
 -- A run over the device of the report with a buffer before it came to `ran` and was to leave `whole` at the device, of
 -- which P holds.

@@ -1,4 +1,5 @@
 -- The run over a snapshot and a capture, each in an input of its own, with a report.
+use Rattle.paths.specs.Devices.{Device, fresh}
 use Rattle.std.specs.Prelude.{◌≡◌, ℕ, ◌<◌, true, false, List, [], length, take, Option, Result, MatchResult, is_some}
 use Rattle.std.specs.Prelude.{unwrap_or}
 use Rattle.std.specs.Io.KnownBytes.{Appends}
@@ -9,7 +10,8 @@ use Rattle.captures.specs.CaptureFaults.{is_unforeseen_kind}
 use Rattle.captures.specs.CaptureFaults as captures
 use Rattle.replay.specs.declared.outcome.Outcome.{Outcome}
 use Rattle.replay.specs.Choices.{Choice, Terms, terms_of}
-use Rattle.replay.specs.Outcomes.{IfCapture, WhereKnown}
+use Rattle.paths.specs.KnownText.{WhereKnown}
+use Rattle.replay.specs.Outcomes.{IfCapture}
 use Rattle.replay.specs.Outcomes as replays
 use Rattle.report.specs.Reports.{report_text}
 use Rattle.runs.specs.Bundles.{StopsAs}
@@ -40,8 +42,8 @@ abbrev pub WritesPart : Option (List ℕ) → Option (List ℕ) → List ℕ →
 WritesPart old new text = (n : ℕ) × (n < length text) × Appends old new (take n text)
 
 -- what a fault of the report says of its text and of the output: no memory for it, or a failed write
-abbrev pub IsReportFault : List ℕ → Option (List ℕ) × ℕ → Option (List ℕ) × ℕ → Fault → Type 0
-IsReportFault text old new (Write Report) = WritesPart old.0 new.0 text
+abbrev pub IsReportFault : List ℕ → Device → Device → Fault → Type 0
+IsReportFault text old new (Write Report) = WritesPart old.bytes new.bytes text
 IsReportFault text old new Memory = new ≡ old
 IsReportFault text old new other = ⊥
 
@@ -49,18 +51,19 @@ IsReportFault text old new other = ⊥
 -- the report's output before and after. One of the snapshot is its first, and nothing was written. One of the replay
 -- comes after a whole snapshot, and says what it says of the capture; no report was written. Else the whole answer was
 -- written, and there was no memory for the report, or a prefix of it stands. None else comes.
-abbrev pub IsReplayFault : Wanted → Choice → Option (List ℕ) → Option (List ℕ) → Option (List ℕ) → Option (List ℕ) × ℕ
-    → Option (List ℕ) × ℕ → Option (List ℕ) × ℕ → Option (List ℕ) × ℕ → Fault → Type 0
+abbrev pub IsReplayFault : Wanted → Choice → Option (List ℕ) → Option (List ℕ) → Option (List ℕ) → Device
+    → Device → Device → Device → Fault → Type 0
 IsReplayFault wanted choice snapshot capture ahead old new out_old out_new (Snapshot f) =
     IsForeseen IsFirstFault snapshot f × (new ≡ old) × (out_new ≡ out_old)
 IsReplayFault wanted choice snapshot capture ahead old new out_old out_new (Replay f) =
-    OfInput snapshot (λ files. StopsAs (wanted_of wanted (terms_of files choice)) capture ahead old.0 new.0 f)
+    OfInput snapshot (λ files. StopsAs (wanted_of wanted (terms_of files choice)) capture ahead old.bytes new.bytes f)
     × (out_new ≡ out_old)
 IsReplayFault wanted choice snapshot capture ahead old new out_old out_new (Write Report) =
-    OfInput snapshot (λ files. AnswersAnd wanted (terms_of files choice) capture old.0 new.0
-    (λ outcome. WritesPart out_old.0 out_new.0 (report_text outcome)))
+    OfInput snapshot (λ files. AnswersAnd wanted (terms_of files choice) capture old.bytes new.bytes
+    (λ outcome. WritesPart out_old.bytes out_new.bytes (report_text outcome)))
 IsReplayFault wanted choice snapshot capture ahead old new out_old out_new Memory =
-    OfInput snapshot (λ files. AnswersAnd wanted (terms_of files choice) capture old.0 new.0 (λ outcome. Unit {0}))
+    OfInput snapshot (λ files. AnswersAnd wanted (terms_of files choice) capture old.bytes new.bytes
+    (λ outcome. Unit {0}))
     × (out_new ≡ out_old)
 IsReplayFault wanted choice snapshot capture ahead old new out_old out_new other = ⊥
 
@@ -99,4 +102,5 @@ FilesSays wanted choice snapshot capture old out_old ran whole out_whole = (ahea
     (λ files. AnswersAnd wanted (terms_of files choice) capture old whole
     (λ outcome. Appends out_old out_whole (report_text outcome))))
     (λ f. IsReplayFault wanted choice snapshot capture ahead
-    (old, 0) (whole, count) (out_old, 0) (out_whole, out_count) f)
+    (fresh old) (record { bytes = whole; failures = count })
+    (fresh out_old) (record { bytes = out_whole; failures = out_count }) f)

@@ -7,7 +7,7 @@ use Rattle.captures.specs.declared.version.Version.{Version}
 use Rattle.captures.specs.Captures.{IsCaptureText}
 use Rattle.captures.specs.CaptureFaults.{is_unforeseen_kind, IsFirstFault}
 use Rattle.captures.specs.Upgrades.{IfCapture, IfCutShort, IsCutShort, Stops, Upgrades}
-use Rattle.replay.specs.Outcomes.{WhereKnown}
+use Rattle.paths.specs.KnownText.{WhereKnown}
 use Rattle.runs.specs.declared.fault.Fault.{Fault}
 use Rattle.runs.specs.declared.fault.Fault.TheVariants.{Upgrade, Write, Memory}
 use Rattle.runs.specs.declared.place.Place.TheVariants.{Output}

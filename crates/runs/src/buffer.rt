@@ -1,3 +1,5 @@
+//! A buffer before a device of the program, which tries no failed write again.
+
 ghost use Rattle.runs.specs.Buffers.{front_of, IsPart};
 ghost use Rattle.std.specs.Prelude.{◌≡◌, ◌≤◌, [], length, take, true};
 ghost use Rattle.std.specs.Io.KnownBytes.{Appends, Keeps, WriteAppends, append_known};

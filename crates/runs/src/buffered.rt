@@ -1,5 +1,7 @@
+//! A replay over files, with a buffer before each.
+
 ghost use Rattle.std.specs.Prelude.{◌≡◌, ◌⊎◌, [], OnOk, IfErr};
-ghost use Rattle.replay.specs.Outcomes.{WhereKnown};
+ghost use Rattle.paths.specs.KnownText.{WhereKnown};
 ghost use Rattle.runs.specs.Bundles.{HoldsCapture};
 ghost use Rattle.runs.specs.Devices.{AtDevices, Refused, is_fault};
 ghost use Rattle.runs.specs.Replays.{OfInput, IsFilesFault, FilesSays};

@@ -1,5 +1,8 @@
+//! A snapshot and after it a capture, replayed from one input.
+
 ghost use Rattle.std.specs.Prelude.{◌≡◌, ◌-◌, ◌<◌, ◌^◌, [], true, is_some, unwrap_or, OnOk, IfErr};
-ghost use Rattle.runs.specs.Bundles.{AfterSnapshot, WritesAnswer, IsBundleFault, CountsBy, reader_failures};
+ghost use Rattle.paths.specs.Devices.{CanFail, CountsBy};
+ghost use Rattle.runs.specs.Bundles.{AfterSnapshot, WritesAnswer, IsBundleFault, reader_failures};
 ghost use Rattle.runs.specs.Bundles.{writer_failures};
 
 use crate::fault::Fault;
@@ -22,15 +25,15 @@ pub fn run_bundle<R: Read, W: Write>(
     input: &mut Input<R>,
     output: &mut Output<W>,
 ) -> Result<(), Fault>
-    requires reading { input.old.1 < 2 ^ 64 - 1 }
-    requires writing { output.old.1 < 2 ^ 64 - 1 }
+    requires reading { CanFail input.old }
+    requires writing { CanFail output.old }
     ensures ok { OnOk result
-        (is_some input.old.0 ≡ true
-        → AfterSnapshot (unwrap_or input.old.0 []) (WritesAnswer output.old.0 output.new.0)) }
-    ensures fault { IfErr result (IsBundleFault input.old.0 input.new.0 output.old output.new) }
+        (is_some input.old.bytes ≡ true
+        → AfterSnapshot (unwrap_or input.old.bytes []) (WritesAnswer output.old.bytes output.new.bytes)) }
+    ensures fault { IfErr result (IsBundleFault input.old.bytes input.new.bytes output.old output.new) }
     // A device is blamed only where it failed in this call.
-    ensures reads { CountsBy reader_failures input.old.1 input.new.1 result }
-    ensures writes { CountsBy writer_failures output.old.1 output.new.1 result }
+    ensures reads { CountsBy reader_failures input.old.failures input.new.failures result }
+    ensures writes { CountsBy writer_failures output.old.failures output.new.failures result }
 {
     let files = Snapshot::read_front(alloc, input)?;
     let settings = default_settings(alloc)?;

@@ -1,3 +1,5 @@
+//! All faults of the program, with their status.
+
 ghost use Rattle.std.specs.Prelude.{◌≡◌};
 ghost use Rattle.runs.specs.FaultLines.{told, told_entry, told_file, told_record, of_rows, status_of};
 

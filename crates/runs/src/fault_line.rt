@@ -1,4 +1,7 @@
+//! The one line that tells a fault.
+
 ghost use Rattle.std.specs.Prelude.{◌≡◌, ◌-◌, ◌+◌, ◌<◌, ◌≤◌, ◌^◌, ◌++◌, ◌∷◌, [], length, codes, decimal, option_map};
+ghost use Rattle.paths.specs.Devices.{CanFail};
 ghost use Rattle.responses.specs.Records.{WritesFront, CountsWrite};
 ghost use Rattle.runs.specs.FaultLines.{line_of, named_line, named_line_of, skipped_line, text_of, text_told};
 ghost use Rattle.runs.specs.FaultLines.{told_file, usage_of};
@@ -126,9 +129,9 @@ fn write_both<W: io::Write>(
     first: &[u8],
     second: &[u8],
 ) -> Result<(), Failed>
-    requires { writer.old.1 < 2 ^ 64 - 1 }
-    ensures text { WritesFront writer.old.0 writer.new.0 result (first.now ++ second.now) }
-    ensures count { CountsWrite writer.old.1 writer.new.1 result }
+    requires { CanFail writer.old }
+    ensures text { WritesFront writer.old.bytes writer.new.bytes result (first.now ++ second.now) }
+    ensures count { CountsWrite writer.old.failures writer.new.failures result }
 {
     match write_all(writer, first) {
         Ok(()) => write_all(writer, second),
@@ -138,10 +141,10 @@ fn write_both<W: io::Write>(
 
 /// Writes the line of what can't be taken.
 fn write_named<W: io::Write>(writer: &mut Output<W>, fault: &FolderFault) -> Result<(), Failed>
-    requires { writer.old.1 < 2 ^ 64 - 1 }
-    ensures line { WritesFront writer.old.0 writer.new.0 result
+    requires { CanFail writer.old }
+    ensures line { WritesFront writer.old.bytes writer.new.bytes result
         (named_line_of (told_file fault.now.fault) fault.now.name.items) }
-    ensures count { CountsWrite writer.old.1 writer.new.1 result }
+    ensures count { CountsWrite writer.old.failures writer.new.failures result }
 {
     match write_all(writer, file_heading(fault.fault).as_slice()) {
         Ok(()) => write_both(writer, &fault.name, b"\n"),
@@ -152,9 +155,9 @@ fn write_named<W: io::Write>(writer: &mut Output<W>, fault: &FolderFault) -> Res
 /// Writes the one line that tells how many were left out. It takes no memory. At an `Err` the writer failed in this
 /// call, and a prefix of the line stands there.
 pub fn write_skipped<W: io::Write>(count: usize, writer: &mut Output<W>) -> Result<(), Write>
-    requires { writer.old.1 < 2 ^ 64 - 1 }
-    ensures line { WritesFront writer.old.0 writer.new.0 result (skipped_line count) }
-    ensures count { CountsWrite writer.old.1 writer.new.1 result }
+    requires { CanFail writer.old }
+    ensures line { WritesFront writer.old.bytes writer.new.bytes result (skipped_line count) }
+    ensures count { CountsWrite writer.old.failures writer.new.failures result }
 {
     write_all(writer, skipped_line(count).as_slice())?;
     Ok(())
@@ -197,9 +200,9 @@ impl Fault {
     /// Writes the one line that tells of the fault, or the text of one on the command line. It takes no memory. At an
     /// `Err` the writer failed in this call, and a prefix of the line stands there.
     pub fn write_line<W: io::Write>(&self, writer: &mut Output<W>) -> Result<(), Write>
-        requires { writer.old.1 < 2 ^ 64 - 1 }
-        ensures line { WritesFront writer.old.0 writer.new.0 result (text_told self.now) }
-        ensures count { CountsWrite writer.old.1 writer.new.1 result }
+        requires { CanFail writer.old }
+        ensures line { WritesFront writer.old.bytes writer.new.bytes result (text_told self.now) }
+        ensures count { CountsWrite writer.old.failures writer.new.failures result }
     {
         if let Some(text) = self.usage() {
             write_all(writer, text.as_bytes())?;

@@ -1,3 +1,5 @@
+//! Why a file of a folder can't be taken.
+
 ghost use Rattle.std.specs.Prelude.{◌≡◌, ◌≤◌, length, map, IfOk};
 ghost use Rattle.runs.specs.FaultLines.{file_fault_name, shown_byte};
 

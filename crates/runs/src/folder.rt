@@ -1,3 +1,5 @@
+//! What was found in a folder, and how its files are read.
+
 use crate::file_fault::FileFault;
 use std::alloc::AllocError;
 

@@ -1,6 +1,8 @@
+//! The settings in force, written out.
+
 ghost use Rattle.std.specs.Prelude.{◌≡◌, ◌⊎◌, ◌-◌, ◌<◌, ◌^◌, [], OnOk, IfErr};
+ghost use Rattle.paths.specs.Devices.{CanFail, CountsBy};
 ghost use Rattle.options.specs.WrittenOut.{AreSettings};
-ghost use Rattle.runs.specs.Bundles.{CountsBy};
 ghost use Rattle.runs.specs.Devices.{Refused};
 ghost use Rattle.runs.specs.InForce.{IsSettingsFault, IsSettingsFilesFault, SettingsSays, WritesSettings};
 ghost use Rattle.runs.specs.Inspecting.{AtReport};
@@ -30,11 +32,11 @@ pub fn run_settings<W: Write>(
     document: &[u8],
     output: &mut Output<W>,
 ) -> Result<(), Fault>
-    requires { output.old.1 < 2 ^ 64 - 1 }
-    ensures ok { OnOk result (WritesSettings document.now output.old.0 output.new.0) }
+    requires { CanFail output.old }
+    ensures ok { OnOk result (WritesSettings document.now output.old.bytes output.new.bytes) }
     ensures fault { IfErr result (IsSettingsFault document.now output.old output.new) }
     // The writer is blamed only where it failed in this call.
-    ensures writes { CountsBy report_failures output.old.1 output.new.1 result }
+    ensures writes { CountsBy report_failures output.old.failures output.new.failures result }
     ensures settings { OnOk result (AreSettings document.now) }
 {
     let text = settings_text(alloc, document)?;

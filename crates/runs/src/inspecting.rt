@@ -1,8 +1,10 @@
+//! What a capture holds, written out.
+
 ghost use Rattle.std.specs.Prelude.{◌≡◌, ◌⊎◌, ◌-◌, ◌<◌, ◌^◌, [], OnOk, IfErr};
 ghost use Rattle.std.specs.Io.KnownBytes.{Appends};
+ghost use Rattle.paths.specs.Devices.{CanFail, BlamedOnce, CountsBy};
 ghost use Rattle.inspection.specs.Texts.{inspection_text};
-ghost use Rattle.replay.specs.Outcomes.{WhereKnown};
-ghost use Rattle.runs.specs.Bundles.{CountsBy, BlamedOnce};
+ghost use Rattle.paths.specs.KnownText.{WhereKnown};
 ghost use Rattle.runs.specs.Devices.{Refused};
 ghost use Rattle.runs.specs.Inspecting.{Inspects, IsInspectFault, IsInspectFilesFault, InspectSays, AtReport};
 ghost use Rattle.runs.specs.Inspecting.{is_unwritten};
@@ -27,10 +29,10 @@ fn write_inspection<W: Write>(
     inspection: &Inspection,
     output: &mut Output<W>,
 ) -> Result<(), Fault>
-    requires { output.old.1 < 2 ^ 64 - 1 }
-    ensures ok { OnOk result (Appends output.old.0 output.new.0 (inspection_text inspection.now)) }
+    requires { CanFail output.old }
+    ensures ok { OnOk result (Appends output.old.bytes output.new.bytes (inspection_text inspection.now)) }
     ensures fault { IfErr result (IsReportFault (inspection_text inspection.now) output.old output.new) }
-    ensures count { CountsBy report_failures output.old.1 output.new.1 result }
+    ensures count { CountsBy report_failures output.old.failures output.new.failures result }
 {
     let text = inspection_text(alloc, inspection)?;
     match write_all(output, text.as_bytes()) {
@@ -51,14 +53,14 @@ pub fn run_inspect<R: Read, W: Write>(
     input: &mut Input<R>,
     output: &mut Output<W>,
 ) -> Result<(), Fault>
-    requires reading { input.old.1 < 2 ^ 64 - 1 }
-    requires writing { output.old.1 < 2 ^ 64 - 1 }
-    ensures ok { OnOk result (Inspects input.old.0 output.old.0 output.new.0) }
-    ensures fault { IfErr result (IsInspectFault input.old.0 input.new.0 output.old output.new) }
+    requires reading { CanFail input.old }
+    requires writing { CanFail output.old }
+    ensures ok { OnOk result (Inspects input.old.bytes output.old.bytes output.new.bytes) }
+    ensures fault { IfErr result (IsInspectFault input.old.bytes input.new.bytes output.old output.new) }
     // A device is blamed only where it failed in this call. A read that failed may not be reported: where a write fails
     // after it, or there is no memory.
-    ensures reads { BlamedOnce capture_failures input.old.1 input.new.1 result }
-    ensures writes { CountsBy report_failures output.old.1 output.new.1 result }
+    ensures reads { BlamedOnce capture_failures input.old.failures input.new.failures result }
+    ensures writes { CountsBy report_failures output.old.failures output.new.failures result }
 {
     match inspect(alloc, input) {
         Ok(inspection) => write_inspection(alloc, &inspection, output),

@@ -1,3 +1,5 @@
+//! The names of the kinds of faults in a line.
+
 ghost use Rattle.std.specs.Prelude.{◌≡◌, ◌≤◌, length};
 ghost use Rattle.runs.specs.FaultLines.{snapshot_kind_name, capture_kind_name};
 

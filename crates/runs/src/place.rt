@@ -1,3 +1,5 @@
+//! The devices that a fault may name.
+
 ghost use Rattle.std.specs.Prelude.{◌≡◌, ◌≤◌, length};
 ghost use Rattle.runs.specs.FaultLines.{place_name};
 

@@ -1,3 +1,5 @@
+//! The program without arguments, over one input and one output.
+
 ghost use Rattle.std.specs.Prelude.{◌≡◌, ◌⊎◌, [], true, is_some, unwrap_or, Ok, Err, OnOk, IfErr};
 ghost use Rattle.std.specs.Io.KnownBytes.{append_known};
 ghost use Rattle.runs.specs.Bundles.{AfterSnapshot, HoldsCapture, BundleSays, IsProgramFault};

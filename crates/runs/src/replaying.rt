@@ -1,10 +1,13 @@
+//! A replay or a table of decisions, and its report.
+
 ghost use Rattle.std.specs.Prelude.{◌≡◌, ◌-◌, ◌<◌, ◌^◌, OnOk, IfOk, IfErr};
 ghost use Rattle.std.specs.Io.KnownBytes.{Appends};
+ghost use Rattle.paths.specs.Devices.{CanFail, BlamedOnce, CountsBy};
 ghost use Rattle.replay.specs.Choices.{terms_of};
 ghost use Rattle.replay.specs.Outcomes.{IfCapture, IfTooMany, IfCutShort, IsCutOff, StopsTelling, StopsBeyond};
 ghost use Rattle.replay.specs.Outcomes as replays;
 ghost use Rattle.report.specs.Reports.{report_text};
-ghost use Rattle.runs.specs.Bundles.{CountsBy, BlamedOnce, writer_failures};
+ghost use Rattle.runs.specs.Bundles.{writer_failures};
 ghost use Rattle.runs.specs.Replays.{OfInput, AnswersAnd, IsReplayFault, IsReportFault, snapshot_failures};
 ghost use Rattle.runs.specs.Replays.{capture_failures, report_failures};
 ghost use Rattle.runs.specs.Wanted.{HasWritten, wanted_of};
@@ -30,10 +33,10 @@ fn write_report<O: Write>(
     outcome: &Outcome,
     out: &mut Output<O>,
 ) -> Result<(), Fault>
-    requires { out.old.1 < 2 ^ 64 - 1 }
-    ensures ok { OnOk result (Appends out.old.0 out.new.0 (report_text outcome.now)) }
+    requires { CanFail out.old }
+    ensures ok { OnOk result (Appends out.old.bytes out.new.bytes (report_text outcome.now)) }
     ensures fault { IfErr result (IsReportFault (report_text outcome.now) out.old out.new) }
-    ensures count { CountsBy report_failures out.old.1 out.new.1 result }
+    ensures count { CountsBy report_failures out.old.failures out.new.failures result }
 {
     let text = report(alloc, outcome)?;
     match write_all(out, text.as_bytes()) {
@@ -53,18 +56,18 @@ fn run_wanted<F: Tree + Send + Sync, T: Threads + Wait + Sync, C: Read, W: Write
     written: &mut Output<W>,
 ) -> Result<Outcome, ReplayFault>
     requires files { files.now ≡ F.files }
-    requires capture { capture.old.1 < 2 ^ 64 - 1 }
-    requires written { written.old.1 < 2 ^ 64 - 1 }
+    requires capture { CanFail capture.old }
+    requires written { CanFail written.old }
     ensures stops { IfErr result (λ f. IfCapture f (StopsTelling (wanted_of wanted (terms_of F.files settings.now))
-        capture.old.0 capture.new.0 written.old.0 written.new.0)) }
+        capture.old.bytes capture.new.bytes written.old.bytes written.new.bytes)) }
     ensures many { IfErr result (λ f. IfTooMany f (StopsBeyond (wanted_of wanted (terms_of F.files settings.now))
-        capture.old.0 written.old.0 written.new.0)) }
+        capture.old.bytes written.old.bytes written.new.bytes)) }
     ensures part { IfErr result (λ f. IfCutShort f (IsCutOff (wanted_of wanted (terms_of F.files settings.now))
-        capture.old.0 written.old.0 written.new.0)) }
-    ensures reads { replays.BlamedOnce replays.reader_failures capture.old.1 capture.new.1 result }
-    ensures writes { replays.CountsBy replays.writer_failures written.old.1 written.new.1 result }
+        capture.old.bytes written.old.bytes written.new.bytes)) }
+    ensures reads { BlamedOnce replays.reader_failures capture.old.failures capture.new.failures result }
+    ensures writes { CountsBy replays.writer_failures written.old.failures written.new.failures result }
     ensures ok { IfOk result (HasWritten wanted (terms_of F.files settings.now)
-        capture.old.0 written.old.0 written.new.0) }
+        capture.old.bytes written.old.bytes written.new.bytes) }
 {
     match wanted {
         Wanted::Replies(Engine::Plain) => {
@@ -97,22 +100,22 @@ pub fn run_replay<T: Threads + Wait + Sync, S: Read, C: Read, W: Write, O: Write
     written: &mut Output<W>,
     out: &mut Output<O>,
 ) -> Result<(), Fault>
-    requires snapshot { snapshot.old.1 < 2 ^ 64 - 1 }
-    requires capture { capture.old.1 < 2 ^ 64 - 1 }
-    requires written { written.old.1 < 2 ^ 64 - 1 }
-    requires out { out.old.1 < 2 ^ 64 - 1 }
-    ensures ok { OnOk result (OfInput snapshot.old.0 (λ files.
-        AnswersAnd wanted (terms_of files settings.now) capture.old.0 written.old.0 written.new.0
-        (λ outcome. Appends out.old.0 out.new.0 (report_text outcome)))) }
+    requires snapshot { CanFail snapshot.old }
+    requires capture { CanFail capture.old }
+    requires written { CanFail written.old }
+    requires out { CanFail out.old }
+    ensures ok { OnOk result (OfInput snapshot.old.bytes (λ files.
+        AnswersAnd wanted (terms_of files settings.now) capture.old.bytes written.old.bytes written.new.bytes
+        (λ outcome. Appends out.old.bytes out.new.bytes (report_text outcome)))) }
     ensures fault { IfErr result
-        (IsReplayFault wanted settings.now snapshot.old.0 capture.old.0 capture.new.0
+        (IsReplayFault wanted settings.now snapshot.old.bytes capture.old.bytes capture.new.bytes
         written.old written.new out.old out.new) }
     // A device is blamed only where it failed in this call. A read of the capture that failed may not be reported:
     // where another fault comes before it.
-    ensures reads_snapshot { CountsBy snapshot_failures snapshot.old.1 snapshot.new.1 result }
-    ensures reads_capture { BlamedOnce capture_failures capture.old.1 capture.new.1 result }
-    ensures writes { CountsBy writer_failures written.old.1 written.new.1 result }
-    ensures writes_report { CountsBy report_failures out.old.1 out.new.1 result }
+    ensures reads_snapshot { CountsBy snapshot_failures snapshot.old.failures snapshot.new.failures result }
+    ensures reads_capture { BlamedOnce capture_failures capture.old.failures capture.new.failures result }
+    ensures writes { CountsBy writer_failures written.old.failures written.new.failures result }
+    ensures writes_report { CountsBy report_failures out.old.failures out.new.failures result }
 {
     let files = Snapshot::read(alloc, snapshot)?;
     let outcome = run_wanted::<Brand, T, C, W>(

@@ -1,10 +1,12 @@
+//! The snapshot of what was found in a folder.
+
 ghost use Rattle.std.specs.Prelude.{◌≡◌, ◌-◌, ◌<◌, ◌^◌, [], List, ℕ, Option, MatchResult, IfOk, IfErr};
 ghost use Rattle.paths.specs.declared.file.File.{File as AFile};
 ghost use Rattle.paths.specs.Snapshots.{text_before_end, snapshot_text};
 ghost use Rattle.snapshots.specs.Keeping.{a_file};
 ghost use Rattle.snapshots.specs.Writers.{Took};
 ghost use Rattle.std.specs.Io.KnownBytes.{Appends};
-ghost use Rattle.runs.specs.Bundles.{CountsBy};
+ghost use Rattle.paths.specs.Devices.{CanFail, CountsBy};
 ghost use Rattle.runs.specs.Folders.{AddsFile, AddsFound, Cuts, CutsFile, CutsFound, Names, refusal, unwritten};
 ghost use Rattle.runs.specs.Folders.{IsSnapshotRunFault, WritesFolder, output_failures};
 
@@ -41,14 +43,14 @@ fn add_file<W: Write>(
     name: &str,
     contents: &Contents,
 ) -> Result<Option<FileFault>, Fault>
-    requires { output.old.1 < 2 ^ 64 - 1 }
-    ensures ok { (files : List AFile) (before : Option (List ℕ)) → Took files before output.old.0 writer.old
+    requires { CanFail output.old }
+    ensures ok { (files : List AFile) (before : Option (List ℕ)) → Took files before output.old.bytes writer.old
         → IfOk result (λ r. AddsFile files before
-        (a_file name.now contents.now.mtime contents.now.bytes.items) r output.new.0 writer.new) }
-    ensures fault { (files : List AFile) (before : Option (List ℕ)) → Took files before output.old.0 writer.old
+        (a_file name.now contents.now.mtime contents.now.bytes.items) r output.new.bytes writer.new) }
+    ensures fault { (files : List AFile) (before : Option (List ℕ)) → Took files before output.old.bytes writer.old
         → IfErr result (CutsFile files before
-        (a_file name.now contents.now.mtime contents.now.bytes.items) output.new.0) }
-    ensures count { CountsBy output_failures output.old.1 output.new.1 result }
+        (a_file name.now contents.now.mtime contents.now.bytes.items) output.new.bytes) }
+    ensures count { CountsBy output_failures output.old.failures output.new.failures result }
 {
     match writer.add(output, name.as_bytes(), contents.mtime, &contents.bytes) {
         Ok(()) => Ok(None),
@@ -63,12 +65,12 @@ fn add_found<F: Folder, W: Write>(
     output: &mut Output<W>,
     found: &Found,
 ) -> Result<Option<FileFault>, Fault>
-    requires { output.old.1 < 2 ^ 64 - 1 }
-    ensures ok { (files : List AFile) (before : Option (List ℕ)) → Took files before output.old.0 writer.old
-        → IfOk result (λ r. AddsFound (F.answers folder.now) files before found.now r output.new.0 writer.new) }
-    ensures fault { (files : List AFile) (before : Option (List ℕ)) → Took files before output.old.0 writer.old
-        → IfErr result (CutsFound (F.answers folder.now) files before found.now output.new.0) }
-    ensures count { CountsBy output_failures output.old.1 output.new.1 result }
+    requires { CanFail output.old }
+    ensures ok { (files : List AFile) (before : Option (List ℕ)) → Took files before output.old.bytes writer.old
+        → IfOk result (λ r. AddsFound (F.answers folder.now) files before found.now r output.new.bytes writer.new) }
+    ensures fault { (files : List AFile) (before : Option (List ℕ)) → Took files before output.old.bytes writer.old
+        → IfErr result (CutsFound (F.answers folder.now) files before found.now output.new.bytes) }
+    ensures count { CountsBy output_failures output.old.failures output.new.failures result }
 {
     if found.fault.is_some() {
         return Ok(found.fault);
@@ -91,10 +93,10 @@ fn unwritten(fault: WriteFault) -> Fault
 
 /// Writes the first line.
 fn begin<W: Write>(alloc: Global, output: &mut Output<W>) -> Result<SnapshotWriter, Fault>
-    requires { output.old.1 < 2 ^ 64 - 1 }
-    ensures ok { IfOk result (λ writer. Took [] output.old.0 output.new.0 writer) }
-    ensures fault { IfErr result (Cuts (text_before_end []) output.old.0 output.new.0) }
-    ensures count { CountsBy output_failures output.old.1 output.new.1 result }
+    requires { CanFail output.old }
+    ensures ok { IfOk result (λ writer. Took [] output.old.bytes output.new.bytes writer) }
+    ensures fault { IfErr result (Cuts (text_before_end []) output.old.bytes output.new.bytes) }
+    ensures count { CountsBy output_failures output.old.failures output.new.failures result }
 {
     match SnapshotWriter::begin(alloc, output) {
         Ok(writer) => Ok(writer),
@@ -104,11 +106,11 @@ fn begin<W: Write>(alloc: Global, output: &mut Output<W>) -> Result<SnapshotWrit
 
 /// Writes the last line.
 fn finish<W: Write>(writer: SnapshotWriter, output: &mut Output<W>) -> Result<(), Fault>
-    requires { output.old.1 < 2 ^ 64 - 1 }
-    ensures text { (files : List AFile) (before : Option (List ℕ)) → Took files before output.old.0 writer
-        → MatchResult result (λ _. Appends before output.new.0 (snapshot_text files))
-        (Cuts (snapshot_text files) before output.new.0) }
-    ensures count { CountsBy output_failures output.old.1 output.new.1 result }
+    requires { CanFail output.old }
+    ensures text { (files : List AFile) (before : Option (List ℕ)) → Took files before output.old.bytes writer
+        → MatchResult result (λ _. Appends before output.new.bytes (snapshot_text files))
+        (Cuts (snapshot_text files) before output.new.bytes) }
+    ensures count { CountsBy output_failures output.old.failures output.new.failures result }
 {
     match writer.finish(output) {
         Ok(()) => Ok(()),
@@ -141,12 +143,12 @@ pub fn run_snapshot<F: Folder, W: Write>(
     skip: bool,
     output: &mut Output<W>,
 ) -> Result<usize, Fault>
-    requires { output.old.1 < 2 ^ 64 - 1 }
-    ensures ok { IfOk result (WritesFolder (F.answers folder.now) found.now skip output.old.0 output.new.0) }
+    requires { CanFail output.old }
+    ensures ok { IfOk result (WritesFolder (F.answers folder.now) found.now skip output.old.bytes output.new.bytes) }
     ensures fault { IfErr result
-        (IsSnapshotRunFault (F.answers folder.now) found.now skip output.old.0 output.new.0) }
+        (IsSnapshotRunFault (F.answers folder.now) found.now skip output.old.bytes output.new.bytes) }
     // The output is blamed only where it failed in this call.
-    ensures writes { CountsBy output_failures output.old.1 output.new.1 result }
+    ensures writes { CountsBy output_failures output.old.failures output.new.failures result }
 {
     let mut writer = begin(alloc, output)?;
     let mut skipped = 0;

@@ -1,3 +1,5 @@
+//! What a line tells of a fault.
+
 use crate::file_fault::FileFault;
 use crate::place::Place;
 use captures::CaptureFault;

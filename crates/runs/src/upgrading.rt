@@ -1,7 +1,10 @@
+//! An upgrade, with a buffer before each device.
+
 ghost use Rattle.std.specs.Prelude.{◌≡◌, ◌⊎◌, ◌-◌, ◌<◌, ◌^◌, [], true, is_some, unwrap_or, OnOk, IfErr};
+ghost use Rattle.paths.specs.Devices.{CanFail, CountsBy};
 ghost use Rattle.captures.specs.Upgrades.{Upgrades};
-ghost use Rattle.replay.specs.Outcomes.{WhereKnown};
-ghost use Rattle.runs.specs.Bundles.{CountsBy, reader_failures, writer_failures};
+ghost use Rattle.paths.specs.KnownText.{WhereKnown};
+ghost use Rattle.runs.specs.Bundles.{reader_failures, writer_failures};
 ghost use Rattle.runs.specs.Upgrading.{IsCaptureOfSomeVersion, IsUpgradeFault, IsUpgradeFilesFault, UpgradeSays};
 ghost use Rattle.runs.specs.Devices.{AtDevice, Refused};
 
@@ -27,14 +30,14 @@ pub fn run_upgrade<R: Read, W: Write>(
     input: &mut Input<R>,
     output: &mut Output<W>,
 ) -> Result<(), Fault>
-    requires reading { input.old.1 < 2 ^ 64 - 1 }
-    requires writing { output.old.1 < 2 ^ 64 - 1 }
-    ensures ok { OnOk result (is_some input.old.0 ≡ true
-        → Upgrades (unwrap_or input.old.0 []) output.old.0 output.new.0) }
-    ensures fault { IfErr result (IsUpgradeFault input.old.0 input.new.0 output.old.0 output.new.0) }
+    requires reading { CanFail input.old }
+    requires writing { CanFail output.old }
+    ensures ok { OnOk result (is_some input.old.bytes ≡ true
+        → Upgrades (unwrap_or input.old.bytes []) output.old.bytes output.new.bytes) }
+    ensures fault { IfErr result (IsUpgradeFault input.old.bytes input.new.bytes output.old.bytes output.new.bytes) }
     // A device is blamed only where it failed in this call.
-    ensures reads { CountsBy reader_failures input.old.1 input.new.1 result }
-    ensures writes { CountsBy writer_failures output.old.1 output.new.1 result }
+    ensures reads { CountsBy reader_failures input.old.failures input.new.failures result }
+    ensures writes { CountsBy writer_failures output.old.failures output.new.failures result }
 {
     match upgrade(alloc, input, output) {
         Ok(()) => Ok(()),

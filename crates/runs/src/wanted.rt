@@ -1,3 +1,5 @@
+//! Whether replies or rows are wanted, and by which engine.
+
 use command_line::Engine;
 
 /// What a run writes of each message of a capture.

@@ -1,6 +1,7 @@
 -- A writer of a snapshot's text, which takes file after file.
 use Rattle.std.specs.Prelude.{◌≡◌, ℕ, ◌+◌, ◌≤◌, List, length, Option, Some, None, Result, Ok, Err, MatchResult}
 use Rattle.std.specs.Io.KnownBytes.{Appends}
+use Rattle.paths.specs.Devices.{CountsBy}
 use Rattle.paths.specs.declared.file.File.{File}
 use Rattle.paths.specs.Snapshots.{longest_text, text_before_end, snapshot_text, IsSnapshot}
 use Rattle.snapshots.specs.declared.write_fault.WriteFault.{WriteFault}
@@ -30,4 +31,4 @@ failures_of other = 0
 
 -- the device's count rose by one exactly where it failed
 abbrev pub Counts : {X : Type 0} → ℕ → ℕ → Result X WriteFault → Type 0
-Counts old new r = MatchResult r (λ _. new ≡ old) (λ f. new ≡ old + failures_of f)
+Counts old new r = CountsBy failures_of old new r

@@ -1,6 +1,7 @@
 -- What writing a text does to a device.
 use Rattle.std.specs.Prelude.{◌≡◌, ℕ, ◌+◌, ◌≤◌, List, length, take, Option, Result, MatchResult}
 use Rattle.std.specs.Io.KnownBytes.{Appends}
+use Rattle.paths.specs.Devices.{CountsBy}
 use Rattle.paths.specs.declared.device.Failed.{Failed}
 
 -- a prefix of the text was written
@@ -13,4 +14,4 @@ WritesPrefix old new r text = MatchResult r (λ _. Appends old new text) (λ _. 
 
 -- the count of failures rose by one exactly where the device failed
 abbrev pub CountsFailed : {X : Type 0} → ℕ → ℕ → Result X Failed → Type 0
-CountsFailed old new r = MatchResult r (λ _. new ≡ old) (λ _. new ≡ old + 1)
+CountsFailed old new r = CountsBy (λ _. 1) old new r

@@ -9,6 +9,5 @@ mod write_fault;
 mod writer;
 
 pub use laws::{none_broken, read_back, rules_kept};
-pub use so_far::MOST_BYTES;
 pub use write_fault::WriteFault;
 pub use writer::SnapshotWriter;

@@ -1,3 +1,5 @@
+//! The last name, and where it was a folder of an earlier one.
+
 ghost use Rattle.std.specs.Prelude.{◌≡◌, ◌++◌, ◌∷◌, [], length, take, nat_eq, IfOk, Bool, if◌then◌else◌};
 ghost use Rattle.std.specs.List.{list_any, starts_with, filter};
 ghost use Rattle.paths.specs.Snapshots.{comes_before, lies_in};

@@ -1,6 +1,9 @@
+//! What the rules ask of the files so far.
+
 ghost use Rattle.std.specs.Prelude.{◌≡◌, ◌≢◌, ◌≤◌, ◌<◌, ◌-◌, ◌^◌, [], length, decimal};
 ghost use Rattle.std.specs.Prelude.{IfOk, IfErr, IfSome, Err, Some};
-ghost use Rattle.paths.specs.Snapshots.{file_text, text_before_end};
+ghost use Rattle.paths.specs.Devices.{CanFail};
+ghost use Rattle.paths.specs.Snapshots.{file_text, text_before_end, longest_name, most_bytes};
 ghost use Rattle.snapshots.specs.Keeping.{a_file, broken_by, Grown};
 ghost use Rattle.snapshots.specs.Rules.{is_good_name};
 ghost use Rattle.snapshots.specs.Writing.{AppendsPrefix};
@@ -10,20 +13,9 @@ use crate::WriteFault;
 use crate::names::Names;
 use crate::texts::write_all;
 use itoa::Buffer;
-use paths::{Output, is_name};
+use paths::{LATEST_TIME, LONGEST_NAME, LONGEST_TEXT, MOST_BYTES, MOST_FILES, Output, is_name};
 use std::alloc::{AllocError, Global};
 use std::io::Write;
-
-/// The greatest time of a file, in seconds since 1970-01-01.
-const LATEST_TIME: u64 = 253_402_300_799;
-/// The most bytes of a file.
-pub const MOST_BYTES: usize = 16_777_216;
-/// The most files.
-const MOST_FILES: usize = 65_536;
-/// The most bytes of a name.
-const LONGEST_NAME: usize = 1_024;
-/// The most bytes of a text.
-const LONGEST_TEXT: usize = 1_073_741_824;
 
 /// What the rules ask of the files so far.
 #[derive(Drop)]
@@ -45,8 +37,8 @@ fn digits(number: u64) -> usize
 
 /// How many bytes the text of a file has.
 fn text_len(name: &[u8], mtime: u64, bytes: &[u8]) -> usize
-    requires name { length name.now ≤ 1024 }
-    requires bytes { length bytes.now ≤ 16777216 }
+    requires name { length name.now ≤ longest_name }
+    requires bytes { length bytes.now ≤ most_bytes }
     ensures { result ≡ length (file_text (a_file name.now mtime bytes.now)) }
 {
     let numbers = digits(mtime) + digits(name.len() as u64) + digits(bytes.len() as u64);
@@ -58,7 +50,7 @@ fn text_len(name: &[u8], mtime: u64, bytes: &[u8]) -> usize
 fn is_good_name(name: &[u8]) -> bool
     ensures { result ≡ is_good_name name.now }
 {
-    !name.is_empty() && name.len() <= LONGEST_NAME && is_name(name)
+    !name.is_empty() && name.len() as u64 <= LONGEST_NAME && is_name(name)
 }
 
 impl SoFar {
@@ -67,10 +59,10 @@ impl SoFar {
         alloc: Global,
         output: &mut Output<W>,
     ) -> Result<SoFar, WriteFault>
-        requires { output.old.1 < 2 ^ 64 - 1 }
-        ensures ok { IfOk result (λ so_far. Took [] output.old.0 output.new.0 so_far) }
-        ensures prefix { IfErr result (λ _. AppendsPrefix output.old.0 output.new.0 (text_before_end [])) }
-        ensures count { Counts output.old.1 output.new.1 result }
+        requires { CanFail output.old }
+        ensures ok { IfOk result (λ so_far. Took [] output.old.bytes output.new.bytes so_far) }
+        ensures prefix { IfErr result (λ _. AppendsPrefix output.old.bytes output.new.bytes (text_before_end [])) }
+        ensures count { Counts output.old.failures output.new.failures result }
     {
         let line = b"haboob-snapshot 1\n";
         write_all(output, line)?;
@@ -91,7 +83,7 @@ impl SoFar {
         if mtime > LATEST_TIME {
             return Some(WriteFault::Time);
         }
-        if bytes.len() > MOST_BYTES {
+        if bytes.len() as u64 > MOST_BYTES {
             return Some(WriteFault::Size);
         }
         if self.count >= MOST_FILES {

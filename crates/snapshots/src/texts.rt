@@ -1,5 +1,8 @@
+//! The texts of a snapshot, written one after another.
+
 ghost use Rattle.std.specs.Prelude.{◌≡◌, ◌<◌, ◌-◌, ◌^◌, ◌++◌, ◌∷◌, [], codes, decimal, IfOk};
 ghost use Rattle.std.specs.String.{string_bytes};
+ghost use Rattle.paths.specs.Devices.{CanFail};
 ghost use Rattle.paths.specs.Snapshots.{feed, file_line};
 ghost use Rattle.snapshots.specs.Keeping.{a_file};
 ghost use Rattle.snapshots.specs.Writing.{WritesPrefix, CountsFailed};
@@ -10,9 +13,9 @@ use std::io::Write;
 
 /// Writes all the bytes, in as many writes as it takes. At an `Err` a prefix of them was written.
 pub(crate) fn write_all<W: Write>(output: &mut Output<W>, bytes: &[u8]) -> Result<(), Failed>
-    requires { output.old.1 < 2 ^ 64 - 1 }
-    ensures prefix { WritesPrefix output.old.0 output.new.0 result bytes.now }
-    ensures count { CountsFailed output.old.1 output.new.1 result }
+    requires { CanFail output.old }
+    ensures prefix { WritesPrefix output.old.bytes output.new.bytes result bytes.now }
+    ensures count { CountsFailed output.old.failures output.new.failures result }
 {
     let mut written = 0;
     while written < bytes.len() {
@@ -26,9 +29,9 @@ pub(crate) fn write_all<W: Write>(output: &mut Output<W>, bytes: &[u8]) -> Resul
 
 /// Writes one text and then another.
 fn write_both<W: Write>(output: &mut Output<W>, first: &[u8], second: &[u8]) -> Result<(), Failed>
-    requires { output.old.1 < 2 ^ 64 - 1 }
-    ensures prefix { WritesPrefix output.old.0 output.new.0 result (first.now ++ second.now) }
-    ensures count { CountsFailed output.old.1 output.new.1 result }
+    requires { CanFail output.old }
+    ensures prefix { WritesPrefix output.old.bytes output.new.bytes result (first.now ++ second.now) }
+    ensures count { CountsFailed output.old.failures output.new.failures result }
 {
     match write_all(output, first) {
         Ok(()) => write_all(output, second),
@@ -59,9 +62,9 @@ pub(crate) fn write_file<W: Write>(
     head: &[u8],
     bytes: &[u8],
 ) -> Result<(), Failed>
-    requires { output.old.1 < 2 ^ 64 - 1 }
-    ensures prefix { WritesPrefix output.old.0 output.new.0 result (head.now ++ (bytes.now ++ feed ∷ [])) }
-    ensures count { CountsFailed output.old.1 output.new.1 result }
+    requires { CanFail output.old }
+    ensures prefix { WritesPrefix output.old.bytes output.new.bytes result (head.now ++ (bytes.now ++ feed ∷ [])) }
+    ensures count { CountsFailed output.old.failures output.new.failures result }
 {
     match write_all(output, head) {
         Ok(()) => write_both(output, bytes, b"\n"),

@@ -1,3 +1,5 @@
+//! Why a file was not taken.
+
 ghost use Rattle.std.specs.Prelude.{◌≡◌};
 
 use paths::Failed;

@@ -1,4 +1,7 @@
+//! The writer of a snapshot, file by file.
+
 ghost use Rattle.std.specs.Prelude.{◌≡◌, ◌≢◌, ◌<◌, ◌-◌, ◌^◌, ◌++◌, [], ◌∷◌, ℕ, List, Option, OnOk, IfOk, IfErr};
+ghost use Rattle.paths.specs.Devices.{CanFail};
 ghost use Rattle.paths.specs.declared.file.File.{File as AFile};
 ghost use Rattle.paths.specs.Snapshots.{text_before_end, snapshot_text, IsSnapshotText};
 ghost use Rattle.snapshots.specs.Keeping.{a_file};
@@ -43,10 +46,10 @@ impl SnapshotWriter {
         alloc: Global,
         output: &mut Output<W>,
     ) -> Result<SnapshotWriter, WriteFault>
-        requires { output.old.1 < 2 ^ 64 - 1 }
-        ensures ok { IfOk result (λ writer. Took [] output.old.0 output.new.0 writer) }
-        ensures part { IfErr result (λ _. AppendsPrefix output.old.0 output.new.0 (text_before_end [])) }
-        ensures count { Counts output.old.1 output.new.1 result }
+        requires { CanFail output.old }
+        ensures ok { IfOk result (λ writer. Took [] output.old.bytes output.new.bytes writer) }
+        ensures part { IfErr result (λ _. AppendsPrefix output.old.bytes output.new.bytes (text_before_end [])) }
+        ensures count { Counts output.old.failures output.new.failures result }
     {
         let so_far = SoFar::begin(alloc, output)?;
         Ok(SnapshotWriter { alloc, so_far })
@@ -66,20 +69,20 @@ impl SnapshotWriter {
         mtime: u64,
         bytes: &[u8],
     ) -> Result<(), WriteFault>
-        requires { output.old.1 < 2 ^ 64 - 1 }
-        ensures taken { (files : List AFile) (before : Option (List ℕ)) → Took files before output.old.0 self.old
-            → OnOk result (Took (files ++ a_file name.now mtime bytes.now ∷ []) before output.new.0 self.new) }
+        requires { CanFail output.old }
+        ensures taken { (files : List AFile) (before : Option (List ℕ)) → Took files before output.old.bytes self.old
+            → OnOk result (Took (files ++ a_file name.now mtime bytes.now ∷ []) before output.new.bytes self.new) }
         // After a failed write a prefix of the text stands.
-        ensures part { (files : List AFile) (before : Option (List ℕ)) → Took files before output.old.0 self.old
+        ensures part { (files : List AFile) (before : Option (List ℕ)) → Took files before output.old.bytes self.old
             → IfErr result (λ f. f ≡ WriteFault.Write
-            → AppendsPrefix before output.new.0 (text_before_end (files ++ a_file name.now mtime bytes.now ∷ []))) }
+            → AppendsPrefix before output.new.bytes (text_before_end (files ++ a_file name.now mtime bytes.now ∷ []))) }
         // Every other fault writes nothing, and leaves the writer as it was.
         ensures unchanged { IfErr result (λ f. f ≢ WriteFault.Write
             → (self.new ≡ self.old) × (output.new ≡ output.old)) }
         // A rule is named exactly where the files so far with this one keep the rules no longer, and it is the first.
-        ensures rule { (files : List AFile) (before : Option (List ℕ)) → Took files before output.old.0 self.old
+        ensures rule { (files : List AFile) (before : Option (List ℕ)) → Took files before output.old.bytes self.old
             → refused_for result ≡ broken_rule files (a_file name.now mtime bytes.now) }
-        ensures count { Counts output.old.1 output.new.1 result }
+        ensures count { Counts output.old.failures output.new.failures result }
     {
         match self.so_far.broken_rule(name, mtime, bytes) {
             Some(rule) => return Err(rule),
@@ -99,13 +102,13 @@ impl SnapshotWriter {
     ///
     /// `Memory`: the text stands without its last line. `Write`: a prefix of it stands.
     pub fn finish<W: Write>(self, output: &mut Output<W>) -> Result<(), WriteFault>
-        requires { output.old.1 < 2 ^ 64 - 1 }
-        ensures text { (files : List AFile) (before : Option (List ℕ)) → Took files before output.old.0 self
-            → WritesPrefix before output.new.0 result (snapshot_text files) }
+        requires { CanFail output.old }
+        ensures text { (files : List AFile) (before : Option (List ℕ)) → Took files before output.old.bytes self
+            → WritesPrefix before output.new.bytes result (snapshot_text files) }
         // The files that were taken keep the rules.
-        ensures rules { (files : List AFile) (before : Option (List ℕ)) → Took files before output.old.0 self
+        ensures rules { (files : List AFile) (before : Option (List ℕ)) → Took files before output.old.bytes self
             → IsSnapshotText (snapshot_text files) files }
-        ensures count { Counts output.old.1 output.new.1 result }
+        ensures count { Counts output.old.failures output.new.failures result }
     {
         let line = last_line(self.alloc, self.so_far.count)?;
         write_all(output, line.as_bytes())?;

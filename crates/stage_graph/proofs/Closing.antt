@@ -5,7 +5,7 @@ use Rattle.std.specs.Option.{option_map}
 use Rattle.std.proofs.lemmas.List.{length-map}
 use Rattle.stage_graph.specs.Layouts.{Layout, IsPlan}
 use Rattle.stage_graph.specs.Floors.{State, opening, after, after_all, standing, is_legal_from_opening, all_left, all_done, is_stop, has_stop}
-use Rattle.stage_graph.specs.Stands.{with_steps, slot_mark, last_cut, Parts, Stands}
+use Rattle.stage_graph.specs.After.{with_steps, slot_mark, last_cut, Parts, FloorAfter}
 use Rattle.stage_graph.specs.declared.event.Event.{Event}
 use Rattle.stage_graph.specs.declared.event.Event.TheVariants.{Feed, Take, Give, Back, Leave, Halt}
 use Rattle.stage_graph.specs.Layouts.{stage_at, is_last}
@@ -16,7 +16,7 @@ use Rattle.stage_graph.proofs.Leaving.{all_done_from_left}
 
 module _ {X : Type 0} (mark : X → ℕ × ℕ) (p : Layout) (n : ℕ) (h : List Event) where
   -- the slots are full where all numbers are done
-  pub full_is_done : (f : Parts X) → Stands mark p n h f → list_all is_some f.slots ≡ all_done (standing p n h)
+  pub full_is_done : (f : Parts X) → FloorAfter mark p n h f → list_all is_some f.slots ≡ all_done (standing p n h)
   full_is_done f stands =
       let sized = IsSized-standing p n h in
       same_full f.slots (standing p n h).done (omega (arith, stands.count_is, sized.done))
@@ -29,7 +29,7 @@ module _ {X : Type 0} (mark : X → ℕ × ℕ) (p : Layout) (n : ℕ) (h : List
       flags (Some x) false k e = absurd (cc)
 
   -- the items of full slots
-  pub closed_items : (f : Parts X) (xs : List X) → map Some xs ≡ f.slots → Stands mark p n h f → map mark xs ≡ map (with_steps (last_cut p)) (range_with_len 0 n)
+  pub closed_items : (f : Parts X) (xs : List X) → map Some xs ≡ f.slots → FloorAfter mark p n h f → map mark xs ≡ map (with_steps (last_cut p)) (range_with_len 0 n)
   closed_items f xs is stands =
       let len : length xs ≡ n = sym (length-map xs Some) ∙ (ap length is ∙ stands.count_is) in
       from_slots mark (last_cut p) xs 0

@@ -1,7 +1,7 @@
 -- The first of a list of items, beside the first of a list of numbers.
 use Rattle.std.proofs.Common.{◌≡◌, ℕ, false, List, [], ◌∷◌, slice_get, map, nat_eq, refl, sym, ap, ◌∙◌, Some, None}
 use Rattle.stage_graph.specs.Floors.{is_at, first}
-use Rattle.stage_graph.specs.Stands.{with_steps}
+use Rattle.stage_graph.specs.After.{with_steps}
 
 pub first_some : {A : Type 0} (f : A → ℕ × ℕ) (c : ℕ) (xs : List A) (ys : List ℕ) (m : ℕ) (x : A) → map f xs ≡ map (with_steps c) ys → slice_get xs 0 ≡ Some x → nat_eq (f x).0 m ≡ is_at (first ys) m
 first_some f c [] ys m x h e = absurd (cc)

@@ -9,7 +9,7 @@ use Rattle.stage_queue.specs.declared.slots.Placing.{Placing}
 use Rattle.std.proofs.lemmas.Bool.{eqb-true, eq-eqb, lt-ltb}
 use Rattle.std.proofs.Common.{is_some, not, Result, Ok, Err, OnOk, take, zero, suc, slice_get, add-one, drop-cons, ◌||◌, ◌&&◌, nat_le}
 use Rattle.std.specs.Option.{is_none}
-use Rattle.stage_graph.specs.Stands.{with_steps}
+use Rattle.stage_graph.specs.After.{with_steps}
 use Rattle.std.proofs.lemmas.Bool.Decides.{eqb_tells}
 use Rattle.std.proofs.Common.{subst, inl, inr}
 use Rattle.stage_graph.specs.Floors.{is_nil, is_at, first, idle_before, all_true}

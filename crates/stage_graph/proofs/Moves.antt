@@ -7,7 +7,7 @@ use Rattle.std.proofs.Math.Dec.{eqb-suc-zero}
 use Rattle.std.proofs.lemmas.Bool.{lt-ltb, eqb-true, eqb-false}
 use Rattle.stage_graph.specs.Layouts.{Layout, IsPlan, stages, workers, stage_at, cut_at, cut_before, capacity_at, is_last}
 use Rattle.stage_graph.specs.Floors.{State, queue_at, hand_at, is_at, feed_cause, take_cause, give_cause, back_cause, leave_cause, halt_cause, is_allowed, standing}
-use Rattle.stage_graph.specs.Stands.{with_steps, slot_mark, last_cut, Parts, items_at, Stands}
+use Rattle.stage_graph.specs.After.{with_steps, slot_mark, last_cut, Parts, items_at, FloorAfter}
 use Rattle.stage_graph.specs.declared.event.Event.{Event}
 use Rattle.stage_graph.specs.declared.event.Event.TheVariants.{Feed, Take, Give, Back, Leave, Halt}
 use Rattle.stage_graph.specs.declared.event.Cause.{Cause}
@@ -67,13 +67,13 @@ module _ {X : Type 0} (mark : X → ℕ × ℕ) (p : Layout) (n : ℕ) (h : List
   rooms_stay f k xs v in-f at all in-p =
       by_place-set (λ j a b. a.1 ≡ capacity_at p j) f.queues f.queues ([], 0) ([], 0) (stages p) k (xs, v.1) v in-f in-f (ap (λ w. w.1) at ∙ all k in-p) all
 
-  pub feed_allowed : (f : Parts X) (x : X) (rest : List X) → f.backlog ≡ x ∷ rest → feed_cause p (standing p n h) ≡ None → Stands mark p n h f
+  pub feed_allowed : (f : Parts X) (x : X) (rest : List X) → f.backlog ≡ x ∷ rest → feed_cause p (standing p n h) ≡ None → FloorAfter mark p n h f
       → is_allowed p (standing p n h) (Feed (mark x).0) ≡ true
   feed_allowed f x rest at none stands =
       and_both _ _ (ap is_none none) (first-maps mark 0 x rest (standing p n h).backlog (rw at at stands.backlog_is))
 
-  pub feed_stands : (f : Parts X) (x : X) (rest : List X) (v : List X × ℕ) → f.backlog ≡ x ∷ rest → v ≡ get_or f.queues 0 ([], 0) → feed_cause p (standing p n h) ≡ None → Stands mark p n h f
-      → Stands mark p n (h ++ Feed (mark x).0 ∷ []) (record f { backlog = rest; queues = set f.queues 0 (v.0 ++ x ∷ [], v.1) })
+  pub feed_stands : (f : Parts X) (x : X) (rest : List X) (v : List X × ℕ) → f.backlog ≡ x ∷ rest → v ≡ get_or f.queues 0 ([], 0) → feed_cause p (standing p n h) ≡ None → FloorAfter mark p n h f
+      → FloorAfter mark p n (h ++ Feed (mark x).0 ∷ []) (record f { backlog = rest; queues = set f.queues 0 (v.0 ++ x ∷ [], v.1) })
   feed_stands f x rest v at is none stands =
       let s = standing p n h in
       let e = standing-snoc p n h (Feed (mark x).0) in
@@ -102,14 +102,14 @@ module _ {X : Type 0} (mark : X → ℕ × ℕ) (p : Layout) (n : ℕ) (h : List
       marked_first x xs [] t = absurd (cc)
       marked_first x xs (y ∷ ys) t = let e : mark x ≡ (y, 0) = cc in rw e refl
 
-  pub take_allowed : (f : Parts X) (w : ℕ) (x : X) (v : List X × ℕ) → w < workers p → v ≡ get_or f.queues (stage_at p w) ([], 0) → v.0 ≡ x ∷ drop 1 v.0 → take_cause p (standing p n h) w ≡ None → Stands mark p n h f
+  pub take_allowed : (f : Parts X) (w : ℕ) (x : X) (v : List X × ℕ) → w < workers p → v ≡ get_or f.queues (stage_at p w) ([], 0) → v.0 ≡ x ∷ drop 1 v.0 → take_cause p (standing p n h) w ≡ None → FloorAfter mark p n h f
       → is_allowed p (standing p n h) (Take w (mark x).0) ≡ true
   take_allowed f w x v known is at none stands =
       let k = stage_at p w in
       let tops : map mark (x ∷ drop 1 v.0) ≡ map (with_steps (cut_before p k)) (queue_at (standing p n h) k) = ap (map mark) (sym at) ∙ (ap (λ u. map mark u.0) is ∙ stands.queues_are k (stands.plan.posted w known)) in
       and_both _ _ (lt-ltb w (workers p) known) (and_both _ _ (ap is_none none) (first-maps mark (cut_before p k) x (drop 1 v.0) (queue_at (standing p n h) k) tops))
 
-  pub take_steps : (f : Parts X) (w : ℕ) (x : X) (v : List X × ℕ) → w < workers p → v ≡ get_or f.queues (stage_at p w) ([], 0) → v.0 ≡ x ∷ drop 1 v.0 → Stands mark p n h f
+  pub take_steps : (f : Parts X) (w : ℕ) (x : X) (v : List X × ℕ) → w < workers p → v ≡ get_or f.queues (stage_at p w) ([], 0) → v.0 ≡ x ∷ drop 1 v.0 → FloorAfter mark p n h f
       → (mark x).1 ≡ cut_before p (stage_at p w)
   take_steps f w x v known is at stands =
       let k = stage_at p w in
@@ -120,8 +120,8 @@ module _ {X : Type 0} (mark : X → ℕ × ℕ) (p : Layout) (n : ℕ) (h : List
       steps_first c x xs [] t = absurd (cc)
       steps_first c x xs (y ∷ ys) t = let e : mark x ≡ (y, c) = cc in rw e refl
 
-  pub take_stands : (f : Parts X) (w : ℕ) (x : X) (v : List X × ℕ) → w < workers p → v ≡ get_or f.queues (stage_at p w) ([], 0) → v.0 ≡ x ∷ drop 1 v.0 → take_cause p (standing p n h) w ≡ None → Stands mark p n h f
-      → Stands mark p n (h ++ Take w (mark x).0 ∷ []) (record f { queues = set f.queues (stage_at p w) (drop 1 v.0, v.1); hands = set f.hands w (Some (mark x).0) })
+  pub take_stands : (f : Parts X) (w : ℕ) (x : X) (v : List X × ℕ) → w < workers p → v ≡ get_or f.queues (stage_at p w) ([], 0) → v.0 ≡ x ∷ drop 1 v.0 → take_cause p (standing p n h) w ≡ None → FloorAfter mark p n h f
+      → FloorAfter mark p n (h ++ Take w (mark x).0 ∷ []) (record f { queues = set f.queues (stage_at p w) (drop 1 v.0, v.1); hands = set f.hands w (Some (mark x).0) })
   take_stands f w x v known is at none stands =
       let s = standing p n h in
       let k = stage_at p w in
@@ -147,8 +147,8 @@ module _ {X : Type 0} (mark : X → ℕ × ℕ) (p : Layout) (n : ℕ) (h : List
         left_are = rw e stands.left_are;
       }
 
-  pub give_next_stands : (f : Parts X) (w : ℕ) (x : X) (v : List X × ℕ) → w < workers p → is_last p (stage_at p w) ≡ false → v ≡ get_or f.queues (stage_at p w + 1) ([], 0) → give_cause p (standing p n h) w (mark x).0 (mark x).1 ≡ None → Stands mark p n h f
-      → Stands mark p n (h ++ Give w (mark x).0 ∷ []) (record f { queues = set f.queues (stage_at p w + 1) (v.0 ++ x ∷ [], v.1); hands = set f.hands w None })
+  pub give_next_stands : (f : Parts X) (w : ℕ) (x : X) (v : List X × ℕ) → w < workers p → is_last p (stage_at p w) ≡ false → v ≡ get_or f.queues (stage_at p w + 1) ([], 0) → give_cause p (standing p n h) w (mark x).0 (mark x).1 ≡ None → FloorAfter mark p n h f
+      → FloorAfter mark p n (h ++ Give w (mark x).0 ∷ []) (record f { queues = set f.queues (stage_at p w + 1) (v.0 ++ x ∷ [], v.1); hands = set f.hands w None })
   give_next_stands f w x v known more is none stands =
       let s = standing p n h in
       let k = stage_at p w in
@@ -177,8 +177,8 @@ module _ {X : Type 0} (mark : X → ℕ × ℕ) (p : Layout) (n : ℕ) (h : List
         left_are = rw e stands.left_are;
       }
 
-  pub give_last_stands : (f : Parts X) (w : ℕ) (x : X) → w < workers p → is_last p (stage_at p w) ≡ true → (mark x).0 < n → give_cause p (standing p n h) w (mark x).0 (mark x).1 ≡ None → Stands mark p n h f
-      → Stands mark p n (h ++ Give w (mark x).0 ∷ []) (record f { slots = set f.slots (mark x).0 (Some x); hands = set f.hands w None })
+  pub give_last_stands : (f : Parts X) (w : ℕ) (x : X) → w < workers p → is_last p (stage_at p w) ≡ true → (mark x).0 < n → give_cause p (standing p n h) w (mark x).0 (mark x).1 ≡ None → FloorAfter mark p n h f
+      → FloorAfter mark p n (h ++ Give w (mark x).0 ∷ []) (record f { slots = set f.slots (mark x).0 (Some x); hands = set f.hands w None })
   give_last_stands f w x known last inside none stands =
       let s = standing p n h in
       let k = stage_at p w in
@@ -207,8 +207,8 @@ module _ {X : Type 0} (mark : X → ℕ × ℕ) (p : Layout) (n : ℕ) (h : List
         left_are = rw e stands.left_are;
       }
 
-  pub back_stands : (f : Parts X) (w : ℕ) (x : X) → w < workers p → back_cause (standing p n h) w (mark x).0 ≡ None → Stands mark p n h f
-      → Stands mark p n (h ++ Back w (mark x).0 ∷ []) (record f { hands = set f.hands w None; returned = f.returned ++ x ∷ []; stopped = true })
+  pub back_stands : (f : Parts X) (w : ℕ) (x : X) → w < workers p → back_cause (standing p n h) w (mark x).0 ≡ None → FloorAfter mark p n h f
+      → FloorAfter mark p n (h ++ Back w (mark x).0 ∷ []) (record f { hands = set f.hands w None; returned = f.returned ++ x ∷ []; stopped = true })
   back_stands f w x known none stands =
       let ev = Back w (mark x).0 in
       let e = standing-snoc p n h ev in
@@ -229,8 +229,8 @@ module _ {X : Type 0} (mark : X → ℕ × ℕ) (p : Layout) (n : ℕ) (h : List
         left_are = rw e stands.left_are;
       }
 
-  pub leave_stands : (f : Parts X) (w : ℕ) → w < workers p → leave_cause p (standing p n h) w ≡ None → Stands mark p n h f
-      → Stands mark p n (h ++ Leave w ∷ []) (record f { left = set f.left w true })
+  pub leave_stands : (f : Parts X) (w : ℕ) → w < workers p → leave_cause p (standing p n h) w ≡ None → FloorAfter mark p n h f
+      → FloorAfter mark p n (h ++ Leave w ∷ []) (record f { left = set f.left w true })
   leave_stands f w known none stands =
       let e = standing-snoc p n h (Leave w) in
       record {
@@ -250,7 +250,7 @@ module _ {X : Type 0} (mark : X → ℕ × ℕ) (p : Layout) (n : ℕ) (h : List
         left_are = rw (e, stands.left_are) refl;
       }
 
-  pub halt_stands : (f : Parts X) → halt_cause (standing p n h) ≡ None → Stands mark p n h f → Stands mark p n (h ++ Halt ∷ []) (record f { stopped = true })
+  pub halt_stands : (f : Parts X) → halt_cause (standing p n h) ≡ None → FloorAfter mark p n h f → FloorAfter mark p n (h ++ Halt ∷ []) (record f { stopped = true })
   halt_stands f none stands =
       let e = standing-snoc p n h Halt in
       record {
@@ -271,7 +271,7 @@ module _ {X : Type 0} (mark : X → ℕ × ℕ) (p : Layout) (n : ℕ) (h : List
       }
 
   -- the queue that code has at hand, of a stage with room
-  pub room_after : (f : Parts X) (k : ℕ) (v : List X × ℕ) → k < stages p → v ≡ get_or f.queues k v → nat_le (capacity_at p k) (length (queue_at (standing p n h) k)) ≡ false → Stands mark p n h f
+  pub room_after : (f : Parts X) (k : ℕ) (v : List X × ℕ) → k < stages p → v ≡ get_or f.queues k v → nat_le (capacity_at p k) (length (queue_at (standing p n h) k)) ≡ false → FloorAfter mark p n h f
       → (v ≡ get_or f.queues k ([], 0)) × (nat_le v.1 (length v.0) ≡ false)
   room_after f k v in-p at room stands =
       let is : v ≡ get_or f.queues k ([], 0) = get_or_read f.queues k v (omega (arith, stands.stages_are)) at ([], 0) in
@@ -280,7 +280,7 @@ module _ {X : Type 0} (mark : X → ℕ × ℕ) (p : Layout) (n : ℕ) (h : List
       (is, rw (a, b) room)
 
   -- a slot whose number is not done is empty
-  pub empty_slot : (f : Parts X) (m : ℕ) → m < n → get_or (standing p n h).done m false ≡ false → Stands mark p n h f → (m < length f.slots) × (get_or f.slots m None ≡ None)
+  pub empty_slot : (f : Parts X) (m : ℕ) → m < n → get_or (standing p n h).done m false ≡ false → FloorAfter mark p n h f → (m < length f.slots) × (get_or f.slots m None ≡ None)
   empty_slot f m below free stands =
       (omega (arith, stands.count_is), unmapped (get_or f.slots m None) (stands.slots_are m below ∙ ap (λ b. slot_mark (last_cut p) b m) free))
     where

@@ -4,7 +4,7 @@ use Rattle.std.specs.List.{range_with_len}
 use Rattle.std.proofs.lemmas.List.{length-map, get_or-map, get_or-replicate, length-replicate}
 use Rattle.stage_graph.specs.Layouts.{Layout, IsPlan, stages, workers, capacity_at}
 use Rattle.stage_graph.specs.Floors.{opening, after_all, is_legal, standing, is_legal_from_opening}
-use Rattle.stage_graph.specs.Stands.{with_steps, empty_queue, Stands}
+use Rattle.stage_graph.specs.After.{with_steps, empty_queue, FloorAfter}
 
 pub standing_nil : (p : Layout) (n : ℕ) → standing p n [] ≡ opening p n
 unfolding standing after_all
@@ -16,7 +16,7 @@ legal_nil p n = refl
 
 pub opening_stands : {X : Type 0} (mark : X → ℕ × ℕ) (p : Layout) (n : ℕ) (backlog : List X) (queues : List (List X × ℕ)) (hands : List (Option ℕ)) (slots : List (Option X)) (returned : List X) (left : List Bool) → IsPlan p
     → map mark backlog ≡ map (with_steps 0) (range_with_len 0 n) → queues ≡ map empty_queue p.capacities → hands ≡ replicate (workers p) None → slots ≡ replicate n None → returned ≡ [] → left ≡ replicate (workers p) false
-    → Stands mark p n [] (record { backlog = backlog; queues = queues; hands = hands; slots = slots; returned = returned; stopped = false; left = left })
+    → FloorAfter mark p n [] (record { backlog = backlog; queues = queues; hands = hands; slots = slots; returned = returned; stopped = false; left = left })
 unfolding opening
 opening_stands {X} mark p n backlog queues hands slots returned left plan b q h s r l =
     let e = standing_nil p n in

@@ -1,3 +1,5 @@
+//! A chain of steps, and the items that it works on.
+
 ghost use Rattle.std.specs.Prelude.{◌≡◌, ℕ, ◌+◌, ◌<◌, IfOk, IfErr};
 ghost use Rattle.stage_graph.specs.Steps.{value_of};
 

@@ -1,3 +1,5 @@
+//! The events of a floor, what refuses one, and a history of them.
+
 ghost use Rattle.std.specs.Prelude.{◌≡◌, length};
 
 use std::marker::Model;

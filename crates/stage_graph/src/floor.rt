@@ -1,8 +1,10 @@
+//! The core of a floor: where each item is, and the history that brought it there.
+
 ghost use Rattle.std.specs.Prelude.{◌≡◌, ℕ, ◌+◌, ◌<◌, ◌≤◌, List, [], ◌∷◌, ◌++◌, length, IfOk, OnOk, OnErr, IfErr, Some};
 ghost use Rattle.std.specs.Prelude.{None, is_some, nat_le, take, map, ◌*◌, ◌^◌, IfSome, true, false};
 ghost use Rattle.std.specs.Option.{is_none};
 ghost use Rattle.std.specs.List.{list_all, range_with_len};
-ghost use Rattle.stage_graph.specs.Stands.{with_steps, last_cut};
+ghost use Rattle.stage_graph.specs.After.{with_steps, last_cut};
 ghost use Rattle.stage_graph.specs.Steps.{value_of};
 ghost use Rattle.stage_graph.specs.Places.{places_of};
 ghost use Rattle.stage_graph.specs.Counts.{KeepsBounds, takes_of, feeds_of, gives_of};
@@ -61,14 +63,14 @@ impl<C: Chain, N: RunName> Model for Floor<C, N> {
     ghost use Rattle.std.specs.VecDeque.{deque_capacity};
     ghost use Rattle.stage_graph.specs.declared.event.Event.{Event};
     ghost use Rattle.stage_graph.specs.Floors.{most_events};
-    ghost use Rattle.stage_graph.specs.Stands.{Stands};
+    ghost use Rattle.stage_graph.specs.After.{FloorAfter};
 
     ghost Value = { List Event };
 
     ghost view = { λ f. f.history.items };
 
     ghost invariant = { λ f.
-        Stands (λ x. (C.Item.number_of x, C.Item.done_of x)) N.plan N.count f.history.items
+        FloorAfter (λ x. (C.Item.number_of x, C.Item.done_of x)) N.plan N.count f.history.items
         (record {
           backlog = f.backlog.items;
           queues = f.queues.items;
@@ -199,7 +201,7 @@ impl<C: Chain, N: RunName> Model for Run<C, N> {
     ghost use Rattle.std.specs.List.{range_with_len};
     ghost use Rattle.stage_graph.specs.declared.event.Event.{Event};
     ghost use Rattle.stage_graph.specs.Floors.{standing, is_legal_from_opening, all_left, all_done};
-    ghost use Rattle.stage_graph.specs.Stands.{with_steps, last_cut};
+    ghost use Rattle.stage_graph.specs.After.{with_steps, last_cut};
     ghost use Rattle.stage_graph.specs.Layouts.{IsPlan};
 
     ghost Value = { List Event };

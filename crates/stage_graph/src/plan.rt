@@ -1,6 +1,8 @@
+//! A plan: how steps are cut into stages, with their workers and the capacities of their queues.
+
 ghost use Rattle.std.specs.Prelude.{◌≡◌, ◌<◌, length, nat_le, nat_eq, ◌&&◌, ◌||◌, IfOk, OnOk, ◌++◌, replicate, None};
 ghost use Rattle.stage_graph.specs.Floors.{idle_before};
-ghost use Rattle.stage_graph.specs.Stands.{last_cut};
+ghost use Rattle.stage_graph.specs.After.{last_cut};
 ghost use Rattle.stage_graph.specs.PlanFaults.{plan_fault, AnswersFault};
 ghost use Rattle.stage_graph.specs.Layouts.{layout_of, is_rising, are_within, posts_of, IsPlan, stages, workers};
 ghost use Rattle.stage_graph.specs.Layouts.{stage_at, cut_at, capacity_at};

@@ -1,9 +1,11 @@
+//! A floor run by threads.
+
 ghost use Rattle.std.specs.Prelude.{◌≡◌, ℕ, ◌+◌, ◌<◌, ◌≤◌, map, true, OnOk, OnErr, IfOk, IfErr, IfSome, OnSome, IfNone};
 ghost use Rattle.std.specs.Prelude.{vec_len, vec_capacity};
 ghost use Rattle.std.specs.List.{range_with_len};
 ghost use Rattle.stage_graph.specs.Layouts.{stages, workers, stage_at, cut_before};
 ghost use Rattle.stage_graph.specs.Floors.{standing, is_legal_from_opening, all_left, all_done};
-ghost use Rattle.stage_graph.specs.Stands.{with_steps, last_cut};
+ghost use Rattle.stage_graph.specs.After.{with_steps, last_cut};
 ghost use Rattle.stage_graph.specs.Stopped.{IsStopped};
 
 mod locked;

@@ -1,3 +1,5 @@
+//! Why a floor has no run.
+
 ghost use Rattle.std.specs.Prelude.{◌≡◌};
 
 use crate::History;

@@ -1,3 +1,4 @@
+//! Plans, floors and histories, by calls and by threads.
 mod adding;
 mod floors;
 mod gates;

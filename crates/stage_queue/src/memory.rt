@@ -1,3 +1,5 @@
+//! That there was no memory.
+
 use std::alloc::AllocError;
 use thiserror::Error;
 

@@ -1,3 +1,5 @@
+//! A queue with a capacity.
+
 ghost use Rattle.std.specs.Prelude.{◌≡◌, ◌≤◌, ◌++◌, [], ◌∷◌, length, drop, IfOk, OnOk, IfErr, slice_get, nat_eq};
 ghost use Rattle.std.specs.Prelude.{nat_le, is_err};
 ghost use Rattle.std.specs.Option.{option_copied};

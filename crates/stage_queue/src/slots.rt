@@ -1,3 +1,5 @@
+//! Places by numbers, each filled once.
+
 ghost use Rattle.std.specs.Prelude.{◌≡◌, length, IfOk, OnOk, IfErr, slice_set, replicate, map, is_some, true};
 ghost use Rattle.std.specs.List.{list_all};
 ghost use Rattle.stage_queue.specs.Placed.{placing_fault, fault_of};

@@ -1,3 +1,5 @@
+//! A queue and slots of two, and no room at all.
+
 use crate::{Memory, Placing, Queue, Slots};
 use std::test::*;
 

@@ -2,7 +2,7 @@
 use Rattle.std.proofs.Common.{◌≡◌, ℕ, ◌+◌, ◌-◌, ◌*◌, ◌≤◌, min, Bool, true, false, cond, refl, sym, ◌∙◌, arith}
 use Rattle.token_bucket.specs.Limits.{TOKEN}
 use Rattle.token_bucket.specs.Calls.{Call, Past, made, and_then, tick_after, rate_after, takes_token, clock, credit_of}
-use Rattle.token_bucket.specs.Fits.{last_rate, IsForward, IsCovered, Fits}
+use Rattle.token_bucket.specs.After.{last_rate, IsForward, IsCovered, BucketAfter}
 use Rattle.token_bucket.specs.Standing.{Standing}
 use Rattle.token_bucket.specs.Running.{units_taken, running_credit, after, CreditRuns, StandingRuns}
 use Rattle.token_bucket.proofs.CallLemmas.{tokens_of, clock-then, last_rate-then, forward-then, least_balance-then, covered-then, least_balance-none}
@@ -20,8 +20,8 @@ credit_runs past b call fits now enough =
 
 -- the bucket after the call fits the longer list
 pub fits_then : (past : Past) (b : Standing) (call : Call) (credit : ℕ)
-    → Fits past b → b.tick ≤ tick_after b.tick call → units_taken call ≤ b.credit → credit ≡ running_credit b call
-    → Fits (and_then past call) (record { depth = b.depth; rate = rate_after b.rate call; tick = tick_after b.tick call; credit = credit })
+    → BucketAfter past b → b.tick ≤ tick_after b.tick call → units_taken call ≤ b.credit → credit ≡ running_credit b call
+    → BucketAfter (and_then past call) (record { depth = b.depth; rate = rate_after b.rate call; tick = tick_after b.tick call; credit = credit })
 fits_then past b call credit fits now enough is =
     let passes : clock 0 past.calls ≤ tick_after (clock 0 past.calls) call = rw fits.tick at now in
     let holds : TOKEN * tokens_of call ≤ credit_of past = rw (units-tokens (takes_token call), ← fits.credit) enough in
@@ -35,7 +35,7 @@ fits_then past b call credit fits now enough is =
     }
 
 -- the new bucket fits the call that made it
-pub fits_made : (depth rate : ℕ) → Fits (made depth rate) (record { depth = depth; rate = rate; tick = 0; credit = depth * TOKEN })
+pub fits_made : (depth rate : ℕ) → BucketAfter (made depth rate) (record { depth = depth; rate = rate; tick = 0; credit = depth * TOKEN })
 unfolding IsForward IsCovered clock last_rate
 fits_made depth rate = record {
   depth = refl;

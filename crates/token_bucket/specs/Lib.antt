@@ -2,6 +2,6 @@ pub mod Limits
 pub mod Accrual
 pub mod Calls
 pub mod Standing
-pub mod Fits
+pub mod After
 pub mod Ranges
 pub mod Running

@@ -3,7 +3,7 @@ use Rattle.std.specs.Prelude.{◌≡◌, ℕ, ◌+◌, ◌-◌, ◌*◌, ◌≤�
 use Rattle.token_bucket.specs.Limits.{TOKEN}
 use Rattle.token_bucket.specs.Calls.{Call, Past, and_then, tick_after, rate_after, takes_token, credit_of}
 use Rattle.token_bucket.specs.Standing.{Standing}
-use Rattle.token_bucket.specs.Fits.{Fits}
+use Rattle.token_bucket.specs.After.{BucketAfter}
 
 -- the units that a call takes
 abbrev pub units_taken : Call → ℕ
@@ -26,11 +26,11 @@ after b call = record {
 -- the least balance over all calls so far is the running credit
 abbrev pub CreditRuns : Type 0
 CreditRuns = (past : Past) (b : Standing) (call : Call)
-    → Fits past b → b.tick ≤ tick_after b.tick call → units_taken call ≤ b.credit
+    → BucketAfter past b → b.tick ≤ tick_after b.tick call → units_taken call ≤ b.credit
     → credit_of (and_then past call) ≡ running_credit b call
 
 -- so a bucket that fits the calls and then one more stands as that call left it
 abbrev pub StandingRuns : Type 0
 StandingRuns = (past : Past) (b next : Standing) (call : Call)
-    → Fits past b → b.tick ≤ tick_after b.tick call → units_taken call ≤ b.credit
-    → Fits (and_then past call) next → next ≡ after b call
+    → BucketAfter past b → b.tick ≤ tick_after b.tick call → units_taken call ≤ b.credit
+    → BucketAfter (and_then past call) next → next ≡ after b call

@@ -1,6 +1,8 @@
+//! A token bucket on virtual time.
+
 ghost use Rattle.std.specs.Prelude.{◌≡◌, ◌+◌, ◌-◌, ◌*◌, ◌≤◌, ◌↔◌, min, IsTrue};
 ghost use Rattle.token_bucket.specs.Calls.{Past, Advance, SetRate, TryTake, made, and_then, credit_of, HasToken};
-ghost use Rattle.token_bucket.specs.Fits.{Fits};
+ghost use Rattle.token_bucket.specs.After.{BucketAfter};
 
 use crate::{MAX_DEPTH, MAX_RATE, MAX_TICK, TOKEN};
 use std::marker::Model;
@@ -41,7 +43,7 @@ impl Bucket {
     pub fn new(depth: u64, rate: u64) -> Self
         requires depth { (1 ≤ depth) × (depth ≤ MAX_DEPTH) }
         requires rate { (1 ≤ rate) × (rate ≤ MAX_RATE) }
-        ensures fits { Fits (made depth rate) result }
+        ensures fits { BucketAfter (made depth rate) result }
         ensures tick { result.tick ≡ 0 }
     {
         Bucket {
@@ -56,7 +58,7 @@ impl Bucket {
     pub fn advance(&mut self, to: u64)
         requires forward { self.old.tick ≤ to }
         requires within { to ≤ MAX_TICK }
-        ensures fits { (past : Past) → Fits past self.old → Fits (and_then past (Advance to)) self.new }
+        ensures fits { (past : Past) → BucketAfter past self.old → BucketAfter (and_then past (Advance to)) self.new }
         ensures tick { self.new.tick ≡ to }
     {
         let full = self.depth * TOKEN;
@@ -68,7 +70,7 @@ impl Bucket {
     /// Changes the rate from the current tick on.
     pub fn set_rate(&mut self, rate: u64)
         requires { (1 ≤ rate) × (rate ≤ MAX_RATE) }
-        ensures fits { (past : Past) → Fits past self.old → Fits (and_then past (SetRate rate)) self.new }
+        ensures fits { (past : Past) → BucketAfter past self.old → BucketAfter (and_then past (SetRate rate)) self.new }
         ensures tick { self.new.tick ≡ self.old.tick }
     {
         self.rate = rate;
@@ -76,8 +78,9 @@ impl Bucket {
 
     /// Takes a token where a whole one is there, and says whether it did.
     pub fn try_take(&mut self) -> bool
-        ensures taken { (past : Past) → Fits past self.old → (IsTrue result ↔ HasToken past) }
-        ensures fits { (past : Past) → Fits past self.old → Fits (and_then past (TryTake result)) self.new }
+        ensures taken { (past : Past) → BucketAfter past self.old → (IsTrue result ↔ HasToken past) }
+        ensures fits { (past : Past) → BucketAfter past self.old
+            → BucketAfter (and_then past (TryTake result)) self.new }
         ensures tick { self.new.tick ≡ self.old.tick }
     {
         if self.credit < TOKEN {
@@ -89,7 +92,7 @@ impl Bucket {
 
     /// The credit in units.
     pub fn credit(&self) -> u64
-        ensures credit { (past : Past) → Fits past self.now → result ≡ credit_of past }
+        ensures credit { (past : Past) → BucketAfter past self.now → result ≡ credit_of past }
         ensures value { result ≡ self.now.credit }
     {
         let units = self.credit;

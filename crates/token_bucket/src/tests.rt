@@ -1,3 +1,5 @@
+//! Buckets over gaps, changed rates and the greatest values.
+
 use crate::{Bucket, MAX_DEPTH, MAX_RATE, MAX_TICK, TOKEN};
 
 #[test]

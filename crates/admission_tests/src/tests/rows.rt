@@ -1,3 +1,4 @@
+//! Rows worked by hand.
 use admission::{Control, Controller, Decision, Outlook, Policy, PolicyFault};
 use std::test::Fail;
 

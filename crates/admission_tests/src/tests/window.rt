@@ -1,3 +1,4 @@
+//! The percentile of the last samples.
 use admission::SampleWindow;
 use std::test::Fail;
 

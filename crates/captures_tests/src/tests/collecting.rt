@@ -2,6 +2,7 @@
 //! bytes of the input were the text of just these records, or the fault is the first of the text.
 ghost use Rattle.std.specs.Prelude.{◌≡◌, ◌<◌, ◌-◌, ◌^◌, [], true, IfOk, IfErr};
 ghost use Rattle.std.specs.Option.{is_some, unwrap_or};
+ghost use Rattle.paths.specs.Devices.{CanFail};
 ghost use Rattle.captures.specs.Captures.{IsCaptureText};
 ghost use Rattle.captures.specs.CaptureFaults.{IsForeseen, IsFirstFault, CountsFault};
 
@@ -15,11 +16,11 @@ pub fn collect<R: Read>(
     alloc: Global,
     input: &mut Input<R>,
 ) -> Result<(Version, u64, Vec<Record>), CaptureFault>
-    requires { input.old.1 < 2 ^ 64 - 1 }
+    requires { CanFail input.old }
     ensures ok { IfOk result
-        (λ all. is_some input.old.0 ≡ true → IsCaptureText all.0 (unwrap_or input.old.0 []) all.1 all.2.items) }
-    ensures fault { IfErr result (IsForeseen IsFirstFault input.old.0) }
-    ensures count { CountsFault input.old.1 input.new.1 result }
+        (λ all. is_some input.old.bytes ≡ true → IsCaptureText all.0 (unwrap_or input.old.bytes []) all.1 all.2.items) }
+    ensures fault { IfErr result (IsForeseen IsFirstFault input.old.bytes) }
+    ensures count { CountsFault input.old.failures input.new.failures result }
 {
     let mut reader = match CaptureReader::open(input) {
         Ok(reader) => reader,

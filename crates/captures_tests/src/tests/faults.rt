@@ -266,8 +266,8 @@ fn two_answers<R: Read>(
     alloc: Global,
     input: &mut Input<R>,
 ) -> Result<(Option<CaptureFault>, Option<CaptureFault>), CaptureFault>
-    requires { input.old.1 ≡ 0 }
-    ensures { input.new.1 ≤ 1 }
+    requires { input.old.failures ≡ 0 }
+    ensures { input.new.failures ≤ 1 }
 {
     let mut reader = CaptureReader::open(input)?;
     let first = fault_in(reader.next_record(alloc));

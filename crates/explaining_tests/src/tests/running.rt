@@ -1,5 +1,6 @@
 //! Explains texts in memory.
 ghost use Rattle.std.specs.Prelude.{◌≡◌, ◌<◌, ◌-◌, ◌^◌};
+ghost use Rattle.paths.specs.Devices.{CanFail};
 
 use admission::Policy;
 use cost_model::Costs;
@@ -64,8 +65,8 @@ pub fn explain_devices<R: Read, W: Write>(
     reader: &mut Input<R>,
     writer: &mut Output<W>,
 ) -> Option<Result<Outcome, ReplayFault>>
-    requires reading { reader.old.1 < 2 ^ 64 - 1 }
-    requires writing { writer.old.1 < 2 ^ 64 - 1 }
+    requires reading { CanFail reader.old }
+    requires writing { CanFail writer.old }
 {
     let mut input = Input::new(snapshot.as_bytes());
     match Snapshot::read(alloc, &mut input) {

@@ -1,3 +1,4 @@
+//! Documents and what is read of them.
 use options::{
     ConfigFault, ConfigFaultKind, Key, PolicyKey, PolicyTable, default_settings, read_settings,
 };

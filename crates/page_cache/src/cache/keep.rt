@@ -1,3 +1,5 @@
+//! Keeping a page: as few others go for it as possible.
+
 ghost use Rattle.std.specs.Arc.{arc_value};
 ghost use Rattle.page_cache.specs.CacheLists.{KeptAs};
 

@@ -1,5 +1,6 @@
 //! Runs both engines on texts in memory.
 ghost use Rattle.std.specs.Prelude.{◌≡◌, ◌<◌, ◌-◌, ◌^◌};
+ghost use Rattle.paths.specs.Devices.{CanFail};
 
 use admission::Policy;
 use cost_model::Costs;
@@ -113,8 +114,8 @@ fn run_named<F: Tree + Send + Sync, G: Gate + Sync, T: Threads + Wait + Sync, R:
     writer: &mut Output<W>,
 ) -> Result<Outcome, ReplayFault>
     requires files { files.now ≡ F.files }
-    requires reading { reader.old.1 < 2 ^ 64 - 1 }
-    requires writing { writer.old.1 < 2 ^ 64 - 1 }
+    requires reading { CanFail reader.old }
+    requires writing { CanFail writer.old }
 {
     match engine {
         Engine::Plain => plain_replay::<F, R, W>(alloc, files, settings, reader, writer),
@@ -135,8 +136,8 @@ pub fn run_devices<G: Gate + Sync, T: Threads + Wait + Sync, R: Read, W: Write>(
     reader: &mut Input<R>,
     writer: &mut Output<W>,
 ) -> Option<Result<Outcome, ReplayFault>>
-    requires reading { reader.old.1 < 2 ^ 64 - 1 }
-    requires writing { writer.old.1 < 2 ^ 64 - 1 }
+    requires reading { CanFail reader.old }
+    requires writing { CanFail writer.old }
 {
     let mut input = Input::new(snapshot.as_bytes());
     match Snapshot::read(alloc, &mut input) {

@@ -1,5 +1,6 @@
 //! The greatest sizes and numbers, and those one past them.
 ghost use Rattle.std.specs.Prelude.{◌<◌, ◌-◌, ◌^◌};
+ghost use Rattle.paths.specs.Devices.{CanFail};
 
 use paths::Output;
 use snapshots::{SnapshotWriter, WriteFault};
@@ -33,7 +34,7 @@ fn write_numbered<W: Write>(
     bytes: &[u8],
     last: &[u8],
 ) -> Result<(), WriteFault>
-    requires { output.old.1 < 2 ^ 64 - 1 }
+    requires { CanFail output.old }
 {
     let mut writer = SnapshotWriter::begin(alloc, output)?;
     for number in 100_000..count.saturating_add(100_000) {

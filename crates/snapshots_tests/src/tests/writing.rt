@@ -1,6 +1,7 @@
 //! Callers of the writer. What they promise follows from its clauses alone.
 ghost use Rattle.std.specs.Prelude.{◌<◌, ◌-◌, ◌^◌, OnOk};
 ghost use Rattle.std.specs.Io.KnownBytes.{Appends};
+ghost use Rattle.paths.specs.Devices.{CanFail};
 ghost use Rattle.paths.specs.Snapshots.{snapshot_text, IsSnapshotText};
 ghost use Rattle.snapshots.specs.Writers.{Counts};
 
@@ -15,10 +16,10 @@ pub fn write_files<W: Write>(
     output: &mut Output<W>,
     files: &[File],
 ) -> Result<(), WriteFault>
-    requires { output.old.1 < 2 ^ 64 - 1 }
-    ensures text { OnOk result (Appends output.old.0 output.new.0 (snapshot_text files.now)) }
+    requires { CanFail output.old }
+    ensures text { OnOk result (Appends output.old.bytes output.new.bytes (snapshot_text files.now)) }
     ensures rules { OnOk result (IsSnapshotText (snapshot_text files.now) files.now) }
-    ensures count { Counts output.old.1 output.new.1 result }
+    ensures count { Counts output.old.failures output.new.failures result }
 {
     let mut writer = SnapshotWriter::begin(alloc, output)?;
     for file in files {
@@ -41,7 +42,7 @@ pub fn write_allowed<W: Write>(
     output: &mut Output<W>,
     files: &[File],
 ) -> Result<Vec<WriteFault>, WriteFault>
-    requires { output.old.1 < 2 ^ 64 - 1 }
+    requires { CanFail output.old }
 {
     let mut refused = Vec::new(alloc);
     let mut writer = SnapshotWriter::begin(alloc, output)?;

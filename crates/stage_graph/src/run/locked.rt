@@ -1,3 +1,5 @@
+//! A floor behind its lock, one event a call.
+
 ghost use Rattle.std.specs.Prelude.{◌≡◌, ◌+◌, ◌<◌, [], true, OnOk, OnErr, IfOk};
 ghost use Rattle.stage_graph.specs.Layouts.{workers, stage_at, cut_before};
 ghost use Rattle.stage_graph.specs.Floors.{standing, all_left, left_on};

@@ -1,3 +1,5 @@
+//! The workers' places, given out before the first thread starts, and taken back at its end.
+
 ghost use Rattle.std.specs.Prelude.{◌≡◌, ◌+◌, IfOk, OnOk, vec_len};
 
 use std::alloc::{AllocError, Global};

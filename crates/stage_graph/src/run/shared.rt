@@ -1,8 +1,10 @@
+//! What the threads of a floor share: the locked floor, and who sleeps.
+
 ghost use Rattle.std.specs.Prelude.{◌≡◌, ◌+◌, ◌-◌, ◌/◌, ◌<◌, ◌≤◌, true, nat_le, if◌then◌else◌, IfSome, OnSome, IfNone};
 ghost use Rattle.std.specs.Prelude.{vec_len};
 ghost use Rattle.stage_graph.specs.Layouts.{stages, workers, stage_at, cut_before};
 ghost use Rattle.stage_graph.specs.Floors.{standing, all_left};
-ghost use Rattle.stage_graph.specs.Stands.{last_cut};
+ghost use Rattle.stage_graph.specs.After.{last_cut};
 
 use super::locked::Locked;
 use super::sleepers::Sleepers;

@@ -1,3 +1,5 @@
+//! The threads that wait, and whom to wake.
+
 use std::sync::atomic::{AtomicUsize, Ordering};
 use std::sync::{Condvar, MutexGuard, Wait};
 

@@ -1,6 +1,8 @@
+//! A chain whose value is a sum.
+
 ghost use Rattle.std.specs.Prelude.{◌≡◌, ℕ, ◌+◌, ◌*◌, ◌%◌, ◌^◌, ◌<◌, List, IfOk, slice_index, map, length};
 ghost use Rattle.stage_graph.specs.Steps.{value_of};
-ghost use Rattle.stage_graph.specs.Stands.{last_cut, with_steps};
+ghost use Rattle.stage_graph.specs.After.{last_cut, with_steps};
 ghost use Rattle.std.specs.List.{range_with_len};
 
 use stage_graph::{Chain, Gate, History, Named, Plan, Run, RunName, Unrun, run_floor};

@@ -1,3 +1,5 @@
+//! Plans and the core of a floor, call by call.
+
 ghost use Rattle.std.specs.Prelude.{◌≡◌, length};
 ghost use Rattle.stage_graph.specs.Layouts.{workers};
 

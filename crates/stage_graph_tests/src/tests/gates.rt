@@ -1,3 +1,4 @@
+//! Gates that see each enter and leave, on a give and on a back.
 use super::threads::{is_legal, sums};
 use stage_graph::{Gate, Unrun};
 use std::sync::atomic::{AtomicU64, Ordering};

@@ -1,3 +1,4 @@
+//! Floors run by threads.
 use super::adding::sums_of;
 use super::{place_of, plan_of};
 use stage_graph::{Checked, Event, Gate, History, NoGate, Unrun, replay_history};

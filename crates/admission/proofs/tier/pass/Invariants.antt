@@ -1,6 +1,6 @@
 use Rattle.std.proofs.Common.{◌≡◌, ℕ, ◌+◌, ◌≤◌, length}
 use Rattle.token_bucket.specs.Calls.{Past}
-use Rattle.token_bucket.specs.Fits.{Fits as FitsCalls}
+use Rattle.token_bucket.specs.After.{BucketAfter}
 use Rattle.admission.specs.Standing.{RiseWithin, AllRates}
 use Rattle.admission.specs.Running.{passed}
 use Rattle.admission.proofs.PassLemmas.{Goes}
@@ -13,7 +13,7 @@ invariant-loop-control l = record {
   forward : l.bucket.tick ≤ l.tick;
   count : passed l.pending l.tick ≡ l.reached + passed l.rest l.tick;
   few : l.reached + length l.rest ≤ length l.pending;
-  goes : (past : Past) → FitsCalls past l.fn.bucket → Goes l.fn.bucket l.bucket l.pending l.rest l.tick;
+  goes : (past : Past) → BucketAfter past l.fn.bucket → Goes l.fn.bucket l.bucket l.pending l.rest l.tick;
 }
 
 abbrev pub decreases-loop-control : goal.decreases-loop-control

@@ -1,6 +1,6 @@
 use Rattle.std.proofs.Common.{◌≡◌, ◌+◌, ◌≤◌, ◌<◌, ◌⊎◌, ℕ, List, Option, ◌++◌, vec_len}
 use Rattle.captures.specs.declared.version.Version.{Version}
-use Rattle.captures.specs.Readers.{Fits}
+use Rattle.captures.specs.Readers.{ReaderAfter}
 use Rattle.captures.specs.declared.record.Record.{Record}
 use Rattle.captures.specs.declared.stage.Stage.TheVariants.{Reading}
 use Rattle.arrivals.specs.Batches.{origins_of, tiers_of}
@@ -13,10 +13,10 @@ abbrev pub invariant-loop-alloc : goal.invariant-loop-alloc
 invariant-loop-alloc g l =
     ((rs : List Record) × Adds rs l.fn.seats l.seats
     × ((records : List Record) → AreTiers records l.fn.tiers → (l.origins.items ≡ origins_of (tiers_of records) rs) × AreTiers (records ++ rs) l.tiers)
-    × ((v : Version) (text : Option (List ℕ)) (start : ℕ) (records : List Record) → Fits v text start records l.fn.capture.progress l.fn.capture.input.now.0
-    → Fits v text start (records ++ rs) l.capture.progress l.capture.input.now.0))
+    × ((v : Version) (text : Option (List ℕ)) (start : ℕ) (records : List Record) → ReaderAfter v text start records l.fn.capture.progress l.fn.capture.input.now.bytes
+    → ReaderAfter v text start (records ++ rs) l.capture.progress l.capture.input.now.bytes))
     × (l.capture.progress.stage ≡ Reading) × (l.capture.progress.room + vec_len l.origins ≤ l.fn.capture.progress.room)
-    × (l.capture.input.now.1 ≡ l.fn.capture.input.now.1) × (l.capture.input.ghost_name ≡ l.fn.capture.input.ghost_name)
+    × (l.capture.input.now.failures ≡ l.fn.capture.input.now.failures) × (l.capture.input.ghost_name ≡ l.fn.capture.input.ghost_name)
     × ((l.bytes ≡ 0) ⊎ (l.capture.progress.room < l.fn.capture.progress.room))
 
 abbrev pub decreases-loop-alloc : goal.decreases-loop-alloc

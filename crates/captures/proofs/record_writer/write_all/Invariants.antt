@@ -3,8 +3,8 @@ use Rattle.std.specs.Io.KnownBytes.{Appends}
 use Rattle.captures.proofs.record_writer.write_all.Given as goal
 
 abbrev pub invariant-loop-written : goal.invariant-loop-written
-invariant-loop-written g l = Appends l.fn.output.0 l.output.0 (take l.written l.bytes)
-    × (l.written ≤ length l.bytes) × (l.output.1 ≡ l.fn.output.1)
+invariant-loop-written g l = Appends l.fn.output.bytes l.output.bytes (take l.written l.bytes)
+    × (l.written ≤ length l.bytes) × (l.output.failures ≡ l.fn.output.failures)
 
 abbrev pub decreases-loop-written : goal.decreases-loop-written
 decreases-loop-written g l = length l.bytes - l.written

@@ -5,7 +5,7 @@ use Rattle.captures.proofs.record_writer.write_last_line.Goals as goal
 
 pub returns-in-Ok-clause-prefix : goal.returns-in-Ok-clause-prefix
 returns-in-Ok-clause-prefix g c =
-    subst (λ (w : List ℕ). WritesPrefix c.args.output.now.0 c.write_all.new.output.0 c.write_all.result w) (c.as_bytes.ensures.value ∙ c.in-Ok.ensures.ok) c.write_all.ensures.prefix
+    subst (λ (w : List ℕ). WritesPrefix c.args.output.now.bytes c.write_all.new.output.bytes c.write_all.result w) (c.as_bytes.ensures.value ∙ c.in-Ok.ensures.ok) c.write_all.ensures.prefix
 
 pub returns-in-Err-clause-prefix : goal.returns-in-Err-clause-prefix
 returns-in-Err-clause-prefix g c = prefix_none _ _

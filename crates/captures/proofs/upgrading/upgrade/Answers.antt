@@ -7,7 +7,7 @@ use Rattle.captures.proofs.upgrading.upgrade.Goals as goal
 
 pub returns-in-Err-clause-stops : goal.returns-in-Err-clause-stops
 returns-in-Err-clause-stops g c = rw c.from.ensures
-    (told c.in-Err.fault _ (λ known. stops_first c.args.reader.now.0 _ c.args.writer.now.0 c.in-Err.fault c.in-Err.ensures.at c.in-Err.ensures.fault known))
+    (told c.in-Err.fault _ (λ known. stops_first c.args.reader.now.bytes _ c.args.writer.now.bytes c.in-Err.fault c.in-Err.ensures.at c.in-Err.ensures.fault known))
 
 pub returns-in-Err-clause-part : goal.returns-in-Err-clause-part
 returns-in-Err-clause-part g c = rw c.from.ensures (told_unless c.in-Err.fault _ c.in-Err.ensures.memory)
@@ -51,7 +51,7 @@ pub returns-in-Err-next_record-clause-stops : goal.returns-in-Err-next_record-cl
 returns-in-Err-next_record-clause-stops g c =
     let inv = c.loop-next.invariant.0 in
     rw c.from-in-Err-next_record.ensures
-    (moved (λ (w : Option (List ℕ)). IfCapture (upgrade_fault c.in-Err-next_record.fault) (λ fault. is_some c.args.reader.now.0 ≡ true → Stops (unwrap_or c.args.reader.now.0 []) w c.args.writer.now.0 c.loop-next.writer.0 fault)) _ c.next_record.new.self.input.now.0
+    (moved (λ (w : Option (List ℕ)). IfCapture (upgrade_fault c.in-Err-next_record.fault) (λ fault. is_some c.args.reader.now.bytes ≡ true → Stops (unwrap_or c.args.reader.now.bytes []) w c.args.writer.now.bytes c.loop-next.writer.bytes fault)) _ c.next_record.new.self.input.now.bytes
     (told c.in-Err-next_record.fault _ (λ known. stops_after _ _ _ _ _ _ _ inv.0 _ c.next_record.new.self.progress _ inv.1 inv.2 (c.in-Err-next_record.ensures.next _ _ _ _ inv.1) (c.in-Err-next_record.ensures.failed _ _ _ _ inv.1) known)) (search rules))
 
 pub returns-in-Err-next_record-clause-part : goal.returns-in-Err-next_record-clause-part

@@ -8,7 +8,7 @@ use Rattle.explaining.proofs.text.write_text.Goals as goal
 
 pub loop-piece-init : goal.loop-piece-init
 loop-piece-init g c = (
-  ([], nothing_yet c.args.output.now.0, rw c.into_iter-piece-iterator.ensures.into_iter_gives (sym (c.percent_encode-piece-items.ensures.text ∙ escaped c.args.bytes.now (λ i. (let h = c.type_inv.bytes i in omega (arith, h)))))),
+  ([], nothing_yet c.args.output.now.bytes, rw c.into_iter-piece-iterator.ensures.into_iter_gives (sym (c.percent_encode-piece-items.ensures.text ∙ escaped c.args.bytes.now (λ i. (let h = c.type_inv.bytes i in omega (arith, h)))))),
   refl,
 )
 

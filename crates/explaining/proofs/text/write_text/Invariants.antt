@@ -6,5 +6,5 @@ use Rattle.explaining.proofs.text.write_text.Given as goal
 
 -- the text of some of the bytes was written, that of the others is left
 abbrev pub invariant-loop-piece : goal.invariant-loop-piece
-invariant-loop-piece g l = ((done : List ℕ) × Appends l.fn.output.0 l.output.0 done × (text_field l.bytes ≡ done ++ encoded_text l.piece-iterator))
-    × (l.output.1 ≡ l.fn.output.1)
+invariant-loop-piece g l = ((done : List ℕ) × Appends l.fn.output.bytes l.output.bytes done × (text_field l.bytes ≡ done ++ encoded_text l.piece-iterator))
+    × (l.output.failures ≡ l.fn.output.failures)

@@ -14,8 +14,8 @@ returns-in-Err-next_record-clause-stops g c =
     let fault = c.in-Err-next_record.fault in
     let stays = c.in-Err-next_record.ensures in
     rw c.stopped.ensures
-    (moved (λ (w : Option (List ℕ)). Stops c.args.reader.now.0 w (stop_of held fault)) _ c.next_record.new.self.input.now.0
-    (told c.args.reader.now.0 c.next_record.new.self.input.now.0 held fault
+    (moved (λ (w : Option (List ℕ)). Stops c.args.reader.now.bytes w (stop_of held fault)) _ c.next_record.new.self.input.now.bytes
+    (told c.args.reader.now.bytes c.next_record.new.self.input.now.bytes held fault
     (holds_before _ _ _ _ inv.0 inv.1 c.loop-next.connections c.loop-next.found _ c.next_record.new.self.progress _ fault held inv.2 (stays.next _ _ _ _ inv.2) (stays.failed _ _ _ _ inv.2) inv.3
     (c.inspection_of-held.ensures.version ∙ c.version.ensures ∙ stays.version) (c.inspection_of-held.ensures.start ∙ c.start.ensures ∙ stays.start) (c.inspection_of-held.ensures.figures inv.0 inv.1 inv.3.found)))
     (search rules))

@@ -1,6 +1,6 @@
 use Rattle.std.proofs.Common.{◌≡◌, List}
 use Rattle.captures.specs.declared.record.Record.{Record}
-use Rattle.captures.specs.Readers.{Fits}
+use Rattle.captures.specs.Readers.{ReaderAfter}
 use Rattle.arrivals.specs.Arrivals.{Arrival}
 use Rattle.inspection.specs.Running.{Holds}
 use Rattle.inspection.proofs.inspecting.inspect.Given as goal
@@ -9,9 +9,9 @@ use Rattle.inspection.proofs.inspecting.inspect.Given as goal
 abbrev pub invariant-loop-next : goal.invariant-loop-next
 invariant-loop-next g l =
     ((records : List Record) × (arrivals : List Arrival)
-    × Fits l.capture.progress.version l.fn.reader.0 l.capture.progress.start records l.capture.progress l.capture.input.now.0
+    × ReaderAfter l.capture.progress.version l.fn.reader.bytes l.capture.progress.start records l.capture.progress l.capture.input.now.bytes
     × Holds records arrivals l.connections l.found)
-    × (l.capture.input.ghost_name ≡ l.initial.capture.input.ghost_name) × (l.capture.input.now.1 ≡ l.fn.reader.1)
+    × (l.capture.input.ghost_name ≡ l.initial.capture.input.ghost_name) × (l.capture.input.now.failures ≡ l.fn.reader.failures)
 
 abbrev pub decreases-loop-next : goal.decreases-loop-next
 decreases-loop-next g l = l.capture.progress.room

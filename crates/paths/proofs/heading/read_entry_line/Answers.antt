@@ -3,5 +3,5 @@ use Rattle.paths.proofs.heading.read_entry_line.Goals as goal
 
 pub returns-clause-line : goal.returns-clause-line
 returns-clause-line g c =
-    announced_line c.args.input.now.0 c.args.left.now c.read_long_line.new.input.0 c.read_long_line.new.left c.read_long_line.result
+    announced_line c.args.input.now.bytes c.args.left.now c.read_long_line.new.input.bytes c.read_long_line.new.left c.read_long_line.result
     c.read_long_line.ensures.line

@@ -3,8 +3,8 @@ use Rattle.paths.proofs.Taking.{TakesLine}
 use Rattle.paths.proofs.heading.read_long_line.Given as goal
 
 abbrev pub invariant-loop-line : goal.invariant-loop-line
-invariant-loop-line g l = TakesLine l.fn.input.0 l.fn.left l.input.0 l.left l.line
-    × (length l.line ≤ 65) × (l.input.1 ≡ l.fn.input.1)
+invariant-loop-line g l = TakesLine l.fn.input.bytes l.fn.left l.input.bytes l.left l.line
+    × (length l.line ≤ 65) × (l.input.failures ≡ l.fn.input.failures)
 
 abbrev pub decreases-loop-line : goal.decreases-loop-line
 decreases-loop-line g l = 65 - length l.line

@@ -1,6 +1,7 @@
 use Rattle.std.proofs.Common.{◌≡◌, ℕ, ◌+◌, List, [], ◌∷◌, ◌++◌, refl, sym, ap, ◌∙◌, subst, arith, append-nil, take, get_or, Option}
 use Rattle.std.proofs.lemmas.Grind.{common_steps}
 use Rattle.std.proofs.lemmas.List.{append_assoc}
+use Rattle.paths.specs.Devices.{Device}
 use Rattle.replay.specs.Choices.{terms_of}
 use Rattle.arrivals.specs.Arrivals.{Arrival}
 use Rattle.arrivals.specs.Connections.{arrivals_with}
@@ -13,7 +14,7 @@ use Rattle.replay.proofs.answering.answer_all.Goals as goal
 pub loop-message-init : goal.loop-message-init
 loop-message-init g c = (
   λ arrivals place stands. rw (append-nil arrivals) stands,
-  λ arrivals place stands. told_none _ c.args.desk.now.start arrivals c.args.writer.now.0 (c.requires.texts (terms_of g.F.Tree.files c.args.settings.now)),
+  λ arrivals place stands. told_none _ c.args.desk.now.start arrivals c.args.writer.now.bytes (c.requires.texts (terms_of g.F.Tree.files c.args.settings.now)),
   refl,
   omega arith,
   refl,
@@ -39,7 +40,7 @@ returns-in_err-answer_message-clause-many g c =
       lt,
       (let e = full.1 in omega (arith, at, e)),
       λ arrivals place stands.
-          subst (λ (w : Option (List ℕ) × ℕ). Told (g.T.Tells.telling (terms_of g.F.Tree.files c.args.settings.now)) c.args.desk.now.start arrivals (arrivals_with place c.args.origin (take c.loop-message.message-index c.args.messages.now)) c.args.writer.now.0 w.0) (sym full.2) (inv.1 arrivals place stands),
+          subst (λ (w : Device). Told (g.T.Tells.telling (terms_of g.F.Tree.files c.args.settings.now)) c.args.desk.now.start arrivals (arrivals_with place c.args.origin (take c.loop-message.message-index c.args.messages.now)) c.args.writer.now.bytes w.bytes) (sym full.2) (inv.1 arrivals place stands),
     ))
     c.in_err-answer_message.ensures.many))
     c.from_residual.ensures.1

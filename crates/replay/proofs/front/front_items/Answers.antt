@@ -1,7 +1,7 @@
 use Rattle.std.proofs.Common.{◌≡◌, ℕ, [], ◌∷◌, vec_len, sym, ◌∙◌, arith}
 use Rattle.std.proofs.lemmas.List.{map-append}
 use Rattle.std.proofs.lemmas.List.FromFn.{map-range_with_len_more}
-use Rattle.stage_graph.specs.Stands.{with_steps}
+use Rattle.stage_graph.specs.After.{with_steps}
 use Rattle.replay.proofs.Sights.{drop_next, length-more}
 use Rattle.replay.proofs.front.front_items.Goals as goal
 

@@ -1,7 +1,7 @@
 use Rattle.std.proofs.Common.{◌≡◌, ◌+◌, ◌≤◌, drop, map, length, vec_len, vec_capacity}
 use Rattle.std.specs.List.{range_with_len}
 use Rattle.std.specs.Vec.Iter.{into_iter_items}
-use Rattle.stage_graph.specs.Stands.{with_steps}
+use Rattle.stage_graph.specs.After.{with_steps}
 use Rattle.replay.proofs.front.front_items.Given as goal
 
 abbrev pub invariant-loop-message : goal.invariant-loop-message

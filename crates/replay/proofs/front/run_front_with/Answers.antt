@@ -1,5 +1,5 @@
 use Rattle.std.proofs.Common.{◌≡◌, ap, sym, ◌∙◌}
-use Rattle.stage_graph.specs.Stands.{last_cut}
+use Rattle.stage_graph.specs.After.{last_cut}
 use Rattle.stage_graph.proofs.ByNumber.{by_number}
 use Rattle.replay.specs.Fronts.{front_value, no_message}
 use Rattle.replay.proofs.front.run_front_with.Goals as goal

@@ -10,14 +10,14 @@ use Rattle.replay.proofs.Server.{serves_none, no_tiers, sizes_left, is_later, ga
 use Rattle.replay.proofs.plain.replay_telling.Goals as goal
 
 pub returns-in-Err-clause-stops : goal.returns-in-Err-clause-stops
-returns-in-Err-clause-stops g c = rw c.from.ensures (told _ (StopsTelling (g.T.Tells.telling (terms_of g.F.Tree.files c.args.settings.now)) c.args.reader.now.0 _ c.args.writer.now.0 c.begin.new.writer.0)
-    (halts_first (g.T.Tells.telling (terms_of g.F.Tree.files c.args.settings.now)) c.args.reader.now.0 _ c.args.writer.now.0 c.begin.new.writer.0 _ (c.in_ok-begin.ensures.written (terms_of g.F.Tree.files c.args.settings.now)) c.in-Err.ensures.at c.in-Err.ensures.fault))
+returns-in-Err-clause-stops g c = rw c.from.ensures (told _ (StopsTelling (g.T.Tells.telling (terms_of g.F.Tree.files c.args.settings.now)) c.args.reader.now.bytes _ c.args.writer.now.bytes c.begin.new.writer.bytes)
+    (halts_first (g.T.Tells.telling (terms_of g.F.Tree.files c.args.settings.now)) c.args.reader.now.bytes _ c.args.writer.now.bytes c.begin.new.writer.bytes _ (c.in_ok-begin.ensures.written (terms_of g.F.Tree.files c.args.settings.now)) c.in-Err.ensures.at c.in-Err.ensures.fault))
 
 pub returns-in-Err-clause-part : goal.returns-in-Err-clause-part
-returns-in-Err-clause-part g c = rw c.from.ensures (told_short _ (IsCutOff (g.T.Tells.telling (terms_of g.F.Tree.files c.args.settings.now)) c.args.reader.now.0 c.args.writer.now.0 c.begin.new.writer.0) (inl (part_all c.args.writer.now.0 c.begin.new.writer.0 _ (c.in_ok-begin.ensures.written (terms_of g.F.Tree.files c.args.settings.now)))))
+returns-in-Err-clause-part g c = rw c.from.ensures (told_short _ (IsCutOff (g.T.Tells.telling (terms_of g.F.Tree.files c.args.settings.now)) c.args.reader.now.bytes c.args.writer.now.bytes c.begin.new.writer.bytes) (inl (part_all c.args.writer.now.bytes c.begin.new.writer.bytes _ (c.in_ok-begin.ensures.written (terms_of g.F.Tree.files c.args.settings.now)))))
 
 pub returns-in_err-new-clause-part : goal.returns-in_err-new-clause-part
-returns-in_err-new-clause-part g c = cut_short c.from_residual-in_err-new.result _ (inl (part_all c.args.writer.now.0 c.begin.new.writer.0 _ (c.in_ok-begin.ensures.written (terms_of g.F.Tree.files c.args.settings.now))))
+returns-in_err-new-clause-part g c = cut_short c.from_residual-in_err-new.result _ (inl (part_all c.args.writer.now.bytes c.begin.new.writer.bytes _ (c.in_ok-begin.ensures.written (terms_of g.F.Tree.files c.args.settings.now))))
 
 pub loop-next-init : goal.loop-next-init
 loop-next-init g c =
@@ -29,7 +29,7 @@ loop-next-init g c =
         rw c.start.ensures c.in-Ok.ensures.ok,
         serves_none terms c.new-connections.result _ c.new-connections.ensures (stands_none terms _ (c.in_ok-new.ensures.policies ∙ ap (λ s. s.policies) c.settings.view_is) c.in_ok-new.ensures.fits c.new-2.ensures),
         no_tiers c.new-tiers.result c.new-tiers.ensures,
-        text_begun (g.T.Tells.telling terms) c.start.result c.args.writer.now.0 c.begin.new.writer.0 (c.in_ok-begin.ensures.texts terms) (c.in_ok-begin.ensures.written terms),
+        text_begun (g.T.Tells.telling terms) c.start.result c.args.writer.now.bytes c.begin.new.writer.bytes (c.in_ok-begin.ensures.texts terms) (c.in_ok-begin.ensures.written terms),
       ),
       refl,
       c.in-Ok.ensures.count,
@@ -40,13 +40,13 @@ loop-next-init g c =
 pub returns-in-Err-next_record-clause-stops : goal.returns-in-Err-next_record-clause-stops
 returns-in-Err-next_record-clause-stops g c =
     let inv = c.loop-next.invariant.0 in
-    halts_told (g.T.Tells.telling (terms_of g.F.Tree.files c.args.settings.now)) (terms_of g.F.Tree.files c.args.settings.now) inv.0 c.args.reader.now.0 _ _ c.next_record.new.self.input.now.0 _ _ _ inv.1 inv.2 _ _ _ c.in-Err-next_record.fault c.from-in-Err-next_record.result c.from-in-Err-next_record.ensures inv.3 inv.4 inv.6
+    halts_told (g.T.Tells.telling (terms_of g.F.Tree.files c.args.settings.now)) (terms_of g.F.Tree.files c.args.settings.now) inv.0 c.args.reader.now.bytes _ _ c.next_record.new.self.input.now.bytes _ _ _ inv.1 inv.2 _ _ _ c.in-Err-next_record.fault c.from-in-Err-next_record.result c.from-in-Err-next_record.ensures inv.3 inv.4 inv.6
     (c.in-Err-next_record.ensures.next _ _ _ _ inv.3) (c.in-Err-next_record.ensures.failed _ _ _ _ inv.3) (search rules)
 
 pub returns-in-Err-next_record-clause-part : goal.returns-in-Err-next_record-clause-part
 returns-in-Err-next_record-clause-part g c =
     let inv = c.loop-next.invariant.0 in
-    rw c.from-in-Err-next_record.ensures (told_short _ (IsCutOff (g.T.Tells.telling (terms_of g.F.Tree.files c.args.settings.now)) c.args.reader.now.0 c.args.writer.now.0 c.loop-next.writer.0) (cut_among (g.T.Tells.telling (terms_of g.F.Tree.files c.args.settings.now)) (terms_of g.F.Tree.files c.args.settings.now) _ _ _ _ _ _ _ _ _ _ _ inv.3 inv.4 inv.6))
+    rw c.from-in-Err-next_record.ensures (told_short _ (IsCutOff (g.T.Tells.telling (terms_of g.F.Tree.files c.args.settings.now)) c.args.reader.now.bytes c.args.writer.now.bytes c.loop-next.writer.bytes) (cut_among (g.T.Tells.telling (terms_of g.F.Tree.files c.args.settings.now)) (terms_of g.F.Tree.files c.args.settings.now) _ _ _ _ _ _ _ _ _ _ _ inv.3 inv.4 inv.6))
 
 pub answer_record-requires-clause-record : goal.answer_record-requires-clause-record
 answer_record-requires-clause-record g c = (c.loop-next.capture.progress.version, rw c.in-Ok-Some.field-0-is at c.in-Ok-Some.ensures.limits)
@@ -85,7 +85,7 @@ returns-in_err-answer_record-clause-part g c =
     (λ f same. rw same (on_cut c.in_err-answer_record.field-0.0 _ _
     (λ short. elim short [
       | inl none ↦ cut_among (g.T.Tells.telling terms) terms _ _ _ _ _ _ _ _ _ _ _ inv.3 inv.4
-          (subst (λ (w : Option (List ℕ)). Appends c.args.writer.now.0 w ((g.T.Tells.telling terms).so_far c.loop-next.desk.start inv.2)) (sym none) inv.6)
+          (subst (λ (w : Option (List ℕ)). Appends c.args.writer.now.bytes w ((g.T.Tells.telling terms).so_far c.loop-next.desk.start inv.2)) (sym none) inv.6)
       | inr part ↦ cut_part (g.T.Tells.telling terms) inv.0 _ _ _ _ _ _ inv.1 inv.2 (c.in-Ok-Some.next ∷ []) _ (c.in_ok-begin.ensures.texts (terms_of g.F.Tree.files c.args.settings.now)) fits inv.6 (part inv.1 inv.2 inv.5 inv.4)
     ])
     c.in_err-answer_record.ensures.part))

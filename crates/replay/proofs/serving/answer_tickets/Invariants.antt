@@ -6,5 +6,5 @@ use Rattle.replay.proofs.serving.answer_tickets.Given as goal
 -- the groups so far are answered
 abbrev pub invariant-loop-group : goal.invariant-loop-group
 invariant-loop-group g l =
-    Answered g.F.Tree.files l.fn.tickets.items l.fn.writer.0 l.writer.0 (into_iter_items l.group-iterator)
-    × (l.writer.1 ≡ l.fn.writer.1)
+    Answered g.F.Tree.files l.fn.tickets.items l.fn.writer.bytes l.writer.bytes (into_iter_items l.group-iterator)
+    × (l.writer.failures ≡ l.fn.writer.failures)

@@ -10,7 +10,7 @@ pub returns-then-is_empty-clause-written : goal.returns-then-is_empty-clause-wri
 returns-then-is_empty-clause-written g c = λ arrivals more up. none_written _ arrivals more _ _ _ up (no_messages _ _ c.args.messages.ok.0 (sym c.is_empty.ensures ∙ c.if-is_empty.true))
 
 pub returns-in_err-sights-clause-part : goal.returns-in_err-sights-clause-part
-returns-in_err-sights-clause-part g c = unwritten _ _ _ _ c.args.writer.now.0
+returns-in_err-sights-clause-part g c = unwritten _ _ _ _ c.args.writer.now.bytes
 
 pub decide_all-requires-clause-arrived : goal.decide_all-requires-clause-arrived
 decide_all-requires-clause-arrived g c =
@@ -18,7 +18,7 @@ decide_all-requires-clause-arrived g c =
     (next.0, next.1, next.2.stands, sighted_are _ _ _ next.1 _ _ (ap (λ (s : Choice). s.costs) c.settings.view_is) next.2.are c.in_ok-sights.ensures, next.2.timely, next.3)
 
 pub returns-in_err-tickets-clause-part : goal.returns-in_err-tickets-clause-part
-returns-in_err-tickets-clause-part g c = unwritten _ _ _ _ c.args.writer.now.0
+returns-in_err-tickets-clause-part g c = unwritten _ _ _ _ c.args.writer.now.bytes
 
 pub returns-clause-stands : goal.returns-clause-stands
 returns-clause-stands g c = ok_all c.answer_tickets.result _ (λ arrivals more up. c.in_ok-tickets.ensures.stands arrivals more up.stands (sighted_are _ _ _ more _ _ (ap (λ (s : Choice). s.costs) c.settings.view_is) up.are c.in_ok-sights.ensures))

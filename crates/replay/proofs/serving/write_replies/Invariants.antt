@@ -6,4 +6,4 @@ use Rattle.replay.proofs.serving.write_replies.Given as goal
 
 -- the replies so far are written
 abbrev pub invariant-loop-reply : goal.invariant-loop-reply
-invariant-loop-reply g l = Appends l.fn.writer.0 l.writer.0 (flat_map record_text (take l.reply-index l.replies)) × (l.writer.1 ≡ l.fn.writer.1)
+invariant-loop-reply g l = Appends l.fn.writer.bytes l.writer.bytes (flat_map record_text (take l.reply-index l.replies)) × (l.writer.failures ≡ l.fn.writer.failures)

@@ -12,17 +12,17 @@ use Rattle.replay.proofs.ByBatch.{come_next, waits_none}
 use Rattle.replay.proofs.staged.staged_replay.Goals as goal
 
 pub returns-in-Err-clause-stops : goal.returns-in-Err-clause-stops
-returns-in-Err-clause-stops g c = rw c.from.ensures (told _ (Stops (terms_of g.F.Tree.files c.args.settings.now) c.args.reader.now.0 _ c.args.writer.now.0 c.write_first_line.new.writer.0)
-    (stops_first (terms_of g.F.Tree.files c.args.settings.now) c.args.reader.now.0 _ c.args.writer.now.0 c.write_first_line.new.writer.0 _ c.in_ok-write_first_line.ensures.written c.in-Err.ensures.at c.in-Err.ensures.fault))
+returns-in-Err-clause-stops g c = rw c.from.ensures (told _ (Stops (terms_of g.F.Tree.files c.args.settings.now) c.args.reader.now.bytes _ c.args.writer.now.bytes c.write_first_line.new.writer.bytes)
+    (stops_first (terms_of g.F.Tree.files c.args.settings.now) c.args.reader.now.bytes _ c.args.writer.now.bytes c.write_first_line.new.writer.bytes _ c.in_ok-write_first_line.ensures.written c.in-Err.ensures.at c.in-Err.ensures.fault))
 
 pub returns-in-Err-clause-part : goal.returns-in-Err-clause-part
-returns-in-Err-clause-part g c = rw c.from.ensures (told_short _ (IsCutShort (terms_of g.F.Tree.files c.args.settings.now) c.args.reader.now.0 c.args.writer.now.0 c.write_first_line.new.writer.0) (inl (part_all c.args.writer.now.0 c.write_first_line.new.writer.0 _ c.in_ok-write_first_line.ensures.written)))
+returns-in-Err-clause-part g c = rw c.from.ensures (told_short _ (IsCutShort (terms_of g.F.Tree.files c.args.settings.now) c.args.reader.now.bytes c.args.writer.now.bytes c.write_first_line.new.writer.bytes) (inl (part_all c.args.writer.now.bytes c.write_first_line.new.writer.bytes _ c.in_ok-write_first_line.ensures.written)))
 
 pub returns-in_err-new-clause-part : goal.returns-in_err-new-clause-part
-returns-in_err-new-clause-part g c = cut_short c.from_residual-in_err-new.result _ (inl (part_all c.args.writer.now.0 c.write_first_line.new.writer.0 _ c.in_ok-write_first_line.ensures.written))
+returns-in_err-new-clause-part g c = cut_short c.from_residual-in_err-new.result _ (inl (part_all c.args.writer.now.bytes c.write_first_line.new.writer.bytes _ c.in_ok-write_first_line.ensures.written))
 
 pub returns-in_err-new-2-clause-part : goal.returns-in_err-new-2-clause-part
-returns-in_err-new-2-clause-part g c = cut_short c.from_residual-in_err-new-2.result _ (inl (part_all c.args.writer.now.0 c.write_first_line.new.writer.0 _ c.in_ok-write_first_line.ensures.written))
+returns-in_err-new-2-clause-part g c = cut_short c.from_residual-in_err-new-2.result _ (inl (part_all c.args.writer.now.bytes c.write_first_line.new.writer.bytes _ c.in_ok-write_first_line.ensures.written))
 
 pub loop-pages-init : goal.loop-pages-init
 loop-pages-init g c =
@@ -34,7 +34,7 @@ loop-pages-init g c =
         rw c.start.ensures c.in-Ok.ensures.ok,
         serves_none terms _ _ (ap connections_of c.new-seats.ensures) (stands_none terms _ (c.in_ok-new.ensures.policies ∙ ap (λ s. s.policies) c.settings.view_is) c.in_ok-new.ensures.fits c.new-2.ensures),
         no_tiers c.new-tiers.result c.new-tiers.ensures,
-        first_written terms c.start.result c.args.writer.now.0 c.write_first_line.new.writer.0 c.in_ok-write_first_line.ensures.written,
+        first_written terms c.start.result c.args.writer.now.bytes c.write_first_line.new.writer.bytes c.in_ok-write_first_line.ensures.written,
       ),
       refl,
       c.in-Ok.ensures.count,
@@ -84,7 +84,7 @@ returns-in_err-seats-clause-part g c =
     (λ f same. rw same (on_cut c.in_err-seats.field-0.0 _ _
     (λ short. elim short [
       | inl none ↦ short_among terms _ _ _ _ _ _ _ _ _ _ _ inv.0.3 inv.0.4
-          (subst (λ (w : Option (List ℕ)). Appends c.args.writer.now.0 w (text_before_stop (replies_of terms c.loop-pages.desk.start (handled terms inv.0.2)))) (sym none) inv.0.6)
+          (subst (λ (w : Option (List ℕ)). Appends c.args.writer.now.bytes w (text_before_stop (replies_of terms c.loop-pages.desk.start (handled terms inv.0.2)))) (sym none) inv.0.6)
       | inr part ↦ short_part terms inv.0.0 _ _ _ _ _ _ inv.0.1 inv.0.2 b.0 _ on.fits inv.0.6 (part inv.0.1 b.0 inv.0.2 next)
     ])
     c.in_err-seats.ensures.part))
@@ -104,7 +104,7 @@ returns-in-Fault-clause-stops g c =
     let one = c.in_ok-seats.ensures in
     let more = one.serves inv.0.1 b.0 inv.0.2 next in
     let ends = rw c.in-Fault.is at on.ends in
-    stops_told terms inv.0.0 c.args.reader.now.0 _ _ c.read_batch.new.capture.input.now.0 _ _ _ (inv.0.1 ++ b.0) (inv.0.2 ++ more.more) _ _ _ c.in-Fault.fault c.from-in-Fault.result is on.fits more.serves
+    stops_told terms inv.0.0 c.args.reader.now.bytes _ _ c.read_batch.new.capture.input.now.bytes _ _ _ (inv.0.1 ++ b.0) (inv.0.2 ++ more.more) _ _ _ c.in-Fault.fault c.from-in-Fault.result is on.fits more.serves
     (more_written terms c.loop-pages.desk.start inv.0.2 more.more _ _ _ inv.0.6 (rw one.start at more.written)) ends.0 ends.1 (search rules)
 
 pub returns-in-Fault-clause-part : goal.returns-in-Fault-clause-part
@@ -121,7 +121,7 @@ returns-in-Fault-clause-part g c =
     let one = c.in_ok-seats.ensures in
     let more = one.serves inv.0.1 b.0 inv.0.2 next in
     rw is
-    (told_short _ (IsCutShort terms c.args.reader.now.0 c.args.writer.now.0 c.serve_batch.new.writer.0)
+    (told_short _ (IsCutShort terms c.args.reader.now.bytes c.args.writer.now.bytes c.serve_batch.new.writer.bytes)
     (short_among terms _ _ _ _ _ _ _ _ _ _ _ on.fits more.serves (more_written terms c.loop-pages.desk.start inv.0.2 more.more _ _ _ inv.0.6 (rw one.start at more.written))))
 
 pub returns-in-Fault-clause-reads : goal.returns-in-Fault-clause-reads

@@ -1,7 +1,7 @@
 use Rattle.std.proofs.Common.{◌≡◌, ◌≤◌, [], List}
 use Rattle.std.specs.Io.KnownBytes.{Appends}
 use Rattle.captures.specs.declared.version.Version.{Version}
-use Rattle.captures.specs.Readers.{Fits}
+use Rattle.captures.specs.Readers.{ReaderAfter}
 use Rattle.captures.specs.declared.record.Record.{Record}
 use Rattle.replay.specs.Choices.{terms_of}
 use Rattle.arrivals.specs.Arrivals.{Arrival}
@@ -15,10 +15,10 @@ use Rattle.replay.proofs.staged.staged_replay.Given as goal
 -- some records were read, the messages that arrived with them are answered, and nothing waits
 abbrev pub invariant-loop-pages : goal.invariant-loop-pages
 invariant-loop-pages g l =
-    ((v : Version) × (records : List Record) × (arrivals : List Arrival) × Fits v l.fn.reader.0 l.desk.start records l.capture.progress l.capture.input.now.0
+    ((v : Version) × (records : List Record) × (arrivals : List Arrival) × ReaderAfter v l.fn.reader.bytes l.desk.start records l.capture.progress l.capture.input.now.bytes
     × Serves (terms_of g.F.Tree.files l.settings) records arrivals (connections_of l.seats) l.desk × AreTiers records l.tiers
-    × Appends l.fn.writer.0 l.writer.0 (text_before_stop (replies_of (terms_of g.F.Tree.files l.settings) l.desk.start (handled (terms_of g.F.Tree.files l.settings) arrivals))))
-    × (l.capture.input.ghost_name ≡ l.initial.capture.input.ghost_name) × (l.capture.input.now.1 ≡ l.fn.reader.1) × (l.writer.1 ≡ l.fn.writer.1)
+    × Appends l.fn.writer.bytes l.writer.bytes (text_before_stop (replies_of (terms_of g.F.Tree.files l.settings) l.desk.start (handled (terms_of g.F.Tree.files l.settings) arrivals))))
+    × (l.capture.input.ghost_name ≡ l.initial.capture.input.ghost_name) × (l.capture.input.now.failures ≡ l.fn.reader.failures) × (l.writer.failures ≡ l.fn.writer.failures)
     × (l.desk.start ≤ 4102444800) × Waiting [] l.seats
 
 abbrev pub decreases-loop-pages : goal.decreases-loop-pages

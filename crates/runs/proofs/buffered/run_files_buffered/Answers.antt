@@ -10,8 +10,8 @@ returns g c =
     let out_opens = opened _ _ _ _ c.new-report.ensures out_same c.new-4.ensures.waiting in
     record {
       ran = c.run_replay-ran.result;
-      whole = c.run_replay-ran.new.written.0;
-      out_whole = c.run_replay-ran.new.out.0;
+      whole = c.run_replay-ran.new.written.bytes;
+      out_whole = c.run_replay-ran.new.out.bytes;
       rest = c.write_rest-ran.result.0;
       says = files_says c.args.wanted c.args.settings.now _ _ _ _ _ _ c.run_replay-ran.new.capture _ c.run_replay-ran.new.written _ c.run_replay-ran.new.out c.run_replay-ran.result c.new-5.ensures c.new-6.ensures opens out_opens c.run_replay-ran.ensures.ok c.run_replay-ran.ensures.fault;
       replies = settled _ _ _ _ _ _ _ _ _ _ c.requires.written c.into_writer.ensures c.is_cut-cut.ensures c.write_rest-ran.ensures;

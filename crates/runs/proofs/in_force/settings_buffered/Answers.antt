@@ -9,7 +9,7 @@ returns g c =
     let opens = opened _ _ _ _ c.new-output.ensures same c.new-2.ensures.waiting in
     record {
       ran = c.run_settings-ran.result;
-      whole = c.run_settings-ran.new.output.0;
+      whole = c.run_settings-ran.new.output.bytes;
       says = settings_say _ _ _ c.run_settings-ran.new.output c.run_settings-ran.result opens c.run_settings-ran.ensures.ok c.run_settings-ran.ensures.fault;
       stands = settled _ _ _ _ _ _ _ _ _ _ c.requires.stood c.into_writer.ensures c.is_unwritten-cut.ensures c.write_rest.ensures;
     }

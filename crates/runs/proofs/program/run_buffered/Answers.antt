@@ -8,7 +8,7 @@ returns g c =
     let opens = opened _ _ _ _ c.new-replies.ensures same c.new-2.ensures.waiting in
     record {
       ran = c.run_bundle-ran.result;
-      whole = c.run_bundle-ran.new.output.0;
+      whole = c.run_bundle-ran.new.output.bytes;
       says = bundle_says _ _ _ c.run_bundle-ran.new.input _ c.run_bundle-ran.new.output c.run_bundle-ran.result c.new-3.ensures opens c.run_bundle-ran.ensures.ok c.run_bundle-ran.ensures.fault;
       stands = settled _ _ _ _ _ _ _ _ _ _ c.requires.stood c.into_writer.ensures c.is_cut-cut.ensures c.write_rest.ensures;
     }

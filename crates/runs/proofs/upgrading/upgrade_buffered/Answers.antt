@@ -8,7 +8,7 @@ returns g c =
     let opens = opened _ _ _ _ c.new-output.ensures same c.new-2.ensures.waiting in
     record {
       ran = c.run_upgrade-ran.result;
-      whole = c.run_upgrade-ran.new.output.0;
+      whole = c.run_upgrade-ran.new.output.bytes;
       says = upgrade_says _ _ _ c.run_upgrade-ran.new.input _ c.run_upgrade-ran.new.output c.run_upgrade-ran.result c.new-3.ensures opens c.run_upgrade-ran.ensures.ok c.run_upgrade-ran.ensures.fault;
       stands = settled _ _ _ _ _ _ _ _ _ _ c.requires.stood c.into_writer.ensures c.is_cut-cut.ensures c.write_rest.ensures;
     }

@@ -1,7 +1,7 @@
 use Rattle.std.proofs.Common.{arith, ◌∙◌, sym, ◌∷◌, []}
 use Rattle.std.proofs.lemmas.List.{map-append}
 use Rattle.std.proofs.lemmas.List.FromFn.{map-range_with_len_more}
-use Rattle.stage_graph.specs.Stands.{with_steps}
+use Rattle.stage_graph.specs.After.{with_steps}
 use Rattle.stage_graph.proofs.legality.marks.Goals as goal
 
 pub loop-number-preserved : goal.loop-number-preserved

@@ -7,11 +7,11 @@ use Rattle.captures.proofs.progress.Progress.next_record.Goals as goal
 
 pub returns-in-Ok-Some-clause-next : goal.returns-in-Ok-Some-clause-next
 returns-in-Ok-Some-clause-next g c = λ v text start records f.
-    subst (λ (o : Option ARecord). GaveKind v text start records (Ok o) c.take_record.new.self c.take_record.new.input.0) c.in-Ok-Some.field-0-is (c.in-Ok-Some.ensures.next v text start records f)
+    subst (λ (o : Option ARecord). GaveKind v text start records (Ok o) c.take_record.new.self c.take_record.new.input.bytes) c.in-Ok-Some.field-0-is (c.in-Ok-Some.ensures.next v text start records f)
 
 pub returns-in-Ok-None-clause-next : goal.returns-in-Ok-None-clause-next
 returns-in-Ok-None-clause-next g c = λ v text start records f.
-    subst (λ (o : Option ARecord). GaveKind v text start records (Ok o) c.take_record.new.self c.take_record.new.input.0) c.in-Ok-None.field-0-is (c.in-Ok-None.ensures.next v text start records f)
+    subst (λ (o : Option ARecord). GaveKind v text start records (Ok o) c.take_record.new.self c.take_record.new.input.bytes) c.in-Ok-None.field-0-is (c.in-Ok-None.ensures.next v text start records f)
 
 pub returns-in-Err-clause-next : goal.returns-in-Err-clause-next
 returns-in-Err-clause-next g c = λ v text start records f.

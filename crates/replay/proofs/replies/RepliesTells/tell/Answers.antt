@@ -9,18 +9,18 @@ use Rattle.replay.proofs.replies.RepliesTells.tell.Goals as goal
 
 pub returns-in_err-sight-clause-part : goal.returns-in_err-sight-clause-part
 returns-in_err-sight-clause-part g c =
-    on_err c.from_residual.result _ (λ arrivals a stands from meaning. part_none c.args.writer.now.0 _)
+    on_err c.from_residual.result _ (λ arrivals a stands from meaning. part_none c.args.writer.now.bytes _)
 
 pub returns-in_err-ticket-clause-part : goal.returns-in_err-ticket-clause-part
 returns-in_err-ticket-clause-part g c =
-    on_err c.from_residual-in_err-ticket.result _ (λ arrivals a stands from meaning. part_none c.args.writer.now.0 _)
+    on_err c.from_residual-in_err-ticket.result _ (λ arrivals a stands from meaning. part_none c.args.writer.now.bytes _)
 
 pub returns-clause-written : goal.returns-clause-written
 returns-clause-written g c = ok_more c.answer_ticket.result _ _
     (λ written arrivals a stands from meaning.
     (let slips = c.in_ok-ticket.ensures.slip arrivals a stands from meaning in
     let all = reply_written _ (terms_of g.F.Tree.files c.args.settings.now) c.args.desk.now.start arrivals a _ _ slips refl in
-    subst (λ text. Appends c.args.writer.now.0 c.answer_ticket.new.writer.0 text) all written))
+    subst (λ text. Appends c.args.writer.now.bytes c.answer_ticket.new.writer.bytes text) all written))
     c.answer_ticket.ensures.written
 
 pub returns-clause-part : goal.returns-clause-part
@@ -28,5 +28,5 @@ returns-clause-part g c = err_more c.answer_ticket.result _ _
     (λ part arrivals a stands from meaning.
     (let slips = c.in_ok-ticket.ensures.slip arrivals a stands from meaning in
     let all = reply_written _ (terms_of g.F.Tree.files c.args.settings.now) c.args.desk.now.start arrivals a _ _ slips refl in
-    subst (λ text. AppendsInPart c.args.writer.now.0 c.answer_ticket.new.writer.0 text) all part))
+    subst (λ text. AppendsInPart c.args.writer.now.bytes c.answer_ticket.new.writer.bytes text) all part))
     c.answer_ticket.ensures.part

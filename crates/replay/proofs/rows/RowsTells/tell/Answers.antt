@@ -17,11 +17,11 @@ outlook-found-requires-clause-forward g c =
 
 pub returns-in_err-sight-clause-part : goal.returns-in_err-sight-clause-part
 returns-in_err-sight-clause-part g c =
-    on_err c.from_residual.result _ (λ arrivals a stands from meaning. part_none c.args.writer.now.0 _)
+    on_err c.from_residual.result _ (λ arrivals a stands from meaning. part_none c.args.writer.now.bytes _)
 
 pub returns-in_err-ticket-clause-part : goal.returns-in_err-ticket-clause-part
 returns-in_err-ticket-clause-part g c =
-    on_err c.from_residual-in_err-ticket.result _ (λ arrivals a stands from meaning. part_none c.args.writer.now.0 _)
+    on_err c.from_residual-in_err-ticket.result _ (λ arrivals a stands from meaning. part_none c.args.writer.now.bytes _)
 
 pub returns-in_err-write_row-clause-part : goal.returns-in_err-write_row-clause-part
 returns-in_err-write_row-clause-part g c =
@@ -33,7 +33,7 @@ returns-in_err-write_row-clause-part g c =
     let row = c.row_of-row.ensures terms c.args.desk.now.start arrivals a from costs finds (c.in_ok-ticket.ensures.slip arrivals a stands from meaning) in
     let text = row_written terms arrivals a c.row_of-row.result c.args.what.now c.method_of.result.now c.target_of.result.now row meaning c.method_of.ensures c.target_of.ensures in
     let part = c.in_err-write_row.ensures.front in
-    (part.0, subst (λ v. Appends c.args.writer.now.0 c.write_row.new.output.0 (take part.0 v)) text part.2)))
+    (part.0, subst (λ v. Appends c.args.writer.now.bytes c.write_row.new.output.bytes (take part.0 v)) text part.2)))
 
 pub returns-clause-written : goal.returns-clause-written
 returns-clause-written g c = λ arrivals a stands from meaning.
@@ -42,4 +42,4 @@ returns-clause-written g c = λ arrivals a stands from meaning.
     let costs = costs_known _ g.F.Tree.files _ c.args.settings.now.costs c.args.what.now a.message.what _ _ c.service_in-service.ensures.is c.in_ok-sight.ensures c.requires.snapshot (ap (λ s. s.costs) c.settings.view_is) meaning in
     let row = c.row_of-row.ensures terms c.args.desk.now.start arrivals a from costs finds (c.in_ok-ticket.ensures.slip arrivals a stands from meaning) in
     let text = row_written terms arrivals a c.row_of-row.result c.args.what.now c.method_of.result.now c.target_of.result.now row meaning c.method_of.ensures c.target_of.ensures in
-    subst (λ v. Appends c.args.writer.now.0 c.write_row.new.output.0 v) text c.in_ok-write_row.ensures.front
+    subst (λ v. Appends c.args.writer.now.bytes c.write_row.new.output.bytes v) text c.in_ok-write_row.ensures.front

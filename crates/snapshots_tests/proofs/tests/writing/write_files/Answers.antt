@@ -16,4 +16,4 @@ pub returns-clause-rules : goal.returns-clause-rules
 returns-clause-rules g c = all_rules _ _ c.finish.result c.loop-file-test.false (c.finish.ensures.rules _ _ c.loop-file.invariant.0)
 
 pub returns-clause-count : goal.returns-clause-count
-returns-clause-count g c = subst (λ (n : ℕ). Counts n c.finish.new.output.1 c.finish.result) c.loop-file.invariant.1 c.finish.ensures.count
+returns-clause-count g c = subst (λ (n : ℕ). Counts n c.finish.new.output.failures c.finish.result) c.loop-file.invariant.1 c.finish.ensures.count

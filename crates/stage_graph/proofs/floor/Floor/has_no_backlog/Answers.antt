@@ -1,5 +1,5 @@
 use Rattle.std.proofs.Common.{arith}
-use Rattle.stage_graph.specs.Stands.{with_steps}
+use Rattle.stage_graph.specs.After.{with_steps}
 use Rattle.stage_graph.proofs.Lists.{is_nil-maps, is_nil-length}
 use Rattle.stage_graph.proofs.floor.Floor.has_no_backlog.Goals as goal
 

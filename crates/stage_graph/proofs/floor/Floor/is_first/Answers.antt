@@ -3,7 +3,7 @@ use Rattle.std.specs.Option.{option_copied}
 use Rattle.std.proofs.lemmas.List.{get_or_read}
 use Rattle.stage_graph.specs.Layouts.{cut_before}
 use Rattle.stage_graph.specs.Floors.{standing, queue_at}
-use Rattle.stage_graph.specs.Stands.{with_steps}
+use Rattle.stage_graph.specs.After.{with_steps}
 use Rattle.stage_graph.proofs.Fronts.{first_some, first_none}
 use Rattle.stage_graph.proofs.floor.Floor.is_first.Goals as goal
 

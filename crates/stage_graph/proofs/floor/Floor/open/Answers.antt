@@ -3,7 +3,7 @@ use Rattle.std.proofs.lemmas.List.{take_all}
 use Rattle.std.proofs.lemmas.List.FromFn.{length-range_with_len}
 use Rattle.stage_graph.specs.Layouts.{IsPlan, stages, workers}
 use Rattle.stage_graph.specs.Floors.{most_events}
-use Rattle.stage_graph.specs.Stands.{empty_queue, with_steps}
+use Rattle.stage_graph.specs.After.{empty_queue, with_steps}
 use Rattle.stage_graph.proofs.Opening.{opening_stands}
 use Rattle.stage_graph.proofs.Lists.{length-maps}
 use Rattle.std.specs.List.{range_with_len}

@@ -1,5 +1,5 @@
 use Rattle.std.proofs.Common.{◌≡◌, ◌≤◌, None, false, map, take, replicate, vec_len, vec_capacity}
-use Rattle.stage_graph.specs.Stands.{empty_queue}
+use Rattle.stage_graph.specs.After.{empty_queue}
 use Rattle.stage_graph.proofs.floor.Floor.open.Given as goal
 
 abbrev pub invariant-loop-stage : goal.invariant-loop-stage

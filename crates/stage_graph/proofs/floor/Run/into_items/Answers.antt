@@ -1,5 +1,5 @@
 use Rattle.std.specs.List.{range_with_len}
-use Rattle.stage_graph.specs.Stands.{last_cut}
+use Rattle.stage_graph.specs.After.{last_cut}
 use Rattle.stage_graph.specs.Steps.{value_of}
 use Rattle.stage_graph.proofs.Lists.{values_by_law}
 use Rattle.stage_graph.proofs.floor.Run.into_items.Goals as goal

@@ -1,6 +1,6 @@
 use Rattle.std.proofs.Common.{◌≡◌, ◌≤◌, map, length, vec_len, vec_capacity}
 use Rattle.std.specs.List.{range_with_len}
-use Rattle.stage_graph.specs.Stands.{with_steps}
+use Rattle.stage_graph.specs.After.{with_steps}
 use Rattle.stage_graph_tests.proofs.tests.adding.items_of.Given as goal
 
 abbrev pub invariant-loop-i : goal.invariant-loop-i

@@ -1,5 +1,5 @@
 use Rattle.std.proofs.Common.{◌≡◌, ℕ, ◌+◌, ◌*◌, ◌%◌, ◌^◌, refl, ap, sym, ◌∙◌, map, length, slice_index}
-use Rattle.stage_graph.specs.Stands.{last_cut}
+use Rattle.stage_graph.specs.After.{last_cut}
 use Rattle.stage_graph.specs.Steps.{value_of}
 use Rattle.stage_graph.proofs.ByNumber.{by_number}
 use Rattle.stage_graph_tests.proofs.tests.adding.sums_with.Goals as goal

@@ -22,7 +22,7 @@ IsCovered full rate tick (call ∷ calls) =
     × IsCovered full (rate_after rate call) (tick_after tick call) calls
 
 -- a bucket that stands so after these calls: its clock and rate are the last ones, its credit is theirs
-pub record Fits (past : Past) (b : Standing) : Type 0 where
+pub record BucketAfter (past : Past) (b : Standing) : Type 0 where
   pub depth : b.depth ≡ past.depth
   pub rate : b.rate ≡ last_rate past.rate past.calls
   pub tick : b.tick ≡ clock 0 past.calls

@@ -3,7 +3,7 @@ use Rattle.std.specs.Prelude.{◌≡◌, ℕ, ◌+◌, ◌*◌, ◌/◌, ◌<◌
 use Rattle.token_bucket.specs.Limits.{TOKEN}
 use Rattle.token_bucket.specs.Accrual.{accrual}
 use Rattle.token_bucket.specs.Calls.{Past}
-use Rattle.token_bucket.specs.Fits as calls
+use Rattle.token_bucket.specs.After as calls
 use Rattle.token_bucket.specs.Standing as bucket
 use Rattle.admission.specs.Rules.{Rules}
 use Rattle.admission.specs.Window.{window_of}
@@ -34,7 +34,7 @@ AllCovered rate full tick (request ∷ requests) =
 
 -- the bucket of a tier stands as these requests of the tier left it: the controls that its clock has reached are those
 -- in force, its rate is theirs, and its credit that of a request which comes now
-pub record Stands (rules : Rules) (past : List Decided) (b : bucket.Standing) (reached : ℕ) : Type 0 where
+pub record TierBucketAfter (rules : Rules) (past : List Decided) (b : bucket.Standing) (reached : ℕ) : Type 0 where
   pub depth : b.depth ≡ rules.depth
   pub rate : b.rate ≡ rate_after rules (samples (served past)) reached
   pub credit : b.credit ≡ credit rules past b.tick
@@ -44,8 +44,8 @@ pub record Stands (rules : Rules) (past : List Decided) (b : bucket.Standing) (r
 -- so it stands after some calls on it
 pub record BucketFits (rules : Rules) (past : List Decided) (b : bucket.Standing) (reached : ℕ) : Type 0 where
   pub past_calls : Past
-  pub fits : calls.Fits past_calls b
-  pub stands : Stands rules past b reached
+  pub fits : calls.BucketAfter past_calls b
+  pub stands : TierBucketAfter rules past b reached
 
 -- a tier whose bucket, window and controls are those of these requests of the tier, where all tiers' requests are
 -- finished when the server is free
@@ -58,7 +58,7 @@ pub record TierFits (past : List Decided) (free : ℕ) (t : TierStanding) : Type
   pub controls : t.controls ≡ controls_of t.rules (served past)
 
 -- a controller that stands so after these offers: each tier by its own requests, the server by those of all tiers
-pub record Fits (offers : List Offer) (c : Standing) : Type 0 where
+pub record ControllerAfter (offers : List Offer) (c : Standing) : Type 0 where
   pub offered : c.offers ≡ length offers
   pub tick : c.tick ≡ tick_from 0 offers
   pub free : c.free ≡ last_finish (map (λ r. r.offer) (served (decided (policies_of c) offers)))

@@ -37,7 +37,7 @@ items_at f k = (slice_index_or f.queues k ([], 0)).0
 
 -- The items on a floor are where its history says, each with the steps of its place: an item in the backlog with
 -- none, one in the queue of a stage with those of the stage before, and a done one with those of the last stage.
-pub record Stands {X : Type 0} (mark : X → ℕ × ℕ) (p : Layout) (n : ℕ) (history : List Event)
+pub record FloorAfter {X : Type 0} (mark : X → ℕ × ℕ) (p : Layout) (n : ℕ) (history : List Event)
     (f : Parts X) : Type 0 where
   pub plan : IsPlan p
   pub legal : is_legal_from_opening p n history ≡ true

@@ -3,7 +3,7 @@ use Rattle.std.specs.Option.{option_map}
 use Rattle.responses.specs.Dates.{imf_date}
 use Rattle.responses.specs.Replies.{field_line, status_words, content_type, content_length, last_modified, location_of, allow_of, retry_after_of, connection_of}
 use Rattle.responses.proofs.Joining.{head_joined}
-use Rattle.responses.proofs.reply.render_head.Goals as goal
+use Rattle.responses.proofs.rendering.push_head.Goals as goal
 
 pub returns : goal.returns
 returns g c =
@@ -18,6 +18,6 @@ returns g c =
     (field_line (codes "Allow") (allow_of slip.what))
     (field_line (codes "Retry-After") (option_map decimal (retry_after_of slip.what)))
     (field_line (codes "Connection") (connection_of slip.link))
-    c.in_ok-head.ensures.items c.in_ok-extend_from_slice.ensures.items
+    c.requires.empty c.in_ok-extend_from_slice.ensures.items
     (c.in_ok-extend_from_slice-2.ensures.items ∙ ap (λ words. c.extend_from_slice.new.self.items ++ words) c.status_words.ensures) c.in_ok-extend_from_slice-3.ensures.items
     c.in_ok-push_date.ensures c.in_ok-push_content.ensures c.in_ok-push_last_modified.ensures c.in_ok-push_own.ensures c.in_ok-push_connection.ensures c.in_ok-extend_from_slice-4.ensures.items

@@ -1,0 +1,82 @@
+//! The head of a reply, rendered in a room that is kept for the next.
+
+ghost use Rattle.std.specs.Prelude.{◌≡◌, ◌≤◌, [], OnOk};
+ghost use Rattle.paths.specs.Snapshots.{latest_time};
+ghost use Rattle.responses.specs.Replies.{head_text};
+
+use crate::Slip;
+use crate::dates::Dates;
+use crate::fields::{push_connection, push_content, push_last_modified, push_own, status_words};
+use crate::head::push_date;
+use paths::Tree;
+use std::alloc::{AllocError, Global};
+use std::marker::Model;
+
+/// Writes the head of a reply into a room that is empty.
+pub(crate) fn push_head<F: Tree>(
+    head: &mut Vec<u8>,
+    dates: &mut Dates,
+    slip: &Slip<F>,
+) -> Result<(), AllocError>
+    requires empty { head.old.items ≡ [] }
+    requires date { slip.now.date ≤ latest_time }
+    ensures { OnOk result (head.new.items ≡ head_text F.files slip.now) }
+{
+    head.extend_from_slice(b"HTTP/1.1 ")?;
+    head.extend_from_slice(status_words(&slip.what))?;
+    head.extend_from_slice(b"\r\n")?;
+    push_date(head, &mut dates.date, b"Date", slip.date)?;
+    push_content(head, &slip.what)?;
+    push_last_modified(head, &mut dates.last_modified, &slip.what, slip.date)?;
+    push_own(head, &slip.what)?;
+    push_connection(head, slip.link)?;
+    head.extend_from_slice(b"\r\n")?;
+    Ok(())
+}
+
+/// Renders the heads of replies, one after another in the same room. The text of a date is kept for the next head that
+/// has it.
+///
+/// Contracts see the last head.
+#[derive(Drop)]
+pub struct HeadRenderer {
+    head: Vec<u8>,
+    dates: Dates,
+}
+
+impl Model for HeadRenderer {
+    ghost use Rattle.std.specs.Prelude.{ℕ, List};
+
+    ghost Value = { List ℕ };
+
+    ghost view = { λ h. h.head.items };
+}
+
+impl HeadRenderer {
+    /// No head yet. It takes no memory.
+    pub fn new(alloc: Global) -> HeadRenderer
+        ensures { result ≡ [] }
+    {
+        HeadRenderer {
+            head: Vec::new(alloc),
+            dates: Dates::of(0),
+        }
+    }
+
+    /// Renders the head of a reply, with the empty line that ends it, in the place of the last one. An `Err` is out of
+    /// memory.
+    pub fn render<F: Tree>(&mut self, slip: &Slip<F>) -> Result<(), AllocError>
+        requires { slip.now.date ≤ latest_time }
+        ensures { OnOk result (self.new ≡ head_text F.files slip.now) }
+    {
+        self.head.clear();
+        push_head(&mut self.head, &mut self.dates, slip)
+    }
+
+    /// The last head.
+    pub fn as_slice(&self) -> &[u8]
+        ensures { result.now ≡ self.now }
+    {
+        &self.head
+    }
+}
