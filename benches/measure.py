@@ -10,8 +10,14 @@ requests a second, microseconds a request, bytes a second (read and written), an
 of the snapshot. The last line of an input says how many times as many requests a second the staged engine answers as
 the plain one. The inputs stand in a folder of their own while it runs, and need about 100 MB. Run it on a machine
 that does nothing else.
+
+Where `valgrind` is there, it also counts the instructions that a request takes: those of 3,000 requests less those of
+1,000, by 2,000. That count doesn't depend on what else the machine does. At the end stands the table as README has it.
 """
 import os
+import re
+import shutil
+import subprocess
 import sys
 import tempfile
 import time
@@ -67,7 +73,7 @@ INPUTS = [
     ("20,000 for 256 KiB to 1 MiB", 20_000, huge),
 ]
 ENGINES = ["plain", "staged"]
-
+FEW, MANY = 1000, 3000
 
 # Settings that admit each request, so that all are answered and each has a sample.
 SETTINGS = b"[policy]\ndepth = 1000000\nrate = 1000000000\nrate_max = 1000000000\n"
@@ -146,26 +152,51 @@ def fastest(engines, runs):
     return {name: min(results, key=lambda result: result[0]) for name, results in times.items()}
 
 
+def replay_words(program, names):
+    """The words of a replay of these files, but for its engine and where its replies go."""
+    words = [program, "replay"]
+    for name in ("snapshot", "capture", "settings"):
+        words += ["--" + name, names[name]]
+    return words
+
+
+def count_instructions(program, make, folder):
+    """How many instructions a request takes with each engine, by valgrind's callgrind."""
+    totals = {}
+    for count in (FEW, MANY):
+        files, requests = make(count)
+        names = write_inputs(folder, snapshot(files), requests)
+        for engine in ENGINES:
+            words = ["valgrind", "--tool=callgrind", "--callgrind-out-file=/dev/null"]
+            words += replay_words(program, names) + ["--replies", os.devnull, "--engine", engine]
+            said = subprocess.run(words, capture_output=True, text=True, check=True).stderr
+            totals[engine, count] = int(re.search(r"Collected : (\d+)", said).group(1))
+    return {engine: (totals[engine, MANY] - totals[engine, FEW]) / (MANY - FEW) for engine in ENGINES}
+
+
+def row_of(title, size, rates, instructions):
+    """A row of README's table."""
+    counts = ["%s, %.0f MiB" % (format(round(rate, -3), ",.0f"), peak / 2**20) for rate, peak in rates]
+    if instructions:
+        counts.append(format(round(instructions["plain"], -1), ",.0f"))
+    return "| %s (snapshot %.0f MiB) | %s |" % (title, size / 2**20, " | ".join(counts))
+
+
 def measure(program, runs, title, count, make, folder):
+    """Prints what the engines took for an input; answers its row of the table."""
     files, requests = make(count)
     text = snapshot(files)
     names = write_inputs(folder, text, requests)
     size = os.path.getsize(names["snapshot"]) + os.path.getsize(names["capture"])
-    words = [
-        program,
-        "replay",
-        "--snapshot",
-        names["snapshot"],
-        "--capture",
-        names["capture"],
-        "--settings",
-        names["settings"],
-    ]
+    words = replay_words(program, names)
     written = count_replies(Run(words + ["--replies", "/dev/stdout", "--engine", "plain"]))
     engines = {name: Run(words + ["--replies", os.devnull, "--engine", name]) for name in ENGINES}
     best = fastest(engines, runs)
     print("%s, snapshot %.1f MiB" % (title, len(text) / 2**20))
+    rates = []
     for name, (seconds, usage) in best.items():
+        peak = engines[name].peak_of_memory()
+        rates.append((count / seconds, peak))
         worked = usage.ru_utime + usage.ru_stime
         print(
             "  %-6s %6.2f s (processors %.2f s)  %9.0f requests/s  %6.2f us a request"
@@ -178,12 +209,16 @@ def measure(program, runs, title, count, make, folder):
                 seconds / count * 1e6,
                 size / seconds / 1e6,
                 written / seconds / 1e6,
-                engines[name].peak_of_memory() / 2**20,
+                peak / 2**20,
             )
         )
     print("  staged answers %.2f times as many requests a second" % (best["plain"][0] / best["staged"][0]), flush=True)
+    instructions = count_instructions(program, make, folder) if shutil.which("valgrind") else {}
+    for name, each in instructions.items():
+        print("  %-6s %.0f instructions a request" % (name, each), flush=True)
     for name in names.values():
         os.unlink(name)
+    return row_of(title, len(text), rates, instructions)
 
 
 def main():
@@ -192,8 +227,8 @@ def main():
     program = os.path.abspath(sys.argv[1])
     runs = int(sys.argv[2]) if len(sys.argv) == 3 else 3
     with tempfile.TemporaryDirectory() as folder:
-        for title, count, make in INPUTS:
-            measure(program, runs, title, count, make, folder)
+        rows = [measure(program, runs, title, count, make, folder) for title, count, make in INPUTS]
+    print("\n".join(rows))
 
 
 if __name__ == "__main__":
