@@ -1,8 +1,7 @@
 -- A batch of records: how it is read, cut, and merged into arrivals.
-use Rattle.std.proofs.Common.{◌≡◌, ◌≢◌, ℕ, suc, zero, ◌+◌, ◌<◌, ◌≤◌, ◌==◌, ◌⊎◌, inl, inr, Bool, true, false, List, [], ◌∷◌, ◌++◌, length, take, map, get_or, All, Option, Some, refl, sym, ap, ◌∙◌, subst, arith, append-nil, append_assoc}
+use Rattle.std.proofs.Common.{◌≡◌, ℕ, suc, zero, ◌+◌, ◌<◌, ◌≤◌, ◌==◌, ◌⊎◌, inl, inr, Bool, true, false, List, [], ◌∷◌, ◌++◌, length, take, map, get_or, All, Option, Some, refl, sym, ap, ◌∙◌, subst, arith, append_assoc}
 use Rattle.std.specs.Prelude.{flat_map, slice_get, if◌then◌else◌}
 use Rattle.std.specs.List.{AllPairs, AllZip}
-use Rattle.std.proofs.lemmas.Bool.Decides.{eqb_tells}
 use Rattle.std.proofs.lemmas.List.{length-append, length-map, map-append, get_or_append_left, get_or_default}
 use Rattle.std.proofs.lemmas.List.Elements.{All-take}
 use Rattle.std.proofs.lemmas.List.Sums.{sum_by-cons, sum_by-append}
@@ -20,19 +19,18 @@ use Rattle.replay.specs.Choices.{Terms}
 use Rattle.arrivals.specs.Arrivals.{Arrival, ArrivesWith, AreArrivals, Precedes, text_of, messages_of}
 use Rattle.arrivals.specs.Batches.{ReadsOn, pieces_to, with_tier, tiers_of, origins_of, lists_to, arrivals_in, incoming_from, Stand}
 use Rattle.arrivals.specs.Connections.{HaveRead, connection_at, arrivals_with}
-use Rattle.arrivals.specs.Places.{Place, place_at, with_piece, with_lists, total, IsReady, IsCutOf, count_to}
+use Rattle.arrivals.specs.Places.{Place, place_at, with_lists, total, IsReady, IsCutOf, count_to}
 use Rattle.replay.specs.Serving.{Serves}
 use Rattle.replay.specs.Ticketing.{incoming_of, InTime}
 use Rattle.replay.specs.Waiting.{connections_of, Waiting, ComeNext, Upcoming}
-use Rattle.arrivals.specs.Gathering.{with_pieces, Adds, AddsOne}
+use Rattle.arrivals.specs.Gathering.{Adds}
 use Rattle.arrivals.specs.declared.connection.Connection.{Connection}
 use Rattle.replay.specs.declared.desk.Desk.{Desk}
 use Rattle.arrivals.specs.declared.incoming.Incoming.{Incoming}
 use Rattle.arrivals.specs.declared.origin.Origin.{Origin}
 use Rattle.arrivals.specs.declared.piece_messages.PieceMessages.{PieceMessages}
-use Rattle.arrivals.proofs.Arriving.{if_true, if_false}
-use Rattle.arrivals.proofs.Merging.{stand_batch, tiers_piece, tiers_end, tiers_tier}
-use Rattle.replay.proofs.Server.{text_below, tick_at, ticks_before, ticks_before_le}
+use Rattle.arrivals.proofs.Merging.{stand_batch}
+use Rattle.replay.proofs.ByRecord.{text_below, tick_at, ticks_before, ticks_before_le}
 
 -- ---- what the engine keeps
 

@@ -6,7 +6,7 @@ pub mod Judging
 pub mod Writing
 pub mod Texts
 pub mod RowByRow
-pub mod Server
+pub mod ByRecord
 pub mod OneAnswer
 pub mod OneOutcome
 pub mod Sights

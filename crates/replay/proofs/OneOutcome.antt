@@ -1,6 +1,5 @@
 -- An input of known bytes has one outcome: an answer, a fault of its capture, or messages beyond the limit.
-use Rattle.std.proofs.Common.{◌≡◌, ℕ, ◌+◌, ◌<◌, ◌≤◌, inl, inr, false, true, List, [], ◌∷◌, ◌++◌, length, take, Option, is_some, unwrap_or, refl, sym, ap, ◌∙◌, subst, arith, flat_map}
-use Rattle.std.specs.Io.KnownBytes.{Appends}
+use Rattle.std.proofs.Common.{◌≡◌, ℕ, ◌<◌, ◌≤◌, inl, inr, false, true, List, [], ◌∷◌, ◌++◌, length, take, Option, is_some, unwrap_or, refl, sym, ap, ◌∙◌, subst, arith, flat_map}
 use Rattle.std.proofs.lemmas.List.{append-nil, length-append, take-append-le, nil_from_length}
 use Rattle.captures.specs.declared.record.Record.{Record}
 use Rattle.captures.specs.declared.version.Version.{Version}
@@ -13,7 +12,7 @@ use Rattle.arrivals.specs.Arrivals.{Arrival, AreArrivals}
 use Rattle.replay.specs.Choices.{Terms}
 use Rattle.replay.specs.Offers.{handled}
 use Rattle.replay.specs.Telling.{replies_told}
-use Rattle.replay.specs.Outcomes.{most_messages, Answers, Taken, StopsAfter, Stops, StopsFull}
+use Rattle.replay.specs.Outcomes.{most_messages, StopsAfter, Stops, StopsFull}
 use Rattle.replay.specs.Replies.{first_line, text_before_stop, replies_of}
 use Rattle.replay.specs.Laws.{AnsweredNotFaulty, AnsweredNotFull, FaultyNotFull, OneFault, OneLimit}
 use Rattle.arrivals.proofs.ArrivalLaws.{one_list_of_arrivals, arrivals_begin}

@@ -151,11 +151,9 @@ row_written terms arrivals a row what method target is meaning methods targets =
     ∙ ap (λ t. row_text (row_of terms arrivals a) (method_of a.message.what) t) (targets ∙ ap target_of (sym meaning)) ∙ sym (rows_one terms arrivals a)
 
 -- how long a message takes, as it was looked into
-pub costs_known : (snapshot files : List File) (costs table : CostTable) (said what : Meaning) (sight : Sight) (service : Option ℕ)
-    → service ≡ service_in sight → sight ≡ sight_of snapshot costs said → snapshot ≡ files → costs ≡ table → what ≡ said → service ≡ service_in (sight_of files table what)
-costs_known snapshot files costs table said what sight service is sees same tables meaning =
-    is ∙ ap service_in sees ∙ ap (λ f. service_in (sight_of f costs said)) same ∙ ap (λ t. service_in (sight_of files t said)) tables
-    ∙ ap (λ w. service_in (sight_of files table w)) (sym meaning)
+pub costs_known : (files : List File) (costs : CostTable) (said what : Meaning) (sight : Sight) (service : Option ℕ)
+    → service ≡ service_in sight → sight ≡ sight_of files costs said → what ≡ said → service ≡ service_in (sight_of files costs what)
+costs_known files costs said what sight service is sees meaning = is ∙ ap service_in sees ∙ ap (λ w. service_in (sight_of files costs w)) (sym meaning)
 
 -- ---- what rows say
 

@@ -17,3 +17,4 @@ pub mod Backs
 pub mod Groups
 pub mod Ticketing
 pub mod Waiting
+pub mod Steps

@@ -1,6 +1,6 @@
 -- What a replay comes to: its outcome, or a fault, and what it has written.
-use Rattle.std.specs.Prelude.{◌≡◌, ℕ, ◌+◌, ◌<◌, ◌≤◌, ◌⊎◌, Bool, true, false, List, ◌++◌, length, take, Option, Result}
-use Rattle.std.specs.Prelude.{Err, MatchResult}
+use Rattle.std.specs.Prelude.{◌≡◌, ℕ, ◌+◌, ◌<◌, ◌≤◌, ◌⊎◌, Bool, true, false, List, ◌++◌, length, take, Option}
+use Rattle.std.specs.Prelude.{Err}
 use Rattle.std.specs.Io.KnownBytes.{Appends}
 use Rattle.paths.specs.KnownText.{WhereKnown}
 use Rattle.captures.specs.declared.record.Record.{Record}

@@ -1,6 +1,6 @@
 //! One reply to one message, and all replies to the messages of a piece.
 
-ghost use Rattle.std.specs.Prelude.{◌≡◌, ◌<◌, ◌≤◌, ◌-◌, ◌+◌, ◌^◌, ◌++◌, ◌∷◌, [], ℕ, List, true, length, take, OnOk};
+ghost use Rattle.std.specs.Prelude.{◌≡◌, ◌<◌, ◌≤◌, ◌-◌, ◌+◌, ◌^◌, [], ℕ, List, true, length, take, OnOk};
 ghost use Rattle.std.specs.Prelude.{IfOk, IfErr, OnErr};
 ghost use Rattle.std.specs.Io.KnownBytes.{Appends};
 ghost use Rattle.paths.specs.Devices.{CanFail, CountsBy};
@@ -9,38 +9,37 @@ ghost use Rattle.responses.specs.Records.{record_text};
 ghost use Rattle.captures.specs.Captures.{latest_start, latest_tick};
 ghost use Rattle.replay.specs.Choices.{Terms, terms_of};
 ghost use Rattle.arrivals.specs.Arrivals.{Arrival};
-ghost use Rattle.arrivals.specs.Connections.{arrivals_with};
 ghost use Rattle.replay.specs.Outcomes.{writer_failures, IsOwn, IfTooMany, IfCutShort};
 ghost use Rattle.replay.specs.Outcomes.{AppendsInPart, IsWriteOrMemory};
 ghost use Rattle.replay.specs.Serving.{DeskAfter, AreBy};
-ghost use Rattle.replay.specs.Telling.{IsTelling, Told, ToldInPart};
+ghost use Rattle.replay.specs.Telling.{IsTelling};
+ghost use Rattle.replay.specs.Steps.{DecidesNext, TellsNext, TellsNextInPart};
+ghost use Rattle.replay.specs.Steps.{DecidesPiece, TellsPiece, TellsPieceInPart};
 ghost use Rattle.replay.specs.Fronts.{sight_of};
 ghost use Rattle.replay.specs.Backs.{slip_of_ticket, reply_to, given_as, is_back};
 ghost use Rattle.replay.specs.declared.back_state.BackState.TheVariants.{Due as Waits};
 
 use crate::answers::{answers_head, known_file, service_of};
 use crate::desk::Desk;
+use crate::server::Server;
 use crate::service_time::ServiceTime;
 use crate::sight::Sight;
 use crate::telling::Tells;
 use crate::ticket::{Due, Ticket};
-use crate::{MOST_MESSAGES, ReplayFault, Settings};
+use crate::{MOST_MESSAGES, ReplayFault};
 use arrivals::Origin;
-use cost_model::Costs;
 use http_requests::{Message, What as Meaning};
-use paths::{Output, Snapshot, Tree, resolve};
+use paths::{Output, Tree, resolve};
 use responses::{HeadRenderer, Slip, render, write_record, write_reply};
-use std::alloc::{AllocError, Global};
+use std::alloc::AllocError;
 use std::io::Write;
 
 /// What is known of a message before it is decided on.
-pub(crate) fn look_into(
-    alloc: Global,
-    snapshot: &Snapshot,
-    costs: Costs,
+pub(crate) fn look_into<F: Tree>(
+    server: &Server<'_, F>,
     what: &Meaning,
 ) -> Result<Sight, AllocError>
-    ensures { IfOk result (λ sight. sight ≡ sight_of snapshot.now costs what.now) }
+    ensures { IfOk result (λ sight. sight ≡ sight_of F.files server.now.costs what.now) }
 {
     let Meaning::Request {
         method,
@@ -51,46 +50,60 @@ pub(crate) fn look_into(
     else {
         return Ok(Sight::Unseen);
     };
-    let outcome = resolve(alloc, snapshot, method.as_slice(), target.as_slice())?;
+    let settings = server.settings;
+    let outcome = resolve(
+        server.alloc,
+        server.snapshot,
+        method.as_slice(),
+        target.as_slice(),
+    )?;
     let head = answers_head(what);
-    let service = service_of(snapshot, costs, head, *modified_since, &outcome);
+    let service = service_of(
+        server.snapshot,
+        settings.costs,
+        head,
+        *modified_since,
+        &outcome,
+    );
     Ok(Sight::Priced(outcome, ServiceTime::new(service)))
 }
 
 /// Writes the reply that gives a file, by the slip of the answer to HEAD. The bytes go to the writer as they stand in
 /// the snapshot.
 fn give_file<F: Tree, W: Write>(
+    server: &Server<'_, F>,
     heads: &mut HeadRenderer,
-    snapshot: &Snapshot,
     slip: &Slip<F>,
     file: usize,
     writer: &mut Output<W>,
 ) -> Result<(), ReplayFault>
-    requires file { file < length snapshot.now }
+    requires file { file < length F.files }
     requires date { slip.now.date ≤ latest_time }
     requires failures { CanFail writer.old }
     ensures written { OnOk result (Appends writer.old.bytes writer.new.bytes
-        (record_text (given_as F.files slip.now (file_of snapshot.now file).bytes))) }
+        (record_text (given_as F.files slip.now (file_of F.files file).bytes))) }
     ensures part { OnErr result (AppendsInPart writer.old.bytes writer.new.bytes
-        (record_text (given_as F.files slip.now (file_of snapshot.now file).bytes))) }
+        (record_text (given_as F.files slip.now (file_of F.files file).bytes))) }
     ensures failures { CountsBy writer_failures writer.old.failures writer.new.failures result }
     ensures own { IfErr result IsWriteOrMemory }
 {
     heads.render(slip)?;
-    let body: &[u8] = if slip.head { &[] } else { snapshot.bytes(file) };
+    let body: &[u8] = if slip.head {
+        &[]
+    } else {
+        server.snapshot.bytes(file)
+    };
     write_record(writer, slip.number, slip.conn, heads.as_slice(), body)?;
     Ok(())
 }
 
 /// Answers a message that was decided on.
 pub(crate) fn answer_ticket<F: Tree, W: Write>(
-    alloc: Global,
+    server: &Server<'_, F>,
     heads: &mut HeadRenderer,
-    snapshot: &Snapshot,
     ticket: Ticket<F>,
     writer: &mut Output<W>,
 ) -> Result<(), ReplayFault>
-    requires snapshot { snapshot.now ≡ F.files }
     requires ready { is_back F.files (Waits ticket) ≡ true }
     requires failures { CanFail writer.old }
     ensures written { OnOk result (Appends writer.old.bytes writer.new.bytes
@@ -116,9 +129,9 @@ pub(crate) fn answer_ticket<F: Tree, W: Write>(
                 date,
                 head,
                 link,
-                what: known_file(snapshot, file, mtime),
+                what: known_file(server.snapshot, file, mtime),
             };
-            give_file::<F, W>(heads, snapshot, &slip, file, writer)
+            give_file(server, heads, &slip, file, writer)
         }
         Due::Told(what) => {
             let slip = Slip {
@@ -129,7 +142,7 @@ pub(crate) fn answer_ticket<F: Tree, W: Write>(
                 link,
                 what,
             };
-            let reply = render(alloc, slip)?;
+            let reply = render(server.alloc, slip)?;
             write_reply(writer, &reply)?;
             Ok(())
         }
@@ -138,38 +151,29 @@ pub(crate) fn answer_ticket<F: Tree, W: Write>(
 
 /// Answers the next message.
 fn answer_message<T: Tells, F: Tree, W: Write>(
-    alloc: Global,
+    server: &Server<'_, F>,
     heads: &mut HeadRenderer,
-    snapshot: &Snapshot,
-    settings: &Settings,
     origin: Origin,
     what: &Meaning,
     desk: &mut Desk,
     writer: &mut Output<W>,
 ) -> Result<(), ReplayFault>
-    requires snapshot { snapshot.now ≡ F.files }
     requires start { desk.old.start ≤ latest_start }
     requires tick { origin.tick ≤ latest_tick }
     requires tier { origin.tier < 4 }
-    requires stands { (arrivals : List Arrival) × DeskAfter (terms_of F.files settings.now) arrivals desk.old
+    requires stands { (arrivals : List Arrival) × DeskAfter (terms_of F.files server.now) arrivals desk.old
         × AreBy origin.tick arrivals }
     requires failures { CanFail writer.old }
-    ensures stands { OnOk result ((arrivals : List Arrival) (a : Arrival)
-        → DeskAfter (terms_of F.files settings.now) arrivals desk.old → a.origin ≡ origin → a.message.what ≡ what.now
-        → DeskAfter (terms_of F.files settings.now) (arrivals ++ a ∷ []) desk.new) }
-    ensures written { OnOk result ((arrivals : List Arrival) (a : Arrival)
-        → DeskAfter (terms_of F.files settings.now) arrivals desk.old → a.origin ≡ origin → a.message.what ≡ what.now
-        → Told (T.telling (terms_of F.files settings.now)) desk.old.start arrivals (a ∷ [])
-        writer.old.bytes writer.new.bytes) }
+    ensures stands { OnOk result (DecidesNext (terms_of F.files server.now) origin what.now desk.old desk.new) }
+    ensures written { OnOk result (TellsNext (T.telling (terms_of F.files server.now)) (terms_of F.files server.now)
+        origin what.now desk.old writer.old.bytes writer.new.bytes) }
     ensures start { OnOk result (desk.new.start ≡ desk.old.start) }
     ensures number { OnOk result (desk.new.totals.answered ≡ desk.old.totals.answered + 1) }
     ensures many { IfErr result (λ f. IfTooMany f (λ n. (n ≡ MOST_MESSAGES)
         × (desk.old.totals.answered ≡ MOST_MESSAGES) × (writer.new ≡ writer.old))) }
     ensures part { IfErr result (λ f. IfCutShort f ((desk.old.totals.answered < MOST_MESSAGES)
-        × ((arrivals : List Arrival) (a : Arrival) → DeskAfter (terms_of F.files settings.now) arrivals desk.old
-        → a.origin ≡ origin → a.message.what ≡ what.now
-        → ToldInPart (T.telling (terms_of F.files settings.now)) desk.old.start arrivals (a ∷ [])
-        writer.old.bytes writer.new.bytes))) }
+        × TellsNextInPart (T.telling (terms_of F.files server.now)) (terms_of F.files server.now)
+        origin what.now desk.old writer.old.bytes writer.new.bytes)) }
     ensures failures { CountsBy writer_failures writer.old.failures writer.new.failures result }
     ensures own { IfErr result IsOwn }
 {
@@ -177,60 +181,42 @@ fn answer_message<T: Tells, F: Tree, W: Write>(
     if number == MOST_MESSAGES {
         return Err(ReplayFault::TooMany(MOST_MESSAGES));
     }
-    T::tell::<F, W>(alloc, heads, snapshot, settings, origin, what, desk, writer)
+    T::tell::<F, W>(server, heads, origin, what, desk, writer)
 }
 
 /// Answers the messages that ended in a piece, in their order.
 pub(crate) fn answer_all<T: Tells, F: Tree, W: Write>(
-    alloc: Global,
+    server: &Server<'_, F>,
     heads: &mut HeadRenderer,
-    snapshot: &Snapshot,
-    settings: &Settings,
     origin: Origin,
     messages: &[Message],
     desk: &mut Desk,
     writer: &mut Output<W>,
 ) -> Result<(), ReplayFault>
-    requires snapshot { snapshot.now ≡ F.files }
     requires texts { (terms : Terms) → IsTelling (T.telling terms) }
     requires start { desk.old.start ≤ latest_start }
     requires tick { origin.tick ≤ latest_tick }
     requires tier { origin.tier < 4 }
-    requires stands { (arrivals : List Arrival) × DeskAfter (terms_of F.files settings.now) arrivals desk.old
+    requires stands { (arrivals : List Arrival) × DeskAfter (terms_of F.files server.now) arrivals desk.old
         × AreBy origin.tick arrivals }
     requires failures { CanFail writer.old }
-    ensures stands { OnOk result ((arrivals : List Arrival) (place : ℕ)
-        → DeskAfter (terms_of F.files settings.now) arrivals desk.old
-        → DeskAfter (terms_of F.files settings.now) (arrivals ++ arrivals_with place origin messages.now) desk.new) }
-    ensures written { OnOk result ((arrivals : List Arrival) (place : ℕ)
-        → DeskAfter (terms_of F.files settings.now) arrivals desk.old
-        → Told (T.telling (terms_of F.files settings.now)) desk.old.start arrivals
-        (arrivals_with place origin messages.now) writer.old.bytes writer.new.bytes) }
+    ensures stands { OnOk result (DecidesPiece (terms_of F.files server.now) origin messages.now desk.old desk.new) }
+    ensures written { OnOk result (TellsPiece (T.telling (terms_of F.files server.now)) (terms_of F.files server.now)
+        origin messages.now desk.old writer.old.bytes writer.new.bytes) }
     ensures start { OnOk result (desk.new.start ≡ desk.old.start) }
     ensures many { IfErr result (λ f. IfTooMany f (λ n. (n ≡ MOST_MESSAGES) × (i : ℕ) × (i < length messages.now)
         × (desk.old.totals.answered + i ≡ MOST_MESSAGES)
-        × ((arrivals : List Arrival) (place : ℕ) → DeskAfter (terms_of F.files settings.now) arrivals desk.old
-        → Told (T.telling (terms_of F.files settings.now)) desk.old.start arrivals
-        (arrivals_with place origin (take i messages.now)) writer.old.bytes writer.new.bytes))) }
+        × TellsPiece (T.telling (terms_of F.files server.now)) (terms_of F.files server.now)
+        origin (take i messages.now) desk.old writer.old.bytes writer.new.bytes)) }
     ensures part { IfErr result (λ f. IfCutShort f ((i : ℕ) × (i ≤ length messages.now)
-        × (desk.old.totals.answered + i ≤ MOST_MESSAGES) × ((arrivals : List Arrival) (place : ℕ)
-        → DeskAfter (terms_of F.files settings.now) arrivals desk.old
-        → ToldInPart (T.telling (terms_of F.files settings.now)) desk.old.start arrivals
-        (arrivals_with place origin (take i messages.now)) writer.old.bytes writer.new.bytes))) }
+        × (desk.old.totals.answered + i ≤ MOST_MESSAGES)
+        × TellsPieceInPart (T.telling (terms_of F.files server.now)) (terms_of F.files server.now)
+        origin (take i messages.now) desk.old writer.old.bytes writer.new.bytes)) }
     ensures failures { CountsBy writer_failures writer.old.failures writer.new.failures result }
     ensures own { IfErr result IsOwn }
 {
     for message in messages {
-        answer_message::<T, F, W>(
-            alloc,
-            heads,
-            snapshot,
-            settings,
-            origin,
-            &message.what,
-            desk,
-            writer,
-        )?;
+        answer_message::<T, F, W>(server, heads, origin, &message.what, desk, writer)?;
     }
     Ok(())
 }

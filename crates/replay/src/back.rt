@@ -10,6 +10,7 @@ ghost use Rattle.replay.specs.Backs.{slip_of_ticket, back_step, is_back, can_ren
 ghost use Rattle.replay.specs.Backs.{reply_to, back_after, elsewhere, ticket_elsewhere};
 
 use crate::back_state::BackState;
+use crate::server::Server;
 use crate::ticket::{Due, Ticket};
 use crate::unnamed::Unnamed;
 use page_cache::{Page, PageCache};
@@ -246,15 +247,13 @@ fn run_back_with<
     G: Gate + Sync,
     T: Threads + Wait + Sync,
 >(
+    server: &Server<'_, F>,
     rt: &T,
-    alloc: Global,
     plan: Plan,
-    snapshot: &Snapshot,
     cache: &Mutex<PageCache<F>>,
     tickets: Vec<Ticket<F>>,
     gate: &G,
 ) -> Result<Vec<Reply<F>>, Unrun>
-    requires files { snapshot.now ≡ F.files }
     requires named { map ticket_elsewhere tickets.items ≡ K.tickets }
     requires ready { list_all (λ t. is_back F.files (Waits t)) tickets.items ≡ true }
     requires count { length tickets.items ≡ K.count }
@@ -262,11 +261,12 @@ fn run_back_with<
     requires cut { last_cut plan ≡ 2 }
     ensures { IfOk result (λ v. v.items ≡ map (λ t. reply_to F.files (slip_of_ticket t)) tickets.items) }
 {
+    let alloc = server.alloc;
     let items = back_items::<F, K>(alloc, tickets)?;
     let chain = Back::<F, K, T> {
         rt,
         alloc,
-        snapshot,
+        snapshot: server.snapshot,
         cache,
         of: PhantomData,
     };
@@ -275,27 +275,17 @@ fn run_back_with<
 }
 
 /// The replies to the tickets, by a floor that shares a cache of pages.
-pub fn run_back<F: Tree + Send + Sync, G: Gate + Sync, T: Threads + Wait + Sync>(
+pub(crate) fn run_back<F: Tree + Send + Sync, G: Gate + Sync, T: Threads + Wait + Sync>(
+    server: &Server<'_, F>,
     rt: &T,
-    alloc: Global,
-    plan: &Plan,
-    snapshot: &Snapshot,
     cache: &Mutex<PageCache<F>>,
     tickets: Vec<Ticket<F>>,
     gate: &G,
 ) -> Result<Vec<Reply<F>>, Unrun>
-    requires files { snapshot.now ≡ F.files }
     requires ready { list_all (λ t. is_back F.files (Waits t)) tickets.items ≡ true }
-    requires cut { last_cut plan.now ≡ 2 }
     ensures { IfOk result (λ v. v.items ≡ map (λ t. reply_to F.files (slip_of_ticket t)) tickets.items) }
 {
-    run_back_with::<F, Brand, G, T>(
-        rt,
-        alloc,
-        plan.try_clone(alloc)?,
-        snapshot,
-        cache,
-        tickets,
-        gate,
-    )
+    let settings = server.settings;
+    let plan = settings.back.try_clone(server.alloc)?;
+    run_back_with::<F, Brand, G, T>(server, rt, plan, cache, tickets, gate)
 }

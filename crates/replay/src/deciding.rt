@@ -1,6 +1,6 @@
 //! Deciding on messages in the order of their arrival.
 
-ghost use Rattle.std.specs.Prelude.{◌≡◌, ◌<◌, ◌≤◌, ◌+◌, ◌∷◌, ◌++◌, [], true, List, length, map, IfOk, OnOk};
+ghost use Rattle.std.specs.Prelude.{◌≡◌, ◌<◌, ◌≤◌, ◌+◌, ◌++◌, true, List, length, map, IfOk, OnOk};
 ghost use Rattle.std.specs.List.{list_all};
 ghost use Rattle.captures.specs.Captures.{latest_start, latest_tick};
 ghost use Rattle.replay.specs.Choices.{terms_of};
@@ -9,45 +9,43 @@ ghost use Rattle.replay.specs.Offers.{handled_next, handled_after};
 ghost use Rattle.replay.specs.Outcomes.{most_messages};
 ghost use Rattle.replay.specs.Replies.{slip_of};
 ghost use Rattle.replay.specs.Serving.{DeskAfter, AreBy};
+ghost use Rattle.replay.specs.Steps.{DecidesNext};
 ghost use Rattle.replay.specs.Fronts.{sight_of};
 ghost use Rattle.replay.specs.Ticketing.{AreSighted, InTime};
 ghost use Rattle.replay.specs.Backs.{is_back, slip_of_ticket};
 ghost use Rattle.replay.specs.declared.back_state.BackState.TheVariants.{Due as Waits};
 
+use crate::MOST_MESSAGES;
 use crate::answers::{answers_head, link_of};
 use crate::desk::Desk;
+use crate::server::Server;
 use crate::sight::{Sight, Sighted};
 use crate::ticket::Ticket;
-use crate::{MOST_MESSAGES, Settings};
 use arrivals::Origin;
 use http_requests::What as Meaning;
-use paths::{Snapshot, Tree};
-use std::alloc::{AllocError, Global};
+use paths::Tree;
+use std::alloc::AllocError;
 
 /// Decides on the next message, and counts it.
 pub(crate) fn settle<F: Tree>(
-    snapshot: &Snapshot,
-    settings: &Settings,
+    server: &Server<'_, F>,
     origin: Origin,
     what: &Meaning,
     sight: Sight,
     desk: &mut Desk,
 ) -> Result<Ticket<F>, AllocError>
-    requires snapshot { snapshot.now ≡ F.files }
     requires start { desk.old.start ≤ latest_start }
     requires tick { origin.tick ≤ latest_tick }
     requires tier { origin.tier < 4 }
     requires few { desk.old.totals.answered < MOST_MESSAGES }
-    requires stands { (arrivals : List Arrival) × DeskAfter (terms_of F.files settings.now) arrivals desk.old
+    requires stands { (arrivals : List Arrival) × DeskAfter (terms_of F.files server.now) arrivals desk.old
         × AreBy origin.tick arrivals }
-    requires sight { sight ≡ sight_of F.files settings.now.costs what.now }
-    ensures stands { OnOk result ((arrivals : List Arrival) (a : Arrival)
-        → DeskAfter (terms_of F.files settings.now) arrivals desk.old → a.origin ≡ origin → a.message.what ≡ what.now
-        → DeskAfter (terms_of F.files settings.now) (arrivals ++ a ∷ []) desk.new) }
+    requires sight { sight ≡ sight_of F.files server.now.costs what.now }
+    ensures stands { OnOk result (DecidesNext (terms_of F.files server.now) origin what.now desk.old desk.new) }
     ensures slip { IfOk result (λ t. (arrivals : List Arrival) (a : Arrival)
-        → DeskAfter (terms_of F.files settings.now) arrivals desk.old → a.origin ≡ origin → a.message.what ≡ what.now
-        → slip_of_ticket t ≡ slip_of (terms_of F.files settings.now) desk.old.start
-        (handled_next (terms_of F.files settings.now) arrivals a)) }
+        → DeskAfter (terms_of F.files server.now) arrivals desk.old → a.origin ≡ origin → a.message.what ≡ what.now
+        → slip_of_ticket t ≡ slip_of (terms_of F.files server.now) desk.old.start
+        (handled_next (terms_of F.files server.now) arrivals a)) }
     ensures ready { IfOk result (λ t. is_back F.files (Waits t) ≡ true) }
     ensures start { OnOk result (desk.new.start ≡ desk.old.start) }
     ensures number { OnOk result (desk.new.totals.answered ≡ desk.old.totals.answered + 1) }
@@ -56,7 +54,7 @@ pub(crate) fn settle<F: Tree>(
     let date = desk.start + origin.tick / 1_000_000;
     let head = answers_head(what);
     let link = link_of(what);
-    let due = desk.decide::<F>(snapshot, settings, origin, what, sight)?;
+    let due = desk.decide(server, origin, what, sight)?;
     desk.totals.note(&due, what);
     Ok(Ticket {
         number,
@@ -70,42 +68,32 @@ pub(crate) fn settle<F: Tree>(
 
 /// Decides on messages, in their order.
 pub(crate) fn decide_all<F: Tree>(
-    alloc: Global,
-    snapshot: &Snapshot,
-    settings: &Settings,
+    server: &Server<'_, F>,
     sights: Vec<Sighted>,
     desk: &mut Desk,
 ) -> Result<Vec<Ticket<F>>, AllocError>
-    requires snapshot { snapshot.now ≡ F.files }
     requires start { desk.old.start ≤ latest_start }
     requires arrived { (arrivals : List Arrival) × (more : List Arrival)
-        × DeskAfter (terms_of F.files settings.now) arrivals desk.old
-        × AreSighted F.files settings.now.costs more sights.items × InTime arrivals more
+        × DeskAfter (terms_of F.files server.now) arrivals desk.old
+        × AreSighted F.files server.now.costs more sights.items × InTime arrivals more
         × (length arrivals + length more ≤ most_messages) }
     ensures stands { OnOk result ((arrivals more : List Arrival)
-        → DeskAfter (terms_of F.files settings.now) arrivals desk.old
-        → AreSighted F.files settings.now.costs more sights.items
-        → DeskAfter (terms_of F.files settings.now) (arrivals ++ more) desk.new) }
+        → DeskAfter (terms_of F.files server.now) arrivals desk.old
+        → AreSighted F.files server.now.costs more sights.items
+        → DeskAfter (terms_of F.files server.now) (arrivals ++ more) desk.new) }
     ensures slips { IfOk result (λ v. (arrivals more : List Arrival)
-        → DeskAfter (terms_of F.files settings.now) arrivals desk.old
-        → AreSighted F.files settings.now.costs more sights.items
+        → DeskAfter (terms_of F.files server.now) arrivals desk.old
+        → AreSighted F.files server.now.costs more sights.items
         → map slip_of_ticket v.items
-        ≡ map (slip_of (terms_of F.files settings.now) desk.old.start)
-        (handled_after (terms_of F.files settings.now) arrivals more)) }
+        ≡ map (slip_of (terms_of F.files server.now) desk.old.start)
+        (handled_after (terms_of F.files server.now) arrivals more)) }
     ensures ready { IfOk result (λ v. list_all (λ t. is_back F.files (Waits t)) v.items ≡ true) }
     ensures start { OnOk result (desk.new.start ≡ desk.old.start) }
 {
-    let mut tickets = Vec::with_capacity(alloc, sights.len())?;
+    let mut tickets = Vec::with_capacity(server.alloc, sights.len())?;
     for sighted in sights {
         let Sighted { message, sight } = sighted;
-        let ticket = settle::<F>(
-            snapshot,
-            settings,
-            message.origin,
-            &message.what,
-            sight,
-            desk,
-        )?;
+        let ticket = settle(server, message.origin, &message.what, sight, desk)?;
         tickets.push(ticket)?;
     }
     Ok(tickets)

@@ -12,15 +12,16 @@ ghost use Rattle.replay.specs.Deciding.{Decides};
 ghost use Rattle.replay.specs.Fronts.{sight_of};
 ghost use Rattle.replay.specs.Backs.{told, only_head, has_location, is_due};
 
+use crate::MOST_MESSAGES;
 use crate::answers::{answers_head, fault_status, outcome_answer};
+use crate::server::Server;
 use crate::sight::Sight;
 use crate::ticket::Due;
 use crate::totals::Totals;
-use crate::{MOST_MESSAGES, Settings};
 use admission::{Controller, Decision, MAX_SERVICE, MAX_TICK};
 use arrivals::Origin;
 use http_requests::What as Meaning;
-use paths::{Snapshot, Tree};
+use paths::Tree;
 use responses::{Status, What};
 use std::alloc::AllocError;
 
@@ -61,24 +62,22 @@ impl Desk {
     /// What a message that was looked into is to be reported. The admission control is asked where it is a request.
     pub(crate) fn decide<F: Tree>(
         &mut self,
-        snapshot: &Snapshot,
-        settings: &Settings,
+        server: &Server<'_, F>,
         origin: Origin,
         what: &Meaning,
         sight: Sight,
     ) -> Result<Due<F>, AllocError>
-        requires snapshot { snapshot.now ≡ F.files }
         requires offers { (offers : List Offer) × ControllerAfter offers self.old.controller
             × (tick_from 0 offers ≤ origin.tick)
             × (length offers < MOST_MESSAGES) }
         requires tier { origin.tier < 4 }
         requires tick { origin.tick ≤ MAX_TICK }
-        requires sight { sight ≡ sight_of F.files settings.now.costs what.now }
+        requires sight { sight ≡ sight_of F.files server.now.costs what.now }
         ensures told { IfOk result (λ due. (offers : List Offer) → ControllerAfter offers self.old.controller
             → self.old.totals.samples ≡ samples_of (policies_of self.old.controller) offers
             → (away : Bool) × Decides offers
-            (offer_at (terms_of F.files settings.now) origin what.now) self.old self.new away
-            × (told due ≡ given (terms_of F.files settings.now) away what.now)) }
+            (offer_at (terms_of F.files server.now) origin what.now) self.old self.new away
+            × (told due ≡ given (terms_of F.files server.now) away what.now)) }
         ensures due { IfOk result (λ due. is_due F.files due ≡ true) }
         ensures can { IfOk result (λ due. (only_head (answers_head what.now) (told due) && has_location (told due))
             ≡ true) }
@@ -94,12 +93,13 @@ impl Desk {
                     unreachable!()
                 };
                 if self.offer(origin.tier, origin.tick, service.ticks())? {
+                    let settings = server.settings;
                     let retry_after = settings.retry_after;
                     return Ok(Due::Told(What::Plain {
                         status: Status::ServiceUnavailable { retry_after },
                     }));
                 }
-                Ok(outcome_answer(snapshot, head, since, outcome))
+                Ok(outcome_answer(server.snapshot, head, since, outcome))
             }
         }
     }

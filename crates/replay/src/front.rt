@@ -8,6 +8,7 @@ ghost use Rattle.stage_graph.specs.Steps.{value_of};
 ghost use Rattle.replay.specs.Fronts.{sight_after, front_step, unseen, unseen_at, IsSight};
 
 use crate::answers::{answers_head, service_of};
+use crate::server::Server;
 use crate::service_time::ServiceTime;
 use crate::sight::{Sight, Sighted};
 use arrivals::Incoming;
@@ -221,27 +222,26 @@ fn run_front_with<
     G: Gate + Sync,
     T: Threads + Wait + Sync,
 >(
+    server: &Server<'_, F>,
     rt: &T,
-    alloc: Global,
     plan: Plan,
-    snapshot: &Snapshot,
-    costs: Costs,
     messages: Vec<Incoming>,
     gate: &G,
 ) -> Result<Vec<Sighted>, Unrun>
-    requires files { snapshot.now ≡ F.files }
-    requires costs { costs ≡ K.costs }
+    requires costs { server.now.costs ≡ K.costs }
     requires messages { messages.items ≡ K.messages }
     requires count { length messages.items ≡ K.count }
     requires plan { plan ≡ K.plan }
     requires cut { last_cut plan ≡ 3 }
-    ensures { IfOk result (λ v. v.items ≡ map (front_value F.files costs) messages.items) }
+    ensures { IfOk result (λ v. v.items ≡ map (front_value F.files server.now.costs) messages.items) }
 {
+    let alloc = server.alloc;
+    let settings = server.settings;
     let items = front_items::<F, K>(alloc, messages)?;
     let chain = Front::<F, K> {
         alloc,
-        snapshot,
-        costs,
+        snapshot: server.snapshot,
+        costs: settings.costs,
         tree: PhantomData,
         of: PhantomData,
     };
@@ -250,26 +250,15 @@ fn run_front_with<
 }
 
 /// What is known of each message before it is decided on, by a floor.
-pub fn run_front<F: Tree + Send + Sync, G: Gate + Sync, T: Threads + Wait + Sync>(
+pub(crate) fn run_front<F: Tree + Send + Sync, G: Gate + Sync, T: Threads + Wait + Sync>(
+    server: &Server<'_, F>,
     rt: &T,
-    alloc: Global,
-    plan: &Plan,
-    snapshot: &Snapshot,
-    costs: Costs,
     messages: Vec<Incoming>,
     gate: &G,
 ) -> Result<Vec<Sighted>, Unrun>
-    requires files { snapshot.now ≡ F.files }
-    requires cut { last_cut plan.now ≡ 3 }
-    ensures { IfOk result (λ v. v.items ≡ map (front_value F.files costs) messages.items) }
+    ensures { IfOk result (λ v. v.items ≡ map (front_value F.files server.now.costs) messages.items) }
 {
-    run_front_with::<F, Brand, G, T>(
-        rt,
-        alloc,
-        plan.try_clone(alloc)?,
-        snapshot,
-        costs,
-        messages,
-        gate,
-    )
+    let settings = server.settings;
+    let plan = settings.front.try_clone(server.alloc)?;
+    run_front_with::<F, Brand, G, T>(server, rt, plan, messages, gate)
 }

@@ -17,6 +17,7 @@ mod plain;
 mod replay_fault;
 mod replies;
 mod rows;
+mod server;
 mod service_time;
 mod serving;
 mod settings;

@@ -1,23 +1,23 @@
 //! The plain engine: one thread, message by message.
 
-ghost use Rattle.std.specs.Prelude.{◌≡◌, ◌+◌, ◌≤◌, ◌<◌, ◌-◌, ◌^◌, ◌⊎◌, ◌∷◌, [], ℕ, List, ◌++◌};
+ghost use Rattle.std.specs.Prelude.{◌≡◌, ◌+◌, ◌≤◌, ◌<◌, ◌-◌, ◌^◌, ◌⊎◌, ◌∷◌, [], List, ◌++◌};
 ghost use Rattle.std.specs.Prelude.{IfOk, IfErr, OnOk, OnErr};
 ghost use Rattle.std.specs.Io.KnownBytes.{Appends};
 ghost use Rattle.paths.specs.Devices.{CanFail, CountsBy};
 ghost use Rattle.captures.specs.declared.version.Version.{Version as AVersion};
-ghost use Rattle.captures.specs.Captures.{IsRecord, Follows, past_of, size_of, sizes_of, latest_start, longest_text};
+ghost use Rattle.captures.specs.Captures.{IsRecord, size_of, sizes_of, latest_start, longest_text};
 ghost use Rattle.captures.specs.declared.record.Record.{Record as ARecord};
 ghost use Rattle.replay.specs.Choices.{Terms, terms_of};
 ghost use Rattle.arrivals.specs.Arrivals.{Arrival};
 ghost use Rattle.replay.specs.Replies.{first_line, last_line};
 ghost use Rattle.replay.specs.Telling.{IsTelling};
-ghost use Rattle.replay.specs.Serving.{IsLater, Serves, TellsMore, TellsFull, TellsInPart, DeskAfter, HasTold};
-ghost use Rattle.replay.specs.Counting.{rejected_of, summary_of, tally_of};
+ghost use Rattle.replay.specs.Serving.{IsLater, Serves, DeskAfter, HasTold};
+ghost use Rattle.replay.specs.Steps.{AnswersRecord, FillsWithRecord, AnswersRecordInPart};
+ghost use Rattle.replay.specs.Counting.{summary_of, tally_of};
 ghost use Rattle.arrivals.specs.Tiers.{AreTiers};
 ghost use Rattle.admission.specs.Requests.{Offer};
 ghost use Rattle.admission.specs.After.{ControllerAfter};
 ghost use Rattle.admission.specs.Standing.{policies_of};
-ghost use Rattle.replay.specs.Offers.{handled};
 ghost use Rattle.replay.specs.Outcomes.{Answers, AppendsInPart, IfCapture, IfTooMany, IfCutShort, IsCutShort, IsOwn};
 ghost use Rattle.replay.specs.Outcomes.{Stops, StopsFull, reader_failures, writer_failures};
 ghost use Rattle.replay.specs.Outcomes.{IsWriteOrMemory, StopsTelling, StopsBeyond, IsCutOff};
@@ -26,6 +26,7 @@ use crate::answering::answer_all;
 use crate::desk::Desk;
 use crate::outcome::Outcome;
 use crate::replies::Replies;
+use crate::server::Server;
 use crate::telling::Tells;
 use crate::totals::Totals;
 use crate::{MOST_MESSAGES, ReplayFault, Settings, Summary, Tally};
@@ -37,6 +38,7 @@ use paths::{Input, Output, Snapshot, Tree};
 use responses::{HeadRenderer, write_all};
 use std::alloc::{AllocError, Global};
 use std::io::{Read, Write};
+use std::marker::PhantomData;
 
 /// Writes the line before the replies.
 pub(crate) fn write_first_line<W: Write>(writer: &mut Output<W>) -> Result<(), ReplayFault>
@@ -107,42 +109,33 @@ pub(crate) fn outcome_of(alloc: Global, desk: Desk) -> Result<Outcome, AllocErro
 
 /// Reads one more record: answers the messages that arrive with it. `messages` is room for them.
 fn answer_record<T: Tells, F: Tree, W: Write>(
-    alloc: Global,
+    server: &Server<'_, F>,
     heads: &mut HeadRenderer,
     messages: &mut Vec<Message>,
-    snapshot: &Snapshot,
-    settings: &Settings,
     next: &Record,
     connections: &mut Connections,
     tiers: &mut Tiers,
     desk: &mut Desk,
     writer: &mut Output<W>,
 ) -> Result<(), ReplayFault>
-    requires snapshot { snapshot.now ≡ F.files }
     requires texts { (terms : Terms) → IsTelling (T.telling terms) }
     requires start { desk.old.start ≤ latest_start }
     requires record { (version : AVersion) × IsRecord version next.now }
     requires room { (records : List ARecord) × (arrivals : List Arrival)
-        × Serves (terms_of F.files settings.now) records arrivals connections.old desk.old
+        × Serves (terms_of F.files server.now) records arrivals connections.old desk.old
         × (sizes_of records + size_of next.now ≤ longest_text) × IsLater next.now arrivals }
     requires failures { CanFail writer.old }
     ensures tiers { OnOk result ((records : List ARecord) → AreTiers records tiers.old
         → AreTiers (records ++ next.now ∷ []) tiers.new) }
-    ensures serves { OnOk result ((records : List ARecord) (arrivals : List Arrival) → AreTiers records tiers.old
-        → Serves (terms_of F.files settings.now) records arrivals connections.old desk.old
-        → TellsMore (T.telling (terms_of F.files settings.now)) (terms_of F.files settings.now) records arrivals
-        (next.now ∷ []) connections.new desk.new writer.old.bytes writer.new.bytes) }
+    ensures serves { OnOk result (AnswersRecord (T.telling (terms_of F.files server.now)) (terms_of F.files server.now)
+        next.now tiers.old connections.old desk.old connections.new desk.new writer.old.bytes writer.new.bytes) }
     ensures start { OnOk result (desk.new.start ≡ desk.old.start) }
     ensures many { IfErr result (λ f. IfTooMany f (λ n. (n ≡ MOST_MESSAGES)
-        × ((records : List ARecord) (arrivals : List Arrival) → AreTiers records tiers.old
-        → Serves (terms_of F.files settings.now) records arrivals connections.old desk.old
-        → TellsFull (T.telling (terms_of F.files settings.now)) desk.old.start records arrivals
-        (next.now ∷ []) writer.old.bytes writer.new.bytes))) }
-    ensures part { IfErr result (λ f. IfCutShort f ((writer.new.bytes
-        ≡ writer.old.bytes) ⊎ ((records : List ARecord) (arrivals : List Arrival) → AreTiers records tiers.old
-        → Serves (terms_of F.files settings.now) records arrivals connections.old desk.old
-        → TellsInPart (T.telling (terms_of F.files settings.now)) desk.old.start records arrivals
-        (next.now ∷ []) writer.old.bytes writer.new.bytes))) }
+        × FillsWithRecord (T.telling (terms_of F.files server.now)) (terms_of F.files server.now)
+        next.now tiers.old connections.old desk.old writer.old.bytes writer.new.bytes)) }
+    ensures part { IfErr result (λ f. IfCutShort f ((writer.new.bytes ≡ writer.old.bytes)
+        ⊎ AnswersRecordInPart (T.telling (terms_of F.files server.now)) (terms_of F.files server.now)
+        next.now tiers.old connections.old desk.old writer.old.bytes writer.new.bytes)) }
     ensures failures { CountsBy writer_failures writer.old.failures writer.new.failures result }
     ensures own { IfErr result IsOwn }
 {
@@ -154,15 +147,13 @@ fn answer_record<T: Tells, F: Tree, W: Write>(
         }
         Record::Piece { tick, conn, bytes } => {
             messages.clear();
-            connections.take(alloc, usize::from(*conn), bytes.as_slice(), messages)?;
+            connections.take(server.alloc, usize::from(*conn), bytes.as_slice(), messages)?;
             let origin = Origin {
                 conn: *conn,
                 tick: *tick,
                 tier: tiers.of(*conn),
             };
-            answer_all::<T, F, W>(
-                alloc, heads, snapshot, settings, origin, messages, desk, writer,
-            )
+            answer_all::<T, F, W>(server, heads, origin, messages, desk, writer)
         }
     }
 }
@@ -196,6 +187,12 @@ pub(crate) fn replay_telling<T: Tells, F: Tree, R: Read, W: Write>(
         Ok(capture) => capture,
         Err(fault) => return Err(ReplayFault::from(fault)),
     };
+    let server = Server::<F> {
+        alloc,
+        snapshot,
+        settings,
+        tree: PhantomData,
+    };
     let mut heads = HeadRenderer::new(alloc);
     let mut messages = Vec::new(alloc);
     let mut connections = Connections::new(alloc);
@@ -212,11 +209,9 @@ pub(crate) fn replay_telling<T: Tells, F: Tree, R: Read, W: Write>(
             Err(fault) => return Err(ReplayFault::from(fault)),
         };
         answer_record::<T, F, W>(
-            alloc,
+            &server,
             &mut heads,
             &mut messages,
-            snapshot,
-            settings,
             &next,
             &mut connections,
             &mut tiers,

@@ -1,14 +1,15 @@
 //! What a replay writes of its messages: replies.
 
+use crate::ReplayFault;
 use crate::answering::{answer_ticket, look_into};
 use crate::deciding::settle;
 use crate::desk::Desk;
 use crate::plain::{write_first_line, write_last_line};
+use crate::server::Server;
 use crate::telling::Tells;
-use crate::{ReplayFault, Settings};
 use arrivals::Origin;
 use http_requests::What as Meaning;
-use paths::{Output, Snapshot, Tree};
+use paths::{Output, Tree};
 use responses::HeadRenderer;
 use std::alloc::Global;
 use std::io::Write;
@@ -26,18 +27,16 @@ impl Tells for Replies {
     }
 
     fn tell<F: Tree, W: Write>(
-        alloc: Global,
+        server: &Server<'_, F>,
         heads: &mut HeadRenderer,
-        snapshot: &Snapshot,
-        settings: &Settings,
         origin: Origin,
         what: &Meaning,
         desk: &mut Desk,
         writer: &mut Output<W>,
     ) -> Result<(), ReplayFault> {
-        let sight = look_into(alloc, snapshot, settings.costs, what)?;
-        let ticket = settle::<F>(snapshot, settings, origin, what, sight, desk)?;
-        answer_ticket(alloc, heads, snapshot, ticket, writer)
+        let sight = look_into(server, what)?;
+        let ticket = settle(server, origin, what, sight, desk)?;
+        answer_ticket(server, heads, ticket, writer)
     }
 
     fn finish<W: Write>(

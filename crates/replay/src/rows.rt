@@ -13,18 +13,19 @@ ghost use Rattle.replay.specs.Backs.{slip_of_ticket, told};
 ghost use Rattle.replay.specs.Explaining.{row_of, method_of, target_of};
 ghost use Rattle.replay.specs.Rowing.{service_in, turns_away, offered_with};
 
+use crate::ReplayFault;
 use crate::answering::look_into;
 use crate::deciding::settle;
 use crate::desk::Desk;
+use crate::server::Server;
 use crate::sight::Sight;
 use crate::telling::Tells;
 use crate::ticket::{Due, Ticket};
-use crate::{ReplayFault, Settings};
 use admission::{Decision, MAX_OFFERS, MAX_SERVICE, MAX_TICK, Outlook};
 use arrivals::Origin;
 use explaining::{Offered, Row, write_heading, write_row};
 use http_requests::What as Meaning;
-use paths::{Output, Snapshot, Tree};
+use paths::{Output, Tree};
 use responses::{HeadRenderer, Status, What};
 use std::alloc::Global;
 use std::io::Write;
@@ -154,19 +155,17 @@ impl Tells for Rows {
     }
 
     fn tell<F: Tree, W: Write>(
-        alloc: Global,
+        server: &Server<'_, F>,
         _heads: &mut HeadRenderer,
-        snapshot: &Snapshot,
-        settings: &Settings,
         origin: Origin,
         what: &Meaning,
         desk: &mut Desk,
         writer: &mut Output<W>,
     ) -> Result<(), ReplayFault> {
-        let sight = look_into(alloc, snapshot, settings.costs, what)?;
+        let sight = look_into(server, what)?;
         let service = service_in(&sight);
         let found = desk.controller.outlook(origin.tier, origin.tick);
-        let ticket = settle::<F>(snapshot, settings, origin, what, sight, desk)?;
+        let ticket = settle(server, origin, what, sight, desk)?;
         let row = row_of(origin, service, found, &ticket);
         write_row(writer, &row, method_of(what), target_of(what))?;
         Ok(())

@@ -1,6 +1,6 @@
 //! A batch: both floors, the decisions between them, and the writing.
 
-ghost use Rattle.std.specs.Prelude.{◌≡◌, ◌<◌, ◌≤◌, ◌-◌, ◌+◌, ◌^◌, ◌++◌, ℕ, List, take, flat_map, length, IfErr, OnOk};
+ghost use Rattle.std.specs.Prelude.{◌≡◌, ◌<◌, ◌≤◌, ◌-◌, ◌+◌, ◌^◌, ℕ, List, flat_map, length, IfErr, OnOk};
 ghost use Rattle.std.specs.Prelude.{OnErr, true};
 ghost use Rattle.std.specs.List.{list_all};
 ghost use Rattle.replay.specs.Backs.{is_back};
@@ -13,7 +13,8 @@ ghost use Rattle.arrivals.specs.Batches.{joined};
 ghost use Rattle.replay.specs.Choices.{terms_of};
 ghost use Rattle.replay.specs.Outcomes.{AppendsInPart, writer_failures, IsOwn, IsWriteOrMemory, IfTooMany};
 ghost use Rattle.replay.specs.Outcomes.{IfCutShort, most_messages};
-ghost use Rattle.replay.specs.Serving.{DeskAfter, Written, WrittenInPart};
+ghost use Rattle.replay.specs.Steps.{DecidesComing, WritesComing, WritesComingInPart};
+ghost use Rattle.replay.specs.Steps.{WritesFirst, WritesFirstInPart};
 ghost use Rattle.replay.specs.Waiting.{Upcoming};
 ghost use Rattle.std.specs.Io.KnownBytes.{Appends};
 ghost use Rattle.paths.specs.Devices.{CanFail, CountsBy};
@@ -23,18 +24,25 @@ use crate::deciding::decide_all;
 use crate::desk::Desk;
 use crate::front::run_front;
 use crate::groups::{Pages, groups_of};
+use crate::server::Server;
 use crate::shifted::Shifted;
 use crate::ticket::Ticket;
-use crate::{MOST_MESSAGES, ReplayFault, Settings};
+use crate::{MOST_MESSAGES, ReplayFault};
 use arrivals::{Incoming, Series};
-use page_cache::PageCache;
-use paths::{Output, Snapshot, Tree};
+use paths::{Output, Tree};
 use responses::{Reply, write_reply};
 use stage_graph::Gate;
-use std::alloc::Global;
 use std::io::Write;
-use std::sync::{Mutex, Wait};
+use std::sync::Wait;
 use std::thread::Threads;
+
+/// What the floors of the staged engine work with, besides what they serve.
+#[derive(Drop)]
+pub(crate) struct Floors<'a, F: Tree, G, T> {
+    pub rt: &'a T,
+    pub pages: Pages<F>,
+    pub gate: &'a G,
+}
 
 /// Writes replies, in their order.
 fn write_replies<F: Tree, W: Write>(
@@ -56,16 +64,11 @@ fn write_replies<F: Tree, W: Write>(
 /// Answers a group of messages that were decided on: their pages are fetched and their replies rendered by a floor, and
 /// written in their order.
 fn answer_group<F: Tree + Send + Sync, G: Gate + Sync, T: Threads + Wait + Sync, W: Write>(
-    rt: &T,
-    alloc: Global,
-    snapshot: &Snapshot,
-    settings: &Settings,
-    cache: &Mutex<PageCache<F>>,
-    gate: &G,
+    server: &Server<'_, F>,
+    floors: &Floors<'_, F, G, T>,
     group: Vec<Ticket<F>>,
     writer: &mut Output<W>,
 ) -> Result<(), ReplayFault>
-    requires snapshot { snapshot.now ≡ F.files }
     requires ready { list_all (λ t. is_back F.files (Waits t)) group.items ≡ true }
     requires failures { CanFail writer.old }
     ensures written { OnOk result (Appends writer.old.bytes writer.new.bytes (records_of F.files group.items)) }
@@ -77,35 +80,24 @@ fn answer_group<F: Tree + Send + Sync, G: Gate + Sync, T: Threads + Wait + Sync,
         Some(ticket) => ticket.number,
         None => return Ok(()),
     };
+    let settings = server.settings;
     let following = Shifted {
-        gate,
+        gate: floors.gate,
         stages: settings.front.stages(),
         first,
     };
-    let replies = run_back::<F, Shifted<G>, T>(
-        rt,
-        alloc,
-        &settings.back,
-        snapshot,
-        cache,
-        group,
-        &following,
-    )?;
+    let cache = &floors.pages.cache;
+    let replies = run_back::<F, Shifted<G>, T>(server, floors.rt, cache, group, &following)?;
     write_replies(&replies, writer)
 }
 
 /// Answers messages that were decided on, a group of them at a time, so that memory holds the pages of one.
 fn answer_tickets<F: Tree + Send + Sync, G: Gate + Sync, T: Threads + Wait + Sync, W: Write>(
-    rt: &T,
-    alloc: Global,
-    snapshot: &Snapshot,
-    settings: &Settings,
-    pages: &Pages<F>,
-    gate: &G,
+    server: &Server<'_, F>,
+    floors: &Floors<'_, F, G, T>,
     tickets: Vec<Ticket<F>>,
     writer: &mut Output<W>,
 ) -> Result<(), ReplayFault>
-    requires snapshot { snapshot.now ≡ F.files }
     requires ready { list_all (λ t. is_back F.files (Waits t)) tickets.items ≡ true }
     requires failures { CanFail writer.old }
     ensures written { OnOk result (Appends writer.old.bytes writer.new.bytes (records_of F.files tickets.items)) }
@@ -113,49 +105,30 @@ fn answer_tickets<F: Tree + Send + Sync, G: Gate + Sync, T: Threads + Wait + Syn
     ensures failures { CountsBy writer_failures writer.old.failures writer.new.failures result }
     ensures own { IfErr result IsWriteOrMemory }
 {
-    for group in groups_of(alloc, snapshot, pages.room, tickets)? {
-        answer_group::<F, G, T, W>(
-            rt,
-            alloc,
-            snapshot,
-            settings,
-            &pages.cache,
-            gate,
-            group.into_vec(),
-            writer,
-        )?;
+    for group in groups_of(server.alloc, server.snapshot, floors.pages.room, tickets)? {
+        answer_group(server, floors, group.into_vec(), writer)?;
     }
     Ok(())
 }
 
 /// Serves messages within the limit, by a pair of floors with the decisions between them.
 fn serve_few<F: Tree + Send + Sync, G: Gate + Sync, T: Threads + Wait + Sync, W: Write>(
-    rt: &T,
-    alloc: Global,
-    snapshot: &Snapshot,
-    settings: &Settings,
-    pages: &Pages<F>,
-    gate: &G,
+    server: &Server<'_, F>,
+    floors: &Floors<'_, F, G, T>,
     messages: Vec<Incoming>,
     desk: &mut Desk,
     writer: &mut Output<W>,
 ) -> Result<(), ReplayFault>
-    requires snapshot { snapshot.now ≡ F.files }
     requires start { desk.old.start ≤ latest_start }
     requires next { (arrivals : List Arrival) × (more : List Arrival)
-        × Upcoming (terms_of F.files settings.now) arrivals more messages.items desk.old
+        × Upcoming (terms_of F.files server.now) arrivals more messages.items desk.old
         × (length arrivals + length more ≤ most_messages) }
     requires failures { CanFail writer.old }
-    ensures stands { OnOk result ((arrivals more : List Arrival)
-        → Upcoming (terms_of F.files settings.now) arrivals more messages.items desk.old
-        → DeskAfter (terms_of F.files settings.now) (arrivals ++ more) desk.new) }
-    ensures written { OnOk result ((arrivals more : List Arrival)
-        → Upcoming (terms_of F.files settings.now) arrivals more messages.items desk.old
-        → Written (terms_of F.files settings.now) desk.old.start arrivals more writer.old.bytes writer.new.bytes) }
-    ensures part { OnErr result ((arrivals more : List Arrival)
-        → Upcoming (terms_of F.files settings.now) arrivals more messages.items desk.old
-        → WrittenInPart (terms_of F.files settings.now) desk.old.start arrivals more
-        writer.old.bytes writer.new.bytes) }
+    ensures stands { OnOk result (DecidesComing (terms_of F.files server.now) messages.items desk.old desk.new) }
+    ensures written { OnOk result
+        (WritesComing (terms_of F.files server.now) messages.items desk.old writer.old.bytes writer.new.bytes) }
+    ensures part { OnErr result
+        (WritesComingInPart (terms_of F.files server.now) messages.items desk.old writer.old.bytes writer.new.bytes) }
     ensures start { OnOk result (desk.new.start ≡ desk.old.start) }
     ensures failures { CountsBy writer_failures writer.old.failures writer.new.failures result }
     ensures own { IfErr result IsWriteOrMemory }
@@ -165,73 +138,47 @@ fn serve_few<F: Tree + Send + Sync, G: Gate + Sync, T: Threads + Wait + Sync, W:
     }
     let first = desk.totals.answered;
     let before = Shifted {
-        gate,
+        gate: floors.gate,
         stages: 0,
         first,
     };
-    let sights = run_front::<F, Shifted<G>, T>(
-        rt,
-        alloc,
-        &settings.front,
-        snapshot,
-        settings.costs,
-        messages,
-        &before,
-    )?;
-    let tickets = decide_all::<F>(alloc, snapshot, settings, sights, desk)?;
-    answer_tickets::<F, G, T, W>(rt, alloc, snapshot, settings, pages, gate, tickets, writer)
+    let sights = run_front::<F, Shifted<G>, T>(server, floors.rt, messages, &before)?;
+    let tickets = decide_all(server, sights, desk)?;
+    answer_tickets(server, floors, tickets, writer)
 }
 
 /// Serves messages: those within the limit.
 fn serve_part<F: Tree + Send + Sync, G: Gate + Sync, T: Threads + Wait + Sync, W: Write>(
-    rt: &T,
-    alloc: Global,
-    snapshot: &Snapshot,
-    settings: &Settings,
-    pages: &Pages<F>,
-    gate: &G,
+    server: &Server<'_, F>,
+    floors: &Floors<'_, F, G, T>,
     messages: Vec<Incoming>,
     desk: &mut Desk,
     writer: &mut Output<W>,
 ) -> Result<(), ReplayFault>
-    requires snapshot { snapshot.now ≡ F.files }
     requires start { desk.old.start ≤ latest_start }
     requires next { (arrivals : List Arrival) × (more : List Arrival)
-        × Upcoming (terms_of F.files settings.now) arrivals more messages.items desk.old }
+        × Upcoming (terms_of F.files server.now) arrivals more messages.items desk.old }
     requires failures { CanFail writer.old }
-    ensures stands { OnOk result ((arrivals more : List Arrival)
-        → Upcoming (terms_of F.files settings.now) arrivals more messages.items desk.old
-        → DeskAfter (terms_of F.files settings.now) (arrivals ++ more) desk.new) }
-    ensures written { OnOk result ((arrivals more : List Arrival)
-        → Upcoming (terms_of F.files settings.now) arrivals more messages.items desk.old
-        → Written (terms_of F.files settings.now) desk.old.start arrivals more writer.old.bytes writer.new.bytes) }
+    ensures stands { OnOk result (DecidesComing (terms_of F.files server.now) messages.items desk.old desk.new) }
+    ensures written { OnOk result
+        (WritesComing (terms_of F.files server.now) messages.items desk.old writer.old.bytes writer.new.bytes) }
     ensures many { IfErr result (λ f. IfTooMany f (λ n. (n ≡ MOST_MESSAGES) × (i : ℕ) × (i < length messages.items)
         × (desk.old.totals.answered + i ≡ MOST_MESSAGES)
-        × ((arrivals more : List Arrival)
-        → Upcoming (terms_of F.files settings.now) arrivals more messages.items desk.old
-        → Written (terms_of F.files settings.now) desk.old.start arrivals (take i more)
-        writer.old.bytes writer.new.bytes))) }
+        × WritesFirst i (terms_of F.files server.now) messages.items desk.old writer.old.bytes writer.new.bytes)) }
     ensures part { IfErr result (λ f. IfCutShort f ((i : ℕ) × (i ≤ length messages.items)
         × (desk.old.totals.answered + i ≤ MOST_MESSAGES)
-        × ((arrivals more : List Arrival)
-        → Upcoming (terms_of F.files settings.now) arrivals more messages.items desk.old
-        → WrittenInPart (terms_of F.files settings.now) desk.old.start arrivals
-        (take i more) writer.old.bytes writer.new.bytes))) }
+        × WritesFirstInPart i (terms_of F.files server.now) messages.items desk.old writer.old.bytes writer.new.bytes)) }
     ensures start { OnOk result (desk.new.start ≡ desk.old.start) }
     ensures failures { CountsBy writer_failures writer.old.failures writer.new.failures result }
     ensures own { IfErr result IsOwn }
 {
     let room = MOST_MESSAGES - desk.totals.answered;
     if messages.len() <= room {
-        return serve_few::<F, G, T, W>(
-            rt, alloc, snapshot, settings, pages, gate, messages, desk, writer,
-        );
+        return serve_few(server, floors, messages, desk, writer);
     }
     let mut within = messages;
     within.truncate(room);
-    serve_few::<F, G, T, W>(
-        rt, alloc, snapshot, settings, pages, gate, within, desk, writer,
-    )?;
+    serve_few(server, floors, within, desk, writer)?;
     Err(ReplayFault::TooMany(MOST_MESSAGES))
 }
 
@@ -242,55 +189,31 @@ pub(crate) fn serve_parts<
     T: Threads + Wait + Sync,
     W: Write,
 >(
-    rt: &T,
-    alloc: Global,
-    snapshot: &Snapshot,
-    settings: &Settings,
-    pages: &Pages<F>,
-    gate: &G,
+    server: &Server<'_, F>,
+    floors: &Floors<'_, F, G, T>,
     parts: Vec<Series<Incoming>>,
     desk: &mut Desk,
     writer: &mut Output<W>,
 ) -> Result<(), ReplayFault>
-    requires snapshot { snapshot.now ≡ F.files }
     requires start { desk.old.start ≤ latest_start }
     requires next { (arrivals : List Arrival) × (more : List Arrival)
-        × Upcoming (terms_of F.files settings.now) arrivals more (joined parts.items) desk.old }
+        × Upcoming (terms_of F.files server.now) arrivals more (joined parts.items) desk.old }
     requires failures { CanFail writer.old }
-    ensures stands { OnOk result ((arrivals more : List Arrival)
-        → Upcoming (terms_of F.files settings.now) arrivals more (joined parts.items) desk.old
-        → DeskAfter (terms_of F.files settings.now) (arrivals ++ more) desk.new) }
-    ensures written { OnOk result ((arrivals more : List Arrival)
-        → Upcoming (terms_of F.files settings.now) arrivals more (joined parts.items) desk.old
-        → Written (terms_of F.files settings.now) desk.old.start arrivals more writer.old.bytes writer.new.bytes) }
+    ensures stands { OnOk result (DecidesComing (terms_of F.files server.now) (joined parts.items) desk.old desk.new) }
+    ensures written { OnOk result
+        (WritesComing (terms_of F.files server.now) (joined parts.items) desk.old writer.old.bytes writer.new.bytes) }
     ensures many { IfErr result (λ f. IfTooMany f (λ n. (n ≡ MOST_MESSAGES) × (i : ℕ)
         × (i < length (joined parts.items)) × (desk.old.totals.answered + i ≡ MOST_MESSAGES)
-        × ((arrivals more : List Arrival)
-        → Upcoming (terms_of F.files settings.now) arrivals more (joined parts.items) desk.old
-        → Written (terms_of F.files settings.now) desk.old.start arrivals (take i more)
-        writer.old.bytes writer.new.bytes))) }
+        × WritesFirst i (terms_of F.files server.now) (joined parts.items) desk.old writer.old.bytes writer.new.bytes)) }
     ensures part { IfErr result (λ f. IfCutShort f ((i : ℕ) × (i ≤ length (joined parts.items))
         × (desk.old.totals.answered + i ≤ MOST_MESSAGES)
-        × ((arrivals more : List Arrival)
-        → Upcoming (terms_of F.files settings.now) arrivals more (joined parts.items) desk.old
-        → WrittenInPart (terms_of F.files settings.now) desk.old.start arrivals
-        (take i more) writer.old.bytes writer.new.bytes))) }
+        × WritesFirstInPart i (terms_of F.files server.now) (joined parts.items) desk.old writer.old.bytes writer.new.bytes)) }
     ensures start { OnOk result (desk.new.start ≡ desk.old.start) }
     ensures failures { CountsBy writer_failures writer.old.failures writer.new.failures result }
     ensures own { IfErr result IsOwn }
 {
     for part in parts {
-        serve_part::<F, G, T, W>(
-            rt,
-            alloc,
-            snapshot,
-            settings,
-            pages,
-            gate,
-            part.into_vec(),
-            desk,
-            writer,
-        )?;
+        serve_part(server, floors, part.into_vec(), desk, writer)?;
     }
     Ok(())
 }

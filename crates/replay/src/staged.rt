@@ -1,7 +1,7 @@
 //! The staged engine: batch by batch, each over floors of threads.
 
-ghost use Rattle.std.specs.Prelude.{◌≡◌, ◌<◌, ◌≤◌, ◌-◌, ◌+◌, ◌^◌, ◌++◌, ◌⊎◌, [], ℕ, List};
-ghost use Rattle.std.specs.Prelude.{IfOk, IfErr, OnOk, OnErr};
+ghost use Rattle.std.specs.Prelude.{◌≡◌, ◌<◌, ◌≤◌, ◌-◌, ◌+◌, ◌^◌, ◌⊎◌, [], List};
+ghost use Rattle.std.specs.Prelude.{IfOk, IfErr, OnOk};
 ghost use Rattle.paths.specs.Devices.{CanFail, BlamedOnce, CountsBy};
 ghost use Rattle.captures.specs.Captures.{latest_start};
 ghost use Rattle.captures.specs.declared.record.Record.{Record as ARecord};
@@ -9,14 +9,15 @@ ghost use Rattle.arrivals.specs.Arrivals.{Arrival};
 ghost use Rattle.replay.specs.Choices.{terms_of};
 ghost use Rattle.replay.specs.Outcomes.{Answers, IfCapture, IfTooMany, IfCutShort, IsCutShort, IsOwn, Stops};
 ghost use Rattle.replay.specs.Outcomes.{StopsFull, reader_failures, writer_failures};
-ghost use Rattle.replay.specs.Serving.{ServesMore, ServesFull, ServesInPart};
-ghost use Rattle.replay.specs.Waiting.{ComeNext, Waiting, connections_of};
+ghost use Rattle.replay.specs.Steps.{AnswersBatch, FillsWithBatch, AnswersBatchInPart};
+ghost use Rattle.replay.specs.Waiting.{ComeNext, Waiting};
 
 use crate::desk::Desk;
 use crate::groups::{Pages, room_for_pages};
 use crate::outcome::Outcome;
 use crate::plain::{outcome_of, write_first_line, write_last_line};
-use crate::serving::serve_parts;
+use crate::server::Server;
+use crate::serving::{Floors, serve_parts};
 use crate::totals::Totals;
 use crate::{MOST_MESSAGES, ReplayFault, Settings};
 use admission::Controller;
@@ -27,53 +28,41 @@ use paths::{Input, Output, Snapshot, Tree};
 use stage_graph::Gate;
 use std::alloc::Global;
 use std::io::{Read, Write};
+use std::marker::PhantomData;
 use std::sync::{Mutex, Wait};
 use std::thread::Threads;
 
 /// Serves a batch whose pieces wait at the seats: the connections are cut in parallel, and their messages answered in
 /// the order of their arrival.
 fn serve_batch<F: Tree + Send + Sync, G: Gate + Sync, T: Threads + Wait + Sync, W: Write>(
-    rt: &T,
-    alloc: Global,
-    snapshot: &Snapshot,
-    settings: &Settings,
-    pages: &Pages<F>,
-    gate: &G,
+    server: &Server<'_, F>,
+    floors: &Floors<'_, F, G, T>,
     seats: Seats,
     origins: &[Origin],
     desk: &mut Desk,
     writer: &mut Output<W>,
 ) -> Result<Seats, ReplayFault>
-    requires snapshot { snapshot.now ≡ F.files }
     requires start { desk.old.start ≤ latest_start }
     requires next { (records : List ARecord) × (rs : List ARecord) × (arrivals : List Arrival)
-        × ComeNext (terms_of F.files settings.now) records rs arrivals seats origins.now desk.old }
+        × ComeNext (terms_of F.files server.now) records rs arrivals seats origins.now desk.old }
     requires failures { CanFail writer.old }
-    ensures serves { IfOk result (λ after. (records rs : List ARecord) (arrivals : List Arrival)
-        → ComeNext (terms_of F.files settings.now) records rs arrivals seats origins.now desk.old
-        → ServesMore (terms_of F.files settings.now) records arrivals rs
-        (connections_of after) desk.new writer.old.bytes writer.new.bytes) }
+    ensures serves { IfOk result (λ after. AnswersBatch (terms_of F.files server.now) seats origins.now desk.old
+        after desk.new writer.old.bytes writer.new.bytes) }
     ensures idle { IfOk result (Waiting []) }
     ensures start { OnOk result (desk.new.start ≡ desk.old.start) }
     ensures many { IfErr result (λ f. IfTooMany f (λ n. (n ≡ MOST_MESSAGES)
-        × ((records rs : List ARecord) (arrivals : List Arrival)
-        → ComeNext (terms_of F.files settings.now) records rs arrivals seats origins.now desk.old
-        → ServesFull (terms_of F.files settings.now) desk.old.start records arrivals rs
-        writer.old.bytes writer.new.bytes))) }
-    ensures part { IfErr result (λ f. IfCutShort f ((writer.new.bytes
-        ≡ writer.old.bytes) ⊎ ((records rs : List ARecord) (arrivals : List Arrival)
-        → ComeNext (terms_of F.files settings.now) records rs arrivals seats origins.now desk.old
-        → ServesInPart (terms_of F.files settings.now) desk.old.start records arrivals rs
-        writer.old.bytes writer.new.bytes))) }
+        × FillsWithBatch (terms_of F.files server.now) seats origins.now desk.old
+        writer.old.bytes writer.new.bytes)) }
+    ensures part { IfErr result (λ f. IfCutShort f ((writer.new.bytes ≡ writer.old.bytes)
+        ⊎ AnswersBatchInPart (terms_of F.files server.now) seats origins.now desk.old
+        writer.old.bytes writer.new.bytes)) }
     ensures failures { CountsBy writer_failures writer.old.failures writer.new.failures result }
     ensures own { IfErr result IsOwn }
 {
-    let mut seats = seats.cut(rt, alloc)?;
-    let pieces = seats.merge(alloc, origins)?;
-    let parts = parts_of(alloc, pieces)?;
-    serve_parts::<F, G, T, W>(
-        rt, alloc, snapshot, settings, pages, gate, parts, desk, writer,
-    )?;
+    let mut seats = seats.cut(floors.rt, server.alloc)?;
+    let pieces = seats.merge(server.alloc, origins)?;
+    let parts = parts_of(server.alloc, pieces)?;
+    serve_parts(server, floors, parts, desk, writer)?;
     Ok(seats)
 }
 
@@ -137,20 +126,16 @@ pub fn staged_replay<
         cache: Mutex::new(PageCache::<F>::new(alloc, settings.cache, snapshot.len())?),
         room: room_for_pages(snapshot, settings.cache),
     };
+    let server = Server::<F> {
+        alloc,
+        snapshot,
+        settings,
+        tree: PhantomData,
+    };
+    let floors = Floors { rt, pages, gate };
     loop {
         let batch = read_batch(alloc, &mut capture, settings.batch, &mut seats, &mut tiers)?;
-        seats = serve_batch::<F, G, T, W>(
-            rt,
-            alloc,
-            snapshot,
-            settings,
-            &pages,
-            gate,
-            seats,
-            &batch.origins,
-            &mut desk,
-            writer,
-        )?;
+        seats = serve_batch(&server, &floors, seats, &batch.origins, &mut desk, writer)?;
         match batch.ending {
             Ending::More => {}
             Ending::End => break,

@@ -1,6 +1,6 @@
 //! What an engine writes, seen as a first line, a text for each message, and a last line.
 
-ghost use Rattle.std.specs.Prelude.{◌≡◌, ◌<◌, ◌≤◌, ◌-◌, ◌+◌, ◌^◌, ◌++◌, ◌∷◌, [], List, OnOk, OnErr, IfErr};
+ghost use Rattle.std.specs.Prelude.{◌≡◌, ◌<◌, ◌≤◌, ◌-◌, ◌+◌, ◌^◌, List, OnOk, OnErr, IfErr};
 ghost use Rattle.std.specs.Io.KnownBytes.{Appends};
 ghost use Rattle.paths.specs.Devices.{CanFail, CountsBy};
 ghost use Rattle.captures.specs.Captures.{latest_start, latest_tick};
@@ -8,13 +8,15 @@ ghost use Rattle.arrivals.specs.Arrivals.{Arrival};
 ghost use Rattle.replay.specs.Choices.{Terms, terms_of};
 ghost use Rattle.replay.specs.Outcomes.{AppendsInPart, writer_failures, IsWriteOrMemory};
 ghost use Rattle.replay.specs.Serving.{DeskAfter, AreBy};
-ghost use Rattle.replay.specs.Telling.{Telling, IsTelling, Told, ToldInPart};
+ghost use Rattle.replay.specs.Telling.{Telling, IsTelling};
+ghost use Rattle.replay.specs.Steps.{DecidesNext, TellsNext, TellsNextInPart};
 
 use crate::desk::Desk;
-use crate::{MOST_MESSAGES, ReplayFault, Settings};
+use crate::server::Server;
+use crate::{MOST_MESSAGES, ReplayFault};
 use arrivals::Origin;
 use http_requests::What as Meaning;
-use paths::{Output, Snapshot, Tree};
+use paths::{Output, Tree};
 use responses::HeadRenderer;
 use std::alloc::Global;
 use std::io::Write;
@@ -41,39 +43,29 @@ pub(crate) trait Tells {
 
     /// Decides on the next message, counts it, and writes what is told of it. `heads` renders the head of a reply.
     fn tell<F: Tree, W: Write>(
-        alloc: Global,
+        server: &Server<'_, F>,
         heads: &mut HeadRenderer,
-        snapshot: &Snapshot,
-        settings: &Settings,
         origin: Origin,
         what: &Meaning,
         desk: &mut Desk,
         writer: &mut Output<W>,
     ) -> Result<(), ReplayFault>
-        requires snapshot { snapshot.now ≡ F.files }
         requires start { desk.old.start ≤ latest_start }
         requires tick { origin.tick ≤ latest_tick }
         requires tier { origin.tier < 4 }
         requires few { desk.old.totals.answered < MOST_MESSAGES }
-        requires stands { (arrivals : List Arrival) × DeskAfter (terms_of F.files settings.now) arrivals desk.old
+        requires stands { (arrivals : List Arrival) × DeskAfter (terms_of F.files server.now) arrivals desk.old
             × AreBy origin.tick arrivals }
         requires failures { CanFail writer.old }
-        ensures stands { OnOk result ((arrivals : List Arrival) (a : Arrival)
-            → DeskAfter (terms_of F.files settings.now) arrivals desk.old
-            → a.origin ≡ origin → a.message.what ≡ what.now
-            → DeskAfter (terms_of F.files settings.now) (arrivals ++ a ∷ []) desk.new) }
-        ensures written { OnOk result ((arrivals : List Arrival) (a : Arrival)
-            → DeskAfter (terms_of F.files settings.now) arrivals desk.old
-            → a.origin ≡ origin → a.message.what ≡ what.now
-            → Told (telling (terms_of F.files settings.now)) desk.old.start arrivals (a ∷ [])
-            writer.old.bytes writer.new.bytes) }
+        ensures stands { OnOk result
+            (DecidesNext (terms_of F.files server.now) origin what.now desk.old desk.new) }
+        ensures written { OnOk result (TellsNext (telling (terms_of F.files server.now)) (terms_of F.files server.now)
+            origin what.now desk.old writer.old.bytes writer.new.bytes) }
         ensures start { OnOk result (desk.new.start ≡ desk.old.start) }
         ensures number { OnOk result (desk.new.totals.answered ≡ desk.old.totals.answered + 1) }
-        ensures part { OnErr result ((arrivals : List Arrival) (a : Arrival)
-            → DeskAfter (terms_of F.files settings.now) arrivals desk.old
-            → a.origin ≡ origin → a.message.what ≡ what.now
-            → ToldInPart (telling (terms_of F.files settings.now)) desk.old.start arrivals (a ∷ [])
-            writer.old.bytes writer.new.bytes) }
+        ensures part { OnErr result
+            (TellsNextInPart (telling (terms_of F.files server.now)) (terms_of F.files server.now)
+            origin what.now desk.old writer.old.bytes writer.new.bytes) }
         ensures failures { CountsBy writer_failures writer.old.failures writer.new.failures result }
         ensures own { IfErr result IsWriteOrMemory };
 

@@ -9,8 +9,8 @@ use Rattle.replay.proofs.answering.answer_all.Given as goal
 -- the messages so far are answered
 abbrev pub invariant-loop-message : goal.invariant-loop-message
 invariant-loop-message g l =
-    ((arrivals : List Arrival) (place : ℕ) → DeskAfter (terms_of g.F.Tree.files l.settings) arrivals l.fn.desk
-    → DeskAfter (terms_of g.F.Tree.files l.settings) (arrivals ++ arrivals_with place l.origin (take l.message-index l.messages)) l.desk)
-    × ((arrivals : List Arrival) (place : ℕ) → DeskAfter (terms_of g.F.Tree.files l.settings) arrivals l.fn.desk
-    → Told (g.T.Tells.telling (terms_of g.F.Tree.files l.settings)) l.fn.desk.start arrivals (arrivals_with place l.origin (take l.message-index l.messages)) l.fn.writer.bytes l.writer.bytes)
+    ((arrivals : List Arrival) (place : ℕ) → DeskAfter (terms_of g.F.Tree.files l.server) arrivals l.fn.desk
+    → DeskAfter (terms_of g.F.Tree.files l.server) (arrivals ++ arrivals_with place l.origin (take l.message-index l.messages)) l.desk)
+    × ((arrivals : List Arrival) (place : ℕ) → DeskAfter (terms_of g.F.Tree.files l.server) arrivals l.fn.desk
+    → Told (g.T.Tells.telling (terms_of g.F.Tree.files l.server)) l.fn.desk.start arrivals (arrivals_with place l.origin (take l.message-index l.messages)) l.fn.writer.bytes l.writer.bytes)
     × (l.desk.start ≡ l.fn.desk.start) × (l.desk.totals.answered ≡ l.fn.desk.totals.answered + l.message-index) × (l.writer.failures ≡ l.fn.writer.failures)

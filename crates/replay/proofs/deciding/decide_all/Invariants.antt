@@ -7,4 +7,4 @@ use Rattle.replay.proofs.deciding.decide_all.Given as goal
 -- the messages that the tickets are for were decided on
 abbrev pub invariant-loop-sighted : goal.invariant-loop-sighted
 invariant-loop-sighted g l =
-    Settled g.F.Tree.files (terms_of g.F.Tree.files l.settings) l.settings.costs l.fn.sights.items l.fn.desk l.desk (into_iter_items l.sighted-iterator) l.tickets.items (vec_len l.tickets)
+    Settled g.F.Tree.files (terms_of g.F.Tree.files l.server) l.server.costs l.fn.sights.items l.fn.desk l.desk (into_iter_items l.sighted-iterator) l.tickets.items (vec_len l.tickets)

@@ -8,7 +8,7 @@ use Rattle.replay.proofs.deciding.settle.Goals as goal
 
 pub decide-requires-clause-offers : goal.decide-requires-clause-offers
 decide-requires-clause-offers g c =
-    let terms = terms_of g.F.Tree.files c.args.settings.now in
+    let terms = terms_of g.F.Tree.files c.args.server.now in
     let given = c.requires.stands in
     let below = c.requires.few in
     let is = answered_is terms given.0 c.args.desk.now given.1 in
@@ -17,7 +17,7 @@ decide-requires-clause-offers g c =
 
 pub note-requires-clause-counts : goal.note-requires-clause-counts
 note-requires-clause-counts g c =
-    let terms = terms_of g.F.Tree.files c.args.settings.now in
+    let terms = terms_of g.F.Tree.files c.args.server.now in
     let given = c.requires.stands in
     let judged = c.in_ok-due.ensures.told (offers_of terms given.0) given.1.fits (samples_are terms given.0 c.args.desk.now given.1) in
     let few = given.1.few in
@@ -26,6 +26,6 @@ note-requires-clause-counts g c =
 
 pub returns-clause-stands : goal.returns-clause-stands
 returns-clause-stands g c = λ arrivals a stands from meaning.
-    let terms = terms_of g.F.Tree.files c.args.settings.now in
+    let terms = terms_of g.F.Tree.files c.args.server.now in
     let judged = c.in_ok-due.ensures.told (offers_of terms arrivals) stands.fits (samples_are terms arrivals c.args.desk.now stands) in
     stands_after _ terms arrivals a c.args.origin c.args.what.now c.args.desk.now c.decide.new.self c.note.new.self (told c.in_ok-due.due) stands from meaning c.requires.few judged c.note.ensures

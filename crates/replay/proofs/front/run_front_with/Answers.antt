@@ -10,4 +10,4 @@ returns g c =
     let cut : last_cut g.K.RunName.plan ≡ 3 = ap last_cut (sym c.requires.plan) ∙ c.requires.cut in
     c.in_ok-sights_of.ensures
     ∙ (c.into_items.ensures.values
-    ∙ (rw (cut, ← c.requires.messages, ← c.requires.count, ← c.requires.costs) (by_number (front_value g.F.Tree.files c.args.costs) xs no_message)))
+    ∙ (rw (cut, ← c.requires.messages, ← c.requires.count, ← c.requires.costs) (by_number (front_value g.F.Tree.files c.args.server.now.costs) xs no_message)))

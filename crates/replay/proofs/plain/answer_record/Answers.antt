@@ -1,7 +1,7 @@
 use Rattle.std.proofs.Common.{◌≡◌, ◌∙◌, ap, sym, length, arith, ◌≤◌, ◌+◌, inr}
 use Rattle.captures.specs.Captures.{size_of, sizes_of}
 use Rattle.replay.specs.Choices.{terms_of}
-use Rattle.replay.proofs.Server.{has_room, tiers_after_piece, serves_end, serves_tier, serves_piece, serves_full, serves_part, brought, on_ok, err_many, err_cut}
+use Rattle.replay.proofs.ByRecord.{has_room, tiers_after_piece, serves_end, serves_tier, serves_piece, serves_full, serves_part, brought, on_ok, err_many, err_cut}
 use Rattle.replay.proofs.Upcoming.{ok_all}
 use Rattle.replay.proofs.plain.answer_record.Goals as goal
 
@@ -10,15 +10,15 @@ take-requires-clause-room g c =
     let given = c.requires.room in
     let size : size_of c.args.next.now ≡ length c.as_slice.result.now = ap size_of c.in-Piece.is ∙ ap length (sym c.as_slice.ensures) in
     let fits : sizes_of given.0 + length c.as_slice.result.now ≤ 1073741824 = (let h = given.3 in omega (arith, size, h)) in
-    has_room (terms_of g.F.Tree.files c.args.settings.now) given.0 given.1 c.args.connections.now c.args.desk.now c.from.result (length c.as_slice.result.now) given.2 fits
+    has_room (terms_of g.F.Tree.files c.args.server.now) given.0 given.1 c.args.connections.now c.args.desk.now c.from.result (length c.as_slice.result.now) given.2 fits
 
 pub returns-in-End-clause-serves : goal.returns-in-End-clause-serves
 returns-in-End-clause-serves g c = λ records arrivals tiers serves.
-    serves_end (g.T.Tells.telling (terms_of g.F.Tree.files c.args.settings.now)) (terms_of g.F.Tree.files c.args.settings.now) c.in-End.tick c.in-End.conn records arrivals c.args.next.now c.args.connections.now c.args.desk.now c.args.writer.now.bytes (c.requires.texts (terms_of g.F.Tree.files c.args.settings.now)) c.in-End.is serves
+    serves_end (g.T.Tells.telling (terms_of g.F.Tree.files c.args.server.now)) (terms_of g.F.Tree.files c.args.server.now) c.in-End.tick c.in-End.conn records arrivals c.args.next.now c.args.connections.now c.args.desk.now c.args.writer.now.bytes (c.requires.texts (terms_of g.F.Tree.files c.args.server.now)) c.in-End.is serves
 
 pub returns-in_ok-take-in-Piece-clause-serves : goal.returns-in_ok-take-in-Piece-clause-serves
 returns-in_ok-take-in-Piece-clause-serves g c =
-    let terms = terms_of g.F.Tree.files c.args.settings.now in
+    let terms = terms_of g.F.Tree.files c.args.server.now in
     on_ok c.answer_all.result _ _ _ _ c.answer_all.ensures.stands c.answer_all.ensures.written c.answer_all.ensures.start
     (λ stands written start records arrivals tiers serves.
     (let brings = brought terms c.of.result c.in-Piece.tick c.in-Piece.conn c.from.result c.in-Piece.bytes c.as_slice.result.now c.deref.result.now c.take.new.out.items records arrivals c.args.next.now c.args.connections.now c.take.new.self c.args.desk.now
@@ -28,7 +28,7 @@ returns-in_ok-take-in-Piece-clause-serves g c =
 
 pub returns-in_ok-take-in-Piece-clause-many : goal.returns-in_ok-take-in-Piece-clause-many
 returns-in_ok-take-in-Piece-clause-many g c =
-    let terms = terms_of g.F.Tree.files c.args.settings.now in
+    let terms = terms_of g.F.Tree.files c.args.server.now in
     err_many c.answer_all.result _ _
     (λ n full. (
       full.0,
@@ -42,7 +42,7 @@ returns-in_ok-take-in-Piece-clause-many g c =
 
 pub returns-in_ok-take-in-Piece-clause-part : goal.returns-in_ok-take-in-Piece-clause-part
 returns-in_ok-take-in-Piece-clause-part g c =
-    let terms = terms_of g.F.Tree.files c.args.settings.now in
+    let terms = terms_of g.F.Tree.files c.args.server.now in
     err_cut c.answer_all.result _ _
     (λ short. inr (λ records arrivals tiers serves.
     (let brings = brought terms c.of.result c.in-Piece.tick c.in-Piece.conn c.from.result c.in-Piece.bytes c.as_slice.result.now c.deref.result.now c.take.new.out.items records arrivals c.args.next.now c.args.connections.now c.take.new.self c.args.desk.now
@@ -53,7 +53,7 @@ returns-in_ok-take-in-Piece-clause-part g c =
 
 pub returns-in_ok-give-in-Tier-clause-serves : goal.returns-in_ok-give-in-Tier-clause-serves
 returns-in_ok-give-in-Tier-clause-serves g c = λ records arrivals tiers serves.
-    serves_tier (g.T.Tells.telling (terms_of g.F.Tree.files c.args.settings.now)) (terms_of g.F.Tree.files c.args.settings.now) c.in-Tier.conn c.in-Tier.tier records arrivals c.args.next.now c.args.connections.now c.args.desk.now c.args.writer.now.bytes (c.requires.texts (terms_of g.F.Tree.files c.args.settings.now)) c.in-Tier.is serves
+    serves_tier (g.T.Tells.telling (terms_of g.F.Tree.files c.args.server.now)) (terms_of g.F.Tree.files c.args.server.now) c.in-Tier.conn c.in-Tier.tier records arrivals c.args.next.now c.args.connections.now c.args.desk.now c.args.writer.now.bytes (c.requires.texts (terms_of g.F.Tree.files c.args.server.now)) c.in-Tier.is serves
 
 pub returns-in_ok-take-in-Piece-clause-tiers : goal.returns-in_ok-take-in-Piece-clause-tiers
 returns-in_ok-take-in-Piece-clause-tiers g c = ok_all c.answer_all.result _ (λ records are. tiers_after_piece _ _ _ _ records _ c.in-Piece.is are)

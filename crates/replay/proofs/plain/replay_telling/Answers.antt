@@ -6,7 +6,7 @@ use Rattle.replay.proofs.Texts.{text_begun, text_told}
 use Rattle.replay.proofs.Writing.{part_all}
 use Rattle.replay.proofs.Judging.{stands_none, cut_short, passed_on, on_many, on_cut}
 use Rattle.arrivals.proofs.Gathering.{gave_some}
-use Rattle.replay.proofs.Server.{serves_none, no_tiers, sizes_left, is_later, gave_end, all_told, ends_short, told, told_short, own_capture, halts_first, halts_told, halts_full, cut_among, cut_part}
+use Rattle.replay.proofs.ByRecord.{serves_none, no_tiers, sizes_left, is_later, gave_end, all_told, ends_short, told, told_short, own_capture, halts_first, halts_told, halts_full, cut_among, cut_part}
 use Rattle.replay.proofs.plain.replay_telling.Goals as goal
 
 pub returns-in-Err-clause-stops : goal.returns-in-Err-clause-stops

@@ -6,7 +6,7 @@ use Rattle.replay.specs.Replies.{replies_of, text_before_stop}
 use Rattle.replay.specs.Outcomes.{Stops, IsCutShort, capture_fault}
 use Rattle.replay.proofs.Writing.{part_all}
 use Rattle.replay.proofs.Judging.{stands_none, cut_short, passed_on, on_many, on_cut}
-use Rattle.replay.proofs.Server.{serves_none, no_tiers, first_written, more_written, answers_all, ends_in_part, told, told_short, stops_first, stops_told, stops_full, short_among, short_part, blamed_told}
+use Rattle.replay.proofs.ByRecord.{serves_none, no_tiers, first_written, more_written, answers_all, ends_in_part, told, told_short, stops_first, stops_told, left_first, stops_full, short_among, short_part, blamed_told}
 use Rattle.replay.specs.Waiting.{connections_of}
 use Rattle.replay.proofs.ByBatch.{come_next, waits_none}
 use Rattle.replay.proofs.staged.staged_replay.Goals as goal
@@ -24,8 +24,8 @@ returns-in_err-new-clause-part g c = cut_short c.from_residual-in_err-new.result
 pub returns-in_err-new-2-clause-part : goal.returns-in_err-new-2-clause-part
 returns-in_err-new-2-clause-part g c = cut_short c.from_residual-in_err-new-2.result _ (inl (part_all c.args.writer.now.bytes c.write_first_line.new.writer.bytes _ c.in_ok-write_first_line.ensures.written))
 
-pub loop-pages-init : goal.loop-pages-init
-loop-pages-init g c =
+pub loop-floors-init : goal.loop-floors-init
+loop-floors-init g c =
     let terms = terms_of g.F.Tree.files c.args.settings.now in (
       (
         c.in-Ok.capture.progress.version,
@@ -45,12 +45,12 @@ loop-pages-init g c =
 
 pub returns-in_err-batch-clause-part : goal.returns-in_err-batch-clause-part
 returns-in_err-batch-clause-part g c =
-    let inv = c.loop-pages.invariant.0 in
+    let inv = c.loop-floors.invariant.0 in
     cut_short c.from_residual-in_err-batch.result _ (short_among (terms_of g.F.Tree.files c.args.settings.now) _ _ _ _ _ _ _ _ _ _ _ inv.3 inv.4 inv.6)
 
 pub serve_batch-requires-clause-next : goal.serve_batch-requires-clause-next
 serve_batch-requires-clause-next g c = λ κs lives.
-    let inv = c.loop-pages.invariant in
+    let inv = c.loop-floors.invariant in
     let terms = terms_of g.F.Tree.files c.args.settings.now in
     let b = c.in_ok-batch.ensures.batch in
     let tiers = b.2 inv.0.1 inv.0.5 in
@@ -60,7 +60,7 @@ serve_batch-requires-clause-next g c = λ κs lives.
 
 pub returns-in_err-seats-clause-many : goal.returns-in_err-seats-clause-many
 returns-in_err-seats-clause-many g c =
-    let inv = c.loop-pages.invariant in
+    let inv = c.loop-floors.invariant in
     let terms = terms_of g.F.Tree.files c.args.settings.now in
     let b = c.in_ok-batch.ensures.batch in
     let tiers = b.2 inv.0.1 inv.0.5 in
@@ -74,7 +74,7 @@ returns-in_err-seats-clause-many g c =
 
 pub returns-in_err-seats-clause-part : goal.returns-in_err-seats-clause-part
 returns-in_err-seats-clause-part g c =
-    let inv = c.loop-pages.invariant in
+    let inv = c.loop-floors.invariant in
     let terms = terms_of g.F.Tree.files c.args.settings.now in
     let b = c.in_ok-batch.ensures.batch in
     let tiers = b.2 inv.0.1 inv.0.5 in
@@ -84,18 +84,18 @@ returns-in_err-seats-clause-part g c =
     (λ f same. rw same (on_cut c.in_err-seats.field-0.0 _ _
     (λ short. elim short [
       | inl none ↦ short_among terms _ _ _ _ _ _ _ _ _ _ _ inv.0.3 inv.0.4
-          (subst (λ (w : Option (List ℕ)). Appends c.args.writer.now.bytes w (text_before_stop (replies_of terms c.loop-pages.desk.start (handled terms inv.0.2)))) (sym none) inv.0.6)
+          (subst (λ (w : Option (List ℕ)). Appends c.args.writer.now.bytes w (text_before_stop (replies_of terms c.loop-floors.desk.start (handled terms inv.0.2)))) (sym none) inv.0.6)
       | inr part ↦ short_part terms inv.0.0 _ _ _ _ _ _ inv.0.1 inv.0.2 b.0 _ on.fits inv.0.6 (part inv.0.1 b.0 inv.0.2 next)
     ])
     c.in_err-seats.ensures.part))
     c.from_residual-in_err-seats.ensures.1
 
 pub returns-in-Fault-clause-stops : goal.returns-in-Fault-clause-stops
-returns-in-Fault-clause-stops g c =
+returns-in-Fault-clause-stops g c = left_first _ _ _ c.read_batch.new.capture.input.now.bytes _ _ _ (search rules) (λ left.
     let gives = c.from-in-Fault.ensures in
     let same = c.in-Fault.fault-is in
     let is : c.from-in-Fault.result ≡ capture_fault c.in-Fault.fault = cc in
-    let inv = c.loop-pages.invariant in
+    let inv = c.loop-floors.invariant in
     let terms = terms_of g.F.Tree.files c.args.settings.now in
     let b = c.in_ok-batch.ensures.batch in
     let tiers = b.2 inv.0.1 inv.0.5 in
@@ -105,14 +105,14 @@ returns-in-Fault-clause-stops g c =
     let more = one.serves inv.0.1 b.0 inv.0.2 next in
     let ends = rw c.in-Fault.is at on.ends in
     stops_told terms inv.0.0 c.args.reader.now.bytes _ _ c.read_batch.new.capture.input.now.bytes _ _ _ (inv.0.1 ++ b.0) (inv.0.2 ++ more.more) _ _ _ c.in-Fault.fault c.from-in-Fault.result is on.fits more.serves
-    (more_written terms c.loop-pages.desk.start inv.0.2 more.more _ _ _ inv.0.6 (rw one.start at more.written)) ends.0 ends.1 (search rules)
+    (more_written terms c.loop-floors.desk.start inv.0.2 more.more _ _ _ inv.0.6 (rw one.start at more.written)) ends.0 ends.1 left)
 
 pub returns-in-Fault-clause-part : goal.returns-in-Fault-clause-part
 returns-in-Fault-clause-part g c =
     let gives = c.from-in-Fault.ensures in
     let same = c.in-Fault.fault-is in
     let is : c.from-in-Fault.result ≡ capture_fault c.in-Fault.fault = cc in
-    let inv = c.loop-pages.invariant in
+    let inv = c.loop-floors.invariant in
     let terms = terms_of g.F.Tree.files c.args.settings.now in
     let b = c.in_ok-batch.ensures.batch in
     let tiers = b.2 inv.0.1 inv.0.5 in
@@ -122,20 +122,20 @@ returns-in-Fault-clause-part g c =
     let more = one.serves inv.0.1 b.0 inv.0.2 next in
     rw is
     (told_short _ (IsCutShort terms c.args.reader.now.bytes c.args.writer.now.bytes c.serve_batch.new.writer.bytes)
-    (short_among terms _ _ _ _ _ _ _ _ _ _ _ on.fits more.serves (more_written terms c.loop-pages.desk.start inv.0.2 more.more _ _ _ inv.0.6 (rw one.start at more.written))))
+    (short_among terms _ _ _ _ _ _ _ _ _ _ _ on.fits more.serves (more_written terms c.loop-floors.desk.start inv.0.2 more.more _ _ _ inv.0.6 (rw one.start at more.written))))
 
 pub returns-in-Fault-clause-reads : goal.returns-in-Fault-clause-reads
 returns-in-Fault-clause-reads g c =
     let count = rw c.in-Fault.is at c.in_ok-batch.ensures.count in
-    let before = c.loop-pages.invariant.2 in
+    let before = c.loop-floors.invariant.2 in
     let gives = c.from-in-Fault.ensures in
     let same = c.in-Fault.fault-is in
     let is : c.from-in-Fault.result ≡ capture_fault c.in-Fault.fault = cc in
     blamed_told _ _ c.in-Fault.fault _ is (search rules)
 
-pub loop-pages-preserved : goal.loop-pages-preserved
-loop-pages-preserved g c =
-    let inv = c.loop-pages.invariant in
+pub loop-floors-preserved : goal.loop-floors-preserved
+loop-floors-preserved g c =
+    let inv = c.loop-floors.invariant in
     let terms = terms_of g.F.Tree.files c.args.settings.now in
     let b = c.in_ok-batch.ensures.batch in
     let tiers = b.2 inv.0.1 inv.0.5 in
@@ -150,7 +150,7 @@ loop-pages-preserved g c =
         rw one.start (rw c.in-More.is at on.ends),
         more.serves,
         tiers.1,
-        rw one.start (more_written terms c.loop-pages.desk.start inv.0.2 more.more _ _ _ inv.0.6 (rw one.start at more.written)),
+        rw one.start (more_written terms c.loop-floors.desk.start inv.0.2 more.more _ _ _ inv.0.6 (rw one.start at more.written)),
       ),
       c.in_ok-batch.ensures.same ∙ inv.1,
       (rw c.in-More.is at c.in_ok-batch.ensures.count) ∙ inv.2,
@@ -161,7 +161,7 @@ loop-pages-preserved g c =
 
 pub returns-in_err-outcome-clause-part : goal.returns-in_err-outcome-clause-part
 returns-in_err-outcome-clause-part g c =
-    let inv = c.loop-pages.invariant in
+    let inv = c.loop-floors.invariant in
     let terms = terms_of g.F.Tree.files c.args.settings.now in
     let b = c.in_ok-batch.ensures.batch in
     let tiers = b.2 inv.0.1 inv.0.5 in
@@ -170,11 +170,11 @@ returns-in_err-outcome-clause-part g c =
     let one = c.in_ok-seats.ensures in
     let more = one.serves inv.0.1 b.0 inv.0.2 next in
     cut_short c.from_residual-in_err-outcome.result _
-    (short_among terms _ _ _ _ _ _ _ _ _ _ _ on.fits more.serves (more_written terms c.loop-pages.desk.start inv.0.2 more.more _ _ _ inv.0.6 (rw one.start at more.written)))
+    (short_among terms _ _ _ _ _ _ _ _ _ _ _ on.fits more.serves (more_written terms c.loop-floors.desk.start inv.0.2 more.more _ _ _ inv.0.6 (rw one.start at more.written)))
 
 pub returns-in_err-write_last_line-clause-part : goal.returns-in_err-write_last_line-clause-part
 returns-in_err-write_last_line-clause-part g c =
-    let inv = c.loop-pages.invariant in
+    let inv = c.loop-floors.invariant in
     let terms = terms_of g.F.Tree.files c.args.settings.now in
     let b = c.in_ok-batch.ensures.batch in
     let tiers = b.2 inv.0.1 inv.0.5 in
@@ -184,11 +184,11 @@ returns-in_err-write_last_line-clause-part g c =
     let more = one.serves inv.0.1 b.0 inv.0.2 next in
     cut_short c.from_residual-in_err-write_last_line.result _
     (ends_in_part terms inv.0.0 _ _ (inv.0.1 ++ b.0) (inv.0.2 ++ more.more) _ _ _ _ _ _ on.fits.rules
-    (rw c.in-End.is at on.ends) more.serves (more_written terms c.loop-pages.desk.start inv.0.2 more.more _ _ _ inv.0.6 (rw one.start at more.written)) c.in_err-write_last_line.ensures.part refl)
+    (rw c.in-End.is at on.ends) more.serves (more_written terms c.loop-floors.desk.start inv.0.2 more.more _ _ _ inv.0.6 (rw one.start at more.written)) c.in_err-write_last_line.ensures.part refl)
 
 pub returns-clause-ok : goal.returns-clause-ok
 returns-clause-ok g c =
-    let inv = c.loop-pages.invariant in
+    let inv = c.loop-floors.invariant in
     let terms = terms_of g.F.Tree.files c.args.settings.now in
     let b = c.in_ok-batch.ensures.batch in
     let tiers = b.2 inv.0.1 inv.0.5 in
@@ -197,5 +197,5 @@ returns-clause-ok g c =
     let one = c.in_ok-seats.ensures in
     let more = one.serves inv.0.1 b.0 inv.0.2 next in
     answers_all terms inv.0.0 _ c.serve_batch.new.desk.totals.answered (inv.0.1 ++ b.0) (inv.0.2 ++ more.more) _ c.serve_batch.new.desk _ _ _ _ _ on.fits.rules
-    (rw c.in-End.is at on.ends) more.serves (more_written terms c.loop-pages.desk.start inv.0.2 more.more _ _ _ inv.0.6 (rw one.start at more.written)) c.in_ok-write_last_line.ensures.written refl
+    (rw c.in-End.is at on.ends) more.serves (more_written terms c.loop-floors.desk.start inv.0.2 more.more _ _ _ inv.0.6 (rw one.start at more.written)) c.in_ok-write_last_line.ensures.written refl
     c.in_ok-outcome.ensures.rejected (c.in_ok-outcome.ensures.summary terms (inv.0.2 ++ more.more) more.serves.stands)

@@ -13,13 +13,13 @@ use Rattle.replay.specs.Waiting.{Waiting, connections_of}
 use Rattle.replay.proofs.staged.staged_replay.Given as goal
 
 -- some records were read, the messages that arrived with them are answered, and nothing waits
-abbrev pub invariant-loop-pages : goal.invariant-loop-pages
-invariant-loop-pages g l =
+abbrev pub invariant-loop-floors : goal.invariant-loop-floors
+invariant-loop-floors g l =
     ((v : Version) × (records : List Record) × (arrivals : List Arrival) × ReaderAfter v l.fn.reader.bytes l.desk.start records l.capture.progress l.capture.input.now.bytes
     × Serves (terms_of g.F.Tree.files l.settings) records arrivals (connections_of l.seats) l.desk × AreTiers records l.tiers
     × Appends l.fn.writer.bytes l.writer.bytes (text_before_stop (replies_of (terms_of g.F.Tree.files l.settings) l.desk.start (handled (terms_of g.F.Tree.files l.settings) arrivals))))
     × (l.capture.input.ghost_name ≡ l.initial.capture.input.ghost_name) × (l.capture.input.now.failures ≡ l.fn.reader.failures) × (l.writer.failures ≡ l.fn.writer.failures)
     × (l.desk.start ≤ 4102444800) × Waiting [] l.seats
 
-abbrev pub decreases-loop-pages : goal.decreases-loop-pages
-decreases-loop-pages g l = l.capture.progress.room
+abbrev pub decreases-loop-floors : goal.decreases-loop-floors
+decreases-loop-floors g l = l.capture.progress.room

@@ -19,7 +19,7 @@ pub returns-clause-written : goal.returns-clause-written
 returns-clause-written g c = ok_more c.answer_ticket.result _ _
     (λ written arrivals a stands from meaning.
     (let slips = c.in_ok-ticket.ensures.slip arrivals a stands from meaning in
-    let all = reply_written _ (terms_of g.F.Tree.files c.args.settings.now) c.args.desk.now.start arrivals a _ _ slips refl in
+    let all = reply_written _ (terms_of g.F.Tree.files c.args.server.now) c.args.desk.now.start arrivals a _ _ slips refl in
     subst (λ text. Appends c.args.writer.now.bytes c.answer_ticket.new.writer.bytes text) all written))
     c.answer_ticket.ensures.written
 
@@ -27,6 +27,6 @@ pub returns-clause-part : goal.returns-clause-part
 returns-clause-part g c = err_more c.answer_ticket.result _ _
     (λ part arrivals a stands from meaning.
     (let slips = c.in_ok-ticket.ensures.slip arrivals a stands from meaning in
-    let all = reply_written _ (terms_of g.F.Tree.files c.args.settings.now) c.args.desk.now.start arrivals a _ _ slips refl in
+    let all = reply_written _ (terms_of g.F.Tree.files c.args.server.now) c.args.desk.now.start arrivals a _ _ slips refl in
     subst (λ text. AppendsInPart c.args.writer.now.bytes c.answer_ticket.new.writer.bytes text) all part))
     c.answer_ticket.ensures.part

@@ -1,4 +1,4 @@
-use Rattle.std.proofs.Common.{ap, subst, take, arith}
+use Rattle.std.proofs.Common.{subst, take, arith}
 use Rattle.std.specs.Io.KnownBytes.{Appends}
 use Rattle.replay.specs.Choices.{terms_of}
 use Rattle.replay.proofs.Offering.{last_by}
@@ -10,7 +10,7 @@ use Rattle.replay.proofs.rows.RowsTells.tell.Goals as goal
 pub outlook-found-requires-clause-forward : goal.outlook-found-requires-clause-forward
 outlook-found-requires-clause-forward g c =
     let given = c.requires.stands in
-    let late = last_by (terms_of g.F.Tree.files c.args.settings.now) given.0 c.args.origin.tick given.2 in
+    let late = last_by (terms_of g.F.Tree.files c.args.server.now) given.0 c.args.origin.tick given.2 in
     let last = given.1.fits.tick in
     let most = c.requires.tick in
     (omega (arith, late, last), omega (arith, most))
@@ -25,11 +25,11 @@ returns-in_err-ticket-clause-part g c =
 
 pub returns-in_err-write_row-clause-part : goal.returns-in_err-write_row-clause-part
 returns-in_err-write_row-clause-part g c =
-    let terms = terms_of g.F.Tree.files c.args.settings.now in
+    let terms = terms_of g.F.Tree.files c.args.server.now in
     on_err c.from_residual-in_err-write_row.result _
     (λ arrivals a stands from meaning.
     (let finds = foreseen terms arrivals c.args.desk.now c.outlook-found.result c.args.origin.tier c.args.origin.tick stands c.outlook-found.ensures.finds in
-    let costs = costs_known _ g.F.Tree.files _ c.args.settings.now.costs c.args.what.now a.message.what _ _ c.service_in-service.ensures.is c.in_ok-sight.ensures c.requires.snapshot (ap (λ s. s.costs) c.settings.view_is) meaning in
+    let costs = costs_known g.F.Tree.files c.args.server.now.costs c.args.what.now a.message.what _ _ c.service_in-service.ensures.is c.in_ok-sight.ensures meaning in
     let row = c.row_of-row.ensures terms c.args.desk.now.start arrivals a from costs finds (c.in_ok-ticket.ensures.slip arrivals a stands from meaning) in
     let text = row_written terms arrivals a c.row_of-row.result c.args.what.now c.method_of.result.now c.target_of.result.now row meaning c.method_of.ensures c.target_of.ensures in
     let part = c.in_err-write_row.ensures.front in
@@ -37,9 +37,9 @@ returns-in_err-write_row-clause-part g c =
 
 pub returns-clause-written : goal.returns-clause-written
 returns-clause-written g c = λ arrivals a stands from meaning.
-    let terms = terms_of g.F.Tree.files c.args.settings.now in
+    let terms = terms_of g.F.Tree.files c.args.server.now in
     let finds = foreseen terms arrivals c.args.desk.now c.outlook-found.result c.args.origin.tier c.args.origin.tick stands c.outlook-found.ensures.finds in
-    let costs = costs_known _ g.F.Tree.files _ c.args.settings.now.costs c.args.what.now a.message.what _ _ c.service_in-service.ensures.is c.in_ok-sight.ensures c.requires.snapshot (ap (λ s. s.costs) c.settings.view_is) meaning in
+    let costs = costs_known g.F.Tree.files c.args.server.now.costs c.args.what.now a.message.what _ _ c.service_in-service.ensures.is c.in_ok-sight.ensures meaning in
     let row = c.row_of-row.ensures terms c.args.desk.now.start arrivals a from costs finds (c.in_ok-ticket.ensures.slip arrivals a stands from meaning) in
     let text = row_written terms arrivals a c.row_of-row.result c.args.what.now c.method_of.result.now c.target_of.result.now row meaning c.method_of.ensures c.target_of.ensures in
     subst (λ v. Appends c.args.writer.now.bytes c.write_row.new.output.bytes v) text c.in_ok-write_row.ensures.front

@@ -597,6 +597,11 @@ pub stops_told : (terms : Terms) (v : Version) (input now ahead left old new : O
 stops_told terms v input now ahead left old new start records arrivals p connections desk f r is fits serves written fault failed same =
     halts_told (replies_told terms) terms v input now ahead left old new start records arrivals p connections desk f r is fits serves written fault failed same
 
+-- what is left of the input, found before the rest is in sight
+pub left_first : (terms : Terms) (input ahead left old new : Option (List ℕ)) (r : ReplayFault) → ahead ≡ left
+    → (ahead ≡ left → IfCapture r (Stops terms input ahead old new)) → IfCapture r (Stops terms input ahead old new)
+left_first terms input ahead left old new r same rest = rest same
+
 pub short_among : (terms : Terms) (v : Version) (input now old new : Option (List ℕ)) (start : ℕ) (records : List Record) (arrivals : List Arrival) (p : Progress) (connections : List Connection) (desk : Desk)
     → ReaderAfter v input start records p now → Serves terms records arrivals connections desk → Appends old new (text_before_stop (replies_of terms start (handled terms arrivals)))
     → IsCutShort terms input old new
