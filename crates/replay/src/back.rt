@@ -40,9 +40,9 @@ impl Backs for Brand {
 /// A reply on its way.
 #[derive(Drop)]
 pub struct BackItem<F: Tree, K: Backs> {
-    number: usize,
-    done: usize,
-    state: BackState<F>,
+    pub number: usize,
+    pub done: usize,
+    pub state: BackState<F>,
     of: PhantomData<K>,
     pub ghost is: { is_back F.files state ≡ true },
     pub ghost own: { elsewhere state ≡ value_of (back_step F.files) done (due_at K.tickets number) },

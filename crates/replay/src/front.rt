@@ -43,10 +43,10 @@ impl Fronts for Brand {
 /// A message on its way to the decision.
 #[derive(Drop)]
 pub struct FrontItem<F: Tree, K: Fronts> {
-    number: usize,
-    done: usize,
-    message: Incoming,
-    sight: Sight,
+    pub number: usize,
+    pub done: usize,
+    pub message: Incoming,
+    pub sight: Sight,
     tree: PhantomData<F>,
     of: PhantomData<K>,
     pub ghost own: { record { message = message; sight = sight }

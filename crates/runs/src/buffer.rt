@@ -25,7 +25,7 @@ impl Stood for Brand {
 /// A device that holds what stood at it before the run, and after it what was written since.
 #[derive(Drop)]
 pub struct Device<N: Stood, W: Write> {
-    pub(crate) writer: W,
+    pub writer: W,
     pub(crate) of: PhantomData<N>,
     ghost begins: { front_of N.stood (W.contents writer) ≡ N.stood },
 }
@@ -89,8 +89,8 @@ pub(crate) const ROOM: usize = 65_536;
 /// written waits on, and [`Buffered::finish`] alone ends the buffer: nothing is written where it is dropped.
 #[derive(Drop)]
 pub struct Buffered<N: Stood, W: Write> {
-    pub(crate) device: Device<N, W>,
-    pub(crate) waiting: Vec<u8>,
+    pub device: Device<N, W>,
+    pub waiting: Vec<u8>,
 }
 
 impl<N: Stood, W: Write> Buffered<N, W> {
