@@ -6,6 +6,7 @@ ghost use Rattle.paths.specs.Devices.{CanFail};
 ghost use Rattle.captures.specs.declared.version.Version.{Version as AVersion};
 ghost use Rattle.captures.specs.Captures.{IsRecord};
 ghost use Rattle.captures.specs.Readers.{ReaderAfter};
+ghost use Rattle.captures.specs.Shown.{progress_of, device_of, loan_of};
 ghost use Rattle.captures.specs.declared.record.Record.{Record as ARecord};
 ghost use Rattle.captures.specs.declared.stage.Stage.TheVariants.{Reading};
 ghost use Rattle.arrivals.specs.Batches.{origins_of, tiers_of};
@@ -86,20 +87,21 @@ pub fn read_batch<'a, R: Read>(
     seats: &mut Seats,
     tiers: &mut Tiers,
 ) -> Result<Batch, AllocError>
-    requires count { CanFail capture.old.input.now }
-    requires stage { capture.old.progress.stage ≡ Reading }
+    requires count { CanFail (device_of capture.old) }
+    requires stage { (progress_of capture.old).stage ≡ Reading }
     ensures batch { IfOk result (λ batch. (rs : List ARecord) × Adds rs seats.old seats.new
         × ((records : List ARecord) → AreTiers records tiers.old
         → (batch.origins.items ≡ origins_of (tiers_of records) rs) × AreTiers (records ++ rs) tiers.new)
         × ((version : AVersion) (text : Option (List ℕ)) (start : ℕ) (records : List ARecord)
-        → ReaderAfter version text start records capture.old.progress capture.old.input.now.bytes
-        → ReadOn version text start (records ++ rs) batch.ending capture.new.progress capture.new.input.now.bytes)) }
+        → ReaderAfter version text start records (progress_of capture.old) (device_of capture.old).bytes
+        → ReadOn version text start (records ++ rs) batch.ending
+        (progress_of capture.new) (device_of capture.new).bytes)) }
     ensures room { IfOk result (λ batch. IfMore batch.ending (0 < pieces
-        → capture.new.progress.room < capture.old.progress.room)) }
+        → (progress_of capture.new).room < (progress_of capture.old).room)) }
     ensures count { MatchResult result
-        (λ batch. CountsEnding capture.old.input.now.failures capture.new.input.now.failures batch.ending)
-        (λ _. capture.new.input.now.failures ≡ capture.old.input.now.failures) }
-    ensures same { capture.new.input.ghost_name ≡ capture.old.input.ghost_name }
+        (λ batch. CountsEnding (device_of capture.old).failures (device_of capture.new).failures batch.ending)
+        (λ _. (device_of capture.new).failures ≡ (device_of capture.old).failures) }
+    ensures same { loan_of capture.new ≡ loan_of capture.old }
 {
     let mut origins = Vec::new(alloc);
     let mut bytes: usize = 0;

@@ -1,6 +1,6 @@
 -- How a capture text is read, record by record, and its first fault.
 use Rattle.std.specs.Prelude.{◌≡◌, ℕ, ◌+◌, ◌-◌, ◌≤◌, ◌==◌, ◌||◌, ◌&&◌, ◌⊎◌, Bool, true, false, List, [], ◌++◌, drop}
-use Rattle.std.specs.Prelude.{length, Option, Some, None, Result, Ok, Err, MatchResult, codes, nat_eq, nat_lt}
+use Rattle.std.specs.Prelude.{length, Option, Some, None, Result, Ok, Err, codes, nat_eq, nat_lt}
 use Rattle.std.specs.Prelude.{if◌then◌else◌, is_some, unwrap_or}
 use Rattle.std.specs.List.{starts_with}
 use Rattle.paths.specs.Devices.{CountsBy}

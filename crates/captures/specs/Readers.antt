@@ -1,6 +1,6 @@
 -- A reader of a capture, which gives record after record.
 use Rattle.std.specs.Prelude.{◌≡◌, ℕ, ◌+◌, ◌-◌, ◌≤◌, ◌/◌, ◌%◌, Bool, true, ◌||◌, ◌==◌, List, [], ◌∷◌, ◌++◌, length}
-use Rattle.std.specs.Prelude.{Option, Some, None, Result, Ok, Err, MatchResult, IfErr, slice_index_or, is_some}
+use Rattle.std.specs.Prelude.{Option, Some, None, Result, Ok, Err, IfErr, slice_index_or, is_some}
 use Rattle.std.specs.Prelude.{unwrap_or}
 use Rattle.std.specs.Int.{bit_at}
 use Rattle.paths.specs.Devices.{CountsBy}

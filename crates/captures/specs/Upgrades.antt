@@ -1,5 +1,5 @@
 -- A capture of either version becomes one of version 2, and what has been written of it where the call stops.
-use Rattle.std.specs.Prelude.{◌≡◌, ℕ, ◌+◌, ◌⊎◌, false, List, [], ◌++◌, length, Option, Result, MatchResult, unwrap_or}
+use Rattle.std.specs.Prelude.{◌≡◌, ℕ, ◌+◌, ◌⊎◌, false, List, [], ◌++◌, length, Option, unwrap_or}
 use Rattle.std.specs.Io.KnownBytes.{Appends}
 use Rattle.captures.specs.declared.version.Version.{Version}
 use Rattle.captures.specs.declared.version.Version.TheVariants.{Two}

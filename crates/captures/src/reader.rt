@@ -24,20 +24,22 @@ pub struct CaptureReader<'a, R: Read> {
 }
 
 impl<'a, R: Read> CaptureReader<'a, R> {
+    ghost use Rattle.captures.specs.Shown.{progress_of, device_of, loan_of};
+
     /// Reads the first line.
     pub fn open(input: &'a mut Input<R>) -> Result<CaptureReader<'a, R>, CaptureFault>
         requires { CanFail input.old }
         ensures ok { IfOk result (λ reader.
-            ReaderAfter reader.progress.version input.old.bytes reader.progress.start [] reader.progress
-            reader.input.now.bytes) }
+            ReaderAfter (progress_of reader).version input.old.bytes (progress_of reader).start []
+            (progress_of reader) (device_of reader).bytes) }
         ensures at { IfErr result (λ f. f.at ≡ 0) }
         // It takes no memory.
         ensures memory { IfErr result (λ f. f.kind ≢ CaptureFaultKind.Memory) }
         ensures fault { IfErr result (IsForeseen IsHeaderFault input.old.bytes) }
-        ensures count { IfOk result (λ reader. reader.input.now.failures ≡ input.old.failures) }
-        ensures same { IfOk result (λ reader. reader.input.ghost_name ≡ input.entry.ghost_name) }
+        ensures count { IfOk result (λ reader. (device_of reader).failures ≡ input.old.failures) }
+        ensures same { IfOk result (λ reader. loan_of reader ≡ input.entry.ghost_name) }
         ensures* refused { sem 𝓛
-            (RestsIfErr (the_row R.row R.Read) input.entry (λ reader. reader.input.ghost_name) result
+            (RestsIfErr (the_row R.row R.Read) input.entry loan_of result
             (λ last. CountsFault input.old.failures last.failures result)) }
     {
         let progress = Progress::open(input)?;
@@ -46,14 +48,14 @@ impl<'a, R: Read> CaptureReader<'a, R> {
 
     /// The version of the format that the capture is in.
     pub fn version(&self) -> Version
-        ensures { result ≡ self.now.progress.version }
+        ensures { result ≡ (progress_of self.now).version }
     {
         self.progress.version
     }
 
     /// When the capture starts, in seconds since 1970-01-01.
     pub fn start(&self) -> u64
-        ensures { result ≡ self.now.progress.start }
+        ensures { result ≡ (progress_of self.now).start }
     {
         self.progress.start
     }
@@ -61,26 +63,26 @@ impl<'a, R: Read> CaptureReader<'a, R> {
     /// Reads the next record, or answers `None` where the last line was read and the input ended after it. From a fault
     /// on, that fault is answered, and nothing is read.
     pub fn next_record(&mut self, alloc: Global) -> Result<Option<Record>, CaptureFault>
-        requires { CanFail self.old.input.now }
+        requires { CanFail (device_of self.old) }
         ensures next { (version : AVersion) (text : Option (List ℕ)) (start : ℕ) (records : List ARecord)
-            → ReaderAfter version text start records self.old.progress self.old.input.now.bytes
-            → Gave version text start records result self.new.progress self.new.input.now.bytes }
+            → ReaderAfter version text start records (progress_of self.old) (device_of self.old).bytes
+            → Gave version text start records result (progress_of self.new) (device_of self.new).bytes }
         // Where a read failed, no whole record after these had been taken.
         ensures failed { (version : AVersion) (text : Option (List ℕ)) (start : ℕ) (records : List ARecord)
-            → ReaderAfter version text start records self.old.progress self.old.input.now.bytes
-            → FailsNext version text start records result self.new.input.now.bytes }
+            → ReaderAfter version text start records (progress_of self.old) (device_of self.old).bytes
+            → FailsNext version text start records result (device_of self.new).bytes }
         ensures room { IfOk result
-            (λ next. IfSome next (λ r. size_of r + 1 + self.new.progress.room ≡ self.old.progress.room)) }
+            (λ next. IfSome next (λ r. size_of r + 1 + (progress_of self.new).room ≡ (progress_of self.old).room)) }
         // Whatever the bytes of the device are.
-        ensures limits { IfOk result (λ next. IfSome next (IsRecord self.old.progress.version)) }
-        ensures version { self.new.progress.version ≡ self.old.progress.version }
-        ensures start { self.new.progress.start ≡ self.old.progress.start }
-        ensures stage { self.new.progress.stage ≡ stage_after result }
-        ensures again { Repeats self.old.progress.stage result
-            ((self.new.progress ≡ self.old.progress) × (self.new.input.now ≡ self.old.input.now)) }
-        ensures count { CountsNext self.old.progress.stage
-            self.old.input.now.failures self.new.input.now.failures result }
-        ensures same { self.new.input.ghost_name ≡ self.old.input.ghost_name }
+        ensures limits { IfOk result (λ next. IfSome next (IsRecord (progress_of self.old).version)) }
+        ensures version { (progress_of self.new).version ≡ (progress_of self.old).version }
+        ensures start { (progress_of self.new).start ≡ (progress_of self.old).start }
+        ensures stage { (progress_of self.new).stage ≡ stage_after result }
+        ensures again { Repeats (progress_of self.old).stage result
+            ((progress_of self.new ≡ progress_of self.old) × (device_of self.new ≡ device_of self.old)) }
+        ensures count { CountsNext (progress_of self.old).stage
+            (device_of self.old).failures (device_of self.new).failures result }
+        ensures same { loan_of self.new ≡ loan_of self.old }
     {
         self.progress.next_record(alloc, self.input)
     }

@@ -1,6 +1,6 @@
 -- How a snapshot text is read, entry by entry, and its first fault.
 use Rattle.std.specs.Prelude.{◌≡◌, ℕ, ◌+◌, ◌-◌, ◌≤◌, ◌==◌, ◌||◌, ◌⊎◌, not, Bool, true, false, List, [], ◌∷◌, ◌++◌, drop}
-use Rattle.std.specs.Prelude.{length, Option, Some, None, Result, Ok, Err, MatchResult, codes, nat_eq, nat_lt, nat_le}
+use Rattle.std.specs.Prelude.{length, Option, Some, None, Result, Ok, Err, codes, nat_eq, nat_lt, nat_le}
 use Rattle.std.specs.Prelude.{bytes_eq, if◌then◌else◌, is_some, unwrap_or}
 use Rattle.std.specs.List.{list_all, list_any, starts_with}
 use Rattle.paths.specs.Devices.{CountsBy}
