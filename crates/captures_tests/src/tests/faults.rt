@@ -2,11 +2,12 @@
 ghost use Rattle.std.specs.Prelude.{◌≡◌, ◌≤◌};
 
 use crate::tests::collecting::collect;
-use crate::tests::{Flaky, fault, fault_of};
+use crate::tests::{fault, fault_of};
 use captures::{CaptureFault, CaptureFaultKind as Kind, CaptureReader, Record};
 use paths::Input;
 use std::alloc::Global;
 use std::io::Read;
+use test_devices::Flaky;
 
 /// The worked captures that are at fault.
 #[test]

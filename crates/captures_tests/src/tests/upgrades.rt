@@ -1,10 +1,9 @@
 //! Captures upgraded to version 2.
-use crate::tests::{Flaky, fault};
+use crate::tests::fault;
 use captures::{CaptureFaultKind as Kind, UpgradeFault, upgrade};
 use paths::{Input, Output};
 use std::alloc::Global;
-use std::io;
-use std::io::Write;
+use test_devices::{Flaky, Slow};
 
 static OLD: &str =
     "haboob-capture 1 784111777\npiece 0 0 32\nGET /a.txt HTTP/1.1\r\nHost: a\r\n\r\n\nend 5 0\nstop 2\n";
@@ -15,30 +14,6 @@ static NEW: &str =
 static TIERS: &str =
     "haboob-capture 2 4102444800\nend 7 0\ntier 65535 3\npiece 1000000000000000 65535 7\nstop 0\n\nstop 3\n";
 
-/// A writer over memory that takes at most n bytes a write, and fails after n writes.
-#[derive(Drop)]
-struct Slow<'a> {
-    taken: &'a mut Vec<u8>,
-    size: usize,
-    good: usize,
-}
-
-impl<'a> Write for Slow<'a> {
-    fn write(&mut self, bytes: &[u8]) -> io::Result<usize> {
-        if self.good == 0 {
-            return Err(io::Error::other("refused"));
-        }
-        self.good -= 1;
-        let count = bytes.len().min(self.size);
-        self.taken.extend_from_slice(&bytes[..count])?;
-        Ok(count)
-    }
-
-    fn flush(&mut self) -> io::Result<()> {
-        Ok(())
-    }
-}
-
 /// What an upgrade between devices in memory came to, how often the reader and the writer failed, and what was written.
 fn run(
     alloc: Global,
@@ -48,11 +23,7 @@ fn run(
 ) -> (Result<(), UpgradeFault>, (u64, u64), Vec<u8>) {
     let mut taken = Vec::new(alloc);
     let mut reader = Input::new(Flaky::new(text, 5, reads));
-    let mut writer = Output::new(Slow {
-        taken: &mut taken,
-        size: 7,
-        good: writes,
-    });
+    let mut writer = Output::new(Slow::new(&mut taken, 7, writes));
     let result = upgrade(alloc, &mut reader, &mut writer);
     let failures = (reader.failures(), writer.failures());
     (result, failures, taken)

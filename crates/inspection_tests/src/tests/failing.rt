@@ -1,10 +1,11 @@
 //! Captures that are cut, and reads that fail.
 ghost use Rattle.std.specs.Prelude.{◌≤◌};
 
-use crate::tests::{Flaky, inspect_bytes};
+use crate::tests::inspect_bytes;
 use captures::CaptureFaultKind as Kind;
 use inspection::{InspectFault, inspect};
 use paths::Input;
+use test_devices::Flaky;
 
 static CAPTURE: &str =
     "haboob-capture 2 0\ntier 9 1\npiece 0 9 18\nGET / HTTP/1.0\r\n\r\n\npiece 5 8 2\nab\nend 7 9\nstop 4\n";

@@ -27,6 +27,10 @@ static ROWS: [(&str, &str); 20] = [
 #[test]
 fn media_types(rt: HostRuntime) {
     for (name, text) in &ROWS {
-        assert_eq!(rt; MediaType::of(name.as_bytes()).text(), *text, "of {name}");
+        assert_eq!(rt;
+            MediaType::of_name(name.as_bytes()).text(),
+            *text,
+            "of {name}"
+        );
     }
 }

@@ -1,8 +1,8 @@
 //! One call is one read or one write of the device, whatever comes of it.
-use crate::tests::Flaky;
 use paths::{Failed, Input, Output};
 use std::io;
 use std::io::{ErrorKind, Write};
+use test_devices::Flaky;
 
 /// A writer that takes n bytes at once, fails at its second write, and counts its writes.
 #[derive(Drop)]

@@ -1,8 +1,9 @@
 //! The snapshot text, entry by entry.
-use crate::tests::{EMPTY, Flaky, fault, fault_of, snapshot};
+use crate::tests::{EMPTY, fault, fault_of, snapshot};
 use paths::{Input, Snapshot, SnapshotFault, SnapshotFaultKind as Kind};
 use std::alloc::{AllocError, Global};
 use std::test::Fail;
+use test_devices::Flaky;
 
 static ONE: &str = "haboob-snapshot 1\nfile 784111777 5 3\na.txt\nhi\n\nend 1\n";
 

@@ -7,55 +7,11 @@ use paths::{Input, Output};
 use replay::{ReplayFault, Settings};
 use stage_graph::NoGate;
 use std::alloc::AllocGlobal;
-use std::io;
-use std::io::{Read, Write};
 use std::process::Abort;
 use std::sync::Wait;
 use std::test::Fail;
 use std::thread::Threads;
-
-/// A reader over memory that gives at most 16 bytes a read, and fails after n reads.
-#[derive(Drop)]
-struct Flaky<'a> {
-    bytes: &'a [u8],
-    good: usize,
-}
-
-impl<'a> Read for Flaky<'a> {
-    fn read(&mut self, room: &mut [u8]) -> io::Result<usize> {
-        if self.good == 0 {
-            return Err(io::Error::other("refused"));
-        }
-        self.good -= 1;
-        let count = room.len().min(16).min(self.bytes.len());
-        room[..count].copy_from_slice(&self.bytes[..count]);
-        self.bytes = &self.bytes[count..];
-        Ok(count)
-    }
-}
-
-/// A writer over memory that takes at most 16 bytes a write, and fails after n writes.
-#[derive(Drop)]
-struct Slow<'a> {
-    taken: &'a mut Vec<u8>,
-    good: usize,
-}
-
-impl<'a> Write for Slow<'a> {
-    fn write(&mut self, bytes: &[u8]) -> io::Result<usize> {
-        if self.good == 0 {
-            return Err(io::Error::other("refused"));
-        }
-        self.good -= 1;
-        let count = bytes.len().min(16);
-        self.taken.extend_from_slice(&bytes[..count])?;
-        Ok(count)
-    }
-
-    fn flush(&mut self) -> io::Result<()> {
-        Ok(())
-    }
-}
+use test_devices::{Flaky, Slow};
 
 static WANT: &str = "haboob-replies 1\n\
      reply 0 0 150\n\
@@ -79,14 +35,8 @@ fn ends(
     writes: usize,
 ) -> bool {
     let mut taken = Vec::new(rt.alloc());
-    let mut reader = Input::new(Flaky {
-        bytes: capture.as_bytes(),
-        good: reads,
-    });
-    let mut writer = Output::new(Slow {
-        taken: &mut taken,
-        good: writes,
-    });
+    let mut reader = Input::new(Flaky::new(capture.as_bytes(), 16, reads));
+    let mut writer = Output::new(Slow::new(&mut taken, 16, writes));
     let ran = run_devices(
         rt,
         rt.alloc(),

@@ -2,36 +2,9 @@
 use crate::tests::page;
 use paths::Output;
 use responses::{Link, Slip, Status, What, Write, render, write_reply};
-use std::io;
 use std::marker::Brand;
 use std::test::Fail;
-
-/// A writer over memory that takes at most one byte a write, and fails after n writes.
-#[derive(Drop)]
-struct Slow<'a> {
-    taken: &'a mut Vec<u8>,
-    good: usize,
-}
-
-impl<'a> io::Write for Slow<'a> {
-    fn write(&mut self, bytes: &[u8]) -> io::Result<usize> {
-        if self.good == 0 {
-            return Err(io::Error::other("refused"));
-        }
-        self.good -= 1;
-        match bytes.first() {
-            Some(byte) => {
-                self.taken.push(*byte)?;
-                Ok(1)
-            }
-            None => Ok(0),
-        }
-    }
-
-    fn flush(&mut self) -> io::Result<()> {
-        Ok(())
-    }
-}
+use test_devices::Slow;
 
 static WANT: &[u8; 139] = b"reply 3 12 123\n\
       HTTP/1.1 404 Not Found\r\n\
@@ -60,10 +33,7 @@ fn each_write_failing(rt: HostRuntime) -> Result<(), Fail> {
     assert_eq!(rt; reply.conn(), 12);
     for good in 0..WANT.len() + 1 {
         let mut taken = Vec::new(rt.alloc());
-        let mut output = Output::new(Slow {
-            taken: &mut taken,
-            good,
-        });
+        let mut output = Output::new(Slow::new(&mut taken, 1, good));
         let answer = write_reply(&mut output, &reply);
         let failures = output.failures();
         let whole = good == WANT.len();

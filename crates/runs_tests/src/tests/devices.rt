@@ -1,5 +1,5 @@
 //! Devices that fail.
-use super::running::{FIRST_RUN, Flaky, Narrow, REPLIES, SNAPSHOT};
+use super::running::{FIRST_RUN, Narrow, REPLIES, SNAPSHOT};
 use captures::CaptureFaultKind;
 use paths::{Input, Output, SnapshotFaultKind};
 use replay::ReplayFault;
@@ -9,6 +9,7 @@ use std::io;
 use std::io::{ErrorKind, Write};
 use std::process::Abort;
 use std::test::Fail;
+use test_devices::Flaky;
 
 /// The place that couldn't be read.
 fn unread(fault: Fault) -> Option<Place> {
@@ -35,7 +36,7 @@ fn ends_reading(rt: &(impl Abort + AllocGlobal), good: usize) -> bool {
         return true;
     };
     let following = FIRST_RUN.len() - SNAPSHOT.len();
-    let place = if reader.left() > following {
+    let place = if reader.bytes.len() > following {
         Place::Snapshot
     } else {
         Place::Capture

@@ -1,11 +1,12 @@
 //! What a capture holds, written to a device.
-use super::running::{Flaky, Narrow, is_out_of_memory};
+use super::running::{Narrow, is_out_of_memory};
 use captures::{CaptureFault, CaptureFaultKind};
 use paths::{Input, Output};
 use replay::ReplayFault;
 use runs::{Fault, Place, inspect_files, run_inspect};
 use std::alloc::AllocGlobal;
 use std::process::Abort;
+use test_devices::Flaky;
 
 /// A request that closes, two bytes after it, and the end of another connection.
 static CAPTURE: &str =

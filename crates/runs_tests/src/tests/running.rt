@@ -7,7 +7,7 @@ use paths::{Input, Output};
 use runs::{Fault, Wanted, run_bundle, run_replay};
 use std::alloc::Global;
 use std::io;
-use std::io::{Read, Write};
+use std::io::Write;
 use std::sync::Wait;
 use std::thread::Threads;
 
@@ -45,39 +45,6 @@ pub static REPLIES: &str = "haboob-replies 1\n\
 /// Whether memory was refused: the status of that fault alone.
 pub fn is_out_of_memory(fault: &Fault) -> bool {
     fault.status() == 7
-}
-
-/// A reader over memory that gives at most n bytes a read, and fails at one of its reads.
-#[derive(Drop)]
-pub struct Flaky<'a> {
-    bytes: &'a [u8],
-    size: usize,
-    /// How many reads are made before the one that fails.
-    good: usize,
-}
-
-impl<'a> Flaky<'a> {
-    pub fn new(bytes: &'a [u8], size: usize, good: usize) -> Flaky<'a> {
-        Flaky { bytes, size, good }
-    }
-
-    /// How many bytes it has left.
-    pub fn left(&self) -> usize {
-        self.bytes.len()
-    }
-}
-
-impl<'a> Read for Flaky<'a> {
-    fn read(&mut self, room: &mut [u8]) -> io::Result<usize> {
-        if self.good == 0 {
-            return Err(io::Error::other("refused"));
-        }
-        self.good -= 1;
-        let count = room.len().min(self.size).min(self.bytes.len());
-        room[..count].copy_from_slice(&self.bytes[..count]);
-        self.bytes = &self.bytes[count..];
-        Ok(count)
-    }
 }
 
 /// A writer into a room of its own that takes at most n bytes a write, and fails at one of its writes or where

@@ -1,11 +1,12 @@
 //! Captures of an older version that become captures of version 2.
-use super::running::{Flaky, Narrow, REPLIES, SNAPSHOT, is_out_of_memory, run};
+use super::running::{Narrow, REPLIES, SNAPSHOT, is_out_of_memory, run};
 use captures::{CaptureFault, CaptureFaultKind, UpgradeFault};
 use paths::{Input, Output};
 use runs::{Fault, Place, run_upgrade, upgrade_files};
 use std::alloc::AllocGlobal;
 use std::process::Abort;
 use std::test::Fail;
+use test_devices::Flaky;
 
 /// A capture of one request for the file, and of the end of another connection, in version 1.
 static OLDER: &str =

@@ -1,9 +1,10 @@
 //! Writes that fail.
 use crate::tests::writing::write_files;
-use crate::tests::{ALL, Entry, Slow, files_of};
+use crate::tests::{ALL, Entry, files_of};
 use paths::Output;
 use snapshots::WriteFault;
 use std::test::Fail;
+use test_devices::Slow;
 
 static FILES: [Entry; 2] = [("a.txt", 784_111_777, "hi\n"), ("b", 0, "")];
 

@@ -1,9 +1,10 @@
 //! Files that break a rule: nothing of them is written, and the next file is judged as if they hadn't been there.
 use crate::tests::writing::write_allowed;
-use crate::tests::{ALL, Entry, Slow, files_of};
+use crate::tests::{ALL, Entry, files_of};
 use paths::Output;
 use snapshots::WriteFault;
 use std::test::Fail;
+use test_devices::Slow;
 
 /// Files, of which some break rules.
 static FILES: [Entry; 22] = [

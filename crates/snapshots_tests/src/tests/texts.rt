@@ -1,8 +1,9 @@
 //! Texts that are written, and read back.
 use crate::tests::writing::write_files;
-use crate::tests::{ALL, Entry, Slow, files_of};
+use crate::tests::{ALL, Entry, files_of};
 use paths::{Input, Output, Snapshot};
 use std::test::Fail;
+use test_devices::Slow;
 
 #[test]
 fn snapshot_of_one_file(rt: HostRuntime) -> Result<(), Fail> {
