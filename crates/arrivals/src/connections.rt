@@ -108,7 +108,7 @@ impl Connections {
 
     /// A piece came on a connection: adds the messages that end in it. Once out of memory the connections are of no
     /// use any more.
-    pub fn take(
+    pub fn read_piece(
         &mut self,
         alloc: Global,
         conn: usize,

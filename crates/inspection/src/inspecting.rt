@@ -40,7 +40,7 @@ fn take_record(
         Record::Piece { tick, conn, bytes } => {
             let bytes = bytes.as_slice();
             let mut messages = Vec::new(alloc);
-            connections.take(alloc, usize::from(*conn), bytes, &mut messages)?;
+            connections.read_piece(alloc, usize::from(*conn), bytes, &mut messages)?;
             found.take_piece(*tick, *conn, bytes.len(), &messages)
         }
     }

@@ -1,7 +1,10 @@
 -- The numbers and lists of a settings document, before it is known whether they fit together.
 use Rattle.std.specs.Prelude.{ℕ, ◌≤◌, List}
 use Rattle.cost_model.specs.Services.{CostTable}
+use Rattle.token_bucket.specs.Limits.{MAX_DEPTH, MAX_RATE}
+use Rattle.admission.specs.Limits.{MAX_WINDOW, MAX_EVERY, MAX_UP, MIN_DOWN, MAX_DOWN, MAX_TARGET}
 use Rattle.admission.specs.Rules.{Rules}
+use Rattle.replay.specs.Choices.{most_records, most_cache, longest_retry}
 
 -- the lists of a floor: where its stages end, their workers, and what their queues hold
 pub record FloorLists : Type 0 where
@@ -24,23 +27,23 @@ pub record Choices : Type 0 where
 
 -- each number of a policy is within its own range
 pub record AreWithin (p : Rules) : Type 0 where
-  pub window : (1 ≤ p.window) × (p.window ≤ 4096)
-  pub every : (1 ≤ p.every) × (p.every ≤ 4096)
+  pub window : (1 ≤ p.window) × (p.window ≤ MAX_WINDOW)
+  pub every : (1 ≤ p.every) × (p.every ≤ MAX_EVERY)
   pub smoothing : p.smoothing ≤ 999
-  pub rate : (1 ≤ p.rate) × (p.rate ≤ 1000000000)
-  pub rate_min : (1 ≤ p.rate_min) × (p.rate_min ≤ 1000000000)
-  pub rate_max : (1 ≤ p.rate_max) × (p.rate_max ≤ 1000000000)
-  pub up : p.up ≤ 1000000000
-  pub down : (101 ≤ p.down) × (p.down ≤ 10000)
-  pub target : (1 ≤ p.target) × (p.target ≤ 1000000000000)
+  pub rate : (1 ≤ p.rate) × (p.rate ≤ MAX_RATE)
+  pub rate_min : (1 ≤ p.rate_min) × (p.rate_min ≤ MAX_RATE)
+  pub rate_max : (1 ≤ p.rate_max) × (p.rate_max ≤ MAX_RATE)
+  pub up : p.up ≤ MAX_UP
+  pub down : (MIN_DOWN ≤ p.down) × (p.down ≤ MAX_DOWN)
+  pub target : (1 ≤ p.target) × (p.target ≤ MAX_TARGET)
   pub low : p.low ≤ 100
-  pub depth : (1 ≤ p.depth) × (p.depth ≤ 1000000)
+  pub depth : (1 ≤ p.depth) × (p.depth ≤ MAX_DEPTH)
 
 -- so are those of each policy, and the other numbers
 pub record AreChoices (c : Choices) : Type 0 where
-  pub batch : (1 ≤ c.batch) × (c.batch ≤ 65536)
-  pub cache : c.cache ≤ 1073741824
-  pub retry_after : c.retry_after ≤ 86400
+  pub batch : (1 ≤ c.batch) × (c.batch ≤ most_records)
+  pub cache : c.cache ≤ most_cache
+  pub retry_after : c.retry_after ≤ longest_retry
   pub policy : AreWithin c.policy
   pub tier1 : AreWithin c.tier1
   pub tier2 : AreWithin c.tier2

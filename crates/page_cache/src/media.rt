@@ -28,7 +28,7 @@ impl MediaType {
     /// The media type of a file of this name, by its extension: what stands after the last dot of the last part,
     /// without regard to case.
     #[tactic(auto, unfolding(crate::specs::Media::media_of))]
-    pub fn of(name: &[u8]) -> MediaType
+    pub fn of_name(name: &[u8]) -> MediaType
         ensures { result ≡ media_of name.now }
     {
         match after_last(last_part(name), b'.') {

@@ -46,7 +46,7 @@ impl<F: Tree> Page<F> {
         ensures { IfOk result (λ p. arc_value p ≡ file) }
     {
         let bytes = snapshot.bytes(file);
-        let media = MediaType::of(snapshot.name(file));
+        let media = MediaType::of_name(snapshot.name(file));
         let mut text = entity_fields_before(alloc, media, bytes.len(), bytes.len())?.into_bytes();
         let split = text.len();
         text.extend_from_slice(bytes)?;

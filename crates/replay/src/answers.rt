@@ -45,7 +45,7 @@ pub(crate) fn known_file<F: Tree>(snapshot: &Snapshot, file: usize, mtime: u64) 
         (length (file_of snapshot.now file).bytes) mtime }
 {
     What::Known {
-        media: MediaType::of(snapshot.name(file)),
+        media: MediaType::of_name(snapshot.name(file)),
         len: snapshot.bytes(file).len() as u64,
         mtime,
     }

@@ -147,7 +147,7 @@ fn answer_record<T: Tells, F: Tree, W: Write>(
         }
         Record::Piece { tick, conn, bytes } => {
             messages.clear();
-            connections.take(server.alloc, usize::from(*conn), bytes.as_slice(), messages)?;
+            connections.read_piece(server.alloc, usize::from(*conn), bytes.as_slice(), messages)?;
             let origin = Origin {
                 conn: *conn,
                 tick: *tick,

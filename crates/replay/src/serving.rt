@@ -167,7 +167,8 @@ fn serve_part<F: Tree + Send + Sync, G: Gate + Sync, T: Threads + Wait + Sync, W
         × WritesFirst i (terms_of F.files server.now) messages.items desk.old writer.old.bytes writer.new.bytes)) }
     ensures part { IfErr result (λ f. IfCutShort f ((i : ℕ) × (i ≤ length messages.items)
         × (desk.old.totals.answered + i ≤ MOST_MESSAGES)
-        × WritesFirstInPart i (terms_of F.files server.now) messages.items desk.old writer.old.bytes writer.new.bytes)) }
+        × WritesFirstInPart i (terms_of F.files server.now) messages.items desk.old
+        writer.old.bytes writer.new.bytes)) }
     ensures start { OnOk result (desk.new.start ≡ desk.old.start) }
     ensures failures { CountsBy writer_failures writer.old.failures writer.new.failures result }
     ensures own { IfErr result IsOwn }
@@ -204,10 +205,12 @@ pub(crate) fn serve_parts<
         (WritesComing (terms_of F.files server.now) (joined parts.items) desk.old writer.old.bytes writer.new.bytes) }
     ensures many { IfErr result (λ f. IfTooMany f (λ n. (n ≡ MOST_MESSAGES) × (i : ℕ)
         × (i < length (joined parts.items)) × (desk.old.totals.answered + i ≡ MOST_MESSAGES)
-        × WritesFirst i (terms_of F.files server.now) (joined parts.items) desk.old writer.old.bytes writer.new.bytes)) }
+        × WritesFirst i (terms_of F.files server.now) (joined parts.items) desk.old
+        writer.old.bytes writer.new.bytes)) }
     ensures part { IfErr result (λ f. IfCutShort f ((i : ℕ) × (i ≤ length (joined parts.items))
         × (desk.old.totals.answered + i ≤ MOST_MESSAGES)
-        × WritesFirstInPart i (terms_of F.files server.now) (joined parts.items) desk.old writer.old.bytes writer.new.bytes)) }
+        × WritesFirstInPart i (terms_of F.files server.now) (joined parts.items) desk.old
+        writer.old.bytes writer.new.bytes)) }
     ensures start { OnOk result (desk.new.start ≡ desk.old.start) }
     ensures failures { CountsBy writer_failures writer.old.failures writer.new.failures result }
     ensures own { IfErr result IsOwn }

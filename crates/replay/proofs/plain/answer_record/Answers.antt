@@ -5,8 +5,8 @@ use Rattle.replay.proofs.ByRecord.{has_room, tiers_after_piece, serves_end, serv
 use Rattle.replay.proofs.Upcoming.{ok_all}
 use Rattle.replay.proofs.plain.answer_record.Goals as goal
 
-pub take-requires-clause-room : goal.take-requires-clause-room
-take-requires-clause-room g c =
+pub read_piece-requires-clause-room : goal.read_piece-requires-clause-room
+read_piece-requires-clause-room g c =
     let given = c.requires.room in
     let size : size_of c.args.next.now ≡ length c.as_slice.result.now = ap size_of c.in-Piece.is ∙ ap length (sym c.as_slice.ensures) in
     let fits : sizes_of given.0 + length c.as_slice.result.now ≤ 1073741824 = (let h = given.3 in omega (arith, size, h)) in
@@ -16,38 +16,38 @@ pub returns-in-End-clause-serves : goal.returns-in-End-clause-serves
 returns-in-End-clause-serves g c = λ records arrivals tiers serves.
     serves_end (g.T.Tells.telling (terms_of g.F.Tree.files c.args.server.now)) (terms_of g.F.Tree.files c.args.server.now) c.in-End.tick c.in-End.conn records arrivals c.args.next.now c.args.connections.now c.args.desk.now c.args.writer.now.bytes (c.requires.texts (terms_of g.F.Tree.files c.args.server.now)) c.in-End.is serves
 
-pub returns-in_ok-take-in-Piece-clause-serves : goal.returns-in_ok-take-in-Piece-clause-serves
-returns-in_ok-take-in-Piece-clause-serves g c =
+pub returns-in_ok-read_piece-in-Piece-clause-serves : goal.returns-in_ok-read_piece-in-Piece-clause-serves
+returns-in_ok-read_piece-in-Piece-clause-serves g c =
     let terms = terms_of g.F.Tree.files c.args.server.now in
     on_ok c.answer_all.result _ _ _ _ c.answer_all.ensures.stands c.answer_all.ensures.written c.answer_all.ensures.start
     (λ stands written start records arrivals tiers serves.
-    (let brings = brought terms c.of.result c.in-Piece.tick c.in-Piece.conn c.from.result c.in-Piece.bytes c.as_slice.result.now c.deref.result.now c.take.new.out.items records arrivals c.args.next.now c.args.connections.now c.take.new.self c.args.desk.now
-    (c.of.ensures.tier ∙ tiers c.in-Piece.conn) c.in-Piece.is c.from.ensures c.as_slice.ensures c.deref.ensures.value (record { own = c.in_ok-take-in-Piece.ensures.own; others = c.in_ok-take-in-Piece.ensures.others }) serves in
-    serves_piece (g.T.Tells.telling terms) terms c.of.result c.in-Piece.tick c.in-Piece.conn c.deref.result.now records arrivals c.args.next.now c.take.new.self c.args.desk.now c.answer_all.new.desk c.args.writer.now.bytes c.answer_all.new.writer.bytes
+    (let brings = brought terms c.of.result c.in-Piece.tick c.in-Piece.conn c.from.result c.in-Piece.bytes c.as_slice.result.now c.deref.result.now c.read_piece.new.out.items records arrivals c.args.next.now c.args.connections.now c.read_piece.new.self c.args.desk.now
+    (c.of.ensures.tier ∙ tiers c.in-Piece.conn) c.in-Piece.is c.from.ensures c.as_slice.ensures c.deref.ensures.value (record { own = c.in_ok-read_piece-in-Piece.ensures.own; others = c.in_ok-read_piece-in-Piece.ensures.others }) serves in
+    serves_piece (g.T.Tells.telling terms) terms c.of.result c.in-Piece.tick c.in-Piece.conn c.deref.result.now records arrivals c.args.next.now c.read_piece.new.self c.args.desk.now c.answer_all.new.desk c.args.writer.now.bytes c.answer_all.new.writer.bytes
     brings start (stands arrivals (length records) serves.stands) (written arrivals (length records) serves.stands)))
 
-pub returns-in_ok-take-in-Piece-clause-many : goal.returns-in_ok-take-in-Piece-clause-many
-returns-in_ok-take-in-Piece-clause-many g c =
+pub returns-in_ok-read_piece-in-Piece-clause-many : goal.returns-in_ok-read_piece-in-Piece-clause-many
+returns-in_ok-read_piece-in-Piece-clause-many g c =
     let terms = terms_of g.F.Tree.files c.args.server.now in
     err_many c.answer_all.result _ _
     (λ n full. (
       full.0,
       λ records arrivals tiers serves.
-          (let brings = brought terms c.of.result c.in-Piece.tick c.in-Piece.conn c.from.result c.in-Piece.bytes c.as_slice.result.now c.deref.result.now c.take.new.out.items records arrivals c.args.next.now c.args.connections.now c.take.new.self c.args.desk.now
-          (c.of.ensures.tier ∙ tiers c.in-Piece.conn) c.in-Piece.is c.from.ensures c.as_slice.ensures c.deref.ensures.value (record { own = c.in_ok-take-in-Piece.ensures.own; others = c.in_ok-take-in-Piece.ensures.others }) serves in
-          serves_full (g.T.Tells.telling terms) terms c.of.result c.in-Piece.tick c.in-Piece.conn full.1 c.deref.result.now records arrivals c.args.next.now c.take.new.self c.args.connections.now c.args.desk.now c.args.writer.now.bytes c.answer_all.new.writer.bytes
+          (let brings = brought terms c.of.result c.in-Piece.tick c.in-Piece.conn c.from.result c.in-Piece.bytes c.as_slice.result.now c.deref.result.now c.read_piece.new.out.items records arrivals c.args.next.now c.args.connections.now c.read_piece.new.self c.args.desk.now
+          (c.of.ensures.tier ∙ tiers c.in-Piece.conn) c.in-Piece.is c.from.ensures c.as_slice.ensures c.deref.ensures.value (record { own = c.in_ok-read_piece-in-Piece.ensures.own; others = c.in_ok-read_piece-in-Piece.ensures.others }) serves in
+          serves_full (g.T.Tells.telling terms) terms c.of.result c.in-Piece.tick c.in-Piece.conn full.1 c.deref.result.now records arrivals c.args.next.now c.read_piece.new.self c.args.connections.now c.args.desk.now c.args.writer.now.bytes c.answer_all.new.writer.bytes
           brings serves full.2 full.3 (full.4 arrivals (length records) serves.stands)),
     ))
     c.answer_all.ensures.many
 
-pub returns-in_ok-take-in-Piece-clause-part : goal.returns-in_ok-take-in-Piece-clause-part
-returns-in_ok-take-in-Piece-clause-part g c =
+pub returns-in_ok-read_piece-in-Piece-clause-part : goal.returns-in_ok-read_piece-in-Piece-clause-part
+returns-in_ok-read_piece-in-Piece-clause-part g c =
     let terms = terms_of g.F.Tree.files c.args.server.now in
     err_cut c.answer_all.result _ _
     (λ short. inr (λ records arrivals tiers serves.
-    (let brings = brought terms c.of.result c.in-Piece.tick c.in-Piece.conn c.from.result c.in-Piece.bytes c.as_slice.result.now c.deref.result.now c.take.new.out.items records arrivals c.args.next.now c.args.connections.now c.take.new.self c.args.desk.now
-    (c.of.ensures.tier ∙ tiers c.in-Piece.conn) c.in-Piece.is c.from.ensures c.as_slice.ensures c.deref.ensures.value (record { own = c.in_ok-take-in-Piece.ensures.own; others = c.in_ok-take-in-Piece.ensures.others }) serves in
-    serves_part (g.T.Tells.telling terms) terms c.of.result c.in-Piece.tick c.in-Piece.conn short.0 c.deref.result.now records arrivals c.args.next.now c.take.new.self c.args.connections.now c.args.desk.now c.args.writer.now.bytes c.answer_all.new.writer.bytes
+    (let brings = brought terms c.of.result c.in-Piece.tick c.in-Piece.conn c.from.result c.in-Piece.bytes c.as_slice.result.now c.deref.result.now c.read_piece.new.out.items records arrivals c.args.next.now c.args.connections.now c.read_piece.new.self c.args.desk.now
+    (c.of.ensures.tier ∙ tiers c.in-Piece.conn) c.in-Piece.is c.from.ensures c.as_slice.ensures c.deref.ensures.value (record { own = c.in_ok-read_piece-in-Piece.ensures.own; others = c.in_ok-read_piece-in-Piece.ensures.others }) serves in
+    serves_part (g.T.Tells.telling terms) terms c.of.result c.in-Piece.tick c.in-Piece.conn short.0 c.deref.result.now records arrivals c.args.next.now c.read_piece.new.self c.args.connections.now c.args.desk.now c.args.writer.now.bytes c.answer_all.new.writer.bytes
     brings serves short.2 (short.3 arrivals (length records) serves.stands))))
     c.answer_all.ensures.part
 
@@ -55,5 +55,5 @@ pub returns-in_ok-give-in-Tier-clause-serves : goal.returns-in_ok-give-in-Tier-c
 returns-in_ok-give-in-Tier-clause-serves g c = λ records arrivals tiers serves.
     serves_tier (g.T.Tells.telling (terms_of g.F.Tree.files c.args.server.now)) (terms_of g.F.Tree.files c.args.server.now) c.in-Tier.conn c.in-Tier.tier records arrivals c.args.next.now c.args.connections.now c.args.desk.now c.args.writer.now.bytes (c.requires.texts (terms_of g.F.Tree.files c.args.server.now)) c.in-Tier.is serves
 
-pub returns-in_ok-take-in-Piece-clause-tiers : goal.returns-in_ok-take-in-Piece-clause-tiers
-returns-in_ok-take-in-Piece-clause-tiers g c = ok_all c.answer_all.result _ (λ records are. tiers_after_piece _ _ _ _ records _ c.in-Piece.is are)
+pub returns-in_ok-read_piece-in-Piece-clause-tiers : goal.returns-in_ok-read_piece-in-Piece-clause-tiers
+returns-in_ok-read_piece-in-Piece-clause-tiers g c = ok_all c.answer_all.result _ (λ records are. tiers_after_piece _ _ _ _ records _ c.in-Piece.is are)
