@@ -18,9 +18,9 @@ use Rattle.http_requests.specs.Cutting.{EndBetween}
 use Rattle.http_requests.proofs.FrontLemmas.{next_within}
 use Rattle.arrivals.specs.Arrivals.{bytes_to, text_of, Arrival, messages_of, ArrivesWith, Precedes, AreArrivals}
 use Rattle.arrivals.specs.Connections.{HasRead, ReadMore, HaveRead, connection_at, arrivals_with}
-use Rattle.arrivals.specs.declared.origin.Origin.{Origin}
-use Rattle.arrivals.specs.declared.connection.Connection.{Connection}
-use Rattle.arrivals.specs.declared.connection.Connection.TheVariants.{Silent, Open, Closed}
+use Rattle.arrivals.specs.declared.incoming.Origin.{Origin}
+use Rattle.arrivals.specs.declared.connections.Connection.{Connection}
+use Rattle.arrivals.specs.declared.connections.Connection.TheVariants.{Silent, Open, Closed}
 
 abbrev pub from_piece : ℕ → ℕ → ℕ → Origin
 from_piece tier tick conn = record { conn = conn; tick = tick; tier = tier }

@@ -10,8 +10,8 @@ use Rattle.http_requests.specs.declared.messages.Message.{Message}
 use Rattle.arrivals.specs.Connections.{HasRead, HasRoom}
 use Rattle.arrivals.specs.Batches.{Reads, ReadsOn}
 use Rattle.arrivals.specs.Places.{CanRead}
-use Rattle.arrivals.specs.declared.connection.Connection.{Connection}
-use Rattle.arrivals.specs.declared.connection.Connection.TheVariants.{Silent, Open, Closed}
+use Rattle.arrivals.specs.declared.connections.Connection.{Connection}
+use Rattle.arrivals.specs.declared.connections.Connection.TheVariants.{Silent, Open, Closed}
 
 -- one more piece
 pub reads_push : (before mid after : Connection) (pieces : List (List ℕ)) (piece : List ℕ) (mss : List (List Message)) (ms : List Message)

@@ -7,8 +7,8 @@ use Rattle.http_requests.specs.declared.messages.Message.{Message}
 use Rattle.arrivals.proofs.Arriving.{if_true, if_false}
 use Rattle.arrivals.specs.Batches.{lists_to}
 use Rattle.arrivals.specs.Places.{Place, place_at, with_lists, count_to}
-use Rattle.arrivals.specs.declared.origin.Origin.{Origin}
-use Rattle.arrivals.specs.declared.piece_messages.PieceMessages.{PieceMessages}
+use Rattle.arrivals.specs.declared.incoming.Origin.{Origin}
+use Rattle.arrivals.specs.declared.incoming.PieceMessages.{PieceMessages}
 
 -- the connection of the next piece has one more
 pub count_own : (o : Origin) (os : List Origin) → count_to o.conn (o ∷ os) ≡ count_to o.conn os + 1

@@ -12,7 +12,7 @@ use Rattle.http_requests.specs.declared.messages.Message.{Message}
 use Rattle.arrivals.specs.Arrivals.{text_of, Arrival, messages_of, ArrivesWith}
 use Rattle.arrivals.specs.Connections.{HasRead, ReadMore, arrivals_with}
 use Rattle.arrivals.specs.Batches.{Reads, ReadsOn, pieces_to, with_tier, tiers_of, origins_of, lists_to, arrivals_in, Stand}
-use Rattle.arrivals.specs.declared.connection.Connection.{Connection}
+use Rattle.arrivals.specs.declared.connections.Connection.{Connection}
 use Rattle.arrivals.proofs.Arriving.{from_piece, text_more, own_bytes, other_bytes, messages_more, own_messages, other_messages, all_arrive, order_more, arrived_before, has_messages, arrived_stays, if_true, if_false}
 
 -- one more piece

@@ -7,8 +7,8 @@ use Rattle.http_requests.specs.Framing.{Messages, MessagesOf, closes}
 use Rattle.http_requests.specs.Cutting.{Progress, CutterAfter, Fed}
 use Rattle.http_requests.proofs.FrontLemmas.{next_append, next_within}
 use Rattle.arrivals.specs.Connections.{HasRead, ReadMore, connection_at, some_closes}
-use Rattle.arrivals.specs.declared.connection.Connection.{Connection}
-use Rattle.arrivals.specs.declared.connection.Connection.TheVariants.{Silent, Open, Closed}
+use Rattle.arrivals.specs.declared.connections.Connection.{Connection}
+use Rattle.arrivals.specs.declared.connections.Connection.TheVariants.{Silent, Open, Closed}
 
 rest_closed : (b : Bool) (p : ℕ) (r y s : List ℕ) (ms : List Message) → s ≡ r ++ y → (b || some_closes ms) ≡ true
     → (some_closes ms ≡ true → Messages p r ms → Messages p (r ++ y) ms) → MatchBool b (ms ≡ []) (Messages p r ms) → MatchBool b (ms ≡ []) (Messages p s ms)

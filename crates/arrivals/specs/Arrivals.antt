@@ -7,7 +7,7 @@ use Rattle.captures.specs.declared.record.Record.TheVariants.{Piece, End, Tier}
 use Rattle.captures.specs.Captures.{tier_of}
 use Rattle.http_requests.specs.declared.messages.Message.{Message}
 use Rattle.http_requests.specs.Framing.{MessagesOf}
-use Rattle.arrivals.specs.declared.origin.Origin.{Origin}
+use Rattle.arrivals.specs.declared.incoming.Origin.{Origin}
 
 -- the bytes that a record brings to a connection
 abbrev pub bytes_to : ℕ → Record → List ℕ

@@ -6,10 +6,10 @@ use Rattle.captures.specs.Captures.{tier_of}
 use Rattle.http_requests.specs.declared.messages.Message.{Message}
 use Rattle.arrivals.specs.Arrivals.{Arrival, AreArrivals, text_of, messages_of}
 use Rattle.arrivals.specs.declared.incoming.Incoming.{Incoming}
-use Rattle.arrivals.specs.declared.origin.Origin.{Origin}
-use Rattle.arrivals.specs.declared.piece_messages.PieceMessages.{PieceMessages}
+use Rattle.arrivals.specs.declared.incoming.Origin.{Origin}
+use Rattle.arrivals.specs.declared.incoming.PieceMessages.{PieceMessages}
 use Rattle.arrivals.specs.Connections.{HasRead, ReadMore, arrivals_with}
-use Rattle.arrivals.specs.declared.connection.Connection.{Connection}
+use Rattle.arrivals.specs.declared.connections.Connection.{Connection}
 
 -- the connection reads a piece, these messages end in it, and it stands so after it
 abbrev pub Reads : Connection → List ℕ → List Message → Connection → Type 0

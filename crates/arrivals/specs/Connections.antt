@@ -7,9 +7,9 @@ use Rattle.http_requests.specs.declared.messages.Message.{Message}
 use Rattle.http_requests.specs.Framing.{MessagesOf, closes}
 use Rattle.http_requests.specs.Cutting.{CutterAfter, EndBetween}
 use Rattle.arrivals.specs.Arrivals.{Arrival, text_of, messages_of}
-use Rattle.arrivals.specs.declared.origin.Origin.{Origin}
-use Rattle.arrivals.specs.declared.connection.Connection.{Connection}
-use Rattle.arrivals.specs.declared.connection.Connection.TheVariants.{Silent, Open, Closed}
+use Rattle.arrivals.specs.declared.incoming.Origin.{Origin}
+use Rattle.arrivals.specs.declared.connections.Connection.{Connection}
+use Rattle.arrivals.specs.declared.connections.Connection.TheVariants.{Silent, Open, Closed}
 
 -- the connection has read this text, whose messages are these; those of a closed one stay, whatever follows
 abbrev pub HasRead : Connection → List ℕ → List Message → Type 0

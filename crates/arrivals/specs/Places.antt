@@ -5,9 +5,9 @@ use Rattle.captures.specs.Captures.{longest_text}
 use Rattle.http_requests.specs.declared.messages.Message.{Message}
 use Rattle.arrivals.specs.Connections.{HasRead}
 use Rattle.arrivals.specs.Batches.{ReadsOn}
-use Rattle.arrivals.specs.declared.connection.Connection.{Connection}
-use Rattle.arrivals.specs.declared.connection.Connection.TheVariants.{Silent}
-use Rattle.arrivals.specs.declared.origin.Origin.{Origin}
+use Rattle.arrivals.specs.declared.connections.Connection.{Connection}
+use Rattle.arrivals.specs.declared.connections.Connection.TheVariants.{Silent}
+use Rattle.arrivals.specs.declared.incoming.Origin.{Origin}
 
 -- a connection, the pieces that wait to be cut, and for each piece that was cut the messages that end in it
 pub record Place : Type 0 where

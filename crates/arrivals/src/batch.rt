@@ -13,7 +13,7 @@ ghost use Rattle.arrivals.specs.Batches.{origins_of, tiers_of};
 ghost use Rattle.arrivals.specs.Tiers.{AreTiers};
 ghost use Rattle.arrivals.specs.Gathering.{AddsOne, Adds, ReadOn, CountsEnding, IfMore};
 
-use crate::origin::Origin;
+use crate::incoming::Origin;
 use crate::seats::Seats;
 use crate::tiers::Tiers;
 use captures::{CaptureFault, CaptureReader, Record};

@@ -6,21 +6,20 @@ ghost use Rattle.http_requests.specs.declared.messages.Message.{Message as AMess
 ghost use Rattle.http_requests.specs.Framing.{closes};
 ghost use Rattle.http_requests.specs.Cutting.{CutterAfter};
 ghost use Rattle.arrivals.specs.Connections.{HasRead, HasRoom, ReadMore, connection_at, some_closes};
-ghost use Rattle.arrivals.specs.declared.connection.Connection.TheVariants.{Closed};
+ghost use Rattle.arrivals.specs.declared.connections.Connection.TheVariants.{Closed};
 
-use crate::connection::Connection;
-use http_requests::{Cutter, Message, What};
+use http_requests::{Cutter, Message, Meaning};
 use std::alloc::{AllocError, Global};
 use std::marker::Model;
 use std::mem;
 
 /// Whether no message follows this one on its connection.
-fn closes(what: &What) -> bool
+fn closes(what: &Meaning) -> bool
     ensures { result ≡ closes what.now }
 {
     match what {
-        What::Request { closes, .. } => *closes,
-        What::Bad(_) => true,
+        Meaning::Request { closes, .. } => *closes,
+        Meaning::Bad(_) => true,
     }
 }
 
@@ -29,6 +28,17 @@ fn some_closes(messages: &[Message]) -> bool
     ensures { result ≡ some_closes messages.now }
 {
     messages.iter().any(|message| closes(&message.what))
+}
+
+/// A connection of a capture.
+#[derive(Drop)]
+pub enum Connection {
+    /// No byte of it came yet.
+    Silent,
+    /// Its text is being cut.
+    Open(Cutter),
+    /// Its last message closed it: what follows is ignored.
+    Closed,
 }
 
 impl Connection {
@@ -78,7 +88,7 @@ pub struct Connections {
 
 impl Model for Connections {
     ghost use Rattle.std.specs.Prelude.{List};
-    ghost use Rattle.arrivals.specs.declared.connection.Connection.{Connection as AConnection};
+    ghost use Rattle.arrivals.specs.declared.connections.Connection.{Connection as AConnection};
 
     ghost Value = { List AConnection };
 

@@ -3,13 +3,10 @@
 #![tactic(auto)]
 
 mod batch;
-mod connection;
 mod connections;
 mod incoming;
 pub mod laws;
-mod origin;
 mod parts;
-mod piece_messages;
 mod seat;
 mod seats;
 mod series;
@@ -17,10 +14,8 @@ mod tiers;
 
 pub use batch::{Batch, Ending, read_batch};
 pub use connections::Connections;
-pub use incoming::Incoming;
-pub use origin::Origin;
+pub use incoming::{Incoming, Origin, PieceMessages};
 pub use parts::parts_of;
-pub use piece_messages::PieceMessages;
 pub use seats::Seats;
 pub use series::Series;
 pub use tiers::Tiers;

@@ -4,8 +4,7 @@ ghost use Rattle.std.specs.Prelude.{◌≡◌, ◌++◌, flat_map, IfOk};
 ghost use Rattle.arrivals.specs.Batches.{incoming_from, joined};
 
 use crate::Series;
-use crate::incoming::Incoming;
-use crate::piece_messages::PieceMessages;
+use crate::incoming::{Incoming, PieceMessages};
 use std::alloc::{AllocError, Global};
 
 /// How many messages are enough for a pair of floors.

@@ -4,7 +4,7 @@ ghost use Rattle.std.specs.Prelude.{◌≡◌, ◌<◌, [], ◌∷◌, length, I
 ghost use Rattle.arrivals.specs.Places.{empty_place, with_piece, with_lists, IsReady, IsCutOf};
 
 use crate::Series;
-use crate::connection::Connection;
+use crate::connections::Connection;
 use http_requests::Message;
 use paths::Bytes;
 use std::alloc::{AllocError, Global};

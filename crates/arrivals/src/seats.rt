@@ -6,8 +6,7 @@ ghost use Rattle.arrivals.specs.Batches.{lists_to};
 ghost use Rattle.arrivals.specs.Places.{place_at, with_piece, with_lists, IsReady, IsCutOf, count_to};
 
 use crate::Series;
-use crate::origin::Origin;
-use crate::piece_messages::PieceMessages;
+use crate::incoming::{Origin, PieceMessages};
 use crate::seat::Seat;
 use http_requests::Message;
 use paths::Bytes;

@@ -3,7 +3,7 @@ use Rattle.std.proofs.Common.{◌≡◌, ℕ, zero, suc, ◌+◌, ◌-◌, ◌<�
 use Rattle.std.proofs.lemmas.List.{drop-append-le, take-append-drop}
 use Rattle.std.proofs.Math.ListN.{drop_of_length-le}
 use Rattle.std.proofs.lemmas.Grind.{common_steps}
-use Rattle.http_requests.specs.declared.messages.What.{What}
+use Rattle.http_requests.specs.declared.messages.Meaning.{Meaning}
 use Rattle.http_requests.specs.declared.messages.Message.{Message}
 use Rattle.http_requests.specs.declared.heads.Verdict.{Verdict}
 use Rattle.http_requests.specs.declared.cutting.Stage.{Stage}
@@ -33,7 +33,7 @@ sound_front c e s = (rw e at s.stage).0
 held_read : (c : Progress) → c.stage ≡ Seeking → IsSound c → length c.held ≤ c.read
 held_read c e s = (rw e at s.stage).1
 
-pub sound_body : (c : Progress) (what : What) (left : ℕ) → c.stage ≡ Body what left → IsSound c → (0 < left) × (left ≤ 65_536) × (c.held ≡ [])
+pub sound_body : (c : Progress) (what : Meaning) (left : ℕ) → c.stage ≡ Body what left → IsSound c → (0 < left) × (left ≤ 65_536) × (c.held ≡ [])
 sound_body c what left e s = rw e at s.stage
 
 seeking_yields : (c : Progress) (y : List ℕ) (ms : List Message) → c.stage ≡ Seeking → Messages (c.read - length c.held) (c.held ++ y) ms → YieldsIn c y ms
@@ -42,7 +42,7 @@ seeking_yields c y ms e h = rw e h
 of_seeking_yields : (c : Progress) (y : List ℕ) (ms : List Message) → c.stage ≡ Seeking → YieldsIn c y ms → Messages (c.read - length c.held) (c.held ++ y) ms
 of_seeking_yields c y ms e h = rw e at h
 
-body_yields : (c : Progress) (what : What) (left : ℕ) (y : List ℕ) (ms : List Message) → c.stage ≡ Body what left → BodyMessages what left c.read y ms → YieldsIn c y ms
+body_yields : (c : Progress) (what : Meaning) (left : ℕ) (y : List ℕ) (ms : List Message) → c.stage ≡ Body what left → BodyMessages what left c.read y ms → YieldsIn c y ms
 body_yields c what left y ms e h = rw e h
 
 closed_yields : (c : Progress) (y : List ℕ) (ms : List Message) → c.stage ≡ Closed → ms ≡ [] → YieldsIn c y ms
@@ -100,7 +100,7 @@ taken_rest : (text y : List ℕ) (k : ℕ) → k ≤ length text → drop k (tak
 taken_rest text y k h = rw (drop_of_length-le (take k text) {i = k} (let l = taken_len text k h in omega (arith, l))) refl
 
 -- bytes of a body were taken
-pub took_body : (before after : Progress) (text : List ℕ) (what : What) (left n : ℕ) (old new : List Message)
+pub took_body : (before after : Progress) (text : List ℕ) (what : Meaning) (left n : ℕ) (old new : List Message)
     → before.stage ≡ Body what left → n ≤ length text → n ≤ left → 0 < n → IsSound after → ¬ (HasFailed after)
     → after.read ≡ before.read + n → Enters what (left - n) (before.read + n) after old new → Took before text after old new n
 took_body before after text what left n old new e within most some sound live read enters =
@@ -138,7 +138,7 @@ took_closed before after text old e some stage read = record {
 }
 
 -- a message without bytes to come was added
-pub enters_now : (what : What) (left read : ℕ) (c : Progress) (old : List Message) (m : Message) → left ≡ 0 → m.what ≡ what → m.end ≡ read
+pub enters_now : (what : Meaning) (left read : ℕ) (c : Progress) (old : List Message) (m : Message) → left ≡ 0 → m.what ≡ what → m.end ≡ read
     → ((y : List ℕ) (ms : List Message) → YieldsIn c y ms → BodyMessages what 0 read y (m ∷ ms)) → Enters what left read c old (old ++ m ∷ [])
 enters_now what left read c old m zero_left w e yields = record {
   more = m ∷ [];
@@ -147,11 +147,11 @@ enters_now what left read c old m zero_left w e yields = record {
   yields = rw zero_left yields;
 }
 
-waits_front : (held : List ℕ) (what : What) (j : ℕ) → NoBlock held → length held < 8192 → (IsWhole held what j ⊎ IsOver held what j) → ⊥
+waits_front : (held : List ℕ) (what : Meaning) (j : ℕ) → NoBlock held → length held < 8192 → (IsWhole held what j ⊎ IsOver held what j) → ⊥
 waits_front held what j none short (inl w) = none w.e w.block.short w.block.ends
 waits_front held what j none short (inr o) = let i = o.within in omega (arith, i, short)
 
-waits_next : (held : List ℕ) (what : What) (k : ℕ) → blank_len held ≡ 0 → (next : IsNext (held ++ []) what k) → (IsWhole held what next.j ⊎ IsOver held what next.j)
+waits_next : (held : List ℕ) (what : Meaning) (k : ℕ) → blank_len held ≡ 0 → (next : IsNext (held ++ []) what k) → (IsWhole held what next.j ⊎ IsOver held what next.j)
 waits_next held what k h next = rw (append-nil held, h) at next.front
 
 waits : (s : Stage) (read : ℕ) (held : List ℕ) → IsStage s read held → Yields s read held [] []
@@ -266,7 +266,7 @@ fits_new c h e r =
     }
 
 -- bytes of a body are still to come
-pub enters_later : (what : What) (left : ℕ) (c : Progress) (old : List Message) → c.stage ≡ Body what left → Enters what left c.read c old old
+pub enters_later : (what : Meaning) (left : ℕ) (c : Progress) (old : List Message) → c.stage ≡ Body what left → Enters what left c.read c old old
 enters_later what left c old e = record {
   more = [];
   appended = sym (append-nil old);

@@ -2,7 +2,7 @@ use Rattle.std.proofs.Common.{◌≡◌, ℕ, zero, suc, ◌+◌, ◌-◌, ◌<�
 use Rattle.std.proofs.lemmas.List.{take-append-le, drop-append-le}
 use Rattle.std.proofs.lemmas.Grind.{common_steps}
 use Rattle.std.proofs.lemmas.Bool.{cases_lt}
-use Rattle.http_requests.specs.declared.messages.What.{What}
+use Rattle.http_requests.specs.declared.messages.Meaning.{Meaning}
 use Rattle.http_requests.specs.Framing.{begins_lf, is_blank, blank_len, ends_at, EndsAt, NoBlock, IsBlock, IsWhole, IsOver, IsNext}
 use Rattle.http_requests.proofs.VerdictLemmas.{verdict_unique}
 
@@ -93,28 +93,28 @@ noblock_append s y h none = λ e short ends. none e short (rw (← ends_append s
 pub block_unique : (s : List ℕ) (e f : ℕ) → IsBlock s e → IsBlock s f → e ≡ f
 block_unique s e f g h = elim (cases_lt e f) [ inl lt ↦ absurd (h.first e lt g.ends) | inr ge ↦ elim (cases_lt f e) [ inl gt ↦ absurd (g.first f gt h.ends) | inr le ↦ omega arith ] ]
 
-pub whole_unique : (s : List ℕ) (v w : What) (k j : ℕ) → IsWhole s v k → IsWhole s w j → (v ≡ w) × (k ≡ j)
+pub whole_unique : (s : List ℕ) (v w : Meaning) (k j : ℕ) → IsWhole s v k → IsWhole s w j → (v ≡ w) × (k ≡ j)
 whole_unique s v w k j g h =
     let e = block_unique s g.e h.e g.block h.block in
     let same : g.verdict ≡ h.verdict = verdict_unique (take h.e s) g.verdict h.verdict (rw (← e) g.says) h.says in
     (g.what_is ∙ ap (λ x. x.what) same ∙ sym h.what_is, g.k_is ∙ (let n = ap (λ x. x.length) same in omega arith))
 
-pub front_unique : (s : List ℕ) (v w : What) (k j : ℕ) → (IsWhole s v k ⊎ IsOver s v k) → (IsWhole s w j ⊎ IsOver s w j) → (v ≡ w) × (k ≡ j)
+pub front_unique : (s : List ℕ) (v w : Meaning) (k j : ℕ) → (IsWhole s v k ⊎ IsOver s v k) → (IsWhole s w j ⊎ IsOver s w j) → (v ≡ w) × (k ≡ j)
 front_unique s v w k j (inl g) (inl h) = whole_unique s v w k j g h
 front_unique s v w k j (inl g) (inr h) = absurd (h.none g.e g.block.short g.block.ends)
 front_unique s v w k j (inr g) (inl h) = absurd (g.none h.e h.block.short h.block.ends)
 front_unique s v w k j (inr g) (inr h) = (g.what_is ∙ sym h.what_is, g.k_is ∙ sym h.k_is)
 
-pub next_unique : (r : List ℕ) (v w : What) (k j : ℕ) → IsNext r v k → IsNext r w j → (v ≡ w) × (k ≡ j)
+pub next_unique : (r : List ℕ) (v w : Meaning) (k j : ℕ) → IsNext r v k → IsNext r w j → (v ≡ w) × (k ≡ j)
 next_unique r v w k j g h =
     let u = front_unique _ v w g.j h.j g.front h.front in
     (u.0, g.k_is ∙ ap (λ n. blank_len r + n) u.1 ∙ sym h.k_is)
 
-front_within : (s : List ℕ) (w : What) (k : ℕ) → (IsWhole s w k ⊎ IsOver s w k) → (2 ≤ k) × (k ≤ length s)
+front_within : (s : List ℕ) (w : Meaning) (k : ℕ) → (IsWhole s w k ⊎ IsOver s w k) → (2 ≤ k) × (k ≤ length s)
 front_within s w k (inl h) = let e = ends_within s h.e h.block.ends in (let a = h.k_is in omega (arith, e.0, a), h.within)
 front_within s w k (inr h) = let a = h.k_is in let b = h.within in (omega (arith, a), omega (arith, a, b))
 
-front_append : (s y : List ℕ) (w : What) (k : ℕ) → (IsWhole s w k ⊎ IsOver s w k) → (IsWhole (s ++ y) w k ⊎ IsOver (s ++ y) w k)
+front_append : (s y : List ℕ) (w : Meaning) (k : ℕ) → (IsWhole s w k ⊎ IsOver s w k) → (IsWhole (s ++ y) w k ⊎ IsOver (s ++ y) w k)
 front_append s y w k (inl h) =
     let e = ends_within s h.e h.block.ends in
     inl (record {
@@ -133,7 +133,7 @@ front_append s y w k (inr h) = inr (record {
   within = (let a = h.within in rw (length-append s y) (omega (arith, a)));
 })
 
-pub next_within : (r : List ℕ) (w : What) (k : ℕ) → IsNext r w k → (0 < k) × (k ≤ length r) × (blank_len r + 2 ≤ length r)
+pub next_within : (r : List ℕ) (w : Meaning) (k : ℕ) → IsNext r w k → (0 < k) × (k ≤ length r) × (blank_len r + 2 ≤ length r)
 next_within r w k h =
     let f = front_within _ w h.j h.front in
     let l = blank_le r in
@@ -141,7 +141,7 @@ next_within r w k h =
     let i = h.k_is in
     (omega (arith, i, f.0), omega (arith, i, m, l), omega (arith, f.0, m, l))
 
-pub next_append : (r y : List ℕ) (w : What) (k : ℕ) → IsNext r w k → IsNext (r ++ y) w k
+pub next_append : (r y : List ℕ) (w : Meaning) (k : ℕ) → IsNext r w k → IsNext (r ++ y) w k
 next_append r y w k h =
     let i = next_within r w k h in
     record {

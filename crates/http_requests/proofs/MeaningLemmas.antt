@@ -6,12 +6,12 @@ use Rattle.std.proofs.lemmas.Grind.{common_steps}
 use Rattle.httparse.specs.Grammar.{LineEnd, crlf, lf, print_blank, RequestHead}
 use Rattle.http_requests.specs.declared.messages.Fault.{Fault}
 use Rattle.http_requests.specs.declared.messages.Fault.TheVariants.{TooLong, Block, Host, Coding, Length, BodySize}
-use Rattle.http_requests.specs.declared.messages.What.TheVariants.{Bad}
+use Rattle.http_requests.specs.declared.messages.Meaning.TheVariants.{Bad}
 use Rattle.http_requests.specs.declared.messages.Message.{Message}
 use Rattle.http_requests.specs.declared.heads.Verdict.{Verdict}
 use Rattle.http_requests.specs.Heads.{IsVerdict, IsHead, IsRequest, head_fault, lines_of, bad}
 use Rattle.http_requests.specs.Framing.{is_blank, blank_len, NoBlock, IsWhole, IsOver, IsNext, Messages, closes}
-use Rattle.http_requests.specs.Meaning.{Means, IsPart, LieInOrder}
+use Rattle.http_requests.specs.Parts.{Means, IsPart, LieInOrder}
 use Rattle.http_requests.proofs.FrontLemmas.{bool_cases, blank_front, blank_fixed, ends_within, ends_append, blank_le}
 
 -- the bytes of an empty line in front are those of a line end

@@ -1,7 +1,7 @@
 use Rattle.std.proofs.Common.{◌≡◌, ℕ, ◌+◌, ◌-◌, ◌<◌, ◌≤◌, ◌⊎◌, inl, inr, Bool, true, false, List, [], ◌∷◌, ◌++◌, length, take, drop, refl, sym, ◌∙◌, ap, arith, length-drop}
 use Rattle.std.proofs.lemmas.List.{drop-append-le, drop-drop}
-use Rattle.http_requests.specs.declared.messages.What.{What}
-use Rattle.http_requests.specs.declared.messages.What.TheVariants.{Bad}
+use Rattle.http_requests.specs.declared.messages.Meaning.{Meaning}
+use Rattle.http_requests.specs.declared.messages.Meaning.TheVariants.{Bad}
 use Rattle.http_requests.specs.declared.messages.Fault.TheVariants.{TooLong}
 use Rattle.http_requests.specs.declared.messages.Message.{Message}
 use Rattle.std.specs.Prelude.{MatchBool}
@@ -14,7 +14,7 @@ use Rattle.http_requests.proofs.FrontLemmas.{next_unique, next_append, next_with
 
 -- two equal descriptions of a message
 same_message : (m n : Message) → m.what ≡ n.what → m.end ≡ n.end → m ≡ n
-same_message m n h k = let mk : ℕ → What → Message = λ e w. record { end = e; what = w } in ap (λ e. mk e m.what) k ∙ ap (λ w. mk n.end w) h
+same_message m n h k = let mk : ℕ → Meaning → Message = λ e w. record { end = e; what = w } in ap (λ e. mk e m.what) k ∙ ap (λ w. mk n.end w) h
 
 rest_unique : (b c : Bool) → b ≡ c → (ms ns : List Message) (p q : ℕ) → p ≡ q → (r s : List ℕ) → r ≡ s → (Messages p r ms → Messages p r ns → ms ≡ ns) → MatchBool b (ms ≡ []) (Messages p r ms) → MatchBool c (ns ≡ []) (Messages q s ns) → ms ≡ ns
 rest_unique true true e ms ns p q pq r s rs u g h = g ∙ sym h
@@ -56,11 +56,11 @@ messages_prefix p r y (m ∷ ms) (n ∷ ns) g h =
     let rest = rest_prefix (closes m.what) (closes n.what) (ap closes u.0) ms ns (p + g.0) (p + h.0) (ap (λ k. p + k) (sym u.1)) (drop g.0 r) y (drop h.0 (r ++ y)) t (messages_prefix (p + g.0) (drop g.0 r) y ms ns) g.3 h.3 in
     (rest.0, cons_same m n (sym same) ns (ms ++ rest.0) rest.1)
 
-after_same : (v w : What) (p q : ℕ) (r s : List ℕ) (ms : List Message) → w ≡ v → q ≡ p → s ≡ r → MessagesAfter v p r ms → MessagesAfter w q s ms
+after_same : (v w : Meaning) (p q : ℕ) (r s : List ℕ) (ms : List Message) → w ≡ v → q ≡ p → s ≡ r → MessagesAfter v p r ms → MessagesAfter w q s ms
 after_same v w p q r s ms a b c h = rw (a, b, c) h
 
 pub whole_alone : (p len : ℕ) (r : List ℕ) (v : Verdict) → IsBlock (drop (blank_len r) r) len → IsVerdict (take len (drop (blank_len r) r)) v
-    → length (drop (blank_len r + len) r) < v.length → (what : What) (j : ℕ) → (IsWhole (drop (blank_len r) r) what j ⊎ IsOver (drop (blank_len r) r) what j) → ⊥
+    → length (drop (blank_len r + len) r) < v.length → (what : Meaning) (j : ℕ) → (IsWhole (drop (blank_len r) r) what j ⊎ IsOver (drop (blank_len r) r) what j) → ⊥
 whole_alone p len r v block says h what j (inl w) =
     let q = blank_len r in
     let same = block_unique _ len w.e block w.block in
@@ -117,7 +117,7 @@ wait_step p b y (m ∷ ms) h =
     )
 
 -- part of a body
-pub body_step : (w : What) (left n p : ℕ) (r : List ℕ) (ms : List Message) → n ≤ left → n ≤ length r
+pub body_step : (w : Meaning) (left n p : ℕ) (r : List ℕ) (ms : List Message) → n ≤ left → n ≤ length r
     → BodyMessages w (left - n) (p + n) (drop n r) ms → BodyMessages w left p r ms
 body_step w left n p r [] a b h = let l : length r - n < left - n = rw (← length-drop n r) h in omega (arith, l, a, b)
 body_step w left n p r (m ∷ ms) a b h =

@@ -6,8 +6,8 @@ use Rattle.httparse.proofs.GrammarLemmas.{request_unique}
 use Rattle.httpdate.specs.Valid.{parts_secs}
 use Rattle.httpdate.proofs.Theorems.{IsDateText_unique}
 use Rattle.http_requests.specs.declared.messages.Fault.{Fault}
-use Rattle.http_requests.specs.declared.messages.What.{What}
-use Rattle.http_requests.specs.declared.messages.What.TheVariants.{Request}
+use Rattle.http_requests.specs.declared.messages.Meaning.{Meaning}
+use Rattle.http_requests.specs.declared.messages.Meaning.TheVariants.{Request}
 use Rattle.http_requests.specs.declared.heads.Verdict.{Verdict}
 use Rattle.http_requests.specs.Heads.{FieldLine, lines_of, values_of, IsSecondOf, IsOnlySecond, counts_since, IsModifiedSince, IsRequest, bad, head_fault, HeadSays, IsVerdict, version_of, is_closing}
 
@@ -33,7 +33,7 @@ since_unique : (method : List ℕ) (lines : List FieldLine) (s t : Option ℕ) �
 since_unique method lines s t g h = counted_unique (counts_since method lines) (values_of (codes "if-modified-since") lines) s t g h
 
 same_verdict : (v w : Verdict) → v.what ≡ w.what → v.length ≡ w.length → v ≡ w
-same_verdict v w h k = let mk : What → ℕ → Verdict = λ what n. record { what = what; length = n } in ap (λ what. mk what v.length) h ∙ ap (λ n. mk w.what n) k
+same_verdict v w h k = let mk : Meaning → ℕ → Verdict = λ what n. record { what = what; length = n } in ap (λ what. mk what v.length) h ∙ ap (λ n. mk w.what n) k
 
 request_says_unique : (m t : List ℕ) (minor : ℕ) (lines : List FieldLine) (v w : Verdict) → IsRequest m t minor lines v → IsRequest m t minor lines w → v ≡ w
 request_says_unique m t minor lines v w g h =

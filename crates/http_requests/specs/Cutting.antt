@@ -1,7 +1,7 @@
 -- What a cutter holds between two pieces, and what it has done with the pieces so far.
 use Rattle.std.specs.Prelude.{◌≡◌, ℕ, ◌+◌, ◌-◌, ◌<◌, ◌≤◌, List, [], ◌∷◌, ◌++◌, length, take, drop, MatchBool}
 use Rattle.http_requests.specs.Limits.{longest_block, longest_body}
-use Rattle.http_requests.specs.declared.messages.What.{What}
+use Rattle.http_requests.specs.declared.messages.Meaning.{Meaning}
 use Rattle.http_requests.specs.declared.messages.Message.{Message}
 use Rattle.http_requests.specs.declared.heads.Verdict.{Verdict}
 use Rattle.http_requests.specs.declared.cutting.Stage.{Stage}
@@ -16,11 +16,11 @@ pub record Progress : Type 0 where
   pub held : List ℕ
 
 -- the messages after one that does or does not close
-abbrev pub MessagesAfter : What → ℕ → List ℕ → List Message → Type 0
+abbrev pub MessagesAfter : Meaning → ℕ → List ℕ → List Message → Type 0
 MessagesAfter what p r ms = MatchBool (closes what) (ms ≡ []) (Messages p r ms)
 
 -- the messages of a body's text, which begins at place p: none before it is whole
-abbrev pub BodyMessages : What → ℕ → ℕ → List ℕ → List Message → Type 0
+abbrev pub BodyMessages : Meaning → ℕ → ℕ → List ℕ → List Message → Type 0
 BodyMessages what left p y [] = length y < left
 BodyMessages what left p y (m ∷ ms) = (left ≤ length y) × (m.what ≡ what) × (m.end ≡ p + left)
     × MessagesAfter what (p + left) (drop left y) ms
@@ -60,7 +60,7 @@ EndBetween from to [] = Unit {0}
 EndBetween from to (m ∷ ms) = (from < m.end) × (m.end ≤ to) × EndBetween m.end to ms
 
 -- messages came: those of a body's text are these and then what the cutter yields
-pub record Enters (what : What) (left read : ℕ) (c : Progress) (old new : List Message) : Type 0 where
+pub record Enters (what : Meaning) (left read : ℕ) (c : Progress) (old new : List Message) : Type 0 where
   pub more : List Message
   pub appended : new ≡ old ++ more
   pub ends : (from : ℕ) → from < read → EndBetween from read more

@@ -3,8 +3,8 @@ use Rattle.std.specs.Prelude.{◌≡◌, ℕ, suc, ◌+◌, ◌-◌, ◌<◌, �
 use Rattle.std.specs.Prelude.{nat_le, false, List, [], ◌∷◌, length, take, drop, slice_index, MatchBool}
 use Rattle.http_requests.specs.Limits.{longest_block}
 use Rattle.http_requests.specs.declared.messages.Fault.TheVariants.{TooLong}
-use Rattle.http_requests.specs.declared.messages.What.{What}
-use Rattle.http_requests.specs.declared.messages.What.TheVariants.{Request, Bad}
+use Rattle.http_requests.specs.declared.messages.Meaning.{Meaning}
+use Rattle.http_requests.specs.declared.messages.Meaning.TheVariants.{Request, Bad}
 use Rattle.http_requests.specs.declared.messages.Message.{Message}
 use Rattle.http_requests.specs.declared.heads.Verdict.{Verdict}
 use Rattle.http_requests.specs.Heads.{IsVerdict}
@@ -43,12 +43,12 @@ pub record IsBlock (s : List ℕ) (e : ℕ) : Type 0 where
   pub short : e ≤ longest_block
 
 -- a message after which nothing is read: a fault, or a request that closes
-abbrev pub closes : What → Bool
+abbrev pub closes : Meaning → Bool
 closes (Request method target version closing since) = closing
 closes (Bad fault) = true
 
 -- a block in front whose body lies in the text as well: what it says, and the place after its body
-pub record IsWhole (s : List ℕ) (what : What) (k : ℕ) : Type 0 where
+pub record IsWhole (s : List ℕ) (what : Meaning) (k : ℕ) : Type 0 where
   pub e : ℕ
   pub verdict : Verdict
   pub block : IsBlock s e
@@ -58,7 +58,7 @@ pub record IsWhole (s : List ℕ) (what : What) (k : ℕ) : Type 0 where
   pub within : k ≤ length s
 
 -- a block that is too long ends the message at its byte 8,192
-pub record IsOver (s : List ℕ) (what : What) (k : ℕ) : Type 0 where
+pub record IsOver (s : List ℕ) (what : Meaning) (k : ℕ) : Type 0 where
   pub none : NoBlock s
   pub what_is : what ≡ Bad TooLong
   pub k_is : k ≡ longest_block
@@ -66,14 +66,14 @@ pub record IsOver (s : List ℕ) (what : What) (k : ℕ) : Type 0 where
 
 -- the message at the front of the rest of a text, after the empty lines there: what it is, and the
 -- place after it
-pub record IsNext (r : List ℕ) (what : What) (k : ℕ) : Type 0 where
+pub record IsNext (r : List ℕ) (what : Meaning) (k : ℕ) : Type 0 where
   pub j : ℕ
   pub k_is : k ≡ blank_len r + j
   pub front : IsWhole (drop (blank_len r) r) what j ⊎ IsOver (drop (blank_len r) r) what j
 
 -- the messages of the rest of a text, which begins at place p of it. A closing one is the last
 abbrev pub Messages : ℕ → List ℕ → List Message → Type 0
-Messages p r [] = (what : What) (k : ℕ) → IsNext r what k → ⊥
+Messages p r [] = (what : Meaning) (k : ℕ) → IsNext r what k → ⊥
 Messages p r (m ∷ ms) = (k : ℕ) × IsNext r m.what k × (m.end ≡ p + k)
     × MatchBool (closes m.what) (ms ≡ []) (Messages (p + k) (drop k r) ms)
 

@@ -14,7 +14,7 @@ use Rattle.http_requests.specs.declared.messages.Version.{Version}
 use Rattle.http_requests.specs.declared.messages.Version.TheVariants.{Http10, Http11}
 use Rattle.http_requests.specs.declared.messages.Fault.{Fault}
 use Rattle.http_requests.specs.declared.messages.Fault.TheVariants.{Block, Host, Coding, Length, BodySize}
-use Rattle.http_requests.specs.declared.messages.What.TheVariants.{Request, Bad}
+use Rattle.http_requests.specs.declared.messages.Meaning.TheVariants.{Request, Bad}
 use Rattle.http_requests.specs.declared.heads.Verdict.{Verdict}
 
 -- a field line: its name, and its value without the spaces and tabs at both ends (RFC 9112, 5.1)

@@ -2,7 +2,7 @@ pub mod Limits
 pub mod Heads
 pub mod Lines
 pub mod Framing
-pub mod Meaning
+pub mod Parts
 pub mod Scanning
 pub mod Cutting
 pub mod State

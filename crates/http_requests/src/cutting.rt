@@ -5,7 +5,7 @@ ghost use Rattle.http_requests.specs.Framing.{closes};
 ghost use Rattle.http_requests.specs.Cutting.{Begins, IsFront, Waits};
 
 use crate::heads::{Verdict, bad, read_block};
-use crate::messages::{Fault, Message, What};
+use crate::messages::{Fault, Message, Meaning};
 use crate::scanning::{BLOCK_LIMIT, Found, find};
 use std::alloc::{AllocError, Global};
 use std::marker::Model;
@@ -17,7 +17,7 @@ pub enum Stage {
     /// Between two messages, or in a block.
     Seeking,
     /// In a body: its message, and how many bytes of it are still to come.
-    Body(What, u64),
+    Body(Meaning, u64),
     /// After a message that ends the connection.
     Closed,
     /// After out of memory.
@@ -35,12 +35,12 @@ fn drop_front(bytes: &mut Vec<u8>, n: usize)
 }
 
 /// Whether nothing is read after this message.
-fn ends_connection(what: &What) -> bool
+fn ends_connection(what: &Meaning) -> bool
     ensures { result ≡ closes what.now }
 {
     match what {
-        What::Request { closes, .. } => *closes,
-        What::Bad(_) => true,
+        Meaning::Request { closes, .. } => *closes,
+        Meaning::Bad(_) => true,
     }
 }
 
@@ -152,7 +152,7 @@ impl State {
     }
 
     /// Goes on after a block: with its body, or by adding the message that ends here.
-    fn enter(&mut self, what: What, left: u64, out: &mut Vec<Message>) -> Result<(), AllocError>
+    fn enter(&mut self, what: Meaning, left: u64, out: &mut Vec<Message>) -> Result<(), AllocError>
         requires empty { self.old.held.items ≡ [] }
         requires small { left ≤ longest_body }
         ensures sound { OnOk result (IsSound (progress self.new)) }

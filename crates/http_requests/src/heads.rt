@@ -13,7 +13,7 @@ ghost use Rattle.http_requests.specs.Lines.{lines_at, AreLines};
 ghost use Rattle.http_requests.specs.Counting.{IsExtent};
 ghost use Rattle.http_requests.specs.declared.heads.Verdict.{Verdict as AVerdict};
 
-use crate::messages::{Bytes, Fault, Version, What};
+use crate::messages::{Bytes, Fault, Version, Meaning};
 use httparse::Status;
 use httparse::spans::{EMPTY_HEADER_SPAN, HeaderSpan, RequestSpans, Span, parse_request};
 use httpdate::HttpDate;
@@ -28,7 +28,7 @@ const FIELD_LIMIT: usize = 64;
 /// The verdict of a block: what it is, and how many bytes of body follow it.
 #[derive(Drop)]
 pub struct Verdict {
-    pub what: What,
+    pub what: Meaning,
     pub length: u64,
 }
 
@@ -232,7 +232,7 @@ pub fn bad(fault: Fault) -> Verdict
     ensures { result ≡ bad fault }
 {
     Verdict {
-        what: What::Bad(fault),
+        what: Meaning::Bad(fault),
         length: 0,
     }
 }
@@ -258,7 +258,7 @@ fn read_head(
     };
     let method = head.method.of(block);
     Ok(Verdict {
-        what: What::Request {
+        what: Meaning::Request {
             method: Bytes::copy(alloc, method)?,
             target: Bytes::copy(alloc, head.path.of(block))?,
             version: if head.version == 0 {

@@ -4,7 +4,7 @@ ghost use Rattle.http_requests.specs.Limits.{longest_text};
 ghost use Rattle.http_requests.specs.declared.messages.Message.{Message as AMessage};
 ghost use Rattle.http_requests.specs.Framing.{MessagesOf, EndsAt, IsBlock};
 ghost use Rattle.http_requests.specs.Ends.{EndsAfter, IsShortestBlock};
-ghost use Rattle.http_requests.specs.Meaning.{LieInOrder};
+ghost use Rattle.http_requests.specs.Parts.{LieInOrder};
 ghost use Rattle.http_requests.specs.Cutting.{joined};
 
 use crate::cutting::Cutter;

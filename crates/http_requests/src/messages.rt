@@ -99,7 +99,7 @@ pub enum Fault {
 
 /// What a message is.
 #[derive(Debug, PartialEq, Eq, Drop)]
-pub enum What {
+pub enum Meaning {
     Request {
         /// A token (RFC 9110, section 9.1).
         method: Bytes,
@@ -119,5 +119,5 @@ pub enum What {
 pub struct Message {
     /// The place after its last byte, counted from the start of the text.
     pub end: u64,
-    pub what: What,
+    pub what: Meaning,
 }

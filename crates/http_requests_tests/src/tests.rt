@@ -1,7 +1,7 @@
 //! What no clause says: that the definitions mean what the RFCs say, and that calls succeed.
 ghost use Rattle.std.specs.Prelude.{◌<◌, ◌≤◌, length};
 
-use http_requests::{Cutter, Message, Version, What};
+use http_requests::{Cutter, Message, Version, Meaning};
 use std::alloc::{AllocError, Global};
 use std::str;
 use std::test::Fail;
@@ -28,9 +28,9 @@ fn cut(alloc: Global, text: &[u8], size: usize) -> Result<Vec<Message>, AllocErr
 
 /// What a message is, in words: `GET /a.txt 1.1 open`, with the second of If-Modified-Since at the
 /// end where it counts, or the name of a fault.
-fn in_words(alloc: Global, what: &What) -> Result<String, Fail> {
+fn in_words(alloc: Global, what: &Meaning) -> Result<String, Fail> {
     match what {
-        What::Request {
+        Meaning::Request {
             method,
             target,
             version,
@@ -51,7 +51,7 @@ fn in_words(alloc: Global, what: &What) -> Result<String, Fail> {
                 None => Ok(format!(in alloc; "{method} {target} {version} {link}")?),
             }
         }
-        What::Bad(fault) => Ok(format!(in alloc; "{fault:?}")?),
+        Meaning::Bad(fault) => Ok(format!(in alloc; "{fault:?}")?),
     }
 }
 

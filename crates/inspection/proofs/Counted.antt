@@ -8,8 +8,8 @@ use Rattle.std.specs.Prelude.{Option}
 use Rattle.captures.specs.declared.record.Record.{Record}
 use Rattle.captures.specs.declared.record.Record.TheVariants.{Piece, End, Tier}
 use Rattle.http_requests.specs.declared.messages.Message.{Message}
-use Rattle.http_requests.specs.declared.messages.What.{What}
-use Rattle.http_requests.specs.declared.messages.What.TheVariants.{Request, Bad}
+use Rattle.http_requests.specs.declared.messages.Meaning.{Meaning}
+use Rattle.http_requests.specs.declared.messages.Meaning.TheVariants.{Request, Bad}
 use Rattle.http_requests.specs.declared.messages.Version.{Version}
 use Rattle.http_requests.specs.declared.messages.Version.TheVariants.{Http10, Http11}
 use Rattle.http_requests.specs.declared.messages.Fault.{Fault}
@@ -64,11 +64,11 @@ few_records records n h = record {
 same_methods : (c d : MethodCounts) → c.get ≡ d.get → c.head ≡ d.head → c.other ≡ d.other → c ≡ d
 same_methods c d g h o = λ i. record { get = g i; head = h i; other = o i }
 
-pub method_counted : (whats : List What) (method target : List ℕ) (version : Version) (closing : Bool) (since : Option ℕ)
+pub method_counted : (whats : List Meaning) (method target : List ℕ) (version : Version) (closing : Bool) (since : Option ℕ)
     → methods_by_kind (whats ++ Request method target version closing since ∷ []) ≡ with_method (methods_by_kind whats) method
 method_counted whats method target version closing since = go (bytes_eq method (codes "GET")) refl (bytes_eq method (codes "HEAD")) refl
   where
-    w : What
+    w : Meaning
     w = Request method target version closing since
 
     go : (g : Bool) → bytes_eq method (codes "GET") ≡ g → (h : Bool) → bytes_eq method (codes "HEAD") ≡ h → methods_by_kind (whats ++ w ∷ []) ≡ with_method (methods_by_kind whats) method
@@ -77,7 +77,7 @@ method_counted whats method target version closing since = go (bytes_eq method (
     go false e true f = rw (e, f) (same_methods _ _ (no_more (has_method (codes "GET")) whats w e) (one_more (has_method (codes "HEAD")) whats w f) (no_more has_other_method whats w (rw (e, f) refl)))
     go false e false f = rw (e, f) (same_methods _ _ (no_more (has_method (codes "GET")) whats w e) (no_more (has_method (codes "HEAD")) whats w f) (one_more has_other_method whats w (rw (e, f) refl)))
 
-versions_counted : (whats : List What) (method target : List ℕ) (version : Version) (closing : Bool) (since : Option ℕ)
+versions_counted : (whats : List Meaning) (method target : List ℕ) (version : Version) (closing : Bool) (since : Option ℕ)
     → versions_by_kind (whats ++ Request method target version closing since ∷ []) ≡ with_version (versions_by_kind whats) version
 versions_counted whats method target Http10 closing since =
     let w = Request method target Http10 closing since in λ i. record { http10 = one_more is_http10 whats w refl i; http11 = no_more is_http11 whats w refl i }
@@ -89,13 +89,13 @@ versions_counted whats method target Http11 closing since =
 same_faults : (c d : FaultCounts) → c.too_long ≡ d.too_long → c.block ≡ d.block → c.host ≡ d.host → c.coding ≡ d.coding → c.length ≡ d.length → c.body_size ≡ d.body_size → c ≡ d
 same_faults c d t b h o l s = λ i. record { too_long = t i; block = b i; host = h i; coding = o i; length = l i; body_size = s i }
 
-no_fault : (whats : List What) (method target : List ℕ) (version : Version) (closing : Bool) (since : Option ℕ)
+no_fault : (whats : List Meaning) (method target : List ℕ) (version : Version) (closing : Bool) (since : Option ℕ)
     → faults_by_kind (whats ++ Request method target version closing since ∷ []) ≡ faults_by_kind whats
 no_fault whats method target version closing since =
     let w = Request method target version closing since in
     same_faults _ _ (no_more is_too_long whats w refl) (no_more is_bad_block whats w refl) (no_more is_bad_host whats w refl) (no_more is_bad_coding whats w refl) (no_more is_bad_length whats w refl) (no_more is_bad_body_size whats w refl)
 
-fault_counted : (whats : List What) (fault : Fault) → faults_by_kind (whats ++ Bad fault ∷ []) ≡ with_fault (faults_by_kind whats) fault
+fault_counted : (whats : List Meaning) (fault : Fault) → faults_by_kind (whats ++ Bad fault ∷ []) ≡ with_fault (faults_by_kind whats) fault
 fault_counted whats TooLong =
     let w = Bad TooLong in
     same_faults _ _ (one_more is_too_long whats w refl) (no_more is_bad_block whats w refl) (no_more is_bad_host whats w refl) (no_more is_bad_coding whats w refl) (no_more is_bad_length whats w refl) (no_more is_bad_body_size whats w refl)
@@ -120,15 +120,15 @@ fault_counted whats BodySize =
 same_messages : (c d : MessageCounts) → c.all ≡ d.all → c.requests ≡ d.requests → c.methods ≡ d.methods → c.versions ≡ d.versions → c.faults ≡ d.faults → c ≡ d
 same_messages c d a r m v f = λ i. record { all = a i; requests = r i; methods = m i; versions = v i; faults = f i }
 
-no_method : (whats : List What) (fault : Fault) → methods_by_kind (whats ++ Bad fault ∷ []) ≡ methods_by_kind whats
+no_method : (whats : List Meaning) (fault : Fault) → methods_by_kind (whats ++ Bad fault ∷ []) ≡ methods_by_kind whats
 no_method whats fault =
     let w = Bad fault in
     same_methods _ _ (no_more (has_method (codes "GET")) whats w refl) (no_more (has_method (codes "HEAD")) whats w refl) (no_more has_other_method whats w refl)
 
-no_version : (whats : List What) (fault : Fault) → versions_by_kind (whats ++ Bad fault ∷ []) ≡ versions_by_kind whats
+no_version : (whats : List Meaning) (fault : Fault) → versions_by_kind (whats ++ Bad fault ∷ []) ≡ versions_by_kind whats
 no_version whats fault = let w = Bad fault in λ i. record { http10 = no_more is_http10 whats w refl i; http11 = no_more is_http11 whats w refl i }
 
-pub message_counted : (whats : List What) (what : What) → messages_by_kind (whats ++ what ∷ []) ≡ with_message (messages_by_kind whats) what
+pub message_counted : (whats : List Meaning) (what : Meaning) → messages_by_kind (whats ++ what ∷ []) ≡ with_message (messages_by_kind whats) what
 message_counted whats (Request method target version closing since) =
     let w = Request method target version closing since in
     same_messages _ _ (length_push whats w) (one_more is_request whats w refl) (method_counted whats method target version closing since) (versions_counted whats method target version closing since) (no_fault whats method target version closing since)
@@ -136,9 +136,9 @@ message_counted whats (Bad fault) =
     let w = Bad fault in
     same_messages _ _ (length_push whats w) (no_more is_request whats w refl) (no_method whats fault) (no_version whats fault) (fault_counted whats fault)
 
-pub few_messages : (whats : List What) (n : ℕ) → length whats < n → FewMessages n (messages_by_kind whats)
+pub few_messages : (whats : List Meaning) (n : ℕ) → length whats < n → FewMessages n (messages_by_kind whats)
 few_messages whats n h =
-    let below : (p : What → Bool) → count_by p whats < n = λ p. (let c = count_by-le-length p whats in omega (arith, c, h)) in
+    let below : (p : Meaning → Bool) → count_by p whats < n = λ p. (let c = count_by-le-length p whats in omega (arith, c, h)) in
     record {
       all = h;
       requests = below is_request;
@@ -156,10 +156,10 @@ few_messages whats n h =
 
 -- ---- the loop over messages
 
-abbrev what_of : Message → What
+abbrev what_of : Message → Meaning
 what_of m = m.what
 
-pub counted_more : (whats : List What) (ms : List Message) (i : ℕ) (m : Message) (old new : MessageCounts) → i < length ms → m.what ≡ (get_or ms i m).what
+pub counted_more : (whats : List Meaning) (ms : List Message) (i : ℕ) (m : Message) (old new : MessageCounts) → i < length ms → m.what ≡ (get_or ms i m).what
     → old ≡ messages_by_kind (whats ++ map (λ m. m.what) (take i ms)) → new ≡ with_message old m.what
     → new ≡ messages_by_kind (whats ++ map (λ m. m.what) (take (i + 1) ms))
 counted_more whats ms i m old new lt same before one =
@@ -168,7 +168,7 @@ counted_more whats ms i m old new lt same before one =
     ap (λ l. whats ++ l) step ∙ sym (append_assoc whats (map what_of (take i ms)) ((get_or ms i m).what ∷ [])) ∙ ap (λ x. (whats ++ map what_of (take i ms)) ++ x ∷ []) (sym same) in
     one ∙ ap (λ c. with_message c m.what) before ∙ sym (message_counted (whats ++ map what_of (take i ms)) m.what) ∙ ap messages_by_kind (sym all)
 
-pub few_at : (whats : List What) (ms : List Message) (i : ℕ) (c : MessageCounts) → i < length ms → length whats + length ms < 2 ^ 64
+pub few_at : (whats : List Meaning) (ms : List Message) (i : ℕ) (c : MessageCounts) → i < length ms → length whats + length ms < 2 ^ 64
     → c ≡ messages_by_kind (whats ++ map (λ m. m.what) (take i ms)) → FewMessages (2 ^ 64 - 1) c
 few_at whats ms i c lt few is =
     let n : length (whats ++ map what_of (take i ms)) ≡ length whats + i = length-append whats (map what_of (take i ms)) ∙ ap (λ k. length whats + k) (length-map (take i ms) what_of ∙ length-take-le i ms (omega (arith, lt))) in

@@ -13,7 +13,7 @@ use Rattle.captures.specs.Captures.{IsCapture, tick_of, ticks_of}
 use Rattle.captures.specs.Readers.{ReaderAfter, Gave, FailsNext}
 use Rattle.captures.proofs.UpgradeLemmas.{all_read}
 use Rattle.arrivals.specs.Arrivals.{Arrival}
-use Rattle.arrivals.specs.declared.connection.Connection.{Connection}
+use Rattle.arrivals.specs.declared.connections.Connection.{Connection}
 use Rattle.arrivals.proofs.Arriving.{reads_none, arrives_none}
 use Rattle.inspection.specs.declared.inspection.Inspection.{Inspection}
 use Rattle.inspection.specs.declared.found.Found.{Found}

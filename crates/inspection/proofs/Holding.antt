@@ -16,9 +16,9 @@ use Rattle.http_requests.specs.declared.messages.Message.{Message}
 use Rattle.http_requests.specs.Cutting.{EndBetween}
 use Rattle.arrivals.specs.Arrivals.{Arrival, bytes_to, text_of, messages_of}
 use Rattle.arrivals.specs.Connections.{HasRead, HasRoom, ReadMore, connection_at, arrivals_with}
-use Rattle.arrivals.specs.declared.connection.Connection.{Connection}
-use Rattle.arrivals.specs.declared.connection.Connection.TheVariants.{Silent, Open, Closed}
-use Rattle.arrivals.specs.declared.origin.Origin.{Origin}
+use Rattle.arrivals.specs.declared.connections.Connection.{Connection}
+use Rattle.arrivals.specs.declared.connections.Connection.TheVariants.{Silent, Open, Closed}
+use Rattle.arrivals.specs.declared.incoming.Origin.{Origin}
 use Rattle.arrivals.proofs.Arriving.{from_piece, reads_piece, reads_end, reads_tier, arrives_piece, arrives_end, arrives_tier, text_more, messages_more, own_bytes, other_bytes, own_messages, other_messages}
 use Rattle.inspection.specs.declared.found.Found.{Found}
 use Rattle.inspection.specs.declared.tails.Tail.{Tail}

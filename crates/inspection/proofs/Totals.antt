@@ -12,8 +12,8 @@ use Rattle.captures.specs.declared.record.Record.TheVariants.{Piece, End, Tier}
 use Rattle.captures.specs.declared.version.Version.{Version}
 use Rattle.captures.specs.declared.version.Version.TheVariants.{One, Two}
 use Rattle.captures.specs.Captures.{IsCapture, IsRecord, last_connection, size_of, sizes_of}
-use Rattle.http_requests.specs.declared.messages.What.{What}
-use Rattle.http_requests.specs.declared.messages.What.TheVariants.{Request, Bad}
+use Rattle.http_requests.specs.declared.messages.Meaning.{Meaning}
+use Rattle.http_requests.specs.declared.messages.Meaning.TheVariants.{Request, Bad}
 use Rattle.http_requests.specs.declared.messages.Version.TheVariants.{Http10, Http11}
 use Rattle.http_requests.specs.declared.messages.Fault.TheVariants.{TooLong, Block, Host, Coding, Length, BodySize}
 use Rattle.arrivals.specs.Arrivals.{bytes_to, text_of}
@@ -88,10 +88,10 @@ bytes_of_all_pieces v start records rules = of_records v records rules.each
 
 -- ---- messages
 
-abbrev counted : (What → Bool) → What → ℕ
+abbrev counted : (Meaning → Bool) → Meaning → ℕ
 counted p w = cond (p w) 1 0
 
-of_methods : (w : What) → counted is_request w ≡ counted (has_method (codes "GET")) w + counted (has_method (codes "HEAD")) w + counted has_other_method w
+of_methods : (w : Meaning) → counted is_request w ≡ counted (has_method (codes "GET")) w + counted (has_method (codes "HEAD")) w + counted has_other_method w
 of_methods (Request method target version closing since) = go (bytes_eq method (codes "GET")) refl (bytes_eq method (codes "HEAD")) refl
   where
     go : (g : Bool) → bytes_eq method (codes "GET") ≡ g → (h : Bool) → bytes_eq method (codes "HEAD") ≡ h
@@ -102,12 +102,12 @@ of_methods (Request method target version closing since) = go (bytes_eq method (
     go false e false f = rw (e, f) refl
 of_methods (Bad fault) = refl
 
-of_versions : (w : What) → counted is_request w ≡ counted is_http10 w + counted is_http11 w
+of_versions : (w : Meaning) → counted is_request w ≡ counted is_http10 w + counted is_http11 w
 of_versions (Request method target Http10 closing since) = refl
 of_versions (Request method target Http11 closing since) = refl
 of_versions (Bad fault) = refl
 
-of_faults : (w : What) → 1 ≡ counted is_request w + counted is_too_long w + counted is_bad_block w + counted is_bad_host w + counted is_bad_coding w + counted is_bad_length w + counted is_bad_body_size w
+of_faults : (w : Meaning) → 1 ≡ counted is_request w + counted is_too_long w + counted is_bad_block w + counted is_bad_host w + counted is_bad_coding w + counted is_bad_length w + counted is_bad_body_size w
 of_faults (Request method target version closing since) = refl
 of_faults (Bad TooLong) = refl
 of_faults (Bad Block) = refl
@@ -116,7 +116,7 @@ of_faults (Bad Coding) = refl
 of_faults (Bad Length) = refl
 of_faults (Bad BodySize) = refl
 
-pub requests_by_method : (whats : List What) → count_by is_request whats ≡ count_by (has_method (codes "GET")) whats + count_by (has_method (codes "HEAD")) whats + count_by has_other_method whats
+pub requests_by_method : (whats : List Meaning) → count_by is_request whats ≡ count_by (has_method (codes "GET")) whats + count_by (has_method (codes "HEAD")) whats + count_by has_other_method whats
 requests_by_method [] = refl
 requests_by_method (w ∷ whats) =
     let rest = requests_by_method whats in let e = of_methods w in
@@ -126,10 +126,10 @@ requests_by_method (w ∷ whats) =
     let o = sum_by-cons (counted has_other_method) w whats in
     omega (arith, rest, e, r, g, h, o)
 
-pub requests_by_version : (whats : List What) → count_by is_request whats ≡ count_by is_http10 whats + count_by is_http11 whats
+pub requests_by_version : (whats : List Meaning) → count_by is_request whats ≡ count_by is_http10 whats + count_by is_http11 whats
 requests_by_version whats = sum_both (counted is_http10) (counted is_http11) (counted is_request) whats of_versions
 
-pub messages_of_one_kind : (whats : List What) → length whats ≡ count_by is_request whats + count_by is_too_long whats + count_by is_bad_block whats + count_by is_bad_host whats + count_by is_bad_coding whats + count_by is_bad_length whats + count_by is_bad_body_size whats
+pub messages_of_one_kind : (whats : List Meaning) → length whats ≡ count_by is_request whats + count_by is_too_long whats + count_by is_bad_block whats + count_by is_bad_host whats + count_by is_bad_coding whats + count_by is_bad_length whats + count_by is_bad_body_size whats
 messages_of_one_kind [] = refl
 messages_of_one_kind (w ∷ whats) =
     let rest = messages_of_one_kind whats in let e = of_faults w in

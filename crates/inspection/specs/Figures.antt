@@ -7,8 +7,8 @@ use Rattle.captures.specs.declared.record.Record.{Record}
 use Rattle.captures.specs.declared.record.Record.TheVariants.{Piece, End, Tier}
 use Rattle.captures.specs.Captures.{last_connection, last_of, ticks_of}
 use Rattle.http_requests.specs.declared.messages.Message.{Message}
-use Rattle.http_requests.specs.declared.messages.What.{What}
-use Rattle.http_requests.specs.declared.messages.What.TheVariants.{Request, Bad}
+use Rattle.http_requests.specs.declared.messages.Meaning.{Meaning}
+use Rattle.http_requests.specs.declared.messages.Meaning.TheVariants.{Request, Bad}
 use Rattle.http_requests.specs.declared.messages.Version.TheVariants.{Http10, Http11}
 use Rattle.http_requests.specs.declared.messages.Fault.TheVariants.{TooLong, Block, Host, Coding, Length, BodySize}
 use Rattle.http_requests.specs.Heads.{is_get_or_head}
@@ -48,63 +48,63 @@ records_by_kind records = record {
 }
 
 -- the kinds of messages: a request by its method (RFC 9110, 9.1) and its version (RFC 9112, 2.3), or a fault
-abbrev pub is_request : What → Bool
+abbrev pub is_request : Meaning → Bool
 is_request (Request method target version closing since) = true
 is_request (Bad fault) = false
 
-abbrev pub has_method : List ℕ → What → Bool
+abbrev pub has_method : List ℕ → Meaning → Bool
 has_method name (Request method target version closing since) = bytes_eq method name
 has_method name (Bad fault) = false
 
-abbrev pub has_other_method : What → Bool
+abbrev pub has_other_method : Meaning → Bool
 has_other_method (Request method target version closing since) = not (is_get_or_head method)
 has_other_method (Bad fault) = false
 
-abbrev pub is_http10 : What → Bool
+abbrev pub is_http10 : Meaning → Bool
 is_http10 (Request method target Http10 closing since) = true
 is_http10 (Request method target Http11 closing since) = false
 is_http10 (Bad fault) = false
 
-abbrev pub is_http11 : What → Bool
+abbrev pub is_http11 : Meaning → Bool
 is_http11 (Request method target Http10 closing since) = false
 is_http11 (Request method target Http11 closing since) = true
 is_http11 (Bad fault) = false
 
-abbrev pub is_too_long : What → Bool
+abbrev pub is_too_long : Meaning → Bool
 is_too_long (Bad TooLong) = true
 is_too_long _ = false
 
-abbrev pub is_bad_block : What → Bool
+abbrev pub is_bad_block : Meaning → Bool
 is_bad_block (Bad Block) = true
 is_bad_block _ = false
 
-abbrev pub is_bad_host : What → Bool
+abbrev pub is_bad_host : Meaning → Bool
 is_bad_host (Bad Host) = true
 is_bad_host _ = false
 
-abbrev pub is_bad_coding : What → Bool
+abbrev pub is_bad_coding : Meaning → Bool
 is_bad_coding (Bad Coding) = true
 is_bad_coding _ = false
 
-abbrev pub is_bad_length : What → Bool
+abbrev pub is_bad_length : Meaning → Bool
 is_bad_length (Bad Length) = true
 is_bad_length _ = false
 
-abbrev pub is_bad_body_size : What → Bool
+abbrev pub is_bad_body_size : Meaning → Bool
 is_bad_body_size (Bad BodySize) = true
 is_bad_body_size _ = false
 
-abbrev pub methods_by_kind : List What → MethodCounts
+abbrev pub methods_by_kind : List Meaning → MethodCounts
 methods_by_kind whats = record {
   get = count_by (has_method (codes "GET")) whats;
   head = count_by (has_method (codes "HEAD")) whats;
   other = count_by has_other_method whats;
 }
 
-abbrev pub versions_by_kind : List What → VersionCounts
+abbrev pub versions_by_kind : List Meaning → VersionCounts
 versions_by_kind whats = record { http10 = count_by is_http10 whats; http11 = count_by is_http11 whats }
 
-abbrev pub faults_by_kind : List What → FaultCounts
+abbrev pub faults_by_kind : List Meaning → FaultCounts
 faults_by_kind whats = record {
   too_long = count_by is_too_long whats;
   block = count_by is_bad_block whats;
@@ -114,7 +114,7 @@ faults_by_kind whats = record {
   body_size = count_by is_bad_body_size whats;
 }
 
-abbrev pub messages_by_kind : List What → MessageCounts
+abbrev pub messages_by_kind : List Meaning → MessageCounts
 messages_by_kind whats = record {
   all = length whats;
   requests = count_by is_request whats;
@@ -124,7 +124,7 @@ messages_by_kind whats = record {
 }
 
 -- what the messages are that arrive
-abbrev pub whats_of : List Arrival → List What
+abbrev pub whats_of : List Arrival → List Meaning
 whats_of arrivals = map (λ a. a.message.what) arrivals
 
 -- where the last of these messages ends: the place after its last byte, 0 of no messages

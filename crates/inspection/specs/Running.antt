@@ -6,15 +6,15 @@ use Rattle.captures.specs.declared.record.Record.{Record}
 use Rattle.captures.specs.declared.record.Record.TheVariants.{Piece, End, Tier}
 use Rattle.captures.specs.Captures.{last_of, ticks_of, sizes_of, size_of, longest_text}
 use Rattle.http_requests.specs.declared.messages.Message.{Message}
-use Rattle.http_requests.specs.declared.messages.What.{What}
-use Rattle.http_requests.specs.declared.messages.What.TheVariants.{Request, Bad}
+use Rattle.http_requests.specs.declared.messages.Meaning.{Meaning}
+use Rattle.http_requests.specs.declared.messages.Meaning.TheVariants.{Request, Bad}
 use Rattle.http_requests.specs.declared.messages.Version.{Version}
 use Rattle.http_requests.specs.declared.messages.Version.TheVariants.{Http10, Http11}
 use Rattle.http_requests.specs.declared.messages.Fault.{Fault}
 use Rattle.http_requests.specs.declared.messages.Fault.TheVariants.{TooLong, Block, Host, Coding, Length, BodySize}
 use Rattle.arrivals.specs.Arrivals.{Arrival, AreArrivals, text_of, messages_of}
 use Rattle.arrivals.specs.Connections.{HaveRead, some_closes}
-use Rattle.arrivals.specs.declared.connection.Connection.{Connection}
+use Rattle.arrivals.specs.declared.connections.Connection.{Connection}
 use Rattle.inspection.specs.declared.record_counts.RecordCounts.{RecordCounts}
 use Rattle.inspection.specs.declared.message_counts.MethodCounts.{MethodCounts}
 use Rattle.inspection.specs.declared.message_counts.VersionCounts.{VersionCounts}
@@ -91,7 +91,7 @@ with_fault c Length = record c { length = c.length + 1 }
 with_fault c BodySize = record c { body_size = c.body_size + 1 }
 
 -- the counts with one more message
-abbrev pub with_message : MessageCounts → What → MessageCounts
+abbrev pub with_message : MessageCounts → Meaning → MessageCounts
 with_message c (Request method target version closing since) = record {
   all = c.all + 1;
   requests = c.requests + 1;
@@ -175,7 +175,7 @@ pub record TookPiece (tick conn bytes : ℕ) (ms : List Message) (old new : Foun
   pub counts : new.records ≡ with_piece old.records
   pub first_tick : new.first_tick ≡ Some (unwrap_or old.first_tick tick)
   pub last_tick : new.last_tick ≡ Some tick
-  pub messages : (whats : List What) → old.messages ≡ messages_by_kind whats
+  pub messages : (whats : List Meaning) → old.messages ≡ messages_by_kind whats
       → new.messages ≡ messages_by_kind (whats ++ map (λ m. m.what) ms)
   pub busy : (seconds : List ℕ) → IsBusy seconds old.busy → old.busy.now.number ≤ tick / ticks_of_a_second
       → IsBusy (seconds ++ replicate (length ms) (tick / ticks_of_a_second)) new.busy

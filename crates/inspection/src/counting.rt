@@ -1,7 +1,7 @@
 //! Counting records, messages, methods, versions and faults.
 
 ghost use Rattle.std.specs.Prelude.{◌≡◌, ◌+◌, ◌-◌, ◌<◌, ◌^◌, ◌++◌, List, length, map};
-ghost use Rattle.http_requests.specs.declared.messages.What.{What as AWhat};
+ghost use Rattle.http_requests.specs.declared.messages.Meaning.{Meaning as AMeaning};
 ghost use Rattle.inspection.specs.Figures.{messages_by_kind};
 ghost use Rattle.inspection.specs.Running.{FewRecords, FewMethods, FewVersions, FewFaults, FewMessages};
 ghost use Rattle.inspection.specs.Running.{with_piece, with_end, with_tier, with_method, with_version, with_fault};
@@ -9,7 +9,7 @@ ghost use Rattle.inspection.specs.Running.{with_message};
 
 use crate::message_counts::{FaultCounts, MessageCounts, MethodCounts, VersionCounts};
 use crate::record_counts::RecordCounts;
-use http_requests::{Fault, Message, Version, What};
+use http_requests::{Fault, Message, Version, Meaning};
 
 impl RecordCounts {
     /// Counts one more piece.
@@ -88,13 +88,13 @@ impl FaultCounts {
 
 impl MessageCounts {
     /// Counts one more message.
-    fn note(&mut self, what: &What)
+    fn note(&mut self, what: &Meaning)
         requires { FewMessages (2 ^ 64 - 1) self.old }
         ensures { self.new ≡ with_message self.old what.now }
     {
         self.all += 1;
         match what {
-            What::Request {
+            Meaning::Request {
                 method,
                 version,
                 ..
@@ -103,15 +103,15 @@ impl MessageCounts {
                 self.methods.note(method.as_slice());
                 self.versions.note(*version);
             }
-            What::Bad(fault) => self.faults.note(*fault),
+            Meaning::Bad(fault) => self.faults.note(*fault),
         }
     }
 
     /// Counts these messages.
     pub(crate) fn note_all(&mut self, messages: &[Message])
-        requires { (whats : List AWhat) × (self.old ≡ messages_by_kind whats)
+        requires { (whats : List AMeaning) × (self.old ≡ messages_by_kind whats)
             × (length whats + length messages.now < 2 ^ 64) }
-        ensures { (whats : List AWhat) → self.old ≡ messages_by_kind whats
+        ensures { (whats : List AMeaning) → self.old ≡ messages_by_kind whats
             → self.new ≡ messages_by_kind (whats ++ map (λ m. m.what) messages.now) }
     {
         for message in messages {

@@ -1,7 +1,7 @@
 //! What was found in the records so far.
 
 ghost use Rattle.std.specs.Prelude.{◌≡◌, ℕ, ◌+◌, ◌-◌, ◌<◌, ◌≤◌, ◌^◌, [], List, length, OnOk};
-ghost use Rattle.http_requests.specs.declared.messages.What.{What as AWhat};
+ghost use Rattle.http_requests.specs.declared.messages.Meaning.{Meaning as AMeaning};
 ghost use Rattle.captures.specs.declared.record.Record.{Record as ARecord};
 ghost use Rattle.captures.specs.Captures.{sizes_of, longest_text};
 ghost use Rattle.arrivals.specs.Arrivals.{Arrival};
@@ -122,7 +122,7 @@ impl Found {
         messages: &[Message],
     ) -> Result<(), AllocError>
         requires counts { FewRecords (2 ^ 64 - 1) self.old.records }
-        requires messages { (whats : List AWhat) × (self.old.messages ≡ messages_by_kind whats)
+        requires messages { (whats : List AMeaning) × (self.old.messages ≡ messages_by_kind whats)
             × (length whats + length messages.now < 2 ^ 64) }
         requires busy { self.old.busy.now.messages + length messages.now < 2 ^ 64 }
         requires few { length self.old.tails ≤ most_connections }

@@ -3,7 +3,7 @@ ghost use Rattle.std.specs.Prelude.{◌≡◌, ◌+◌, ℕ, List, Some};
 ghost use Rattle.captures.specs.Captures.{IsCapture, sizes_of};
 ghost use Rattle.captures.specs.declared.record.Record.{Record as ARecord};
 ghost use Rattle.captures.specs.declared.version.Version.{Version as AVersion};
-ghost use Rattle.http_requests.specs.declared.messages.What.{What as AWhat};
+ghost use Rattle.http_requests.specs.declared.messages.Meaning.{Meaning as AMeaning};
 ghost use Rattle.inspection.specs.Figures.{received, messages_by_kind};
 ghost use Rattle.inspection.specs.Inspections.{HoldsAll};
 ghost use Rattle.inspection.specs.declared.inspection.Inspection.{Inspection as AnInspection};
@@ -21,15 +21,15 @@ pub fn bytes_of_all_pieces()
 
 /// Each request has one method and one version.
 pub fn requests_by_kind()
-    ensures methods { (whats : List AWhat) → (messages_by_kind whats).requests ≡ (messages_by_kind whats).methods.get
+    ensures methods { (whats : List AMeaning) → (messages_by_kind whats).requests ≡ (messages_by_kind whats).methods.get
         + (messages_by_kind whats).methods.head + (messages_by_kind whats).methods.other }
-    ensures versions { (whats : List AWhat) → (messages_by_kind whats).requests
+    ensures versions { (whats : List AMeaning) → (messages_by_kind whats).requests
         ≡ (messages_by_kind whats).versions.http10 + (messages_by_kind whats).versions.http11 }
 {}
 
 /// Each message is a request, or has one fault.
 pub fn messages_of_one_kind()
-    ensures { (whats : List AWhat) → (messages_by_kind whats).all ≡ (messages_by_kind whats).requests
+    ensures { (whats : List AMeaning) → (messages_by_kind whats).all ≡ (messages_by_kind whats).requests
         + (messages_by_kind whats).faults.too_long + (messages_by_kind whats).faults.block
         + (messages_by_kind whats).faults.host + (messages_by_kind whats).faults.coding
         + (messages_by_kind whats).faults.length + (messages_by_kind whats).faults.body_size }

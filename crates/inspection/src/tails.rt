@@ -8,7 +8,7 @@ ghost use Rattle.inspection.specs.Figures.{end_of};
 ghost use Rattle.inspection.specs.Running.{tail_of, tail_at, rest_of, rest_after_close, rest_unfinished};
 ghost use Rattle.inspection.specs.Running.{most_connections};
 
-use http_requests::{Message, What};
+use http_requests::{Message, Meaning};
 use std::alloc::{AllocError, Global};
 use std::marker::Model;
 
@@ -24,12 +24,12 @@ pub struct Tail {
 }
 
 /// Whether no message follows this one on its connection.
-fn closes(what: &What) -> bool
+fn closes(what: &Meaning) -> bool
     ensures { result ≡ closes what.now }
 {
     match what {
-        What::Request { closes, .. } => *closes,
-        What::Bad(_) => true,
+        Meaning::Request { closes, .. } => *closes,
+        Meaning::Bad(_) => true,
     }
 }
 

@@ -24,11 +24,11 @@ use Rattle.replay.specs.Serving.{Serves}
 use Rattle.replay.specs.Ticketing.{incoming_of, InTime}
 use Rattle.replay.specs.Waiting.{connections_of, Waiting, ComeNext, Upcoming}
 use Rattle.arrivals.specs.Gathering.{Adds}
-use Rattle.arrivals.specs.declared.connection.Connection.{Connection}
+use Rattle.arrivals.specs.declared.connections.Connection.{Connection}
 use Rattle.replay.specs.declared.desk.Desk.{Desk}
 use Rattle.arrivals.specs.declared.incoming.Incoming.{Incoming}
-use Rattle.arrivals.specs.declared.origin.Origin.{Origin}
-use Rattle.arrivals.specs.declared.piece_messages.PieceMessages.{PieceMessages}
+use Rattle.arrivals.specs.declared.incoming.Origin.{Origin}
+use Rattle.arrivals.specs.declared.incoming.PieceMessages.{PieceMessages}
 use Rattle.arrivals.proofs.Merging.{stand_batch}
 use Rattle.replay.proofs.ByRecord.{text_below, tick_at, ticks_before, ticks_before_le}
 

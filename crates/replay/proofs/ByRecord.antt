@@ -24,11 +24,11 @@ use Rattle.captures.proofs.Tiers.{tier_of_none, tier_of_piece, tier_of_end, tier
 use Rattle.arrivals.specs.Tiers.{tier_at, AreTiers}
 use Rattle.arrivals.specs.Batches.{with_tier}
 use Rattle.http_requests.specs.declared.messages.Message.{Message}
-use Rattle.arrivals.specs.declared.origin.Origin.{Origin}
+use Rattle.arrivals.specs.declared.incoming.Origin.{Origin}
 use Rattle.replay.specs.declared.desk.Desk.{Desk}
 use Rattle.replay.specs.declared.outcome.Outcome.{Outcome}
-use Rattle.arrivals.specs.declared.connection.Connection.{Connection}
-use Rattle.arrivals.specs.declared.connection.Connection.TheVariants.{Silent, Open, Closed}
+use Rattle.arrivals.specs.declared.connections.Connection.{Connection}
+use Rattle.arrivals.specs.declared.connections.Connection.TheVariants.{Silent, Open, Closed}
 use Rattle.replay.specs.declared.replay_fault.ReplayFault.{ReplayFault}
 use Rattle.replay.specs.declared.replay_fault.ReplayFault.TheVariants as faults
 use Rattle.replay.specs.Choices.{Terms}

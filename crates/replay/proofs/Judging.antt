@@ -3,14 +3,14 @@ use Rattle.std.proofs.Common.{◌≡◌, ℕ, ◌+◌, ◌-◌, ◌<◌, ◌≤�
 use Rattle.std.specs.Prelude.{IfOk, IfErr, OnErr}
 use Rattle.std.specs.Result.{IsErrAnd}
 use Rattle.std.proofs.lemmas.List.{length-append}
-use Rattle.http_requests.specs.declared.messages.What.{What as Meaning}
+use Rattle.http_requests.specs.declared.messages.Meaning.{Meaning}
 use Rattle.admission.specs.declared.control.Decision.{Decision}
 use Rattle.admission.specs.declared.control.Decision.TheVariants.{Admitted, Rejected}
 use Rattle.admission.specs.Requests.{Offer, served}
 use Rattle.admission.specs.Decisions.{decide, decided, decided_from}
 use Rattle.admission.specs.Standing.{Standing, policies_of}
 use Rattle.admission.specs.After.{ControllerAfter}
-use Rattle.responses.specs.declared.link.Link.{Link}
+use Rattle.responses.specs.declared.slip.Link.{Link}
 use Rattle.responses.specs.declared.slip.Slip.{Slip}
 use Rattle.responses.specs.Replies.{status_of, reply_text}
 use Rattle.responses.specs.Records.{record_text}
@@ -21,15 +21,15 @@ use Rattle.paths.specs.Resolution.{outcome}
 use Rattle.paths.specs.declared.file.File.{File}
 use Rattle.paths.specs.declared.outcome.Outcome.{Outcome}
 use Rattle.http_requests.specs.declared.messages.Version.{Version}
-use Rattle.http_requests.specs.declared.messages.What.TheVariants.{Request}
+use Rattle.http_requests.specs.declared.messages.Meaning.TheVariants.{Request}
 use Rattle.cost_model.specs.Services.{CostTable, service}
-use Rattle.responses.specs.declared.what.What.{What as Given}
-use Rattle.responses.specs.declared.what.What.TheVariants.{Plain}
-use Rattle.responses.specs.declared.status.Status.TheVariants.{ServiceUnavailable}
+use Rattle.responses.specs.declared.slip.Given.{Given}
+use Rattle.responses.specs.declared.slip.Given.TheVariants.{Plain}
+use Rattle.responses.specs.declared.slip.Status.TheVariants.{ServiceUnavailable}
 use Rattle.replay.specs.Answers.{given, answers_head, is_head, link_of, outcome_answer}
 use Rattle.replay.specs.Replies.{slip_of}
 use Rattle.replay.specs.Outcomes.{IfCutShort, IfTooMany}
-use Rattle.arrivals.specs.declared.origin.Origin.{Origin}
+use Rattle.arrivals.specs.declared.incoming.Origin.{Origin}
 use Rattle.replay.specs.declared.replay_fault.ReplayFault.{ReplayFault}
 use Rattle.replay.specs.declared.replay_fault.ReplayFault.TheVariants.{Capture, TooMany, Memory, Write as Unwritten}
 use Rattle.replay.specs.Offers.{is_unmodified_file, length_given, offer_at, offers_of, is_turned_away, handled_next, handled_after, handled}

@@ -4,8 +4,8 @@ use Rattle.std.proofs.lemmas.Grind.{flat_map-append}
 use Rattle.std.proofs.lemmas.List.{length-append, map-append}
 use Rattle.std.specs.List.{list_any}
 use Rattle.std.specs.Prelude.{if◌then◌else◌}
-use Rattle.http_requests.specs.declared.messages.What.{What as Meaning}
-use Rattle.http_requests.specs.declared.messages.What.TheVariants.{Request, Bad}
+use Rattle.http_requests.specs.declared.messages.Meaning.{Meaning}
+use Rattle.http_requests.specs.declared.messages.Meaning.TheVariants.{Request, Bad}
 use Rattle.admission.specs.declared.control.Decision.{Decision}
 use Rattle.admission.specs.declared.control.Decision.TheVariants.{Admitted, Rejected}
 use Rattle.admission.specs.Rules.{Rules}
@@ -15,7 +15,7 @@ use Rattle.admission.specs.After.{tick_from}
 use Rattle.admission.proofs.RequestLemmas.{decided_from-push, served-push, last_finish-push}
 use Rattle.replay.specs.Choices.{Terms}
 use Rattle.arrivals.specs.Arrivals.{Arrival}
-use Rattle.arrivals.specs.declared.origin.Origin.{Origin}
+use Rattle.arrivals.specs.declared.incoming.Origin.{Origin}
 use Rattle.replay.specs.Offers.{offer_at, offers_of, rejects, handled_next, handled_after, handled}
 use Rattle.replay.specs.Counting.{samples_of}
 use Rattle.replay.specs.Serving.{AreBy}

@@ -11,8 +11,8 @@ use Rattle.paths.specs.declared.outcome.Outcome.{Outcome}
 use Rattle.paths.specs.declared.outcome.Outcome.TheVariants as outcomes
 use Rattle.cost_model.specs.Services.{CostTable}
 use Rattle.http_requests.specs.declared.messages.Fault.TheVariants as faults
-use Rattle.http_requests.specs.declared.messages.What.{What as Meaning}
-use Rattle.http_requests.specs.declared.messages.What.TheVariants.{Request, Bad}
+use Rattle.http_requests.specs.declared.messages.Meaning.{Meaning}
+use Rattle.http_requests.specs.declared.messages.Meaning.TheVariants.{Request, Bad}
 use Rattle.admission.specs.declared.control.Outlook.{Outlook}
 use Rattle.admission.specs.declared.control.Decision.TheVariants.{Admitted, Rejected}
 use Rattle.admission.specs.Rules.{Rules}
@@ -22,12 +22,12 @@ use Rattle.admission.specs.After.{ControllerAfter}
 use Rattle.admission.specs.Standing.{policies_of}
 use Rattle.admission.proofs.RequestLemmas.{last_finish-push}
 use Rattle.responses.specs.Replies.{status_of}
-use Rattle.responses.specs.declared.what.What.{What as Given}
+use Rattle.responses.specs.declared.slip.Given.{Given}
 use Rattle.responses.specs.declared.slip.Slip.{Slip}
 use Rattle.explaining.specs.declared.row.Row.{Row}
 use Rattle.explaining.specs.Rows.{heading, row_text}
 use Rattle.arrivals.specs.Arrivals.{Arrival}
-use Rattle.arrivals.specs.declared.origin.Origin.{Origin}
+use Rattle.arrivals.specs.declared.incoming.Origin.{Origin}
 use Rattle.replay.specs.Choices.{Terms}
 use Rattle.replay.specs.Answers.{given, outcome_answer, is_unmodified, is_head}
 use Rattle.replay.specs.Offers.{service_of, offer_at, offers_of, rejects, is_turned_away, handled_next}

@@ -6,11 +6,11 @@ use Rattle.paths.specs.Resolution.{outcome}
 use Rattle.paths.specs.declared.file.File.{File}
 use Rattle.paths.specs.declared.outcome.Outcome.{Outcome}
 use Rattle.paths.specs.declared.outcome.Outcome.TheVariants as outcomes
-use Rattle.http_requests.specs.declared.messages.What.{What as Meaning}
-use Rattle.http_requests.specs.declared.messages.What.TheVariants.{Request, Bad}
-use Rattle.responses.specs.declared.link.Link.{Link}
-use Rattle.responses.specs.declared.what.What.{What as Given}
-use Rattle.responses.specs.declared.what.What.TheVariants.{Page, Known, Unmodified, Moved, Plain}
+use Rattle.http_requests.specs.declared.messages.Meaning.{Meaning}
+use Rattle.http_requests.specs.declared.messages.Meaning.TheVariants.{Request, Bad}
+use Rattle.responses.specs.declared.slip.Link.{Link}
+use Rattle.responses.specs.declared.slip.Given.{Given}
+use Rattle.responses.specs.declared.slip.Given.TheVariants.{Page, Known, Unmodified, Moved, Plain}
 use Rattle.responses.specs.declared.slip.Slip.{Slip}
 use Rattle.responses.specs.Replies.{reply_text, status_of}
 use Rattle.replay.specs.Choices.{Terms}

@@ -7,10 +7,10 @@ use Rattle.replay.specs.declared.back_state.BackState.{BackState}
 use Rattle.replay.specs.declared.back_state.BackState.TheVariants.{Due as Waits, Fetched, Rendered}
 use Rattle.std.specs.Prelude.{Bool, true, false, ◌&&◌}
 use Rattle.std.specs.List.{list_all}
-use Rattle.responses.specs.declared.link.Link.{Link}
+use Rattle.responses.specs.declared.slip.Link.{Link}
 use Rattle.responses.specs.declared.slip.Slip.{Slip}
-use Rattle.responses.specs.declared.what.What.{What as Given}
-use Rattle.responses.specs.declared.what.What.TheVariants as givens
+use Rattle.responses.specs.declared.slip.Given.{Given}
+use Rattle.responses.specs.declared.slip.Given.TheVariants as givens
 use Rattle.responses.specs.Replies.{reply_text, OnlyHead, HasLocation}
 use Rattle.replay.specs.declared.ticket.Due.{Due}
 use Rattle.replay.specs.declared.ticket.Due.TheVariants.{Page, Told}
@@ -19,8 +19,8 @@ use Rattle.std.proofs.lemmas.Bool.{leb-true}
 use Rattle.stage_graph.specs.Steps.{value_of}
 use Rattle.paths.specs.declared.file.File.{File}
 use Rattle.paths.proofs.Locations.{outcome_is}
-use Rattle.http_requests.specs.declared.messages.What.{What as Meaning}
-use Rattle.http_requests.specs.declared.messages.What.TheVariants.{Request, Bad}
+use Rattle.http_requests.specs.declared.messages.Meaning.{Meaning}
+use Rattle.http_requests.specs.declared.messages.Meaning.TheVariants.{Request, Bad}
 use Rattle.cost_model.specs.Services.{CostTable}
 use Rattle.replay.specs.declared.sight.Sight.{Sight}
 use Rattle.replay.specs.declared.sight.Sight.TheVariants.{Unseen, Asked, Found, Priced}

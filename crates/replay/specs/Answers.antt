@@ -12,16 +12,16 @@ use Rattle.http_requests.specs.declared.messages.Version.{Version}
 use Rattle.http_requests.specs.declared.messages.Version.TheVariants.{Http10, Http11}
 use Rattle.http_requests.specs.declared.messages.Fault.{Fault}
 use Rattle.http_requests.specs.declared.messages.Fault.TheVariants.{Coding, BodySize}
-use Rattle.http_requests.specs.declared.messages.What.{What as Meaning}
-use Rattle.http_requests.specs.declared.messages.What.TheVariants.{Request, Bad}
+use Rattle.http_requests.specs.declared.messages.Meaning.{Meaning}
+use Rattle.http_requests.specs.declared.messages.Meaning.TheVariants.{Request, Bad}
 use Rattle.page_cache.specs.Media.{media_of}
-use Rattle.responses.specs.declared.link.Link.{Link}
-use Rattle.responses.specs.declared.link.Link.TheVariants.{Close, KeepAlive, Silent}
-use Rattle.responses.specs.declared.status.Status.{Status}
-use Rattle.responses.specs.declared.status.Status.TheVariants.{BadRequest, NotFound, MethodNotAllowed, ContentTooLarge}
-use Rattle.responses.specs.declared.status.Status.TheVariants.{NotImplemented, ServiceUnavailable}
-use Rattle.responses.specs.declared.what.What.{What as Given}
-use Rattle.responses.specs.declared.what.What.TheVariants.{Page, Known, Unmodified, Moved, Plain}
+use Rattle.responses.specs.declared.slip.Link.{Link}
+use Rattle.responses.specs.declared.slip.Link.TheVariants.{Close, KeepAlive, Silent}
+use Rattle.responses.specs.declared.slip.Status.{Status}
+use Rattle.responses.specs.declared.slip.Status.TheVariants.{BadRequest, NotFound, MethodNotAllowed, ContentTooLarge}
+use Rattle.responses.specs.declared.slip.Status.TheVariants.{NotImplemented, ServiceUnavailable}
+use Rattle.responses.specs.declared.slip.Given.{Given}
+use Rattle.responses.specs.declared.slip.Given.TheVariants.{Page, Known, Unmodified, Moved, Plain}
 use Rattle.replay.specs.Choices.{Terms}
 
 -- the status of a message that breaks a rule

@@ -1,8 +1,8 @@
 -- How many messages there were of each kind, and how long the admitted requests took.
 use Rattle.std.specs.Prelude.{ℕ, ◌+◌, ◌<◌, ◌==◌, Bool, true, false, List, [], ◌∷◌, map, filter, length, count_by}
 use Rattle.std.specs.Prelude.{if◌then◌else◌}
-use Rattle.http_requests.specs.declared.messages.What.{What as Meaning}
-use Rattle.http_requests.specs.declared.messages.What.TheVariants.{Request, Bad}
+use Rattle.http_requests.specs.declared.messages.Meaning.{Meaning}
+use Rattle.http_requests.specs.declared.messages.Meaning.TheVariants.{Request, Bad}
 use Rattle.responses.specs.Replies.{status_of}
 use Rattle.admission.specs.Rules.{Rules, rules_of}
 use Rattle.admission.specs.Requests.{Offer, Decided, served, samples, of_tier, is_rejected}

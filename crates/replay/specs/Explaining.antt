@@ -4,8 +4,8 @@ use Rattle.std.specs.Io.KnownBytes.{Appends}
 use Rattle.captures.specs.declared.record.Record.{Record}
 use Rattle.captures.specs.declared.version.Version.{Version}
 use Rattle.captures.specs.Captures.{IsCapture, IsCaptureText}
-use Rattle.http_requests.specs.declared.messages.What.{What as Meaning}
-use Rattle.http_requests.specs.declared.messages.What.TheVariants.{Request, Bad}
+use Rattle.http_requests.specs.declared.messages.Meaning.{Meaning}
+use Rattle.http_requests.specs.declared.messages.Meaning.TheVariants.{Request, Bad}
 use Rattle.admission.specs.Requests.{Offer}
 use Rattle.admission.specs.Decisions.{decide, decided, outlook}
 use Rattle.explaining.specs.declared.row.Offered.{Offered}

@@ -13,13 +13,13 @@ use Rattle.paths.specs.Resolution.{outcome}
 use Rattle.paths.specs.declared.file.File.{File}
 use Rattle.paths.specs.declared.outcome.Outcome.{Outcome as Resolved}
 use Rattle.http_requests.specs.Framing.{MessagesOf}
-use Rattle.http_requests.specs.declared.messages.What.{What as Meaning}
-use Rattle.http_requests.specs.declared.messages.What.TheVariants.{Request, Bad}
+use Rattle.http_requests.specs.declared.messages.Meaning.{Meaning}
+use Rattle.http_requests.specs.declared.messages.Meaning.TheVariants.{Request, Bad}
 use Rattle.cost_model.specs.Services.{CostTable, service}
 use Rattle.responses.specs.declared.slip.Slip.{Slip}
-use Rattle.responses.specs.declared.status.Status.TheVariants.{ServiceUnavailable}
-use Rattle.responses.specs.declared.what.What.{What as Given}
-use Rattle.responses.specs.declared.what.What.TheVariants.{Plain}
+use Rattle.responses.specs.declared.slip.Status.TheVariants.{ServiceUnavailable}
+use Rattle.responses.specs.declared.slip.Given.{Given}
+use Rattle.responses.specs.declared.slip.Given.TheVariants.{Plain}
 use Rattle.responses.specs.Replies.{reply_text, status_of}
 use Rattle.admission.specs.declared.control.Control.{Control}
 use Rattle.admission.specs.Rules.{Rules}

@@ -5,8 +5,8 @@ use Rattle.paths.specs.Targets.{asked}
 use Rattle.paths.specs.Resolution.{outcome, IsOutcome}
 use Rattle.paths.specs.declared.file.File.{File}
 use Rattle.http_requests.specs.declared.messages.Fault.TheVariants.{Block}
-use Rattle.http_requests.specs.declared.messages.What.{What as Meaning}
-use Rattle.http_requests.specs.declared.messages.What.TheVariants.{Request, Bad}
+use Rattle.http_requests.specs.declared.messages.Meaning.{Meaning}
+use Rattle.http_requests.specs.declared.messages.Meaning.TheVariants.{Request, Bad}
 use Rattle.cost_model.specs.Services.{CostTable, service}
 use Rattle.replay.specs.Answers.{is_head}
 use Rattle.replay.specs.Offers.{is_unmodified_file, length_given}

@@ -7,15 +7,15 @@ use Rattle.paths.specs.Resolution.{outcome}
 use Rattle.paths.specs.declared.file.File.{File}
 use Rattle.paths.specs.declared.outcome.Outcome.{Outcome}
 use Rattle.paths.specs.declared.outcome.Outcome.TheVariants as outcomes
-use Rattle.http_requests.specs.declared.messages.What.{What as Meaning}
-use Rattle.http_requests.specs.declared.messages.What.TheVariants.{Request, Bad}
+use Rattle.http_requests.specs.declared.messages.Meaning.{Meaning}
+use Rattle.http_requests.specs.declared.messages.Meaning.TheVariants.{Request, Bad}
 use Rattle.cost_model.specs.Services.{service}
 use Rattle.admission.specs.Rules.{Rules}
 use Rattle.admission.specs.Requests.{Offer, is_rejected}
 use Rattle.admission.specs.Decisions.{decide, decided}
 use Rattle.replay.specs.Choices.{Terms}
 use Rattle.arrivals.specs.Arrivals.{Arrival}
-use Rattle.arrivals.specs.declared.origin.Origin.{Origin}
+use Rattle.arrivals.specs.declared.incoming.Origin.{Origin}
 use Rattle.replay.specs.Answers.{is_head, is_unmodified}
 
 -- how many bytes the file has that a request is answered with, and whether they were not modified since the date that

@@ -2,10 +2,10 @@
 use Rattle.std.specs.Prelude.{ℕ, ◌+◌, max, Bool, true, false, Option, Some, None, if◌then◌else◌}
 use Rattle.admission.specs.declared.control.Outlook.{Outlook}
 use Rattle.admission.specs.declared.control.Decision.TheVariants.{Admitted, Rejected}
-use Rattle.responses.specs.declared.status.Status.{Status}
-use Rattle.responses.specs.declared.status.Status.TheVariants.{ServiceUnavailable}
-use Rattle.responses.specs.declared.what.What.{What as Given}
-use Rattle.responses.specs.declared.what.What.TheVariants.{Plain}
+use Rattle.responses.specs.declared.slip.Status.{Status}
+use Rattle.responses.specs.declared.slip.Status.TheVariants.{ServiceUnavailable}
+use Rattle.responses.specs.declared.slip.Given.{Given}
+use Rattle.responses.specs.declared.slip.Given.TheVariants.{Plain}
 use Rattle.explaining.specs.declared.row.Offered.{Offered}
 use Rattle.replay.specs.declared.sight.Sight.{Sight}
 use Rattle.replay.specs.declared.sight.Sight.TheVariants.{Priced}

@@ -18,7 +18,7 @@ use Rattle.replay.specs.Outcomes.{most_messages}
 use Rattle.replay.specs.Replies.{replies_of}
 use Rattle.replay.specs.Telling.{Telling, Told, ToldInPart, replies_told}
 use Rattle.replay.specs.Totals.{totals_of}
-use Rattle.arrivals.specs.declared.connection.Connection.{Connection}
+use Rattle.arrivals.specs.declared.connections.Connection.{Connection}
 use Rattle.replay.specs.declared.desk.Desk.{Desk}
 use Rattle.replay.specs.declared.outcome.Outcome.{Outcome}
 

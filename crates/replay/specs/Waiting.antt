@@ -6,9 +6,9 @@ use Rattle.captures.specs.Captures.{IsCapture, longest_text, sizes_of}
 use Rattle.arrivals.specs.Arrivals.{Arrival}
 use Rattle.arrivals.specs.Batches.{pieces_to, origins_of, tiers_of}
 use Rattle.arrivals.specs.Places.{Place, place_at}
-use Rattle.arrivals.specs.declared.connection.Connection.{Connection}
+use Rattle.arrivals.specs.declared.connections.Connection.{Connection}
 use Rattle.arrivals.specs.declared.incoming.Incoming.{Incoming}
-use Rattle.arrivals.specs.declared.origin.Origin.{Origin}
+use Rattle.arrivals.specs.declared.incoming.Origin.{Origin}
 use Rattle.replay.specs.Choices.{Terms}
 use Rattle.replay.specs.Serving.{Serves, DeskAfter}
 use Rattle.replay.specs.Ticketing.{AreOf, InTime}

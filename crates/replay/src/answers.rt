@@ -12,10 +12,10 @@ ghost use Rattle.replay.specs.Offers.{is_unmodified_file, length_given};
 
 use crate::ticket::Due;
 use cost_model::{Costs, service};
-use http_requests::{Fault, Version, What as Meaning};
+use http_requests::{Fault, Version, Meaning};
 use page_cache::MediaType;
 use paths::{Outcome, Snapshot, Tree};
-use responses::{Link, Status, What};
+use responses::{Link, Status, Given};
 
 /// The status of a message that breaks a rule.
 pub(crate) fn fault_status(fault: Fault) -> Status
@@ -39,12 +39,12 @@ fn is_unmodified(since: Option<u64>, mtime: u64) -> bool
 }
 
 /// What HEAD is told of a file that was last changed at `mtime`, in seconds since 1970-01-01.
-pub(crate) fn known_file<F: Tree>(snapshot: &Snapshot, file: usize, mtime: u64) -> What<F>
+pub(crate) fn known_file<F: Tree>(snapshot: &Snapshot, file: usize, mtime: u64) -> Given<F>
     requires { file < length snapshot.now }
-    ensures { result ≡ What.Known (media_of (file_of snapshot.now file).name)
+    ensures { result ≡ Given.Known (media_of (file_of snapshot.now file).name)
         (length (file_of snapshot.now file).bytes) mtime }
 {
-    What::Known {
+    Given::Known {
         media: MediaType::of_name(snapshot.name(file)),
         len: snapshot.bytes(file).len() as u64,
         mtime,
@@ -61,7 +61,7 @@ fn file_answer<F: Tree>(snapshot: &Snapshot, head: bool, since: Option<u64>, fil
 {
     let mtime = snapshot.mtime(file);
     if is_unmodified(since, mtime) {
-        return Due::Told(What::Unmodified { mtime });
+        return Due::Told(Given::Unmodified { mtime });
     }
     if head {
         return Due::Told(known_file(snapshot, file, mtime));
@@ -84,13 +84,13 @@ pub(crate) fn outcome_answer<F: Tree>(
 {
     let status = match outcome {
         Outcome::File(file) => return file_answer(snapshot, head, since, file),
-        Outcome::Move(location) => return Due::Told(What::Moved { location }),
+        Outcome::Move(location) => return Due::Told(Given::Moved { location }),
         Outcome::Missing => Status::NotFound,
         Outcome::BadTarget => Status::BadRequest,
         Outcome::NotAllowed => Status::MethodNotAllowed,
         Outcome::NotKnown => Status::NotImplemented,
     };
-    Due::Told(What::Plain { status })
+    Due::Told(Given::Plain { status })
 }
 
 /// Whether a message asks for a head alone.

@@ -15,7 +15,7 @@ use crate::ticket::{Due, Ticket};
 use crate::unnamed::Unnamed;
 use page_cache::{Page, PageCache};
 use paths::{Snapshot, Tree};
-use responses::{Reply, SharedPage, Slip, What, try_render};
+use responses::{Reply, SharedPage, Slip, Given, try_render};
 use stage_graph::{Chain, Gate, Named, Plan, RunName, Unrun, run_floor};
 use std::alloc::{AllocError, Global};
 use std::marker::{Brand, PhantomData};
@@ -106,7 +106,7 @@ impl<'a, F: Tree, K: Backs, R: Wait> Back<'a, F, K, R> {
         let what = match due {
             Due::Told(what) => what,
             Due::Page { file, mtime } => match self.page(file) {
-                Ok(page) => What::Page { page, mtime },
+                Ok(page) => Given::Page { page, mtime },
                 Err(_) => {
                     return Err(Ticket {
                         number,

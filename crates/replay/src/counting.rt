@@ -5,9 +5,9 @@ ghost use Rattle.responses.specs.Replies.{status_of, plain_status};
 ghost use Rattle.replay.specs.Counting.{AreBelow, with_status, breaks_a_rule};
 
 use crate::summary::Counts;
-use http_requests::What as Meaning;
+use http_requests::Meaning;
 use paths::Tree;
-use responses::{Status, What};
+use responses::{Status, Given};
 
 /// Nothing was answered yet.
 pub(crate) const NONE: Counts = Counts {
@@ -24,15 +24,15 @@ pub(crate) const NONE: Counts = Counts {
 
 impl Counts {
     /// Counts one more reply.
-    pub(crate) fn note<F: Tree>(&mut self, what: &What<F>)
+    pub(crate) fn note<F: Tree>(&mut self, what: &Given<F>)
         requires { AreBelow (2 ^ 64 - 1) self.old }
         ensures { self.new ≡ with_status self.old (status_of what.now) }
     {
         match what {
-            What::Page { .. } | What::Known { .. } => self.ok += 1,
-            What::Moved { .. } => self.moved_permanently += 1,
-            What::Unmodified { .. } => self.not_modified += 1,
-            What::Plain { status } => self.note_status(*status),
+            Given::Page { .. } | Given::Known { .. } => self.ok += 1,
+            Given::Moved { .. } => self.moved_permanently += 1,
+            Given::Unmodified { .. } => self.not_modified += 1,
+            Given::Plain { status } => self.note_status(*status),
         }
     }
 

@@ -22,7 +22,7 @@ use crate::server::Server;
 use crate::sight::{Sight, Sighted};
 use crate::ticket::Ticket;
 use arrivals::Origin;
-use http_requests::What as Meaning;
+use http_requests::Meaning;
 use paths::Tree;
 use std::alloc::AllocError;
 

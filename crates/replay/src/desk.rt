@@ -20,9 +20,9 @@ use crate::ticket::Due;
 use crate::totals::Totals;
 use admission::{Controller, Decision, MAX_SERVICE, MAX_TICK};
 use arrivals::Origin;
-use http_requests::What as Meaning;
+use http_requests::Meaning;
 use paths::Tree;
-use responses::{Status, What};
+use responses::{Status, Given};
 use std::alloc::AllocError;
 
 /// Where the messages of a capture are decided on and counted, in the order of their arrival.
@@ -83,7 +83,7 @@ impl Desk {
             ≡ true) }
     {
         match what {
-            Meaning::Bad(fault) => Ok(Due::Told(What::Plain {
+            Meaning::Bad(fault) => Ok(Due::Told(Given::Plain {
                 status: fault_status(*fault),
             })),
             Meaning::Request { modified_since, .. } => {
@@ -95,7 +95,7 @@ impl Desk {
                 if self.offer(origin.tier, origin.tick, service.ticks())? {
                     let settings = server.settings;
                     let retry_after = settings.retry_after;
-                    return Ok(Due::Told(What::Plain {
+                    return Ok(Due::Told(Given::Plain {
                         status: Status::ServiceUnavailable { retry_after },
                     }));
                 }

@@ -13,7 +13,7 @@ use crate::service_time::ServiceTime;
 use crate::sight::{Sight, Sighted};
 use arrivals::Incoming;
 use cost_model::Costs;
-use http_requests::What as Meaning;
+use http_requests::Meaning;
 use paths::{Snapshot, Tree, inspect, locate};
 use stage_graph::{Chain, Gate, Named, Plan, RunName, Unrun, run_floor};
 use std::alloc::{AllocError, Global};

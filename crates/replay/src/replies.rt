@@ -8,7 +8,7 @@ use crate::plain::{write_first_line, write_last_line};
 use crate::server::Server;
 use crate::telling::Tells;
 use arrivals::Origin;
-use http_requests::What as Meaning;
+use http_requests::Meaning;
 use paths::{Output, Tree};
 use responses::HeadRenderer;
 use std::alloc::Global;

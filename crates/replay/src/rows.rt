@@ -24,9 +24,9 @@ use crate::ticket::{Due, Ticket};
 use admission::{Decision, MAX_OFFERS, MAX_SERVICE, MAX_TICK, Outlook};
 use arrivals::Origin;
 use explaining::{Offered, Row, write_heading, write_row};
-use http_requests::What as Meaning;
+use http_requests::Meaning;
 use paths::{Output, Tree};
-use responses::{HeadRenderer, Status, What};
+use responses::{HeadRenderer, Status, Given};
 use std::alloc::Global;
 use std::io::Write;
 
@@ -46,10 +46,10 @@ fn status_of<F: Tree>(due: &Due<F>) -> u16
     ensures { result ≡ status_of (told due.now) }
 {
     match due {
-        Due::Page { .. } | Due::Told(What::Page { .. } | What::Known { .. }) => 200,
-        Due::Told(What::Moved { .. }) => 301,
-        Due::Told(What::Unmodified { .. }) => 304,
-        Due::Told(What::Plain { status }) => status.code(),
+        Due::Page { .. } | Due::Told(Given::Page { .. } | Given::Known { .. }) => 200,
+        Due::Told(Given::Moved { .. }) => 301,
+        Due::Told(Given::Unmodified { .. }) => 304,
+        Due::Told(Given::Plain { status }) => status.code(),
     }
 }
 
@@ -59,7 +59,7 @@ fn turns_away<F: Tree>(due: &Due<F>) -> bool
 {
     match due {
         Due::Told(
-            What::Plain {
+            Given::Plain {
                 status: Status::ServiceUnavailable { .. },
             },
         ) => true,

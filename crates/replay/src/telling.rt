@@ -15,7 +15,7 @@ use crate::desk::Desk;
 use crate::server::Server;
 use crate::{MOST_MESSAGES, ReplayFault};
 use arrivals::Origin;
-use http_requests::What as Meaning;
+use http_requests::Meaning;
 use paths::{Output, Tree};
 use responses::HeadRenderer;
 use std::alloc::Global;

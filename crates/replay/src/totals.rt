@@ -10,9 +10,9 @@ use crate::counting::{NONE, breaks_a_rule};
 use crate::summary::Counts;
 use crate::ticket::Due;
 use arrivals::Series;
-use http_requests::What as Meaning;
+use http_requests::Meaning;
 use paths::Tree;
-use responses::What;
+use responses::Given;
 use std::alloc::Global;
 
 /// The messages that were answered so far.

@@ -9,11 +9,11 @@ use Rattle.std.proofs.lemmas.List.{append_assoc}
 use Rattle.std.proofs.lemmas.List.Elements.{All-cons, All-nil}
 use Rattle.httparse.specs.Grammar.{crlf, Field, IsField, print_field, print_response, ResponseHead, IsResponseHead, is_token_byte, is_value_byte}
 use Rattle.paths.specs.declared.file.File.{File}
-use Rattle.responses.specs.declared.link.Link.{Link}
-use Rattle.responses.specs.declared.link.Link.TheVariants.{Close, KeepAlive, Silent}
-use Rattle.responses.specs.declared.status.Status.TheVariants.{BadRequest, NotFound, MethodNotAllowed, ContentTooLarge, NotImplemented, ServiceUnavailable}
-use Rattle.responses.specs.declared.what.What.{What}
-use Rattle.responses.specs.declared.what.What.TheVariants.{Page, Known, Unmodified, Moved, Plain}
+use Rattle.responses.specs.declared.slip.Link.{Link}
+use Rattle.responses.specs.declared.slip.Link.TheVariants.{Close, KeepAlive, Silent}
+use Rattle.responses.specs.declared.slip.Status.TheVariants.{BadRequest, NotFound, MethodNotAllowed, ContentTooLarge, NotImplemented, ServiceUnavailable}
+use Rattle.responses.specs.declared.slip.Given.{Given}
+use Rattle.responses.specs.declared.slip.Given.TheVariants.{Page, Known, Unmodified, Moved, Plain}
 use Rattle.responses.specs.declared.slip.Slip.{Slip}
 use Rattle.responses.specs.Dates.{imf_date}
 use Rattle.responses.specs.Replies.{status_words, status_of, content_type, content_length, last_modified, location_of, allow_of, retry_after_of, connection_of, field_line, fields_of, head_text, HasLocation}
@@ -51,14 +51,14 @@ valid_one name (Some value) fields some token good rest =
     All-cons IsField (record { name = name; raw = 32 ∷ value; end = crlf }) fields (record { name = (some, passes is_token_byte name token); raw = passes is_value_byte (32 ∷ value) good.all }) rest
 
 -- a status in its three digits and its reason
-pub record InWords {X : Type 0} (what : What X) : Type 0 where
+pub record InWords {X : Type 0} (what : Given X) : Type 0 where
   pub words : status_words what ≡ take 3 (status_words what) ++ 32 ∷ drop 4 (status_words what)
   pub three : length (take 3 (status_words what)) ≡ 3
   pub digits : list_all is_ascii_digit (take 3 (status_words what)) ≡ true
   pub code : digits_value 10 (take 3 (status_words what)) ≡ status_of what
   pub reason : list_all is_value_byte (drop 4 (status_words what)) ≡ true
 
-pub in_words : {X : Type 0} (what : What X) → InWords what
+pub in_words : {X : Type 0} (what : Given X) → InWords what
 in_words (Page file mtime) = record { words = refl; three = refl; digits = refl; code = refl; reason = refl }
 in_words (Known media len mtime) = record { words = refl; three = refl; digits = refl; code = refl; reason = refl }
 in_words (Unmodified mtime) = record { words = refl; three = refl; digits = refl; code = refl; reason = refl }
@@ -94,7 +94,7 @@ head_printed files slip =
     regroup v d r e f = simp append_assoc
 
 -- each value is of bytes that a field may have
-good_type : {X : Type 0} (files : List File) (what : What X) → GoodValue (content_type files what)
+good_type : {X : Type 0} (files : List File) (what : Given X) → GoodValue (content_type files what)
 good_type files (Page file mtime) = record { all = media_value _ }
 good_type files (Known media len mtime) = record { all = media_value media }
 good_type files (Unmodified mtime) = tt
@@ -109,14 +109,14 @@ good_time : (date : ℕ) (time : Option ℕ) → date ≤ 253402300799 → GoodV
 good_time date None most = tt
 good_time date (Some mtime) most = good_imf_date (min mtime date) (omega arith)
 
-good_location : {X : Type 0} (what : What X) → HasLocation what → GoodValue (location_of what)
+good_location : {X : Type 0} (what : Given X) → HasLocation what → GoodValue (location_of what)
 good_location (Page file mtime) has = tt
 good_location (Known media len mtime) has = tt
 good_location (Unmodified mtime) has = tt
 good_location (Moved location) has = record { all = location_value location has }
 good_location (Plain status) has = tt
 
-good_allow : {X : Type 0} (what : What X) → GoodValue (allow_of what)
+good_allow : {X : Type 0} (what : Given X) → GoodValue (allow_of what)
 good_allow (Page file mtime) = tt
 good_allow (Known media len mtime) = tt
 good_allow (Unmodified mtime) = tt

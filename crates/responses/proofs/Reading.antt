@@ -11,12 +11,12 @@ use Rattle.httparse.specs.Grammar.{Field, ResponseHead, status_code, is_ows, ski
 use Rattle.httparse.proofs.TrimLemmas.{trim_ows_space}
 use Rattle.httparse.proofs.GrammarLemmas.{response_unique}
 use Rattle.paths.specs.declared.file.File.{File}
-use Rattle.responses.specs.declared.what.What.{What}
-use Rattle.responses.specs.declared.what.What.TheVariants.{Page, Known, Unmodified, Moved, Plain}
+use Rattle.responses.specs.declared.slip.Given.{Given}
+use Rattle.responses.specs.declared.slip.Given.TheVariants.{Page, Known, Unmodified, Moved, Plain}
 use Rattle.responses.specs.declared.slip.Slip.{Slip}
 use Rattle.std.specs.Str.Parse.{digits_value}
-use Rattle.responses.specs.declared.status.Status.{Status}
-use Rattle.responses.specs.declared.status.Status.TheVariants.{BadRequest, NotFound, MethodNotAllowed, ContentTooLarge, NotImplemented, ServiceUnavailable}
+use Rattle.responses.specs.declared.slip.Status.{Status}
+use Rattle.responses.specs.declared.slip.Status.TheVariants.{BadRequest, NotFound, MethodNotAllowed, ContentTooLarge, NotImplemented, ServiceUnavailable}
 use Rattle.responses.specs.Dates.{imf_date}
 use Rattle.responses.specs.Replies.{content_type, last_modified, location_of, allow_of, retry_after_of, connection_of, plain_status, status_of, content_length, content_of, fields_of, head_text, body_text, reply_text, HasLocation, OnlyHead}
 use Rattle.responses.specs.Messages.{values_of, told_length, body_length, is_bodyless, is_given, Reads, IsHead, IsReply}
@@ -95,7 +95,7 @@ told_by head h status n code body get coding value lt =
     ∙ told_number n lt
 
 -- what stands in the place of a body where the answer isn't to HEAD
-get_told : {X : Type 0} (files : List File) (what : What X) (h : ResponseHead) → OnlyHead false what → length (content_of files what) < 2 ^ 64 → status_code h ≡ status_of what
+get_told : {X : Type 0} (files : List File) (what : Given X) (h : ResponseHead) → OnlyHead false what → length (content_of files what) < 2 ^ 64 → status_code h ≡ status_of what
     → values_of (codes "transfer-encoding") h.fields ≡ [] → ((n : ℕ) → content_length files what ≡ Some n → values_of (codes "content-length") h.fields ≡ decimal n ∷ [])
     → body_length false h ≡ Some (length (content_of files what))
 get_told files (Page file mtime) h only fits code coding value = told_by false h 200 _ code refl refl coding (value _ refl) fits
@@ -112,7 +112,7 @@ get_told files (Plain status) h only fits code coding value = told_by false h (p
     has_body NotImplemented = refl
     has_body (ServiceUnavailable seconds) = refl
 
-told : {X : Type 0} (files : List File) (what : What X) (head : Bool) (h : ResponseHead) → OnlyHead head what → (head ≡ false → length (content_of files what) < 2 ^ 64) → status_code h ≡ status_of what
+told : {X : Type 0} (files : List File) (what : Given X) (head : Bool) (h : ResponseHead) → OnlyHead head what → (head ≡ false → length (content_of files what) < 2 ^ 64) → status_code h ≡ status_of what
     → values_of (codes "transfer-encoding") h.fields ≡ [] → ((n : ℕ) → content_length files what ≡ Some n → values_of (codes "content-length") h.fields ≡ decimal n ∷ [])
     → body_length head h ≡ Some (length (cond head [] (content_of files what)))
 told files what true h only fits code coding value = refl

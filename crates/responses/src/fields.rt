@@ -9,7 +9,7 @@ ghost use Rattle.responses.specs.Replies.{location_of, allow_of, retry_after_of,
 
 use crate::dates::DateText;
 use crate::head::{push_date, push_field, push_number};
-use crate::{Link, Status, What};
+use crate::{Link, Status, Given};
 use paths::Tree;
 use std::alloc::AllocError;
 
@@ -28,28 +28,28 @@ fn plain_words(status: Status) -> &'static [u8]
 }
 
 /// The status of an answer and its reason.
-pub(crate) fn status_words<F: Tree>(what: &What<F>) -> &'static [u8]
+pub(crate) fn status_words<F: Tree>(what: &Given<F>) -> &'static [u8]
     ensures { result.now ≡ status_words what.now }
 {
     match what {
-        What::Page { .. } => b"200 OK",
-        What::Known { .. } => b"200 OK",
-        What::Unmodified { .. } => b"304 Not Modified",
-        What::Moved { .. } => b"301 Moved Permanently",
-        What::Plain { status } => plain_words(*status),
+        Given::Page { .. } => b"200 OK",
+        Given::Known { .. } => b"200 OK",
+        Given::Unmodified { .. } => b"304 Not Modified",
+        Given::Moved { .. } => b"301 Moved Permanently",
+        Given::Plain { status } => plain_words(*status),
     }
 }
 
 /// Adds Content-Type and Content-Length.
-pub(crate) fn push_content<F: Tree>(head: &mut Vec<u8>, what: &What<F>) -> Result<(), AllocError>
+pub(crate) fn push_content<F: Tree>(head: &mut Vec<u8>, what: &Given<F>) -> Result<(), AllocError>
     ensures { OnOk result (head.new.items ≡ head.old.items
         ++ (field_line (codes "Content-Type") (content_type F.files what.now)
         ++ field_line (codes "Content-Length") (option_map decimal (content_length F.files what.now)))) }
 {
     match what {
-        What::Page { page, .. } => Ok(head.extend_from_slice(page.fields())?),
-        What::Known { media, len, .. } => { push_entity(head, media.text().as_bytes(), *len) }
-        What::Unmodified { .. } => Ok(()),
+        Given::Page { page, .. } => Ok(head.extend_from_slice(page.fields())?),
+        Given::Known { media, len, .. } => { push_entity(head, media.text().as_bytes(), *len) }
+        Given::Unmodified { .. } => Ok(()),
         _ => {
             let len = status_words(what).len() as u64 + 1;
             push_entity(head, b"text/plain", len)
@@ -71,7 +71,7 @@ fn push_entity(head: &mut Vec<u8>, media: &[u8], len: u64) -> Result<(), AllocEr
 pub(crate) fn push_last_modified<F: Tree>(
     head: &mut Vec<u8>,
     kept: &mut DateText,
-    what: &What<F>,
+    what: &Given<F>,
     date: u64,
 ) -> Result<(), AllocError>
     requires { date ≤ latest_time }
@@ -80,26 +80,26 @@ pub(crate) fn push_last_modified<F: Tree>(
         (option_map (λ mtime. imf_date (min mtime date)) (last_modified what.now))) }
 {
     match what {
-        What::Page { mtime, .. } | What::Known { mtime, .. } | What::Unmodified { mtime } => {
+        Given::Page { mtime, .. } | Given::Known { mtime, .. } | Given::Unmodified { mtime } => {
             push_date(head, kept, b"Last-Modified", date.min(*mtime))
         }
-        What::Moved { .. } | What::Plain { .. } => Ok(()),
+        Given::Moved { .. } | Given::Plain { .. } => Ok(()),
     }
 }
 
 /// Adds the field that a status alone has: Location, Allow or Retry-After.
-pub(crate) fn push_own<F: Tree>(head: &mut Vec<u8>, what: &What<F>) -> Result<(), AllocError>
+pub(crate) fn push_own<F: Tree>(head: &mut Vec<u8>, what: &Given<F>) -> Result<(), AllocError>
     ensures { OnOk result (head.new.items ≡ head.old.items
         ++ (field_line (codes "Location") (location_of what.now)
         ++ (field_line (codes "Allow") (allow_of what.now)
         ++ field_line (codes "Retry-After") (option_map decimal (retry_after_of what.now))))) }
 {
     match what {
-        What::Moved { location } => push_field(head, b"Location", location.as_slice()),
-        What::Plain {
+        Given::Moved { location } => push_field(head, b"Location", location.as_slice()),
+        Given::Plain {
             status: Status::MethodNotAllowed,
         } => push_field(head, b"Allow", b"GET, HEAD"),
-        What::Plain {
+        Given::Plain {
             status: Status::ServiceUnavailable { retry_after },
         } => push_number(head, b"Retry-After", *retry_after),
         _ => Ok(()),

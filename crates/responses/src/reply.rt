@@ -9,7 +9,7 @@ ghost use Rattle.responses.specs.Messages.{IsReply};
 use crate::dates::Dates;
 use crate::fields::status_words;
 use crate::rendering::push_head;
-use crate::{SharedPage, Slip, What};
+use crate::{SharedPage, Slip, Given};
 use paths::Tree;
 use std::alloc::{AllocError, Global};
 use std::marker::Model;
@@ -76,36 +76,36 @@ fn render_head<F: Tree>(alloc: Global, slip: &Slip<F>) -> Result<Vec<u8>, AllocE
 }
 
 /// Adds the body, where it is no file's.
-fn push_note<F: Tree>(front: &mut Vec<u8>, what: &What<F>) -> Result<(), AllocError>
+fn push_note<F: Tree>(front: &mut Vec<u8>, what: &Given<F>) -> Result<(), AllocError>
     ensures { OnOk result (front.new.items ≡ front.old.items ++ note_of what.now) }
 {
     match what {
-        What::Moved { .. } | What::Plain { .. } => {
+        Given::Moved { .. } | Given::Plain { .. } => {
             front.extend_from_slice(status_words(what))?;
             front.extend_from_slice(b"\n")?;
             Ok(())
         }
-        What::Page { .. } | What::Known { .. } | What::Unmodified { .. } => Ok(()),
+        Given::Page { .. } | Given::Known { .. } | Given::Unmodified { .. } => Ok(()),
     }
 }
 
 /// The page whose bytes are the body.
-fn shared_page<F: Tree>(what: What<F>) -> Option<SharedPage<F>>
+fn shared_page<F: Tree>(what: Given<F>) -> Option<SharedPage<F>>
     ensures parts { content_of F.files what ≡ note_of what ++ held_body F.files result }
     ensures size { length (content_of F.files what) < 2 ^ 64 }
 {
     match what {
-        What::Page {
+        Given::Page {
             page,
             mtime: _mtime,
         } => {
             let _size = page.body().len();
             Some(page)
         }
-        What::Moved {
+        Given::Moved {
             location: _location,
         } => None,
-        What::Known { .. } | What::Unmodified { .. } | What::Plain { .. } => None,
+        Given::Known { .. } | Given::Unmodified { .. } | Given::Plain { .. } => None,
     }
 }
 

@@ -5,7 +5,7 @@ ghost use Rattle.responses.specs.Replies.{OnlyHead, HasLocation};
 
 use page_cache::Page;
 use paths::{Bytes, Input, Output, Snapshot, Tree};
-use responses::{Link, SharedPage, Slip, What, render, write_reply};
+use responses::{Link, SharedPage, Slip, Given, render, write_reply};
 use std::alloc::Global;
 use std::marker::Brand;
 use std::test::Fail;
@@ -38,7 +38,7 @@ fn snapshot(alloc: Global) -> Result<Snapshot, Fail> {
 }
 
 /// The record of the reply to message 0 of connection 7, at the time of the replies.
-fn record<F: Tree>(alloc: Global, head: bool, link: Link, what: What<F>) -> Result<Vec<u8>, Fail>
+fn record<F: Tree>(alloc: Global, head: bool, link: Link, what: Given<F>) -> Result<Vec<u8>, Fail>
     requires known { OnlyHead head what }
     requires location { HasLocation what }
 {
@@ -69,7 +69,7 @@ fn page_in<F: Tree>(
 {
     let page = SharedPage::new(Page::<F>::build(alloc, files, file)?);
     let mtime = files.mtime(file);
-    record(alloc, false, link, What::Page { page, mtime })
+    record(alloc, false, link, Given::Page { page, mtime })
 }
 
 /// The record that gives a file.

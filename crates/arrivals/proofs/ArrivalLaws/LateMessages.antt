@@ -4,17 +4,17 @@ use Rattle.std.specs.Prelude.{MatchBool}
 use Rattle.std.proofs.lemmas.Bool.{cases_lt}
 use Rattle.std.proofs.lemmas.List.{length-append, take-append-le, drop-append-le}
 use Rattle.http_requests.specs.declared.messages.Message.{Message}
-use Rattle.http_requests.specs.declared.messages.What.{What}
+use Rattle.http_requests.specs.declared.messages.Meaning.{Meaning}
 use Rattle.http_requests.specs.Framing.{blank_len, IsWhole, IsOver, IsNext, Messages, closes}
 use Rattle.http_requests.proofs.FrontLemmas.{blank_append, blank_kept, front_kept, ends_within, ends_append, next_within}
 
 -- a message takes two bytes at least
-front_two : (s : List ℕ) (w : What) (k : ℕ) → (IsWhole s w k ⊎ IsOver s w k) → 2 ≤ k
+front_two : (s : List ℕ) (w : Meaning) (k : ℕ) → (IsWhole s w k ⊎ IsOver s w k) → 2 ≤ k
 front_two s w k (inl h) = let e = ends_within s h.e h.block.ends in let a = h.k_is in omega (arith, e.0, a)
 front_two s w k (inr h) = let a = h.k_is in omega (arith, a)
 
 -- the message at the front of a text stands there without the bytes after it
-front_shorter : (s y : List ℕ) (w : What) (k : ℕ) → k ≤ length s → (IsWhole (s ++ y) w k ⊎ IsOver (s ++ y) w k) → (IsWhole s w k ⊎ IsOver s w k)
+front_shorter : (s y : List ℕ) (w : Meaning) (k : ℕ) → k ≤ length s → (IsWhole (s ++ y) w k ⊎ IsOver (s ++ y) w k) → (IsWhole s w k ⊎ IsOver s w k)
 front_shorter s y w k le (inl h) =
     let is = h.k_is in
     let e : h.e ≤ length s = omega (arith, is, le) in
@@ -41,7 +41,7 @@ front_shorter s y w k le (inr h) =
     })
 
 -- nor does the message after the empty lines need them
-pub next_shorter : (r y : List ℕ) (w : What) (k : ℕ) → k ≤ length r → IsNext (r ++ y) w k → IsNext r w k
+pub next_shorter : (r y : List ℕ) (w : Meaning) (k : ℕ) → k ≤ length r → IsNext (r ++ y) w k → IsNext r w k
 next_shorter r y w k le h =
     let is = h.k_is in
     let two = front_two _ w h.j h.front in

@@ -1,6 +1,6 @@
 //! Texts and the messages that they must have, worked out by hand.
 use super::{cut, in_lines};
-use http_requests::{Bytes, Cutter, Fault, Message, What, count_messages, cut_pieces};
+use http_requests::{Bytes, Cutter, Fault, Message, Meaning, count_messages, cut_pieces};
 use std::process::Abort;
 use std::test::Fail;
 
@@ -153,8 +153,8 @@ fn long_target(rt: HostRuntime) -> Result<(), Fail> {
         assert!(rt; out.len() == 1);
         assert!(rt;
             match &out[0].what {
-                What::Request { target, .. } => target.as_slice() == &text.as_bytes()[4..8_104],
-                What::Bad(_) => false,
+                Meaning::Request { target, .. } => target.as_slice() == &text.as_bytes()[4..8_104],
+                Meaning::Bad(_) => false,
             }
         );
     }
@@ -208,7 +208,7 @@ fn messages_are_added(rt: HostRuntime) -> Result<(), Fail> {
     let mut out = Vec::new(rt.alloc());
     out.push(Message {
         end: 7,
-        what: What::Bad(Fault::Host),
+        what: Meaning::Bad(Fault::Host),
     })?;
     Cutter::new(rt.alloc()).feed(A.as_bytes(), &mut out)?;
     let lines = in_lines(rt.alloc(), &out)?;

@@ -1,5 +1,5 @@
 //! Out of memory: `rt try --test --fail-alloc 1..` refuses each growth in turn.
-use http_requests::{Cutter, Message, Version, What};
+use http_requests::{Cutter, Message, Version, Meaning};
 use std::test::Fail;
 
 static TEXT: &str = "GET /a HTTP/1.1\r\n\
@@ -51,7 +51,7 @@ static MESSAGES: [Want; 3] = [
 /// Whether this is such a message.
 fn is_like(message: &Message, want: &Want) -> bool {
     match &message.what {
-        What::Request {
+        Meaning::Request {
             method,
             target,
             version,
@@ -65,7 +65,7 @@ fn is_like(message: &Message, want: &Want) -> bool {
                 && *closes == want.closes
                 && *modified_since == want.modified_since
         }
-        What::Bad(_) => false,
+        Meaning::Bad(_) => false,
     }
 }
 

@@ -1,6 +1,6 @@
 //! Out of memory: `rt try --test --fail-alloc N` refuses the Nth growth of each test.
 use paths::{Bytes, Output};
-use responses::{Link, Slip, Status, What, render, write_reply};
+use responses::{Link, Slip, Status, Given, render, write_reply};
 use std::marker::Brand;
 
 static BUSY: &[u8] = b"reply 1 2 178\n\
@@ -38,7 +38,7 @@ fn each_growth_refused(rt: HostRuntime) {
         date: 253_402_300_799,
         head: false,
         link: Link::Close,
-        what: What::<Brand>::Plain {
+        what: Given::<Brand>::Plain {
             status: Status::ServiceUnavailable { retry_after: 1 },
         },
     };
@@ -62,7 +62,7 @@ fn long_head(rt: HostRuntime) {
         date: 784_111_777,
         head: false,
         link: Link::Silent,
-        what: What::<Brand>::Moved {
+        what: Given::<Brand>::Moved {
             location: Bytes::from_vec(location),
         },
     };

@@ -2,7 +2,7 @@
 use crate::tests::{page, record, snapshot};
 use page_cache::MediaType;
 use paths::{Outcome, resolve};
-use responses::{Link, Status, What};
+use responses::{Link, Status, Given};
 use std::marker::Brand;
 use std::test::Fail;
 
@@ -69,7 +69,7 @@ fn versions_head_empty(rt: HostRuntime) -> Result<(), Fail> {
           hi\n\
           \n";
     assert_eq!(rt; got.as_slice(), want.as_slice());
-    let known = What::<Brand>::Known {
+    let known = Given::<Brand>::Known {
         media: MediaType::Plain,
         len: 3,
         mtime: 784_111_777,
@@ -100,7 +100,7 @@ fn versions_head_empty(rt: HostRuntime) -> Result<(), Fail> {
 #[test]
 fn not_modified_since(rt: HostRuntime) -> Result<(), Fail> {
     for head in [false, true] {
-        let unmodified = What::<Brand>::Unmodified { mtime: 784_111_777 };
+        let unmodified = Given::<Brand>::Unmodified { mtime: 784_111_777 };
         let got = record(rt.alloc(), head, Link::Silent, unmodified)?;
         let want = b"reply 0 7 112\n\
               HTTP/1.1 304 Not Modified\r\n\
@@ -118,7 +118,7 @@ fn folder_redirect(rt: HostRuntime) -> Result<(), Fail> {
     let files = snapshot(rt.alloc())?;
     match resolve(rt.alloc(), &files, b"GET", b"//docs")? {
         Outcome::Move(location) => {
-            let moved = What::<Brand>::Moved { location };
+            let moved = Given::<Brand>::Moved { location };
             let got = record(rt.alloc(), false, Link::Silent, moved)?;
             let want = b"reply 0 7 157\n\
                   HTTP/1.1 301 Moved Permanently\r\n\
@@ -239,7 +239,7 @@ fn plain_statuses(rt: HostRuntime) -> Result<(), Fail> {
         ),
     ];
     for (head, link, status, want) in table {
-        let plain = What::<Brand>::Plain { status };
+        let plain = Given::<Brand>::Plain { status };
         let got = record(rt.alloc(), head, link, plain)?;
         assert_eq!(rt; got.as_slice(), want.as_bytes());
     }

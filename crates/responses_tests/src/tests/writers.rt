@@ -1,7 +1,7 @@
 //! A writer that takes a byte at a time, and one that fails at one of its writes.
 use crate::tests::page;
 use paths::Output;
-use responses::{Link, Slip, Status, What, Write, render, write_reply};
+use responses::{Link, Slip, Status, Given, Write, render, write_reply};
 use std::marker::Brand;
 use std::test::Fail;
 use test_devices::Slow;
@@ -24,7 +24,7 @@ fn each_write_failing(rt: HostRuntime) -> Result<(), Fail> {
         date: 0,
         head: false,
         link: Link::Silent,
-        what: What::<Brand>::Plain {
+        what: Given::<Brand>::Plain {
             status: Status::NotFound,
         },
     };

@@ -4,8 +4,8 @@ use Rattle.http_requests.specs.Limits.{longest_block}
 use Rattle.httparse.specs.Grammar.{LineEnd, print_blank, RequestHead, ReadsRequest}
 use Rattle.http_requests.specs.declared.messages.Version.{Version}
 use Rattle.http_requests.specs.declared.messages.Fault.TheVariants.{TooLong}
-use Rattle.http_requests.specs.declared.messages.What.{What}
-use Rattle.http_requests.specs.declared.messages.What.TheVariants.{Request, Bad}
+use Rattle.http_requests.specs.declared.messages.Meaning.{Meaning}
+use Rattle.http_requests.specs.declared.messages.Meaning.TheVariants.{Request, Bad}
 use Rattle.http_requests.specs.declared.messages.Message.{Message}
 use Rattle.http_requests.specs.Heads.{values_of, body_length, head_fault, is_closing, IsModifiedSince, version_of}
 use Rattle.http_requests.specs.Heads.{lines_of, IsVerdict, bad}
@@ -28,7 +28,7 @@ pub record IsReadFrom
 
 -- what a block and the body after it make: a request, a block that is cut at the limit, or a block
 -- with a fault; only a request has a body
-abbrev pub Means : What → List ℕ → List ℕ → Type 0
+abbrev pub Means : Meaning → List ℕ → List ℕ → Type 0
 Means (Request method target version closing since) block body =
     IsReadFrom block body method target version closing since
 Means (Bad TooLong) block body = (length block ≡ longest_block) × NoBlock block × (body ≡ [])
