@@ -8,7 +8,7 @@ ghost use Rattle.http_requests.specs.Cutting.{CutterAfter};
 ghost use Rattle.arrivals.specs.Connections.{HasRead, HasRoom, ReadMore, connection_at, some_closes};
 ghost use Rattle.arrivals.specs.declared.connections.Connection.TheVariants.{Closed};
 
-use http_requests::{Cutter, Message, Meaning};
+use http_requests::{Cutter, Meaning, Message};
 use std::alloc::{AllocError, Global};
 use std::marker::Model;
 use std::mem;

@@ -5,7 +5,7 @@ ghost use Rattle.http_requests.specs.Framing.{closes};
 ghost use Rattle.http_requests.specs.Cutting.{Begins, IsFront, Waits};
 
 use crate::heads::{Verdict, bad, read_block};
-use crate::messages::{Fault, Message, Meaning};
+use crate::messages::{Fault, Meaning, Message};
 use crate::scanning::{BLOCK_LIMIT, Found, find};
 use std::alloc::{AllocError, Global};
 use std::marker::Model;

@@ -13,7 +13,7 @@ ghost use Rattle.http_requests.specs.Lines.{lines_at, AreLines};
 ghost use Rattle.http_requests.specs.Counting.{IsExtent};
 ghost use Rattle.http_requests.specs.declared.heads.Verdict.{Verdict as AVerdict};
 
-use crate::messages::{Bytes, Fault, Version, Meaning};
+use crate::messages::{Bytes, Fault, Meaning, Version};
 use httparse::Status;
 use httparse::spans::{EMPTY_HEADER_SPAN, HeaderSpan, RequestSpans, Span, parse_request};
 use httpdate::HttpDate;

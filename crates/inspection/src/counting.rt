@@ -9,7 +9,7 @@ ghost use Rattle.inspection.specs.Running.{with_message};
 
 use crate::message_counts::{FaultCounts, MessageCounts, MethodCounts, VersionCounts};
 use crate::record_counts::RecordCounts;
-use http_requests::{Fault, Message, Version, Meaning};
+use http_requests::{Fault, Meaning, Message, Version};
 
 impl RecordCounts {
     /// Counts one more piece.

@@ -8,7 +8,7 @@ ghost use Rattle.inspection.specs.Figures.{end_of};
 ghost use Rattle.inspection.specs.Running.{tail_of, tail_at, rest_of, rest_after_close, rest_unfinished};
 ghost use Rattle.inspection.specs.Running.{most_connections};
 
-use http_requests::{Message, Meaning};
+use http_requests::{Meaning, Message};
 use std::alloc::{AllocError, Global};
 use std::marker::Model;
 

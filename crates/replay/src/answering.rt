@@ -28,7 +28,7 @@ use crate::telling::Tells;
 use crate::ticket::{Due, Ticket};
 use crate::{MOST_MESSAGES, ReplayFault};
 use arrivals::Origin;
-use http_requests::{Message, Meaning};
+use http_requests::{Meaning, Message};
 use paths::{Output, Tree, resolve};
 use responses::{HeadRenderer, Slip, render, write_record, write_reply};
 use std::alloc::AllocError;

@@ -12,10 +12,10 @@ ghost use Rattle.replay.specs.Offers.{is_unmodified_file, length_given};
 
 use crate::ticket::Due;
 use cost_model::{Costs, service};
-use http_requests::{Fault, Version, Meaning};
+use http_requests::{Fault, Meaning, Version};
 use page_cache::MediaType;
 use paths::{Outcome, Snapshot, Tree};
-use responses::{Link, Status, Given};
+use responses::{Given, Link, Status};
 
 /// The status of a message that breaks a rule.
 pub(crate) fn fault_status(fault: Fault) -> Status

@@ -15,7 +15,7 @@ use crate::ticket::{Due, Ticket};
 use crate::unnamed::Unnamed;
 use page_cache::{Page, PageCache};
 use paths::{Snapshot, Tree};
-use responses::{Reply, SharedPage, Slip, Given, try_render};
+use responses::{Given, Reply, SharedPage, Slip, try_render};
 use stage_graph::{Chain, Gate, Named, Plan, RunName, Unrun, run_floor};
 use std::alloc::{AllocError, Global};
 use std::marker::{Brand, PhantomData};

@@ -7,7 +7,7 @@ ghost use Rattle.replay.specs.Counting.{AreBelow, with_status, breaks_a_rule};
 use crate::summary::Counts;
 use http_requests::Meaning;
 use paths::Tree;
-use responses::{Status, Given};
+use responses::{Given, Status};
 
 /// Nothing was answered yet.
 pub(crate) const NONE: Counts = Counts {

@@ -22,7 +22,7 @@ use admission::{Controller, Decision, MAX_SERVICE, MAX_TICK};
 use arrivals::Origin;
 use http_requests::Meaning;
 use paths::Tree;
-use responses::{Status, Given};
+use responses::{Given, Status};
 use std::alloc::AllocError;
 
 /// Where the messages of a capture are decided on and counted, in the order of their arrival.

@@ -26,7 +26,7 @@ use arrivals::Origin;
 use explaining::{Offered, Row, write_heading, write_row};
 use http_requests::Meaning;
 use paths::{Output, Tree};
-use responses::{HeadRenderer, Status, Given};
+use responses::{Given, HeadRenderer, Status};
 use std::alloc::Global;
 use std::io::Write;
 

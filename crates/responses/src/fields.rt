@@ -9,7 +9,7 @@ ghost use Rattle.responses.specs.Replies.{location_of, allow_of, retry_after_of,
 
 use crate::dates::DateText;
 use crate::head::{push_date, push_field, push_number};
-use crate::{Link, Status, Given};
+use crate::{Given, Link, Status};
 use paths::Tree;
 use std::alloc::AllocError;
 

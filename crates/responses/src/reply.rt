@@ -9,7 +9,7 @@ ghost use Rattle.responses.specs.Messages.{IsReply};
 use crate::dates::Dates;
 use crate::fields::status_words;
 use crate::rendering::push_head;
-use crate::{SharedPage, Slip, Given};
+use crate::{Given, SharedPage, Slip};
 use paths::Tree;
 use std::alloc::{AllocError, Global};
 use std::marker::Model;
