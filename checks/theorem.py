@@ -6,8 +6,9 @@
 It begins at the record `Answers` of crates/replay/specs/Outcomes.antt, and follows each name that a definition cites
 to the file of specs/ that defines it; types of the code are followed to the file of src/ that declares them. Without
 --list it compares what it finds with PAGE (docs/THEOREM.md without it), which names each such file, with the number
-of its lines that are read, in a row `| `crates/..` | lines | .. |`. Exits with 1 where the page misses a file, names
-one that isn't reached, or gives another number.
+of its lines that are read, in a row `| `crates/..` | lines | .. |`. It also looks whether README.md and
+docs/PROMISES.md name the crates in the order of the table of docs/ARCHITECTURE.md. Exits with 1 where the page misses
+a file, names one that isn't reached, or gives another number, or where a page has another order.
 """
 import argparse
 import os
@@ -110,6 +111,22 @@ def reached():
     return files
 
 
+def disorders():
+    """The pages that name the crates in another order than the table of docs/ARCHITECTURE.md."""
+    row = re.compile(r"^\| `(\w+)`(?:, `(\w+)`)?(?:, `(\w+)`)? \|", re.MULTILINE)
+    order = [first for first, _, _ in row.findall(read("docs/ARCHITECTURE.md"))]
+    pages = {
+        "README.md": [name for names in row.findall(read("README.md")) for name in names],
+        "docs/PROMISES.md": re.findall(r"^## (\w+)$", read("docs/PROMISES.md"), re.MULTILINE),
+        "docs/ARCHITECTURE.md": re.findall(r"^\*\*(\w+)\.\*\*", read("docs/ARCHITECTURE.md"), re.MULTILINE),
+    }
+    return [
+        "%s: another order of crates than the table of docs/ARCHITECTURE.md" % page
+        for page, names in pages.items()
+        if [name for name in names if name in order] != [name for name in order if name in names]
+    ]
+
+
 def main():
     parser = argparse.ArgumentParser(description=__doc__, formatter_class=argparse.RawDescriptionHelpFormatter)
     parser.add_argument("page", nargs="?", default=os.path.join(TOP, "docs", "THEOREM.md"))
@@ -130,6 +147,7 @@ def main():
         for path in told
         if path in found and found[path][0] != told[path]
     ]
+    wrong += disorders()
     print("\n".join(wrong + ["%d files, %d wrong" % (len(found), len(wrong))]))
     return int(bool(wrong))
 

@@ -30,7 +30,7 @@ to_front file list = if has file list then file ∷ without file list else list
 abbrev pub sizes : List File → List ℕ → ℕ
 sizes files list = sum_by (page_size files) list
 
--- the longest front of a list whose pages fit into the room
+-- the longest prefix of a list whose pages fit into the room
 unfoldable pub fitting : List File → ℕ → List ℕ → List ℕ
 fitting files room [] = []
 fitting files room (x ∷ list) = if nat_le (page_size files x) room then x

@@ -75,7 +75,7 @@ abbrev pub link_of : Meaning → Link
 link_of (Request method target version closing since) = request_link version closing
 link_of (Bad fault) = Close
 
--- what a message is reported: a request that is turned away may come again in n seconds; each other message is
+-- how a message is answered: a request that is turned away may come again in n seconds; each other message is
 -- answered
 abbrev pub given : {X : Type 0} → Terms → Bool → Meaning → Given X
 given terms true what = Plain (ServiceUnavailable terms.retry_after)

@@ -106,7 +106,7 @@ former_handled terms arrivals = handled_after_alone terms [] arrivals
 
 -- ---- the replies
 
--- what a message was reported: a request that was turned away might come again in n seconds; each other message was
+-- how a message was answered: a request that was turned away might come again in n seconds; each other message was
 -- answered
 abbrev pub formerly_given : {X : Type 0} → FormerTerms → Bool → Meaning → Given X
 formerly_given terms true what = Plain (ServiceUnavailable terms.retry_after)

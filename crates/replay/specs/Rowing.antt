@@ -15,7 +15,7 @@ abbrev pub service_in : Sight → Option ℕ
 service_in (Priced o cost) = Some cost
 service_in sight = None
 
--- whether a status, and what a message is reported, turns it away
+-- whether a status, and the answer to a message, turns it away
 abbrev pub is_unavailable : Status → Bool
 is_unavailable (ServiceUnavailable seconds) = true
 is_unavailable status = false

@@ -90,7 +90,7 @@ pub record TellsInPart (t : Telling) (start : ℕ) (records : List Record) (arri
   pub few : length arrivals + within ≤ most_messages
   pub written : ToldInPart t start arrivals (take within more) old new
 
--- the same, where the replies are reported
+-- the same, where each message is told by its reply
 abbrev pub ServesMore : Terms → List Record → List Arrival → List Record → List Connection → Desk → Option (List ℕ)
     → Option (List ℕ) → Type 0
 ServesMore terms records arrivals rs connections desk old new =
@@ -105,7 +105,7 @@ abbrev pub ServesInPart : Terms → ℕ → List Record → List Arrival → Lis
 ServesInPart terms start records arrivals rs old new =
     TellsInPart (replies_told terms) start records arrivals rs old new
 
--- these records were all of a capture, and its messages were told of: as `Answers`, whatever is reported
+-- these records were all of a capture, and its messages were told of: as `Answers`, whatever is told
 pub record HasTold (t : Telling) (terms : Terms) (input old new : Option (List ℕ)) (outcome : Outcome) : Type 0 where
   pub version : Version
   pub start : ℕ

@@ -59,7 +59,7 @@ impl Desk {
         }
     }
 
-    /// What a message that was looked into is to be reported. The admission control is asked where it is a request.
+    /// How a message that was looked into is to be answered. The admission control is asked where it is a request.
     pub(crate) fn decide<F: Tree>(
         &mut self,
         server: &Server<'_, F>,

@@ -14,7 +14,7 @@ use responses::HeadRenderer;
 use std::alloc::Global;
 use std::io::Write;
 
-/// The replies are reported.
+/// Each message is told by its reply.
 pub(crate) struct Replies;
 
 impl Tells for Replies {

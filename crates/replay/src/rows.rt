@@ -141,7 +141,7 @@ fn target_of(what: &Meaning) -> &[u8]
     }
 }
 
-/// The rows of a table are reported.
+/// Each message is told by its row of a table.
 pub(crate) struct Rows;
 
 impl Tells for Rows {

@@ -43,7 +43,7 @@ impl Totals {
         }
     }
 
-    /// Counts one more message, and what it is to be reported.
+    /// Counts one more message, and how it is to be answered.
     pub(crate) fn note<F: Tree>(&mut self, due: &Due<F>, what: &Meaning)
         requires number { self.old.answered < 2 ^ 64 - 1 }
         requires counts { AreBelow (2 ^ 64 - 1) self.old.counts }

@@ -18,5 +18,4 @@ pub use rendering::HeadRenderer;
 pub use reply::{Reply, render, try_render};
 pub use shared_page::SharedPage;
 pub use slip::{Given, Link, Slip, Status};
-pub use what::Given;
 pub use write_fault::Write;

@@ -1,3 +1,4 @@
+-- How often an item is fed, taken and given in a history, and how long a history may be.
 use Rattle.std.specs.Prelude.{ℕ, ◌<◌, ◌≤◌, List, length, take, nat_eq, if◌then◌else◌}
 use Rattle.stage_graph.specs.Floors.{most_events, queue_at, standing}
 use Rattle.std.specs.List.{sum_by}

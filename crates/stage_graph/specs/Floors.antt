@@ -1,3 +1,4 @@
+-- The floor as a machine of numbers: its state, what each event needs and does, and legal histories.
 use Rattle.std.specs.Prelude.{ℕ, ◌+◌, ◌*◌, Bool, true, false, ◌&&◌, ◌||◌, List, [], ◌∷◌, ◌++◌, length, take, drop}
 use Rattle.std.specs.Prelude.{replicate, slice_index_or, slice_set, nat_eq, nat_lt, nat_le, if◌then◌else◌, Option, Some}
 use Rattle.std.specs.Prelude.{None, is_some, is_none}

@@ -1,3 +1,4 @@
+-- The layout of a plan: stages with their cuts, workers and capacities.
 use Rattle.std.specs.Prelude.{◌≡◌, ℕ, ◌+◌, ◌-◌, ◌<◌, ◌≤◌, Bool, List, [], ◌∷◌, length, slice_index, nat_eq, nat_lt}
 use Rattle.std.specs.Prelude.{if◌then◌else◌, true, ◌&&◌, ◌++◌, replicate, nat_le}
 use Rattle.std.specs.List.{list_all}

@@ -1,3 +1,4 @@
+-- Where each number is: in the backlog, a queue, a hand, the done set or the returned list.
 use Rattle.std.specs.Prelude.{ℕ, ◌+◌, List, Option, Some, None, nat_eq, slice_index_or, false, if◌then◌else◌}
 use Rattle.std.specs.List.{sum_by}
 use Rattle.stage_graph.specs.Floors.{State}

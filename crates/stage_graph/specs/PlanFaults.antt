@@ -1,3 +1,4 @@
+-- The first fault of a plan's lists.
 use Rattle.std.specs.Prelude.{◌≡◌, ℕ, ◌&&◌, List, length, nat_eq, Option, Some, None, Result, Ok, Err, if◌then◌else◌}
 use Rattle.stage_graph.specs.Layouts.{Layout, is_rising, are_within}
 use Rattle.stage_graph.specs.Floors.{is_nil}

@@ -1,3 +1,4 @@
+-- The value of an input after some steps of a chain.
 use Rattle.std.specs.Prelude.{ℕ}
 use Rattle.std.proofs.Common.{zero, suc, ◌≡◌, refl}
 

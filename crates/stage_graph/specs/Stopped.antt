@@ -1,3 +1,4 @@
+-- What is known of a floor that was stopped.
 use Rattle.std.specs.Prelude.{◌≡◌, ℕ, true}
 use Rattle.stage_graph.specs.Layouts.{Layout}
 use Rattle.stage_graph.specs.Floors.{standing, is_legal_from_opening, all_left, has_stop}

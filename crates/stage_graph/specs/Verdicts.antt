@@ -1,3 +1,4 @@
+-- Whether a history is legal, or the first place of it that is not.
 use Rattle.std.specs.Prelude.{◌≡◌, ℕ, true, false, List, take, slice_get, Some}
 use Rattle.stage_graph.specs.Layouts.{Layout}
 use Rattle.stage_graph.specs.Floors.{standing, is_allowed, is_legal_from_opening}

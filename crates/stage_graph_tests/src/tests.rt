@@ -2,6 +2,7 @@
 mod adding;
 mod floors;
 mod gates;
+mod memory;
 mod threads;
 
 use stage_graph::{Event, Plan};

@@ -1,3 +1,4 @@
+-- Where a value with a number is placed, or why it is not.
 use Rattle.std.specs.Prelude.{ℕ, List, Option, Some, None, Result, Ok, Err, length, nat_lt, slice_index_or, is_some}
 use Rattle.std.specs.Prelude.{if◌then◌else◌}
 use Rattle.stage_queue.specs.declared.slots.Placing.{Placing}

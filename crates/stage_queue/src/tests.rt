@@ -47,3 +47,23 @@ fn room_past_all_memory(rt: HostRuntime) -> Result<(), Fail> {
     assert_eq!(rt; slots.err(), Some(Memory));
     Ok(())
 }
+
+// Out of memory: `checks/refuse_growths.py` refuses each growth in turn. Room that there is serves all later calls.
+#[test]
+fn each_growth_refused(rt: HostRuntime) {
+    if let Ok(mut queue) = Queue::new(rt.alloc(), 2) {
+        assert_eq!(rt;
+            (queue.push(1u64), queue.push(2), queue.push(3)),
+            (Ok(()), Ok(()), Err(3))
+        );
+    }
+    if let Ok(mut slots) = Slots::new(rt.alloc(), 2) {
+        assert_eq!(rt;
+            (slots.place(1, 'b'), slots.place(0, 'a')),
+            (Ok(()), Ok(()))
+        );
+        if slots.is_full() {
+            assert!(rt; slots.into_list().as_slice() == ['a', 'b'].as_slice());
+        }
+    }
+}

@@ -16,7 +16,7 @@ use std::test::Fail;
 use std::thread::Threads;
 
 /// The shape of one worker and room for one item a stage, batches of one piece, and no cache.
-static NARROW: Shape<'static> = Shape {
+pub static NARROW: Shape<'static> = Shape {
     front: &[3],
     back: &[2],
     workers: 1,
@@ -26,7 +26,7 @@ static NARROW: Shape<'static> = Shape {
 };
 
 /// The default stages at their widest.
-static WIDE: Shape<'static> = Shape {
+pub static WIDE: Shape<'static> = Shape {
     front: &[1, 2, 3],
     back: &[1, 2],
     workers: 16,

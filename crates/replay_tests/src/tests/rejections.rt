@@ -121,7 +121,7 @@ fn finishes_and_percentile(rt: HostRuntime) -> Result<(), Fail> {
 }
 
 /// A request for a file that isn't there, which takes 5,000 ticks.
-static NONE: &str = "GET /none HTTP/1.1\r\nHost: a\r\n\r\n";
+pub static NONE: &str = "GET /none HTTP/1.1\r\nHost: a\r\n\r\n";
 
 #[test]
 fn controls_and_credit(rt: HostRuntime) -> Result<(), Fail> {

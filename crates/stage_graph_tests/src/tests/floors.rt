@@ -132,7 +132,7 @@ fn worked<C: Chain, R: Abort>(rt: &R, chain: &C, item: C::Item) -> C::Item {
 
 // How a floor of the tests is driven.
 #[derive(Clone, Copy, PartialEq)]
-enum Course {
+pub enum Course {
     AllDone,
     SentBack,
     Halted,
@@ -178,7 +178,7 @@ fn driven_with<K: Sums + RunName, R: Abort>(
 }
 
 // The history of a floor of two items that was driven, and how many items its run has.
-fn history_of<R: Abort>(
+pub fn history_of<R: Abort>(
     rt: &R,
     alloc: Global,
     course: Course,
