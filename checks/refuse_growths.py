@@ -3,7 +3,7 @@
 
 usage: refuse_growths.py [CRATE..]
 
-It takes the tests that `rt ci` has built (crates/*/out/*) and that have `growth_refused` in their names. For N = 1, 2,
+It takes the tests that `rt ci` has built (crates/*/out/*) and that have `growth` in their names. For N = 1, 2,
 .. the Nth request of such a test is refused, until some runs make fewer: the test has to pass each time, for it looks
 at what is answered and what stands then. (Above MOST requests only each STRIDEth is refused, after the first MOST.) It
 needs a C compiler (CC, or cc) and the C library of GNU; without a compiler nothing is tried. Exits with 1 where a test
@@ -27,7 +27,7 @@ def tests_of(binary):
     """The names of a crate's tests that are made for refused growths."""
     ran = subprocess.run([binary, "--list"], stdout=subprocess.PIPE, stderr=subprocess.DEVNULL, check=False)
     lines = ran.stdout.decode(errors="replace").split("\n")
-    return [line.removesuffix(": test") for line in lines if line.endswith(": test") and "growth_refused" in line]
+    return [line.removesuffix(": test") for line in lines if line.endswith(": test") and "growth" in line]
 
 
 def build(folder):

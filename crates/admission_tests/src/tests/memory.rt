@@ -1,4 +1,4 @@
-//! Out of memory: `rt try --test --fail-alloc 1..` refuses each growth in turn.
+//! Out of memory: `checks/refuse_growths.py` refuses each growth in turn.
 use admission::{Controller, Decision, Policy};
 
 /// An offer whose growth is refused leaves the controller as it was: offered again, the request has the answer that it

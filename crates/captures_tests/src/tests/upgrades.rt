@@ -171,7 +171,7 @@ fn writes_failing(rt: HostRuntime) {
     assert!(rt; false, "no run met all its writes");
 }
 
-/// `rt try --test --fail-alloc 1..` refuses each growth in turn: a prefix stands then, else the whole text.
+/// `checks/refuse_growths.py` refuses each growth in turn: a prefix stands then, else the whole text.
 #[test]
 fn growths_of_upgrades_refused(rt: HostRuntime) {
     let mut taken = [0u8; 200];

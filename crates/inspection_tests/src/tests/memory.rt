@@ -1,4 +1,4 @@
-//! Out of memory: `rt try --test --fail-alloc 1..` refuses each growth in turn.
+//! Out of memory: `checks/refuse_growths.py` refuses each growth in turn.
 use crate::tests::inspect_bytes;
 use inspection::{InspectFault, inspection_text};
 

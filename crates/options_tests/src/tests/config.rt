@@ -272,7 +272,7 @@ fn keys_shown(rt: HostRuntime) -> Result<(), Fail> {
     Ok(())
 }
 
-/// `rt try --test --fail-alloc N`, for N = 1, 2 and so on, refuses each growth in turn: the answer is `Memory` then.
+/// `checks/refuse_growths.py` refuses each growth in turn: the answer is `Memory` then.
 #[test]
 fn each_growth_refused(rt: HostRuntime) {
     for text in [ALL, TIGHT_TIERS] {

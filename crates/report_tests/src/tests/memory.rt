@@ -1,4 +1,4 @@
-//! Out of memory: `rt try --test --fail-alloc N`, for N = 1, 2 and so on, refuses each growth in turn.
+//! Out of memory: `checks/refuse_growths.py` refuses each growth in turn.
 use super::outcomes::{EACH_TIER, each_tier};
 use report::report;
 

@@ -1,4 +1,4 @@
-//! Out of memory: `rt try --test --fail-alloc N` refuses the Nth growth of each test.
+//! Out of memory: `checks/refuse_growths.py` refuses each growth in turn.
 use paths::{Bytes, Output};
 use responses::{Link, Slip, Status, Given, render, write_reply};
 use std::marker::Brand;

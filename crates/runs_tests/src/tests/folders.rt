@@ -176,7 +176,7 @@ fn each_write_failing(rt: HostRuntime) -> Result<(), Fail> {
     Ok(())
 }
 
-/// `rt try --test --fail-alloc 1..` refuses each growth in turn: then a prefix stands.
+/// `checks/refuse_growths.py` refuses each growth in turn: then a prefix stands.
 #[test]
 fn each_growth_refused(rt: HostRuntime) {
     let Ok(found) = found_of(rt.alloc(), &ROWS) else {

@@ -121,7 +121,7 @@ fn fault_with_a_dead_writer(rt: HostRuntime) {
     assert!(rt; output.text().is_empty());
 }
 
-/// `rt try --test --fail-alloc 1..` refuses each growth in turn: then nothing stands.
+/// `checks/refuse_growths.py` refuses each growth in turn: then nothing stands.
 #[test]
 fn each_growth_refused(rt: HostRuntime) {
     let mut output = Narrow::ample();

@@ -1,4 +1,4 @@
-//! Out of memory: `rt try --test --fail-alloc 1..` refuses each growth in turn.
+//! Out of memory: `checks/refuse_growths.py` refuses each growth in turn.
 use super::reports;
 use super::reports::{CAPTURE, REPORT};
 use super::running::{FIRST_RUN, Narrow, REPLIES, SNAPSHOT, is_out_of_memory, run_tight};

@@ -207,7 +207,7 @@ fn each_write_failing(rt: HostRuntime) {
     assert!(rt; false, "the run comes to no end");
 }
 
-/// `rt try --test --fail-alloc 1..` refuses each growth in turn: then nothing stands.
+/// `checks/refuse_growths.py` refuses each growth in turn: then nothing stands.
 #[test]
 fn each_growth_refused(rt: HostRuntime) {
     let mut output = Awaiting::new(usize::MAX, usize::MAX);
