@@ -1,7 +1,7 @@
 //! What no clause says: that the definitions mean what the RFCs say, and that calls succeed.
 ghost use Rattle.std.specs.Prelude.{◌<◌, ◌≤◌, length};
 
-use http_requests::{Cutter, Message, Version, Meaning};
+use http_requests::{Cutter, Meaning, Message, Version};
 use std::alloc::{AllocError, Global};
 use std::str;
 use std::test::Fail;

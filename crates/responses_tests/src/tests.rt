@@ -5,7 +5,7 @@ ghost use Rattle.responses.specs.Replies.{OnlyHead, HasLocation};
 
 use page_cache::Page;
 use paths::{Bytes, Input, Output, Snapshot, Tree};
-use responses::{Link, SharedPage, Slip, Given, render, write_reply};
+use responses::{Given, Link, SharedPage, Slip, render, write_reply};
 use std::alloc::Global;
 use std::marker::Brand;
 use std::test::Fail;

@@ -1,6 +1,6 @@
 //! Texts and the messages that they must have, worked out by hand.
 use super::{cut, in_lines};
-use http_requests::{Bytes, Cutter, Fault, Message, Meaning, count_messages, cut_pieces};
+use http_requests::{Bytes, Cutter, Fault, Meaning, Message, count_messages, cut_pieces};
 use std::process::Abort;
 use std::test::Fail;
 

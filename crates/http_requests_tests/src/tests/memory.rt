@@ -1,5 +1,5 @@
 //! Out of memory: `checks/refuse_growths.py` refuses each growth in turn.
-use http_requests::{Cutter, Message, Version, Meaning};
+use http_requests::{Cutter, Meaning, Message, Version};
 use std::test::Fail;
 
 static TEXT: &str = "GET /a HTTP/1.1\r\n\

@@ -1,6 +1,6 @@
 //! Out of memory: `checks/refuse_growths.py` refuses each growth in turn.
 use paths::{Bytes, Output};
-use responses::{Link, Slip, Status, Given, render, write_reply};
+use responses::{Given, Link, Slip, Status, render, write_reply};
 use std::marker::Brand;
 
 static BUSY: &[u8] = b"reply 1 2 178\n\

@@ -2,7 +2,7 @@
 use crate::tests::{page, record, snapshot};
 use page_cache::MediaType;
 use paths::{Outcome, resolve};
-use responses::{Link, Status, Given};
+use responses::{Given, Link, Status};
 use std::marker::Brand;
 use std::test::Fail;
 

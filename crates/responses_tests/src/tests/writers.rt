@@ -1,7 +1,7 @@
 //! A writer that takes a byte at a time, and one that fails at one of its writes.
 use crate::tests::page;
 use paths::Output;
-use responses::{Link, Slip, Status, Given, Write, render, write_reply};
+use responses::{Given, Link, Slip, Status, Write, render, write_reply};
 use std::marker::Brand;
 use std::test::Fail;
 use test_devices::Slow;
