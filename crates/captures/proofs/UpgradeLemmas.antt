@@ -1,5 +1,5 @@
 -- What an upgrade has written where it stops.
-use Rattle.std.proofs.Common.{◌≡◌, ℕ, ◌≤◌, ◌⊎◌, inl, inr, true, List, [], ◌∷◌, ◌++◌, length, Option, Some, None, Result, Ok, Err, refl, sym, ap, ◌∙◌, subst, arith, codes, decimal, is_some, unwrap_or, IfErr, OnOk, append-nil}
+use Rattle.std.proofs.Common.{◌≡◌, ℕ, ◌≤◌, ◌⊎◌, inl, inr, List, [], ◌∷◌, ◌++◌, length, Option, Some, None, Result, Ok, Err, refl, sym, ap, ◌∙◌, subst, arith, codes, decimal, unwrap_or, IfErr, OnOk, append-nil}
 use Rattle.std.specs.Result.{IsErrAnd}
 use Rattle.std.specs.Io.KnownBytes.{Appends}
 use Rattle.std.proofs.lemmas.List.{flat_map_more}
@@ -12,12 +12,13 @@ use Rattle.captures.specs.declared.capture_fault.CaptureFaultKind.{CaptureFaultK
 use Rattle.captures.specs.declared.capture_fault.CaptureFaultKind.TheVariants as kinds
 use Rattle.captures.specs.declared.upgrade_fault.UpgradeFault.{UpgradeFault}
 use Rattle.captures.specs.declared.upgrade_fault.UpgradeFault.TheVariants.{Capture, Memory, Write as Unwritten}
-use Rattle.captures.specs.Captures.{feed, first_line, last_line, record_text, text_before_stop, longest_text, IsCaptureText}
+use Rattle.paths.specs.KnownText.{WhereKnown}
+use Rattle.captures.specs.Captures.{feed, first_line, last_line, record_text, text_before_stop, longest_text, IsCapture, IsCaptureText}
 use Rattle.captures.specs.CaptureFaults.{IsForeseen, IsHeaderFault, failures_of}
-use Rattle.captures.specs.Readers.{ReaderAfter, Gave, FailsNext}
+use Rattle.captures.specs.Readers.{ReaderAfter, Gave, FailsFirst, FailsNext}
 use Rattle.captures.specs.Writing.{AppendsPrefix, WritesPrefix}
-use Rattle.captures.specs.Upgrades.{upgraded, Upgrades, Stops, IsCutShort, told_as, upgrade_fault, IfCapture, IfCutShort, IsWriteOrMemory, reader_failures, writer_failures}
-use Rattle.captures.proofs.WritingLemmas.{appends_then, prefix_none, prefix_then}
+use Rattle.captures.specs.Upgrades.{Upgrades, Reads, Stops, IsCutShort, told_as, upgrade_fault, IfCapture, IfCutShort, IsWriteOrMemory, reader_failures, writer_failures}
+use Rattle.captures.proofs.WritingLemmas.{appends_then, prefix_then}
 
 -- ---- what is told of a capture's fault
 
@@ -134,72 +135,68 @@ more_prefix start records r old mid new before h =
 
 -- ---- where it stops
 
-pub stops_first : (text rest old : Option (List ℕ)) (f : CaptureFault) → f.at ≡ 0 → IsForeseen IsHeaderFault text f → is_some text ≡ true → Stops (unwrap_or text []) rest old old f
-stops_first text rest old f at h known = inl (record { at = at; written = refl; fault = λ foreseen. h known foreseen })
+pub stops_first : (text ahead old : Option (List ℕ)) (f : CaptureFault) → f.at ≡ 0 → IsForeseen IsHeaderFault text f → FailsFirst text f ahead → Stops text ahead old old f
+stops_first text ahead old f at h failed = inl (record { at = at; written = refl; fault = λ foreseen known. h known foreseen; failed = failed })
 
-pub stops_after : (v : Version) (text now rest old new : Option (List ℕ)) (start : ℕ) (records : List Record) (p q : Progress) (f : CaptureFault) → ReaderAfter v text start records p now
-    → Appends old new (text_before_stop Two start records) → Gave v text start records (Err f) q rest → FailsNext v text start records (Err f) rest → is_some text ≡ true
-    → Stops (unwrap_or text []) rest old new f
-stops_after v text now rest old new start records p q f fits written gave fails known = inr (record {
+reads_of : (v : Version) (text now : Option (List ℕ)) (start : ℕ) (records : List Record) (p : Progress) → ReaderAfter v text start records p now → Reads text
+reads_of v text now start records p fits = record {
   version = v;
   start = start;
   records = records;
-  further = unwrap_or now [];
-  front = fits.front known;
+  rest = unwrap_or now [];
   rules = fits.rules;
+  begins = fits.front;
+  size = λ known. let l = fits.left known in omega arith;
+}
+
+pub stops_after : (v : Version) (text now ahead old new : Option (List ℕ)) (start : ℕ) (records : List Record) (p q : Progress) (f : CaptureFault) → ReaderAfter v text start records p now
+    → Appends old new (text_before_stop Two start records) → Gave v text start records (Err f) q ahead → FailsNext v text start records (Err f) ahead
+    → Stops text ahead old new f
+unfolding reads_of
+stops_after v text now ahead old new start records p q f fits written gave fails = inr (record {
+  reads = reads_of v text now start records p fits;
   at = gave.0;
   written = written;
-  fault = λ foreseen. gave.1 known foreseen;
-  failed = λ read. fails read known;
-})
-
-pub short_none : (v : Version) (text now old : Option (List ℕ)) (start : ℕ) (records : List Record) (p : Progress) → ReaderAfter v text start records p now → is_some text ≡ true
-    → IsCutShort (unwrap_or text []) old old
-short_none v text now old start records p fits known = inl (record {
-  version = v;
-  start = start;
-  records = records;
-  further = unwrap_or now [];
-  front = fits.front known;
-  rules = fits.rules;
-  written = prefix_none old (text_before_stop Two start records);
+  fault = λ foreseen known. gave.1 known foreseen;
+  failed = fails;
 })
 
 pub short_among : (v : Version) (text now old new : Option (List ℕ)) (start : ℕ) (records : List Record) (p : Progress) → ReaderAfter v text start records p now
-    → AppendsPrefix old new (text_before_stop Two start records) → is_some text ≡ true → IsCutShort (unwrap_or text []) old new
-short_among v text now old new start records p fits written known = inl (record {
-  version = v;
-  start = start;
-  records = records;
-  further = unwrap_or now [];
-  front = fits.front known;
-  rules = fits.rules;
-  written = written;
-})
+    → AppendsPrefix old new (text_before_stop Two start records) → IsCutShort text old new
+unfolding reads_of
+short_among v text now old new start records p fits written = inl (record { reads = reads_of v text now start records p fits; written = written })
 
 -- the end was met
-pub all_read : (v : Version) (text now : Option (List ℕ)) (start : ℕ) (records : List Record) (p : Progress) (x : Option Record) → x ≡ None → Gave v text start records (Ok x) p now → is_some text ≡ true
-    → IsCaptureText v (unwrap_or text []) start records
+pub all_read : (v : Version) (text now : Option (List ℕ)) (start : ℕ) (records : List Record) (p : Progress) (x : Option Record) → x ≡ None → Gave v text start records (Ok x) p now
+    → WhereKnown text (λ bytes. IsCaptureText v bytes start records)
 all_read v text now start records p x is h = subst (λ (o : Option Record). Gave v text start records (Ok o) p now) is h
 
 counted : (n : ℕ) (records : List Record) → n ≡ length records → (codes "stop " ++ decimal n) ++ feed ∷ [] ≡ last_line records ++ feed ∷ []
 counted n records e = ap (λ m. (codes "stop " ++ decimal m) ++ feed ∷ []) e
 
-pub short_end : (v : Version) (input : List ℕ) (old mid new : Option (List ℕ)) (start n : ℕ) (records : List Record) → n ≡ length records → IsCaptureText v input start records
-    → Appends old mid (text_before_stop Two start records) → AppendsPrefix mid new ((codes "stop " ++ decimal n) ++ feed ∷ []) → IsCutShort input old new
-short_end v input old mid new start n records is c before h = inr (
-  upgraded start records,
-  record { version = v; start = start; records = records; capture = c; text = refl },
-  prefix_then old mid new (text_before_stop Two start records) (last_line records ++ feed ∷ []) before (subst (λ (w : List ℕ). AppendsPrefix mid new w) (counted n records is) h),
-)
+short_end : (v : Version) (text old mid new : Option (List ℕ)) (start n : ℕ) (records : List Record) → n ≡ length records → IsCapture v start records
+    → WhereKnown text (λ bytes. IsCaptureText v bytes start records)
+    → Appends old mid (text_before_stop Two start records) → AppendsPrefix mid new ((codes "stop " ++ decimal n) ++ feed ∷ []) → IsCutShort text old new
+short_end v text old mid new start n records is rules c before h = inr (record {
+  version = v;
+  start = start;
+  records = records;
+  rules = rules;
+  capture = c;
+  written = prefix_then old mid new (text_before_stop Two start records) (last_line records ++ feed ∷ []) before (subst (λ (w : List ℕ). AppendsPrefix mid new w) (counted n records is) h);
+})
 
-pub whole : (v : Version) (input : List ℕ) (old mid new : Option (List ℕ)) (start n : ℕ) (records : List Record) → n ≡ length records → IsCaptureText v input start records
-    → Appends old mid (text_before_stop Two start records) → Appends mid new ((codes "stop " ++ decimal n) ++ feed ∷ []) → Upgrades input old new
-whole v input old mid new start n records is c before h = (
-  upgraded start records,
-  record { version = v; start = start; records = records; capture = c; text = refl },
-  appends_then old mid new (text_before_stop Two start records) (last_line records ++ feed ∷ []) before (subst (λ (w : List ℕ). Appends mid new w) (counted n records is) h),
-)
+whole : (v : Version) (text old mid new : Option (List ℕ)) (start n : ℕ) (records : List Record) → n ≡ length records → IsCapture v start records
+    → WhereKnown text (λ bytes. IsCaptureText v bytes start records)
+    → Appends old mid (text_before_stop Two start records) → Appends mid new ((codes "stop " ++ decimal n) ++ feed ∷ []) → Upgrades text old new
+whole v text old mid new start n records is rules c before h = record {
+  version = v;
+  start = start;
+  records = records;
+  rules = rules;
+  capture = c;
+  written = appends_then old mid new (text_before_stop Two start records) (last_line records ++ feed ∷ []) before (subst (λ (w : List ℕ). Appends mid new w) (counted n records is) h);
+}
 
 -- the same of what another name has
 pub moved : (X : Option (List ℕ) → Type 0) (a b : Option (List ℕ)) → X b → a ≡ b → X a
@@ -215,14 +212,14 @@ short_errs (Ok x) P h = tt
 short_errs (Err f) P h = short f P h
 
 -- the last line was written, or a prefix of it
-pub part_end : (r : Result Unit UpgradeFault) (v : Version) (text old mid new : Option (List ℕ)) (start n : ℕ) (records : List Record) → n ≡ length records → Appends old mid (text_before_stop Two start records)
-    → (is_some text ≡ true → IsCaptureText v (unwrap_or text []) start records) → WritesPrefix mid new r ((codes "stop " ++ decimal n) ++ feed ∷ [])
-    → IfErr r (λ f. IfCutShort f (is_some text ≡ true → IsCutShort (unwrap_or text []) old new))
-part_end (Ok x) v text old mid new start n records is before c h = tt
-part_end (Err f) v text old mid new start n records is before c h = short f _ (λ known. short_end v (unwrap_or text []) old mid new start n records is (c known) before h)
+pub part_end : (r : Result Unit UpgradeFault) (v : Version) (text old mid new : Option (List ℕ)) (start n : ℕ) (records : List Record) → n ≡ length records → IsCapture v start records
+    → Appends old mid (text_before_stop Two start records) → WhereKnown text (λ bytes. IsCaptureText v bytes start records) → WritesPrefix mid new r ((codes "stop " ++ decimal n) ++ feed ∷ [])
+    → IfErr r (λ f. IfCutShort f (IsCutShort text old new))
+part_end (Ok x) v text old mid new start n records is rules before c h = tt
+part_end (Err f) v text old mid new start n records is rules before c h = short f _ (short_end v text old mid new start n records is rules c before h)
 
-pub ok_end : (r : Result Unit UpgradeFault) (v : Version) (text old mid new : Option (List ℕ)) (start n : ℕ) (records : List Record) → n ≡ length records → Appends old mid (text_before_stop Two start records)
-    → (is_some text ≡ true → IsCaptureText v (unwrap_or text []) start records) → WritesPrefix mid new r ((codes "stop " ++ decimal n) ++ feed ∷ [])
-    → OnOk r (is_some text ≡ true → Upgrades (unwrap_or text []) old new)
-ok_end (Ok x) v text old mid new start n records is before c h = λ known. whole v (unwrap_or text []) old mid new start n records is (c known) before h
-ok_end (Err f) v text old mid new start n records is before c h = tt
+pub ok_end : (r : Result Unit UpgradeFault) (v : Version) (text old mid new : Option (List ℕ)) (start n : ℕ) (records : List Record) → n ≡ length records → IsCapture v start records
+    → Appends old mid (text_before_stop Two start records) → WhereKnown text (λ bytes. IsCaptureText v bytes start records) → WritesPrefix mid new r ((codes "stop " ++ decimal n) ++ feed ∷ [])
+    → OnOk r (Upgrades text old new)
+ok_end (Ok x) v text old mid new start n records is rules before c h = whole v text old mid new start n records is rules c before h
+ok_end (Err f) v text old mid new start n records is rules before c h = tt

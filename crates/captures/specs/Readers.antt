@@ -5,13 +5,13 @@ use Rattle.std.specs.Prelude.{unwrap_or}
 use Rattle.std.specs.Int.{bit_at}
 use Rattle.paths.specs.Devices.{CountsBy}
 use Rattle.captures.specs.Captures.{Past, past_of, longest_text, text_before_stop, IsCapture, IsCaptureText, sizes_of}
-use Rattle.captures.specs.CaptureFaults.{IsFaultAfter, IsForeseen, IsUnfinished, record_at, failures_of}
+use Rattle.captures.specs.CaptureFaults.{IsFaultAfter, IsForeseen, IsUnfinished, header_at, record_at, failures_of}
 use Rattle.captures.specs.declared.version.Version.{Version}
 use Rattle.captures.specs.declared.record.Record.{Record}
 use Rattle.captures.specs.declared.record.Record.TheVariants.{Piece, End, Tier}
 use Rattle.captures.specs.declared.capture_fault.CaptureFault.{CaptureFault}
 use Rattle.captures.specs.declared.capture_fault.CaptureFaultKind.{CaptureFaultKind}
-use Rattle.captures.specs.declared.capture_fault.CaptureFaultKind.TheVariants.{Read}
+use Rattle.captures.specs.declared.capture_fault.CaptureFaultKind.TheVariants.{Cut, Read}
 use Rattle.captures.specs.declared.connection_set.ConnectionSet.{ConnectionSet}
 use Rattle.captures.specs.declared.so_far.SoFar.{SoFar}
 use Rattle.captures.specs.declared.stage.Stage.{Stage}
@@ -86,6 +86,18 @@ abbrev pub GaveKind : Version → Option (List ℕ) → ℕ → List Record → 
 GaveKind v text start records (Ok next) p now = Gave v text start records (Ok next) p now
 GaveKind v text start records (Err kind) p now = Gave v text start records
     (Err (record { at = length records + 1; kind = kind })) p now
+
+-- A read failed in the first line: of the text a part was taken, in which that line doesn't end.
+pub record FailsInFirstLine (text part rest : List ℕ) : Type 0 where
+  pub taken : text ≡ part ++ rest
+  pub size : length part ≤ longest_text
+  pub cut : header_at (record { bytes = part; left = longest_text }) ≡ Err Cut
+
+-- so it is where the fault of the first line is a failed read, and the bytes of the input are known; `now` is what is
+-- ahead then
+abbrev pub FailsFirst : Option (List ℕ) → CaptureFault → Option (List ℕ) → Type 0
+FailsFirst text f now = f.kind ≡ Read → is_some text ≡ true
+    → (part : List ℕ) × FailsInFirstLine (unwrap_or text []) part (unwrap_or now [])
 
 -- A read failed in the record after these: their texts were taken whole, and of what follows only a part, in which no
 -- whole record lies.

@@ -1,6 +1,7 @@
 -- A capture of either version becomes one of version 2, and what has been written of it where the call stops.
-use Rattle.std.specs.Prelude.{◌≡◌, ℕ, ◌+◌, ◌⊎◌, false, List, [], ◌++◌, length, Option, unwrap_or}
+use Rattle.std.specs.Prelude.{◌≡◌, ℕ, ◌+◌, ◌≤◌, ◌⊎◌, false, List, ◌++◌, length, Option, Err}
 use Rattle.std.specs.Io.KnownBytes.{Appends}
+use Rattle.paths.specs.KnownText.{WhereKnown}
 use Rattle.captures.specs.declared.version.Version.{Version}
 use Rattle.captures.specs.declared.version.Version.TheVariants.{Two}
 use Rattle.captures.specs.declared.record.Record.{Record}
@@ -9,9 +10,9 @@ use Rattle.captures.specs.declared.capture_fault.CaptureFaultKind.{CaptureFaultK
 use Rattle.captures.specs.declared.capture_fault.CaptureFaultKind.TheVariants as kinds
 use Rattle.captures.specs.declared.upgrade_fault.UpgradeFault.{UpgradeFault}
 use Rattle.captures.specs.declared.upgrade_fault.UpgradeFault.TheVariants.{Capture, Memory, Write as Unwritten}
-use Rattle.captures.specs.Captures.{text_before_stop, capture_text, IsCapture, IsCaptureText}
+use Rattle.captures.specs.Captures.{text_before_stop, capture_text, longest_text, IsCapture, IsCaptureText}
 use Rattle.captures.specs.CaptureFaults.{is_unforeseen_kind, IsHeaderFault, IsFaultAfter, failures_of}
-use Rattle.captures.specs.Readers.{FailsInRecord}
+use Rattle.captures.specs.Readers.{FailsFirst, FailsNext}
 use Rattle.captures.specs.Writing.{AppendsPrefix}
 
 -- The upgraded text of a capture is that of version 2 with the same start and the same records.
@@ -26,52 +27,65 @@ pub record IsUpgrade (old new : List ℕ) : Type 0 where
   pub capture : IsCaptureText version old start records
   pub text : new ≡ upgraded start records
 
--- The input is a capture's text, and its upgraded text was written.
-abbrev pub Upgrades : List ℕ → Option (List ℕ) → Option (List ℕ) → Type 0
-Upgrades input old new = (text : List ℕ) × IsUpgrade input text × Appends old new text
+-- The input is the text of a capture with this start and these records, and the upgraded text was written.
+pub record Upgrades (input old new : Option (List ℕ)) : Type 0 where
+  pub version : Version
+  pub start : ℕ
+  pub records : List Record
+  pub rules : IsCapture version start records
+  pub capture : WhereKnown input (λ bytes. IsCaptureText version bytes start records)
+  pub written : Appends old new (upgraded start records)
 
--- The upgrade stopped at the first line: it has written nothing.
-pub record StopsFirst (input : List ℕ) (old new : Option (List ℕ)) (f : CaptureFault) : Type 0 where
+-- The upgrade stopped at the first line: it has written nothing. Where it was a read that failed, what was read is no
+-- whole line; `ahead` is what of the input wasn't read, here and below.
+pub record StopsFirst (input ahead old new : Option (List ℕ)) (f : CaptureFault) : Type 0 where
   pub at : f.at ≡ 0
   pub written : new ≡ old
-  pub fault : is_unforeseen_kind f.kind ≡ false → IsHeaderFault input f
+  pub fault : is_unforeseen_kind f.kind ≡ false → WhereKnown input (λ bytes. IsHeaderFault bytes f)
+  pub failed : FailsFirst input f ahead
 
--- The upgrade stopped after these records, which stand whole before the fault, at the record that comes next: it has
--- written the first line and these records, and no last line. Where a read failed, this rest is still ahead of the
--- reader, and no whole record more was taken.
-pub record StopsAfter (input : List ℕ) (rest : Option (List ℕ)) (old new : Option (List ℕ))
-    (f : CaptureFault) : Type 0 where
+-- Records that were read: they keep the rules, and their texts are a prefix of the input.
+pub record Reads (input : Option (List ℕ)) : Type 0 where
   pub version : Version
   pub start : ℕ
   pub records : List Record
-  pub further : List ℕ
-  pub front : input ≡ text_before_stop version start records ++ further
+  pub rest : List ℕ
   pub rules : IsCapture version start records
-  pub at : f.at ≡ length records + 1
-  pub written : Appends old new (text_before_stop Two start records)
-  pub fault : is_unforeseen_kind f.kind ≡ false → IsFaultAfter version input start records f
-  pub failed : f.kind ≡ kinds.Read → (part : List ℕ)
-      × FailsInRecord version input start records part (unwrap_or rest [])
+  pub begins : WhereKnown input (λ bytes. bytes ≡ text_before_stop version start records ++ rest)
+  pub size : WhereKnown input (λ bytes. length (text_before_stop version start records) ≤ longest_text)
+
+-- The upgrade stopped at the record after these: it has written the first line and these records, and no last line.
+-- Where it was a read that failed, nothing that was read after them is a whole record.
+pub record StopsAfter (input ahead old new : Option (List ℕ)) (f : CaptureFault) : Type 0 where
+  pub reads : Reads input
+  pub at : f.at ≡ length reads.records + 1
+  pub written : Appends old new (text_before_stop Two reads.start reads.records)
+  pub fault : is_unforeseen_kind f.kind ≡ false
+      → WhereKnown input (λ bytes. IsFaultAfter reads.version bytes reads.start reads.records f)
+  pub failed : FailsNext reads.version input reads.start reads.records (Err f) ahead
 
 -- a fault of the capture that isn't a failed read is its first
-abbrev pub Stops : List ℕ → Option (List ℕ) → Option (List ℕ) → Option (List ℕ) → CaptureFault → Type 0
-Stops input rest old new f = StopsFirst input old new f ⊎ StopsAfter input rest old new f
+abbrev pub Stops : Option (List ℕ) → Option (List ℕ) → Option (List ℕ) → Option (List ℕ) → CaptureFault → Type 0
+Stops input ahead old new f = StopsFirst input ahead old new f ⊎ StopsAfter input ahead old new f
 
--- A prefix was written of the first line and these records, with which the input begins.
-pub record StopsAmong (input : List ℕ) (old new : Option (List ℕ)) : Type 0 where
+-- a prefix was written of the first line and these records, with which the input begins
+pub record StopsAmong (input old new : Option (List ℕ)) : Type 0 where
+  pub reads : Reads input
+  pub written : AppendsPrefix old new (text_before_stop Two reads.start reads.records)
+
+-- the input is a capture's text, and a prefix of its upgraded text was written
+pub record StopsAtEnd (input old new : Option (List ℕ)) : Type 0 where
   pub version : Version
   pub start : ℕ
   pub records : List Record
-  pub further : List ℕ
-  pub front : input ≡ text_before_stop version start records ++ further
   pub rules : IsCapture version start records
-  pub written : AppendsPrefix old new (text_before_stop Two start records)
+  pub capture : WhereKnown input (λ bytes. IsCaptureText version bytes start records)
+  pub written : AppendsPrefix old new (upgraded start records)
 
 -- an upgrade that was cut short has written a prefix of what was due: of the last line only where the input is a
 -- capture's text
-abbrev pub IsCutShort : List ℕ → Option (List ℕ) → Option (List ℕ) → Type 0
-IsCutShort input old new = StopsAmong input old new
-    ⊎ ((text : List ℕ) × IsUpgrade input text × AppendsPrefix old new text)
+abbrev pub IsCutShort : Option (List ℕ) → Option (List ℕ) → Option (List ℕ) → Type 0
+IsCutShort input old new = StopsAmong input old new ⊎ StopsAtEnd input old new
 
 -- where the reader is out of memory, the call is
 abbrev pub told_as : CaptureFaultKind → CaptureFault → UpgradeFault

@@ -6,7 +6,7 @@ ghost use Rattle.paths.specs.Devices.{CanFail};
 ghost use Rattle.captures.specs.Captures.{IsRecord, size_of};
 ghost use Rattle.captures.specs.CaptureFaults.{IsForeseen, IsHeaderFault, IsFaultAfter, CountsFault, CountsKind};
 ghost use Rattle.captures.specs.Readers.{ReaderAfter, Gave, GaveKind, FailsNext, FailsNextKind, stage_after, Repeats};
-ghost use Rattle.captures.specs.Readers.{CountsNext};
+ghost use Rattle.captures.specs.Readers.{CountsNext, FailsFirst};
 ghost use Rattle.captures.specs.declared.record.Record.{Record as ARecord};
 ghost use Rattle.captures.specs.declared.version.Version.{Version as AVersion};
 
@@ -58,6 +58,8 @@ impl Progress {
         // It takes no memory.
         ensures memory { IfErr result (λ f. f.kind ≢ CaptureFaultKind.Memory) }
         ensures fault { IfErr result (IsForeseen IsHeaderFault input.old.bytes) }
+        // Where a read failed, no whole line had been taken.
+        ensures failed { IfErr result (λ f. FailsFirst input.old.bytes f input.new.bytes) }
         ensures count { CountsFault input.old.failures input.new.failures result }
     {
         let mut left = LONGEST_TEXT;

@@ -6,7 +6,7 @@ ghost use Rattle.paths.specs.Devices.{CanFail};
 ghost use Rattle.paths.specs.contracts.device.Input.{the_row};
 ghost use Rattle.captures.specs.Captures.{IsRecord, size_of};
 ghost use Rattle.captures.specs.CaptureFaults.{IsForeseen, IsHeaderFault, CountsFault};
-ghost use Rattle.captures.specs.Readers.{ReaderAfter, Gave, FailsNext, stage_after, Repeats, CountsNext};
+ghost use Rattle.captures.specs.Readers.{ReaderAfter, Gave, FailsFirst, FailsNext, stage_after, Repeats, CountsNext};
 ghost use Rattle.captures.specs.declared.record.Record.{Record as ARecord};
 ghost use Rattle.captures.specs.declared.version.Version.{Version as AVersion};
 
@@ -38,9 +38,11 @@ impl<'a, R: Read> CaptureReader<'a, R> {
         ensures fault { IfErr result (IsForeseen IsHeaderFault input.old.bytes) }
         ensures count { IfOk result (λ reader. (device_of reader).failures ≡ input.old.failures) }
         ensures same { IfOk result (λ reader. loan_of reader ≡ input.entry.ghost_name) }
+        // At a fault the input is given back; where a read failed, no whole line had been taken from it.
         ensures* refused { sem 𝓛
             (RestsIfErr (the_row R.row R.Read) input.entry loan_of result
-            (λ last. CountsFault input.old.failures last.failures result)) }
+            (λ last. CountsFault input.old.failures last.failures result
+            × IfErr result (λ f. FailsFirst input.old.bytes f last.bytes))) }
     {
         let progress = Progress::open(input)?;
         Ok(CaptureReader { input, progress })

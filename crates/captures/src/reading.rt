@@ -32,6 +32,9 @@ pub(crate) fn read_header<R: Read>(
 ) -> Result<(Version, u64), CaptureFaultKind>
     requires { CanFail input.old }
     ensures line { Gives is_unforeseen_kind header_at input.old.bytes left.old input.new.bytes left.new result }
+    // Where a read failed, no whole line had been taken.
+    ensures part { FailsWithin CaptureFaultKind.Read CaptureFaultKind.Cut header_at
+        input.old.bytes left.old input.new.bytes left.new result }
     ensures limit { IfOk result (λ first. first.1 ≤ latest_start) }
     ensures count { CountsKind input.old.failures input.new.failures result }
     // It takes no memory.

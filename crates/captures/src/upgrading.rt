@@ -1,6 +1,6 @@
 //! A capture of either version becomes one of version 2.
 
-ghost use Rattle.std.specs.Prelude.{◌≡◌, ◌≢◌, ◌<◌, ◌-◌, ◌^◌, [], true, is_some, unwrap_or, OnOk, IfErr};
+ghost use Rattle.std.specs.Prelude.{◌≡◌, ◌≢◌, ◌<◌, ◌-◌, ◌^◌, OnOk, IfErr};
 ghost use Rattle.paths.specs.Devices.{CanFail, CountsBy};
 ghost use Rattle.captures.specs.Upgrades.{Upgrades, Stops, IsCutShort, IfCapture, IfCutShort};
 ghost use Rattle.captures.specs.Upgrades.{reader_failures, writer_failures};
@@ -26,14 +26,13 @@ pub fn upgrade<R: Read, W: Write>(
 ) -> Result<(), UpgradeFault>
     requires reading { CanFail reader.old }
     requires writing { CanFail writer.old }
-    ensures ok { OnOk result (is_some reader.old.bytes ≡ true
-        → Upgrades (unwrap_or reader.old.bytes []) writer.old.bytes writer.new.bytes) }
+    ensures ok { OnOk result (Upgrades reader.old.bytes writer.old.bytes writer.new.bytes) }
     // After a capture's fault, the first line and the whole records before it stand.
-    ensures stops { IfErr result (λ f. IfCapture f (λ fault. is_some reader.old.bytes ≡ true
-        → Stops (unwrap_or reader.old.bytes []) reader.new.bytes writer.old.bytes writer.new.bytes fault)) }
+    ensures stops { IfErr result
+        (λ f. IfCapture f (Stops reader.old.bytes reader.new.bytes writer.old.bytes writer.new.bytes)) }
     // After a failed write and out of memory, a prefix of what was due stands.
-    ensures part { IfErr result (λ f. IfCutShort f (is_some reader.old.bytes ≡ true
-        → IsCutShort (unwrap_or reader.old.bytes []) writer.old.bytes writer.new.bytes)) }
+    ensures part { IfErr result
+        (λ f. IfCutShort f (IsCutShort reader.old.bytes writer.old.bytes writer.new.bytes)) }
     // Out of memory has a name of its own.
     ensures memory { IfErr result (λ f. IfCapture f (λ fault. fault.kind ≢ CaptureFaultKind.Memory)) }
     // A device is blamed only where it failed in this call.

@@ -7,7 +7,7 @@ use Rattle.captures.specs.declared.capture_fault.CaptureFaultKind.{CaptureFaultK
 use Rattle.captures.specs.declared.capture_fault.CaptureFaultKind.TheVariants as kinds
 use Rattle.captures.specs.Captures.{IsCapture, IsCaptureText, longest_text, text_before_stop}
 use Rattle.captures.specs.CaptureFaults.{is_unforeseen_kind, IsHeaderFault, IsFaultAfter, failures_of}
-use Rattle.captures.specs.Readers.{FailsNext}
+use Rattle.captures.specs.Readers.{FailsFirst, FailsNext}
 use Rattle.arrivals.specs.Arrivals.{Arrival, AreArrivals}
 use Rattle.inspection.specs.declared.inspection.Inspection.{Inspection}
 use Rattle.inspection.specs.declared.inspect_fault.InspectFault.{InspectFault}
@@ -40,15 +40,16 @@ pub record HoldsBefore (input ahead : Option (List ℕ)) (i : Inspection) (f : C
       → WhereKnown input (λ bytes. IsFaultAfter i.version bytes i.start records f)
   pub failed : FailsNext i.version input i.start records (Err f) ahead
 
--- The inspection stopped at the first line.
-pub record StopsFirst (input : Option (List ℕ)) (f : CaptureFault) : Type 0 where
+-- The inspection stopped at the first line. Where it was a read that failed, what was read is no whole line.
+pub record StopsFirst (input ahead : Option (List ℕ)) (f : CaptureFault) : Type 0 where
   pub at : f.at ≡ 0
   pub memory : f.kind ≢ kinds.Memory
   pub fault : is_unforeseen_kind f.kind ≡ false → WhereKnown input (λ bytes. IsHeaderFault bytes f)
+  pub failed : FailsFirst input f ahead
 
 -- what the faults have to say: one of a record is never that of a reader which is out of memory
 abbrev pub Stops : Option (List ℕ) → Option (List ℕ) → InspectFault → Type 0
-Stops input ahead (FirstLine f) = StopsFirst input f
+Stops input ahead (FirstLine f) = StopsFirst input ahead f
 Stops input ahead (Stopped held f) = (f.kind ≢ kinds.Memory) × HoldsBefore input ahead held f
 Stops input ahead Memory = Unit {0}
 

@@ -19,7 +19,7 @@ use Rattle.captures.specs.declared.capture_fault.CaptureFaultKind.TheVariants as
 use Rattle.captures.specs.CaptureFaults.{IsForeseen, IsHeaderFault, IsFaultAfter, failures_of}
 use Rattle.captures.specs.declared.version.Version.{Version}
 use Rattle.captures.specs.Captures.{tier_of, IsCapture, IsRecord, IsCaptureText, size_of, sizes_of, tick_of, ticks_of}
-use Rattle.captures.specs.Readers.{ReaderAfter, Gave, FailsNext}
+use Rattle.captures.specs.Readers.{ReaderAfter, Gave, FailsFirst, FailsNext}
 use Rattle.captures.proofs.Tiers.{tier_of_none, tier_of_piece, tier_of_end, tier_of_tier}
 use Rattle.arrivals.specs.Tiers.{tier_at, AreTiers}
 use Rattle.arrivals.specs.Batches.{with_tier}
@@ -434,8 +434,8 @@ short_capture (Err faults.Write) P h = tt
 short_capture (Err faults.Memory) P h = tt
 
 pub halts_first : (t : Telling) (input ahead old new : Option (List ℕ)) (f : CaptureFault) → Appends old new t.first → f.at ≡ 0 → IsForeseen IsHeaderFault input f
-    → StopsTelling t input ahead old new f
-halts_first t input ahead old new f written at fault = inl (record { at = at; written = written; fault = λ foreseen known. fault known foreseen })
+    → FailsFirst input f ahead → StopsTelling t input ahead old new f
+halts_first t input ahead old new f written at fault failed = inl (record { at = at; written = written; fault = λ foreseen known. fault known foreseen; failed = failed })
 
 -- the records that a reader has given
 abbrev pub taken : (v : Version) (input now : Option (List ℕ)) (start : ℕ) (records : List Record) (arrivals : List Arrival) (p : Progress)
@@ -586,8 +586,8 @@ ends_in_part terms v start count records arrivals connections desk input old mid
     ends_short (replies_told terms) terms v start count records arrivals connections desk input old mid new (replies_laws terms) rules capture serves before last counted
 
 pub stops_first : (terms : Terms) (input ahead old new : Option (List ℕ)) (f : CaptureFault) → Appends old new first_line → f.at ≡ 0 → IsForeseen IsHeaderFault input f
-    → Stops terms input ahead old new f
-stops_first terms input ahead old new f written at fault = halts_first (replies_told terms) input ahead old new f written at fault
+    → FailsFirst input f ahead → Stops terms input ahead old new f
+stops_first terms input ahead old new f written at fault failed = halts_first (replies_told terms) input ahead old new f written at fault failed
 
 pub stops_told : (terms : Terms) (v : Version) (input now ahead left old new : Option (List ℕ)) (start : ℕ) (records : List Record) (arrivals : List Arrival) (p : Progress) (connections : List Connection) (desk : Desk)
     (f : CaptureFault) (r : ReplayFault) → r ≡ capture_fault f

@@ -10,7 +10,7 @@ use Rattle.captures.specs.declared.capture_fault.CaptureFaultKind.TheVariants as
 use Rattle.captures.specs.declared.version.Version.{Version}
 use Rattle.captures.specs.Captures.{IsCapture, IsCaptureText, longest_text, text_before_stop as records_text}
 use Rattle.captures.specs.CaptureFaults.{is_unforeseen_kind, IsHeaderFault, IsFaultAfter, failures_of}
-use Rattle.captures.specs.Readers.{FailsNext}
+use Rattle.captures.specs.Readers.{FailsFirst, FailsNext}
 use Rattle.replay.specs.declared.replay_fault.ReplayFault.{ReplayFault}
 use Rattle.replay.specs.declared.replay_fault.ReplayFault.TheVariants.{Capture, TooMany, Memory, Write as Unwritten}
 use Rattle.replay.specs.declared.outcome.Outcome.{Outcome}
@@ -79,12 +79,14 @@ abbrev pub IsOwn : ReplayFault → Type 0
 IsOwn (Capture f) = ⊥
 IsOwn other = Unit {0}
 
--- The replay stopped at the first line: it has written its own. (What is written are these texts, here and below: the
--- replies, or the rows of a table.)
-pub record StopsFirst (t : Telling) (input old new : Option (List ℕ)) (f : CaptureFault) : Type 0 where
+-- The replay stopped at the first line: it has written its own. Where it was a read that failed, what was read is no
+-- whole line; `ahead` is what of the input wasn't read. (What is written are these texts, here and below: the replies,
+-- or the rows of a table.)
+pub record StopsFirst (t : Telling) (input ahead old new : Option (List ℕ)) (f : CaptureFault) : Type 0 where
   pub at : f.at ≡ 0
   pub written : Appends old new t.first
   pub fault : is_unforeseen_kind f.kind ≡ false → WhereKnown input (λ bytes. IsHeaderFault bytes f)
+  pub failed : FailsFirst input f ahead
 
 -- Records that were read: they keep the rules, and their texts are a prefix of the input, within the limit of a
 -- capture's text. These are their arrivals.
@@ -110,10 +112,10 @@ pub record StopsAfter (t : Telling) (input ahead old new : Option (List ℕ)) (f
       → WhereKnown input (λ bytes. IsFaultAfter taken.version bytes taken.start taken.records f)
   pub failed : FailsNext taken.version input taken.start taken.records (Err f) ahead
 
--- a fault of the capture that isn't a failed read is its first; `ahead` is what of the input wasn't read
+-- a fault of the capture that isn't a failed read is its first
 abbrev pub StopsTelling : Telling → Option (List ℕ) → Option (List ℕ) → Option (List ℕ) → Option (List ℕ) → CaptureFault
     → Type 0
-StopsTelling t input ahead old new f = StopsFirst t input old new f ⊎ StopsAfter t input ahead old new f
+StopsTelling t input ahead old new f = StopsFirst t input ahead old new f ⊎ StopsAfter t input ahead old new f
 
 abbrev pub Stops : Terms → Option (List ℕ) → Option (List ℕ) → Option (List ℕ) → Option (List ℕ) → CaptureFault → Type 0
 Stops terms input ahead old new f = StopsTelling (replies_told terms) input ahead old new f

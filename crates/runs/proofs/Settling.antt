@@ -68,11 +68,11 @@ pub program_ok : (input old new : Option (List ℕ)) (told : Result Unit Fault) 
 program_ok input old new told at = answered input old at.whole at.ran told at.says (told_by (is_cut at.ran) places.Replies old at.whole new at.ran told at.stands)
 
 pub upgrade_says : (input old : Option (List ℕ)) (seen left before after : Device) (ran : Result Unit Fault) → seen ≡ fresh input → before ≡ fresh old
-    → OnOk ran (is_some seen.bytes ≡ true → Upgrades (unwrap_or seen.bytes []) before.bytes after.bytes)
+    → OnOk ran (Upgrades seen.bytes before.bytes after.bytes)
     → IfErr ran (IsUpgradeFault seen.bytes left.bytes before.bytes after.bytes) → UpgradeSays input old ran after.bytes
 upgrade_says input old seen left before after (Ok done) shows is upgraded fault =
-    let P : Device → Type 0 = λ s. is_some s.bytes ≡ true → Upgrades (unwrap_or s.bytes []) before.bytes after.bytes in
-    let Q : Device → Type 0 = λ b. is_some input ≡ true → Upgrades (unwrap_or input []) b.bytes after.bytes in
+    let P : Device → Type 0 = λ s. Upgrades s.bytes before.bytes after.bytes in
+    let Q : Device → Type 0 = λ b. Upgrades input b.bytes after.bytes in
     (left.bytes, subst Q is (subst P shows upgraded))
 upgrade_says input old seen left before after (Err f) shows is upgraded fault =
     let P : Device → Type 0 = λ s. IsUpgradeFault s.bytes left.bytes before.bytes after.bytes f in
@@ -83,7 +83,7 @@ upgrade_fault_of : (input old whole : Option (List ℕ)) (ran : Result Unit Faul
 upgrade_fault_of input old whole (Ok done) says = tt
 upgrade_fault_of input old whole (Err f) says = says.1
 
-upgrade_ok_of : (input old whole : Option (List ℕ)) (ran : Result Unit Fault) → UpgradeSays input old ran whole → OnOk ran (is_some input ≡ true → Upgrades (unwrap_or input []) old whole)
+upgrade_ok_of : (input old whole : Option (List ℕ)) (ran : Result Unit Fault) → UpgradeSays input old ran whole → OnOk ran (Upgrades input old whole)
 upgrade_ok_of input old whole (Ok done) says = says.1
 upgrade_ok_of input old whole (Err f) says = tt
 

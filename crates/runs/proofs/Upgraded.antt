@@ -1,5 +1,5 @@
 -- From what an upgrade says to what the program says.
-use Rattle.std.proofs.Common.{◌≡◌, ◌⊎◌, inl, inr, ℕ, List, Option, true, false, Result, Ok, Err, OnOk, IfErr, is_some, unwrap_or, []}
+use Rattle.std.proofs.Common.{◌≡◌, ◌⊎◌, inl, inr, ℕ, List, Option, false, Result, Ok, Err, OnOk, IfErr}
 use Rattle.captures.specs.declared.capture_fault.CaptureFault.{CaptureFault}
 use Rattle.captures.specs.declared.upgrade_fault.UpgradeFault.{UpgradeFault}
 use Rattle.captures.specs.declared.upgrade_fault.UpgradeFault.TheVariants as upgrades
@@ -12,17 +12,17 @@ use Rattle.runs.specs.declared.place.Place.TheVariants.{Output}
 use Rattle.runs.specs.Upgrading.{IsCaptureOfSomeVersion, IsUpgradeFault, IsUpgradeFilesFault}
 
 -- where an upgrade stops, the capture's fault is the first of its text
-first_of_stop : (input : List ℕ) (rest old new : Option (List ℕ)) (f : CaptureFault) → Stops input rest old new f
-    → is_unforeseen_kind f.kind ≡ false → IsFirstFault input f
-first_of_stop input rest old new f (inl first) foreseen = inl (first.fault foreseen)
-first_of_stop input rest old new f (inr later) foreseen = inr (later.version, later.start, later.records, later.fault foreseen)
+first_of_stop : (input ahead old new : Option (List ℕ)) (f : CaptureFault) → Stops input ahead old new f
+    → is_unforeseen_kind f.kind ≡ false → WhereKnown input (λ bytes. IsFirstFault bytes f)
+first_of_stop input ahead old new f (inl first) foreseen known = inl (first.fault foreseen known)
+first_of_stop input ahead old new f (inr later) foreseen known =
+    inr (later.reads.version, later.reads.start, later.reads.records, later.fault foreseen known)
 
-first_of_upgrade : (input rest old new : Option (List ℕ)) (f : UpgradeFault)
-    → IfCapture f (λ fault. is_some input ≡ true → Stops (unwrap_or input []) rest old new fault)
+first_of_upgrade : (input ahead old new : Option (List ℕ)) (f : UpgradeFault) → IfCapture f (Stops input ahead old new)
     → IfCapture f (λ g. is_unforeseen_kind g.kind ≡ false → WhereKnown input (λ bytes. IsFirstFault bytes g))
-first_of_upgrade input rest old new (upgrades.Capture f) stops = λ foreseen known. first_of_stop (unwrap_or input []) rest old new f (stops known) foreseen
-first_of_upgrade input rest old new upgrades.Write stops = tt
-first_of_upgrade input rest old new upgrades.Memory stops = tt
+first_of_upgrade input ahead old new (upgrades.Capture f) stops = first_of_stop input ahead old new f stops
+first_of_upgrade input ahead old new upgrades.Write stops = tt
+first_of_upgrade input ahead old new upgrades.Memory stops = tt
 
 -- a fault of the run is one of the program
 told_of_upgrade : (input ahead old new : Option (List ℕ)) (f : Fault) → IsUpgradeFault input ahead old new f → IsUpgradeFilesFault input f
@@ -45,13 +45,11 @@ told_of_upgraded_files input ahead old new (Err f) told says (inl same) = rw sam
 told_of_upgraded_files input ahead old new ran told says (inr unwritten) = rw unwritten tt
 
 -- where the program came to its end, its input was a capture's text
-held : (input old new : Option (List ℕ)) → (is_some input ≡ true → Upgrades (unwrap_or input []) old new) → WhereKnown input IsCaptureOfSomeVersion
-held input old new upgraded = λ known.
-    (let whole = upgraded known in
-    (whole.1.version, whole.1.start, whole.1.records, whole.1.capture))
+held : (input old new : Option (List ℕ)) → Upgrades input old new → WhereKnown input IsCaptureOfSomeVersion
+held input old new upgraded = λ known. (upgraded.version, upgraded.start, upgraded.records, upgraded.capture known)
 
 pub ok_of_upgraded_files : (input old new : Option (List ℕ)) (ran told : Result Unit Fault)
-    → OnOk ran (is_some input ≡ true → Upgrades (unwrap_or input []) old new)
+    → OnOk ran (Upgrades input old new)
     → (told ≡ ran) ⊎ (told ≡ Err (Write Output)) → OnOk told (WhereKnown input IsCaptureOfSomeVersion)
 ok_of_upgraded_files input old new (Ok x) told says (inl same) = rw same (held input old new says)
 ok_of_upgraded_files input old new (Err f) told says (inl same) = rw same tt

@@ -25,7 +25,7 @@ Inspects input old new = (i : Inspection) × HoldsAll input i × Appends old new
 abbrev pub InspectsBefore :
     Option (List ℕ) → Option (List ℕ) → Device → Device → CaptureFault → Type 0
 InspectsBefore input ahead old new f = (f.kind ≢ kinds.Memory)
-    × ((StopsFirst input f × (new ≡ old))
+    × ((StopsFirst input ahead f × (new ≡ old))
     ⊎ ((i : Inspection) × HoldsBefore input ahead i f × Appends old.bytes new.bytes (inspection_text i)))
 
 -- the figures that are due: those of the whole capture, or of the records before its fault

@@ -1,5 +1,5 @@
 -- The run that writes a capture of either version as one of version 2.
-use Rattle.std.specs.Prelude.{◌≡◌, ◌≢◌, ℕ, true, false, List, [], Option, Result, MatchResult, is_some, unwrap_or}
+use Rattle.std.specs.Prelude.{◌≡◌, ◌≢◌, ℕ, false, List, Option, Result, MatchResult}
 use Rattle.captures.specs.declared.capture_fault.CaptureFaultKind.TheVariants as kinds
 use Rattle.captures.specs.declared.record.Record.{Record}
 use Rattle.captures.specs.declared.upgrade_fault.UpgradeFault.{UpgradeFault}
@@ -21,8 +21,8 @@ IsCaptureOfSomeVersion bytes =
 -- a fault of the capture exactly the first line and the whole records before it stand; after a failed write and out of
 -- memory a prefix of what was due.
 pub record EndsAs (input ahead old new : Option (List ℕ)) (f : UpgradeFault) : Type 0 where
-  pub stops : IfCapture f (λ fault. is_some input ≡ true → Stops (unwrap_or input []) ahead old new fault)
-  pub part : IfCutShort f (is_some input ≡ true → IsCutShort (unwrap_or input []) old new)
+  pub stops : IfCapture f (Stops input ahead old new)
+  pub part : IfCutShort f (IsCutShort input old new)
   pub memory : IfCapture f (λ fault. fault.kind ≢ kinds.Memory)
 
 -- no other fault comes
@@ -43,5 +43,5 @@ IsUpgradeFilesFault input other = ⊥
 -- what an upgrade says of its input, and of what it was to leave at the device
 abbrev pub UpgradeSays : Option (List ℕ) → Option (List ℕ) → Result Unit Fault → Option (List ℕ) → Type 0
 UpgradeSays input old ran whole = (ahead : Option (List ℕ)) × MatchResult ran
-    (λ done. is_some input ≡ true → Upgrades (unwrap_or input []) old whole)
+    (λ done. Upgrades input old whole)
     (λ f. IsUpgradeFault input ahead old whole f)

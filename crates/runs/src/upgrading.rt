@@ -1,6 +1,6 @@
 //! An upgrade, with a buffer before each device.
 
-ghost use Rattle.std.specs.Prelude.{◌≡◌, ◌⊎◌, ◌-◌, ◌<◌, ◌^◌, [], true, is_some, unwrap_or, OnOk, IfErr};
+ghost use Rattle.std.specs.Prelude.{◌≡◌, ◌⊎◌, ◌-◌, ◌<◌, ◌^◌, [], OnOk, IfErr};
 ghost use Rattle.paths.specs.Devices.{CanFail, CountsBy};
 ghost use Rattle.captures.specs.Upgrades.{Upgrades};
 ghost use Rattle.paths.specs.KnownText.{WhereKnown};
@@ -32,8 +32,7 @@ pub fn run_upgrade<R: Read, W: Write>(
 ) -> Result<(), Fault>
     requires reading { CanFail input.old }
     requires writing { CanFail output.old }
-    ensures ok { OnOk result (is_some input.old.bytes ≡ true
-        → Upgrades (unwrap_or input.old.bytes []) output.old.bytes output.new.bytes) }
+    ensures ok { OnOk result (Upgrades input.old.bytes output.old.bytes output.new.bytes) }
     ensures fault { IfErr result (IsUpgradeFault input.old.bytes input.new.bytes output.old.bytes output.new.bytes) }
     // A device is blamed only where it failed in this call.
     ensures reads { CountsBy reader_failures input.old.failures input.new.failures result }

@@ -1,4 +1,4 @@
-use Rattle.std.proofs.Common.{◌≡◌, ◌∙◌, ◌++◌, ◌∷◌, [], ℕ, List, Option, true, refl, arith, is_some, unwrap_or, rules}
+use Rattle.std.proofs.Common.{◌∙◌, ◌++◌, ◌∷◌, [], ℕ, List, Option, refl, arith, rules}
 use Rattle.captures.specs.Upgrades.{Stops, IfCapture, upgrade_fault}
 use Rattle.captures.proofs.UpgradeLemmas.{told, told_short, told_unless, told_memory, told_reads, told_writes, own_capture, passed_on, fits_own, gave_more, first_written, first_prefix, more_written, more_prefix, stops_first, stops_after, short_among, all_read, moved, own_errs, short_errs, part_end, ok_end}
 use Rattle.captures.proofs.WritingLemmas.{prefix_all}
@@ -6,8 +6,10 @@ use Rattle.std.proofs.lemmas.List.{length_push}
 use Rattle.captures.proofs.upgrading.upgrade.Goals as goal
 
 pub returns-in-Err-clause-stops : goal.returns-in-Err-clause-stops
-returns-in-Err-clause-stops g c = rw c.from.ensures
-    (told c.in-Err.fault _ (λ known. stops_first c.args.reader.now.bytes _ c.args.writer.now.bytes c.in-Err.fault c.in-Err.ensures.at c.in-Err.ensures.fault known))
+returns-in-Err-clause-stops g c =
+    let given = rw c.in-Err.is at c.open.follows.holds-at-none in
+    rw c.from.ensures
+    (told c.in-Err.fault _ (stops_first c.args.reader.now.bytes _ c.args.writer.now.bytes c.in-Err.fault c.in-Err.ensures.at c.in-Err.ensures.fault given.1))
 
 pub returns-in-Err-clause-part : goal.returns-in-Err-clause-part
 returns-in-Err-clause-part g c = rw c.from.ensures (told_unless c.in-Err.fault _ c.in-Err.ensures.memory)
@@ -28,7 +30,7 @@ returns-in_err-write_first_line-clause-stops g c =
 pub returns-in_err-write_first_line-clause-part : goal.returns-in_err-write_first_line-clause-part
 returns-in_err-write_first_line-clause-part g c =
     let prefix = rw c.start.ensures at c.in_err-write_first_line.ensures.prefix in
-    short_errs c.from_residual.result _ (λ known. short_among _ _ _ _ _ _ [] _ c.in-Ok.ensures.ok (first_prefix c.in-Ok.capture.progress.start _ _ prefix) known)
+    short_errs c.from_residual.result _ (short_among _ _ _ _ _ _ [] _ c.in-Ok.ensures.ok (first_prefix c.in-Ok.capture.progress.start _ _ prefix))
 
 pub returns-in_err-write_first_line-clause-memory : goal.returns-in_err-write_first_line-clause-memory
 returns-in_err-write_first_line-clause-memory g c =
@@ -51,13 +53,13 @@ pub returns-in-Err-next_record-clause-stops : goal.returns-in-Err-next_record-cl
 returns-in-Err-next_record-clause-stops g c =
     let inv = c.loop-next.invariant.0 in
     rw c.from-in-Err-next_record.ensures
-    (moved (λ (w : Option (List ℕ)). IfCapture (upgrade_fault c.in-Err-next_record.fault) (λ fault. is_some c.args.reader.now.bytes ≡ true → Stops (unwrap_or c.args.reader.now.bytes []) w c.args.writer.now.bytes c.loop-next.writer.bytes fault)) _ c.next_record.new.self.input.now.bytes
-    (told c.in-Err-next_record.fault _ (λ known. stops_after _ _ _ _ _ _ _ inv.0 _ c.next_record.new.self.progress _ inv.1 inv.2 (c.in-Err-next_record.ensures.next _ _ _ _ inv.1) (c.in-Err-next_record.ensures.failed _ _ _ _ inv.1) known)) (search rules))
+    (moved (λ (w : Option (List ℕ)). IfCapture (upgrade_fault c.in-Err-next_record.fault) (Stops c.args.reader.now.bytes w c.args.writer.now.bytes c.loop-next.writer.bytes)) _ c.next_record.new.self.input.now.bytes
+    (told c.in-Err-next_record.fault _ (stops_after _ _ _ _ _ _ _ inv.0 _ c.next_record.new.self.progress _ inv.1 inv.2 (c.in-Err-next_record.ensures.next _ _ _ _ inv.1) (c.in-Err-next_record.ensures.failed _ _ _ _ inv.1))) (search rules))
 
 pub returns-in-Err-next_record-clause-part : goal.returns-in-Err-next_record-clause-part
 returns-in-Err-next_record-clause-part g c =
     let inv = c.loop-next.invariant.0 in
-    rw c.from-in-Err-next_record.ensures (told_short c.in-Err-next_record.fault _ (λ known. short_among _ _ _ _ _ _ inv.0 _ inv.1 (prefix_all _ _ _ inv.2) known))
+    rw c.from-in-Err-next_record.ensures (told_short c.in-Err-next_record.fault _ (short_among _ _ _ _ _ _ inv.0 _ inv.1 (prefix_all _ _ _ inv.2)))
 
 pub returns-in-Err-next_record-clause-memory : goal.returns-in-Err-next_record-clause-memory
 returns-in-Err-next_record-clause-memory g c = rw c.from-in-Err-next_record.ensures (told_memory c.in-Err-next_record.fault)
@@ -74,7 +76,7 @@ returns-in_err-write_record-clause-part g c =
     let inv = c.loop-next.invariant.0 in
     let fits = gave_more _ _ _ _ inv.0 _ _ _ c.in-Ok-Some.field-0-is (c.in-Ok-Some.ensures.next _ _ _ _ inv.1) in
     short_errs c.from_residual-in_err-write_record.result _
-    (λ known. short_among _ _ _ _ _ _ (inv.0 ++ c.in-Ok-Some.next ∷ []) _ fits (more_prefix _ inv.0 c.in-Ok-Some.next _ _ _ inv.2 c.in_err-write_record.ensures.prefix) known)
+    (short_among _ _ _ _ _ _ (inv.0 ++ c.in-Ok-Some.next ∷ []) _ fits (more_prefix _ inv.0 c.in-Ok-Some.next _ _ _ inv.2 c.in_err-write_record.ensures.prefix))
 
 pub returns-in_err-write_record-clause-memory : goal.returns-in_err-write_record-clause-memory
 returns-in_err-write_record-clause-memory g c =
@@ -119,9 +121,9 @@ returns-clause-memory g c = own_errs c.write_last_line.result _ c.write_last_lin
 pub returns-clause-part : goal.returns-clause-part
 returns-clause-part g c =
     let inv = c.loop-next.invariant.0 in
-    part_end c.write_last_line.result _ _ _ _ _ _ _ inv.0 inv.3 inv.2 (λ known. all_read _ _ _ _ inv.0 _ _ c.in-Ok-None.field-0-is (c.in-Ok-None.ensures.next _ _ _ _ inv.1) known) c.write_last_line.ensures.prefix
+    part_end c.write_last_line.result _ _ _ _ _ _ _ inv.0 inv.3 inv.1.rules inv.2 (all_read _ _ _ _ inv.0 _ _ c.in-Ok-None.field-0-is (c.in-Ok-None.ensures.next _ _ _ _ inv.1)) c.write_last_line.ensures.prefix
 
 pub returns-clause-ok : goal.returns-clause-ok
 returns-clause-ok g c =
     let inv = c.loop-next.invariant.0 in
-    ok_end c.write_last_line.result _ _ _ _ _ _ _ inv.0 inv.3 inv.2 (λ known. all_read _ _ _ _ inv.0 _ _ c.in-Ok-None.field-0-is (c.in-Ok-None.ensures.next _ _ _ _ inv.1) known) c.write_last_line.ensures.prefix
+    ok_end c.write_last_line.result _ _ _ _ _ _ _ inv.0 inv.3 inv.1.rules inv.2 (all_read _ _ _ _ inv.0 _ _ c.in-Ok-None.field-0-is (c.in-Ok-None.ensures.next _ _ _ _ inv.1)) c.write_last_line.ensures.prefix

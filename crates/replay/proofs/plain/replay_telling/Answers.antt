@@ -11,7 +11,7 @@ use Rattle.replay.proofs.plain.replay_telling.Goals as goal
 
 pub returns-in-Err-clause-stops : goal.returns-in-Err-clause-stops
 returns-in-Err-clause-stops g c = rw c.from.ensures (told _ (StopsTelling (g.T.Tells.telling (terms_of g.F.Tree.files c.args.settings.now)) c.args.reader.now.bytes _ c.args.writer.now.bytes c.begin.new.writer.bytes)
-    (halts_first (g.T.Tells.telling (terms_of g.F.Tree.files c.args.settings.now)) c.args.reader.now.bytes _ c.args.writer.now.bytes c.begin.new.writer.bytes _ (c.in_ok-begin.ensures.written (terms_of g.F.Tree.files c.args.settings.now)) c.in-Err.ensures.at c.in-Err.ensures.fault))
+    (halts_first (g.T.Tells.telling (terms_of g.F.Tree.files c.args.settings.now)) c.args.reader.now.bytes _ c.args.writer.now.bytes c.begin.new.writer.bytes _ (c.in_ok-begin.ensures.written (terms_of g.F.Tree.files c.args.settings.now)) c.in-Err.ensures.at c.in-Err.ensures.fault (rw c.in-Err.is at c.open.follows.holds-at-none).1))
 
 pub returns-in-Err-clause-part : goal.returns-in-Err-clause-part
 returns-in-Err-clause-part g c = rw c.from.ensures (told_short _ (IsCutOff (g.T.Tells.telling (terms_of g.F.Tree.files c.args.settings.now)) c.args.reader.now.bytes c.args.writer.now.bytes c.begin.new.writer.bytes) (inl (part_all c.args.writer.now.bytes c.begin.new.writer.bytes _ (c.in_ok-begin.ensures.written (terms_of g.F.Tree.files c.args.settings.now)))))

@@ -13,7 +13,7 @@ use Rattle.replay.proofs.staged.staged_replay.Goals as goal
 
 pub returns-in-Err-clause-stops : goal.returns-in-Err-clause-stops
 returns-in-Err-clause-stops g c = rw c.from.ensures (told _ (Stops (terms_of g.F.Tree.files c.args.settings.now) c.args.reader.now.bytes _ c.args.writer.now.bytes c.write_first_line.new.writer.bytes)
-    (stops_first (terms_of g.F.Tree.files c.args.settings.now) c.args.reader.now.bytes _ c.args.writer.now.bytes c.write_first_line.new.writer.bytes _ c.in_ok-write_first_line.ensures.written c.in-Err.ensures.at c.in-Err.ensures.fault))
+    (stops_first (terms_of g.F.Tree.files c.args.settings.now) c.args.reader.now.bytes _ c.args.writer.now.bytes c.write_first_line.new.writer.bytes _ c.in_ok-write_first_line.ensures.written c.in-Err.ensures.at c.in-Err.ensures.fault (rw c.in-Err.is at c.open.follows.holds-at-none).1))
 
 pub returns-in-Err-clause-part : goal.returns-in-Err-clause-part
 returns-in-Err-clause-part g c = rw c.from.ensures (told_short _ (IsCutShort (terms_of g.F.Tree.files c.args.settings.now) c.args.reader.now.bytes c.args.writer.now.bytes c.write_first_line.new.writer.bytes) (inl (part_all c.args.writer.now.bytes c.write_first_line.new.writer.bytes _ c.in_ok-write_first_line.ensures.written)))
