@@ -1,33 +1,22 @@
 //! All connections of a capture, read piece by piece.
 
-ghost use Rattle.std.specs.Prelude.{◌≡◌, ◌≢◌, ◌<◌, ◌≤◌, ◌++◌, [], ℕ, List, length, ◌+◌, OnOk, IfOk, IfSome, IfNone};
+ghost use Rattle.std.specs.Prelude.{◌≡◌, ◌≢◌, ◌<◌, ◌≤◌, [], ℕ, List, length, ◌+◌, OnOk, IfOk, IfSome, IfNone};
 ghost use Rattle.captures.specs.Captures.{longest_text};
 ghost use Rattle.http_requests.specs.declared.messages.Message.{Message as AMessage};
-ghost use Rattle.http_requests.specs.Framing.{closes};
 ghost use Rattle.http_requests.specs.Cutting.{CutterAfter};
 ghost use Rattle.arrivals.specs.Connections.{HasRead, HasRoom, ReadMore, connection_at, some_closes};
 ghost use Rattle.arrivals.specs.declared.connections.Connection.TheVariants.{Closed};
 
-use http_requests::{Cutter, Meaning, Message};
+use http_requests::{Cutter, Message};
 use std::alloc::{AllocError, Global};
 use std::marker::Model;
 use std::mem;
 
-/// Whether no message follows this one on its connection.
-fn closes(what: &Meaning) -> bool
-    ensures { result ≡ closes what.now }
-{
-    match what {
-        Meaning::Request { closes, .. } => *closes,
-        Meaning::Bad(_) => true,
-    }
-}
-
-/// Whether one of these messages is the last of its connection.
-fn some_closes(messages: &[Message]) -> bool
+/// Whether one of these messages is the last of its connection: nothing is read after it.
+pub fn some_closes(messages: &[Message]) -> bool
     ensures { result ≡ some_closes messages.now }
 {
-    messages.iter().any(|message| closes(&message.what))
+    messages.iter().any(|message| message.what.closes())
 }
 
 /// A connection of a capture.

@@ -13,7 +13,7 @@ mod series;
 mod tiers;
 
 pub use batch::{Batch, Ending, read_batch};
-pub use connections::Connections;
+pub use connections::{Connections, some_closes};
 pub use incoming::{Incoming, Origin, PieceMessages};
 pub use parts::parts_of;
 pub use seats::Seats;

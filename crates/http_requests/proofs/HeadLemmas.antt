@@ -12,7 +12,11 @@ use Rattle.httparse.specs.Spans.{header_bytes, span_bytes, IsWithin}
 use Rattle.http_requests.specs.declared.heads.Lines.{Lines}
 use Rattle.http_requests.specs.declared.heads.Lines.TheVariants.{Absent, Once, Repeated}
 use Rattle.http_requests.specs.Heads.{FieldLine, same_text, values_of, options_of, has_option}
-use Rattle.http_requests.specs.Lines.{lines_at, AreLines}
+use Rattle.http_requests.specs.Lines.{AreLines}
+
+-- the field lines at these places of a block
+abbrev pub lines_from : List ℕ → List HeaderSpan → List FieldLine
+lines_from block headers = map (header_bytes block) headers
 
 -- the value, if the line has the name
 abbrev pub value_if : Bool → List ℕ → List (List ℕ)
@@ -31,16 +35,16 @@ values_append name (line ∷ a) b =
     ∙ sym (append_assoc (value_if t line.1) (values_of name a) (values_of name b)) ∙ ap (λ front. front ++ values_of name b) (sym (values_one t line.1 (values_of name a)))
 
 pub lines_more : (block : List ℕ) (headers : List HeaderSpan) (i : ℕ) (d : HeaderSpan) → i < length headers
-    → lines_at block (take (i + 1) headers) ≡ lines_at block (take i headers) ++ header_bytes block (get_or headers i d) ∷ []
+    → lines_from block (take (i + 1) headers) ≡ lines_from block (take i headers) ++ header_bytes block (get_or headers i d) ∷ []
 lines_more block headers i d h = grind (arith, common_steps)
 
 pub values_more : (name block : List ℕ) (headers : List HeaderSpan) (i : ℕ) (d : HeaderSpan) → i < length headers
-    → values_of name (lines_at block (take (i + 1) headers))
-    ≡ values_of name (lines_at block (take i headers)) ++ value_if (same_text (span_bytes block (get_or headers i d).name) name) (span_bytes block (get_or headers i d).value)
+    → values_of name (lines_from block (take (i + 1) headers))
+    ≡ values_of name (lines_from block (take i headers)) ++ value_if (same_text (span_bytes block (get_or headers i d).name) name) (span_bytes block (get_or headers i d).value)
 values_more name block headers i d h =
     ap (values_of name) (lines_more block headers i d h)
-    ∙ values_append name (lines_at block (take i headers)) (header_bytes block (get_or headers i d) ∷ [])
-    ∙ ap (λ more. values_of name (lines_at block (take i headers)) ++ more) (values_one (same_text (span_bytes block (get_or headers i d).name) name) (span_bytes block (get_or headers i d).value) [] ∙ append_nil_of (same_text (span_bytes block (get_or headers i d).name) name) (span_bytes block (get_or headers i d).value))
+    ∙ values_append name (lines_from block (take i headers)) (header_bytes block (get_or headers i d) ∷ [])
+    ∙ ap (λ more. values_of name (lines_from block (take i headers)) ++ more) (values_one (same_text (span_bytes block (get_or headers i d).name) name) (span_bytes block (get_or headers i d).value) [] ∙ append_nil_of (same_text (span_bytes block (get_or headers i d).name) name) (span_bytes block (get_or headers i d).value))
   where
     append_nil_of : (b : Bool) (value : List ℕ) → value_if b value ++ [] ≡ value_if b value
     append_nil_of true value = refl
@@ -74,30 +78,30 @@ pub has_option_one : (option : List ℕ) (line : FieldLine)
 has_option_one option line = one_option (same_text line.0 (codes "connection")) option line.1
 
 pub has_option_more : (option block : List ℕ) (headers : List HeaderSpan) (i : ℕ) (d : HeaderSpan) → i < length headers
-    → has_option option (lines_at block (take (i + 1) headers))
-    ≡ (has_option option (lines_at block (take i headers))
+    → has_option option (lines_from block (take (i + 1) headers))
+    ≡ (has_option option (lines_from block (take i headers))
     || (same_text (span_bytes block (get_or headers i d).name) (codes "connection")
     && list_any (λ part. same_text (trim_ows part) option) (slice_split (λ c. c == 44) (span_bytes block (get_or headers i d).value))))
 has_option_more option block headers i d h =
     ap (has_option option) (lines_more block headers i d h)
-    ∙ has_option_append option (lines_at block (take i headers)) (header_bytes block (get_or headers i d) ∷ [])
-    ∙ ap (λ t. has_option option (lines_at block (take i headers)) || t) (has_option_one option (header_bytes block (get_or headers i d)))
+    ∙ has_option_append option (lines_from block (take i headers)) (header_bytes block (get_or headers i d) ∷ [])
+    ∙ ap (λ t. has_option option (lines_from block (take i headers)) || t) (has_option_one option (header_bytes block (get_or headers i d)))
 
-lines_append : (block : List ℕ) (a b : List HeaderSpan) → lines_at block (a ++ b) ≡ lines_at block a ++ lines_at block b
+lines_append : (block : List ℕ) (a b : List HeaderSpan) → lines_from block (a ++ b) ≡ lines_from block a ++ lines_from block b
 lines_append block [] b = refl
 lines_append block (h ∷ a) b = ap (λ t. header_bytes block h ∷ t) (lines_append block a b)
 
-lines_split : (block : List ℕ) (headers : List HeaderSpan) (n : ℕ) → lines_at block headers ≡ lines_at block (take n headers) ++ lines_at block (drop n headers)
-lines_split block headers n = ap (lines_at block) (sym (take-append-drop n headers)) ∙ lines_append block (take n headers) (drop n headers)
+lines_split : (block : List ℕ) (headers : List HeaderSpan) (n : ℕ) → lines_from block headers ≡ lines_from block (take n headers) ++ lines_from block (drop n headers)
+lines_split block headers n = ap (lines_from block) (sym (take-append-drop n headers)) ∙ lines_append block (take n headers) (drop n headers)
 
 or_true : (a b : Bool) → a ≡ true → (a || b) ≡ true
 or_true a b h = rw h refl
 
 -- an option that the first lines have stands in all of them
-pub has_option_kept : (option block : List ℕ) (headers : List HeaderSpan) (n : ℕ) → has_option option (lines_at block (take n headers)) ≡ true → has_option option (lines_at block headers) ≡ true
+pub has_option_kept : (option block : List ℕ) (headers : List HeaderSpan) (n : ℕ) → has_option option (lines_from block (take n headers)) ≡ true → has_option option (lines_from block headers) ≡ true
 has_option_kept option block headers n h =
-    ap (has_option option) (lines_split block headers n) ∙ has_option_append option (lines_at block (take n headers)) (lines_at block (drop n headers))
-    ∙ or_true _ (has_option option (lines_at block (drop n headers))) h
+    ap (has_option option) (lines_split block headers n) ∙ has_option_append option (lines_from block (take n headers)) (lines_from block (drop n headers))
+    ∙ or_true _ (has_option option (lines_from block (drop n headers))) h
 
 -- the default that a read past the end would give
 abbrev pub no_header : HeaderSpan
@@ -110,9 +114,9 @@ pub option_here : (option block : List ℕ) (headers : List HeaderSpan) (i : ℕ
     → name ≡ span_bytes block (get_or headers i no_header).name → true ≡ same_text name (codes "connection")
     → value ≡ span_bytes block (get_or headers i no_header).value
     → true ≡ list_any (λ part. same_text (trim_ows part) option) (slice_split (λ c. c == 44) value)
-    → true ≡ has_option option (lines_at block headers)
+    → true ≡ has_option option (lines_from block headers)
 option_here option block headers i name value h n a v b =
-    let before = has_option option (lines_at block (take i headers)) in
+    let before = has_option option (lines_from block (take i headers)) in
     let more = has_option_more option block headers i no_header h in
     let here = true_and _ _ (rw n at (sym a)) (rw v at (sym b)) in
     sym (has_option_kept option block headers (i + 1) (more ∙ ap (λ t. before || t) here ∙ or_right before))
@@ -125,10 +129,10 @@ option_here option block headers i name value h n a v b =
     or_right false = refl
 
 pub option_not_here : (option block : List ℕ) (headers : List HeaderSpan) (i : ℕ) → i < length headers
-    → has_option option (lines_at block (take i headers)) ≡ false
+    → has_option option (lines_from block (take i headers)) ≡ false
     → (same_text (span_bytes block (get_or headers i no_header).name) (codes "connection")
     && list_any (λ part. same_text (trim_ows part) option) (slice_split (λ c. c == 44) (span_bytes block (get_or headers i no_header).value))) ≡ false
-    → has_option option (lines_at block (take (i + 1) headers)) ≡ false
+    → has_option option (lines_from block (take (i + 1) headers)) ≡ false
 option_not_here option block headers i h before here =
     has_option_more option block headers i no_header h ∙ rw (before, here) refl
 

@@ -10,7 +10,7 @@ use Rattle.httparse.proofs.GrammarLemmas.{request_unique}
 use Rattle.http_requests.specs.declared.messages.Fault.TheVariants.{Block}
 use Rattle.http_requests.specs.declared.heads.Verdict.{Verdict}
 use Rattle.http_requests.specs.Heads.{IsVerdict, IsHead, HeadSays, PartsSay, bad}
-use Rattle.http_requests.specs.Lines.{lines_at}
+use Rattle.http_requests.proofs.HeadLemmas.{lines_from}
 
 field_count : (block : List ℕ) (headers : List HeaderSpan) (r : RequestSpans) (h : RequestHead) → IsRequestWithin block headers r → IsRequestAt block headers r h → r.headers ≡ length h.fields
 field_count block headers r h w a =
@@ -23,12 +23,12 @@ field_count block headers r h w a =
 
 -- the parts of the head that was read say what the head says
 parts_head : (block : List ℕ) (headers : List HeaderSpan) (r : RequestSpans) (h : RequestHead) (v : Verdict) → IsRequestAt block headers r h
-    → PartsSay (span_bytes block r.method) (span_bytes block r.path) r.version (lines_at block (take r.headers headers)) v → HeadSays h v
+    → PartsSay (span_bytes block r.method) (span_bytes block r.path) r.version (lines_from block (take r.headers headers)) v → HeadSays h v
 parts_head block headers r h v a says = rw (← a.method, ← a.path, ← a.version, ← a.fields) says
 
 pub judge_head : (block : List ℕ) (headers : List HeaderSpan) (r : RequestSpans) (v : Verdict) → IsRequestWithin block headers r → IsRequestOf block headers r
     → r.len ≡ length block → length headers ≡ 64
-    → PartsSay (span_bytes block r.method) (span_bytes block r.path) r.version (lines_at block (take r.headers headers)) v → IsVerdict block v
+    → PartsSay (span_bytes block r.method) (span_bytes block r.path) r.version (lines_from block (take r.headers headers)) v → IsVerdict block v
 unfolding IsVerdict
 judge_head block headers r v w of whole room says =
     let h = of.0 in

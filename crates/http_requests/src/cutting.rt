@@ -1,7 +1,6 @@
 //! Cutting a text that comes in pieces.
 ghost use Rattle.std.specs.Prelude.{◌≡◌, ◌<◌, ◌≤◌, [], drop, length, IfNone, IfOk, IfSome, OnSome};
 ghost use Rattle.http_requests.specs.Limits.{longest_body, longest_text};
-ghost use Rattle.http_requests.specs.Framing.{closes};
 ghost use Rattle.http_requests.specs.Cutting.{Begins, IsFront, Waits};
 
 use crate::heads::{Verdict, bad, read_block};
@@ -31,16 +30,6 @@ fn drop_front(bytes: &mut Vec<u8>, n: usize)
 {
     if n > 0 {
         bytes.drain(..n);
-    }
-}
-
-/// Whether nothing is read after this message.
-fn ends_connection(what: &Meaning) -> bool
-    ensures { result ≡ closes what.now }
-{
-    match what {
-        Meaning::Request { closes, .. } => *closes,
-        Meaning::Bad(_) => true,
     }
 }
 
@@ -166,7 +155,7 @@ impl State {
             self.stage = Stage::Body(what, left);
             return Ok(());
         }
-        let stage = if ends_connection(&what) {
+        let stage = if what.closes() {
             Stage::Closed
         } else {
             Stage::Seeking

@@ -1,21 +1,22 @@
 //! What a block says: the verdict of its head (RFC 9110 and RFC 9112).
-ghost use Rattle.std.specs.Prelude.{◌≡◌, ◌≤◌, ◌==◌, false, true, codes, length, min, All, IfOk, MatchOption};
-ghost use Rattle.std.specs.Prelude.{MatchResult, Some, None};
+ghost use Rattle.std.specs.Prelude.{◌≡◌, ◌≤◌, ◌==◌, false, true, codes, min, IfOk, MatchOption};
+ghost use Rattle.std.specs.Prelude.{MatchResult, Some, None, IfSome, IfNone};
 ghost use Rattle.httparse.specs.Grammar.{is_ows, trim_ows};
-ghost use Rattle.httparse.specs.Spans.{IsHeaderWithin, IsWithin, span_bytes};
+ghost use Rattle.httparse.specs.Spans.{span_bytes};
 ghost use Rattle.std.specs.Str.Parse.{digits_value};
 ghost use Rattle.std.specs.List.{list_all, list_any, slice_split};
 ghost use Rattle.http_requests.specs.Limits.{longest_body};
 ghost use Rattle.http_requests.specs.Heads.{IsVerdict, same_text, values_of, is_host_byte, is_host_fault, is_given};
 ghost use Rattle.http_requests.specs.Heads.{is_numeral, body_length, head_fault, has_option, is_closing};
-ghost use Rattle.http_requests.specs.Heads.{is_get_or_head, IsModifiedSince, PartsSay, bad};
-ghost use Rattle.http_requests.specs.Lines.{lines_at, AreLines};
+ghost use Rattle.http_requests.specs.Heads.{is_get_or_head, IsModifiedSince, bad};
+ghost use Rattle.http_requests.specs.Lines.{LiesWithin, lines_at, Says, AreLines};
 ghost use Rattle.http_requests.specs.Counting.{IsExtent};
 ghost use Rattle.http_requests.specs.declared.heads.Verdict.{Verdict as AVerdict};
+ghost use Rattle.http_requests.specs.declared.messages.Fault.TheVariants.{Block};
 
 use crate::messages::{Bytes, Fault, Meaning, Version};
 use httparse::Status;
-use httparse::spans::{EMPTY_HEADER_SPAN, HeaderSpan, RequestSpans, Span, parse_request};
+use httparse::spans::{EMPTY_HEADER_SPAN, HeaderSpan, Span, parse_request};
 use httpdate::HttpDate;
 use std::alloc::{AllocError, Global};
 
@@ -69,34 +70,6 @@ fn trim(text: &[u8]) -> &[u8]
     &text[start..end]
 }
 
-/// The lines of this name.
-fn lines_named(block: &[u8], headers: &[HeaderSpan], name: &[u8]) -> Lines
-    requires { All (IsHeaderWithin (length block.now)) headers.now }
-    ensures { AreLines block.now (values_of name.now (lines_at block.now headers.now)) result }
-{
-    let mut lines = Lines::Absent;
-    for header in headers {
-        if same_text(header.name.of(block), name) {
-            lines = match lines {
-                Lines::Absent => Lines::Once(header.value),
-                _ => Lines::Repeated,
-            };
-        }
-    }
-    lines
-}
-
-/// Whether a line of this name is there.
-fn is_given(block: &[u8], headers: &[HeaderSpan], name: &[u8]) -> bool
-    requires { All (IsHeaderWithin (length block.now)) headers.now }
-    ensures { result ≡ is_given (values_of name.now (lines_at block.now headers.now)) }
-{
-    match lines_named(block, headers, name) {
-        Lines::Absent => false,
-        _ => true,
-    }
-}
-
 /// Whether the byte may stand in a host.
 fn is_host_byte(byte: u8) -> bool
     ensures { result ≡ is_host_byte byte }
@@ -109,19 +82,6 @@ fn is_host(value: &[u8]) -> bool
     ensures { result ≡ list_all is_host_byte value.now }
 {
     value.iter().all(|b| is_host_byte(*b))
-}
-
-/// Whether Host is missing where it must stand, is repeated, or has a wrong byte (RFC 9112, section
-/// 3.2).
-fn is_host_fault(minor: u8, block: &[u8], headers: &[HeaderSpan]) -> bool
-    requires { All (IsHeaderWithin (length block.now)) headers.now }
-    ensures { result ≡ is_host_fault minor (values_of (codes "host") (lines_at block.now headers.now)) }
-{
-    match lines_named(block, headers, b"host") {
-        Lines::Absent => minor == 1,
-        Lines::Once(value) => !is_host(value.of(block)),
-        Lines::Repeated => true,
-    }
 }
 
 /// The number that a value writes, or `None` where it is no number. One above the limit on a body
@@ -143,32 +103,6 @@ fn number(value: &[u8]) -> Option<u64>
     Some(number)
 }
 
-/// The length of the body (RFC 9112, section 6.3), or the first fault of the head.
-fn body_length(minor: u8, block: &[u8], headers: &[HeaderSpan]) -> Result<u64, Fault>
-    requires { All (IsHeaderWithin (length block.now)) headers.now }
-    ensures cases { MatchResult result
-        (λ n. (head_fault minor (lines_at block.now headers.now) ≡ None)
-        × (n ≡ body_length (values_of (codes "content-length") (lines_at block.now headers.now))))
-        (λ fault. head_fault minor (lines_at block.now headers.now) ≡ Some fault) }
-    ensures small { IfOk result (λ n. n ≤ longest_body) }
-{
-    if is_host_fault(minor, block, headers) {
-        return Err(Fault::Host);
-    }
-    if is_given(block, headers, b"transfer-encoding") {
-        return Err(Fault::Coding);
-    }
-    match lines_named(block, headers, b"content-length") {
-        Lines::Absent => Ok(0),
-        Lines::Once(value) => match number(value.of(block)) {
-            Some(n) if n <= BODY_LIMIT => Ok(n),
-            Some(_) => Err(Fault::BodySize),
-            None => Err(Fault::Length),
-        },
-        Lines::Repeated => Err(Fault::Length),
-    }
-}
-
 /// Whether the comma list has this option.
 fn lists(value: &[u8], option: &[u8]) -> bool
     ensures { result ≡ list_any (λ part. same_text (trim_ows part) option.now) (slice_split (λ b. b == 44) value.now) }
@@ -178,53 +112,11 @@ fn lists(value: &[u8], option: &[u8]) -> bool
         .any(|part| same_text(trim(part), option))
 }
 
-/// Whether a line of Connection has this option (RFC 9110, section 7.6.1).
-fn has_option(block: &[u8], headers: &[HeaderSpan], option: &[u8]) -> bool
-    requires { All (IsHeaderWithin (length block.now)) headers.now }
-    ensures { result ≡ has_option option.now (lines_at block.now headers.now) }
-{
-    for header in headers {
-        if same_text(header.name.of(block), b"connection")
-            && lists(header.value.of(block), option)
-        {
-            return true;
-        }
-    }
-    false
-}
-
-/// Whether the connection ends after the reply (RFC 9112, section 9.3).
-fn is_closing(minor: u8, block: &[u8], headers: &[HeaderSpan]) -> bool
-    requires { All (IsHeaderWithin (length block.now)) headers.now }
-    ensures { result ≡ is_closing minor (lines_at block.now headers.now) }
-{
-    has_option(block, headers, b"close")
-        || (minor == 0 && !has_option(block, headers, b"keep-alive"))
-}
-
 /// Whether the method is one of the two that are served.
 fn is_get_or_head(method: &[u8]) -> bool
     ensures { result ≡ is_get_or_head method.now }
 {
     method == b"GET".as_slice() || method == b"HEAD".as_slice()
-}
-
-/// The second of If-Modified-Since, where it counts (RFC 9110, section 13.1.3).
-fn modified_since(method: &[u8], block: &[u8], headers: &[HeaderSpan]) -> Option<u64>
-    requires { All (IsHeaderWithin (length block.now)) headers.now }
-    ensures { IsModifiedSince method.now (lines_at block.now headers.now) result }
-{
-    if !is_get_or_head(method) || is_given(block, headers, b"if-none-match") {
-        return None;
-    }
-    match lines_named(block, headers, b"if-modified-since") {
-        Lines::Once(value) => match HttpDate::parse_ascii(value.of(block)) {
-            Ok(date) => Some(date.unix_secs()),
-            Err(_) => None,
-        },
-        Lines::Absent => None,
-        Lines::Repeated => None,
-    }
 }
 
 /// The verdict of a fault.
@@ -237,42 +129,6 @@ pub fn bad(fault: Fault) -> Verdict
     }
 }
 
-/// What a head says whose parts stand at these places.
-fn read_head(
-    alloc: Global,
-    block: &[u8],
-    head: RequestSpans,
-    headers: &[HeaderSpan],
-) -> Result<Verdict, AllocError>
-    requires headers { All (IsHeaderWithin (length block.now)) headers.now }
-    requires method { IsWithin (length block.now) head.method }
-    requires target { IsWithin (length block.now) head.path }
-    ensures says { IfOk result
-        (PartsSay (span_bytes block.now head.method) (span_bytes block.now head.path) head.version
-        (lines_at block.now headers.now)) }
-    ensures small { IfOk result (λ verdict. verdict.length ≤ longest_body) }
-{
-    let length = match body_length(head.version, block, headers) {
-        Ok(length) => length,
-        Err(fault) => return Ok(bad(fault)),
-    };
-    let method = head.method.of(block);
-    Ok(Verdict {
-        what: Meaning::Request {
-            method: Bytes::copy(alloc, method)?,
-            target: Bytes::copy(alloc, head.path.of(block))?,
-            version: if head.version == 0 {
-                Version::Http10
-            } else {
-                Version::Http11
-            },
-            closes: is_closing(head.version, block, headers),
-            modified_since: modified_since(method, block, headers),
-        },
-        length,
-    })
-}
-
 /// How a message goes on after its block.
 #[derive(Clone, Copy)]
 pub struct Extent {
@@ -282,29 +138,197 @@ pub struct Extent {
     pub length: u64,
 }
 
-/// How a message goes on whose head's parts stand at these places.
-fn measure_head(block: &[u8], head: RequestSpans, headers: &[HeaderSpan]) -> Extent
-    requires headers { All (IsHeaderWithin (length block.now)) headers.now }
-    requires method { IsWithin (length block.now) head.method }
-    requires target { IsWithin (length block.now) head.path }
-    ensures says { (verdict : AVerdict) × PartsSay (span_bytes block.now head.method)
-        (span_bytes block.now head.path) head.version (lines_at block.now headers.now) verdict
-        × IsExtent verdict result }
-    ensures small { result.length ≤ longest_body }
-{
-    match body_length(head.version, block, headers) {
-        Ok(length) => {
-            // A verdict tells this as well, and so it is there.
-            let _since = modified_since(head.method.of(block), block, headers);
-            Extent {
-                closes: is_closing(head.version, block, headers),
-                length,
+/// The head of a request: the block that it is, and where its parts stand there.
+#[derive(Drop)]
+struct Head<'a> {
+    block: &'a [u8],
+    method: Span,
+    target: Span,
+    /// The minor version, such as `1` for `HTTP/1.1`.
+    minor: u8,
+    headers: &'a [HeaderSpan],
+}
+
+impl<'a> Head<'a> {
+    /// The head that the whole block is, or `None` where it is no head. The places of its header lines are written to
+    /// `headers`.
+    fn parse(block: &'a [u8], headers: &'a mut [HeaderSpan; FIELD_LIMIT]) -> Option<Head<'a>>
+        ensures within { IfSome result LiesWithin }
+        ensures says { IfSome result (λ head. (verdict : AVerdict) → Says head verdict → IsVerdict block.now verdict) }
+        ensures none { IfNone result (IsVerdict block.now (bad Block)) }
+    {
+        match parse_request(block, headers) {
+            Ok(Status::Complete(spans)) => {
+                if spans.len == block.len() {
+                    Some(Head {
+                        block,
+                        method: spans.method,
+                        target: spans.path,
+                        minor: spans.version,
+                        headers: &headers[..spans.headers],
+                    })
+                } else {
+                    None
+                }
+            }
+            Ok(Status::Partial) => None,
+            Err(_) => None,
+        }
+    }
+
+    /// The lines of this name.
+    fn lines_named(&self, name: &[u8]) -> Lines
+        requires { LiesWithin self.now }
+        ensures { AreLines self.now.block.now (values_of name.now (lines_at self.now)) result }
+    {
+        let mut lines = Lines::Absent;
+        for header in self.headers {
+            if same_text(header.name.of(self.block), name) {
+                lines = match lines {
+                    Lines::Absent => Lines::Once(header.value),
+                    _ => Lines::Repeated,
+                };
             }
         }
-        Err(_) => Extent {
-            closes: true,
-            length: 0,
-        },
+        lines
+    }
+
+    /// Whether a line of this name is there.
+    fn is_given(&self, name: &[u8]) -> bool
+        requires { LiesWithin self.now }
+        ensures { result ≡ is_given (values_of name.now (lines_at self.now)) }
+    {
+        match self.lines_named(name) {
+            Lines::Absent => false,
+            _ => true,
+        }
+    }
+
+    /// Whether Host is missing where it must stand, is repeated, or has a wrong byte (RFC 9112, section 3.2).
+    fn is_host_fault(&self) -> bool
+        requires { LiesWithin self.now }
+        ensures { result ≡ is_host_fault self.now.minor (values_of (codes "host") (lines_at self.now)) }
+    {
+        match self.lines_named(b"host") {
+            Lines::Absent => self.minor == 1,
+            Lines::Once(value) => !is_host(value.of(self.block)),
+            Lines::Repeated => true,
+        }
+    }
+
+    /// The length of the body (RFC 9112, section 6.3), or the first fault of the head.
+    fn body_length(&self) -> Result<u64, Fault>
+        requires { LiesWithin self.now }
+        ensures cases { MatchResult result
+            (λ n. (head_fault self.now.minor (lines_at self.now) ≡ None)
+            × (n ≡ body_length (values_of (codes "content-length") (lines_at self.now))))
+            (λ fault. head_fault self.now.minor (lines_at self.now) ≡ Some fault) }
+        ensures small { IfOk result (λ n. n ≤ longest_body) }
+    {
+        if self.is_host_fault() {
+            return Err(Fault::Host);
+        }
+        if self.is_given(b"transfer-encoding") {
+            return Err(Fault::Coding);
+        }
+        match self.lines_named(b"content-length") {
+            Lines::Absent => Ok(0),
+            Lines::Once(value) => match number(value.of(self.block)) {
+                Some(n) if n <= BODY_LIMIT => Ok(n),
+                Some(_) => Err(Fault::BodySize),
+                None => Err(Fault::Length),
+            },
+            Lines::Repeated => Err(Fault::Length),
+        }
+    }
+
+    /// Whether a line of Connection has this option (RFC 9110, section 7.6.1).
+    fn has_option(&self, option: &[u8]) -> bool
+        requires { LiesWithin self.now }
+        ensures { result ≡ has_option option.now (lines_at self.now) }
+    {
+        for header in self.headers {
+            if same_text(header.name.of(self.block), b"connection")
+                && lists(header.value.of(self.block), option)
+            {
+                return true;
+            }
+        }
+        false
+    }
+
+    /// Whether the connection ends after the reply (RFC 9112, section 9.3).
+    fn is_closing(&self) -> bool
+        requires { LiesWithin self.now }
+        ensures { result ≡ is_closing self.now.minor (lines_at self.now) }
+    {
+        self.has_option(b"close") || (self.minor == 0 && !self.has_option(b"keep-alive"))
+    }
+
+    /// The second of If-Modified-Since, where it counts (RFC 9110, section 13.1.3).
+    fn modified_since(&self) -> Option<u64>
+        requires { LiesWithin self.now }
+        ensures { IsModifiedSince (span_bytes self.now.block.now self.now.method) (lines_at self.now) result }
+    {
+        if !is_get_or_head(self.method.of(self.block)) || self.is_given(b"if-none-match") {
+            return None;
+        }
+        match self.lines_named(b"if-modified-since") {
+            Lines::Once(value) => match HttpDate::parse_ascii(value.of(self.block)) {
+                Ok(date) => Some(date.unix_secs()),
+                Err(_) => None,
+            },
+            Lines::Absent => None,
+            Lines::Repeated => None,
+        }
+    }
+
+    /// What the head says.
+    fn verdict(&self, alloc: Global) -> Result<Verdict, AllocError>
+        requires { LiesWithin self.now }
+        ensures says { IfOk result (Says self.now) }
+        ensures small { IfOk result (λ verdict. verdict.length ≤ longest_body) }
+    {
+        let length = match self.body_length() {
+            Ok(length) => length,
+            Err(fault) => return Ok(bad(fault)),
+        };
+        Ok(Verdict {
+            what: Meaning::Request {
+                method: Bytes::copy(alloc, self.method.of(self.block))?,
+                target: Bytes::copy(alloc, self.target.of(self.block))?,
+                version: if self.minor == 0 {
+                    Version::Http10
+                } else {
+                    Version::Http11
+                },
+                closes: self.is_closing(),
+                modified_since: self.modified_since(),
+            },
+            length,
+        })
+    }
+
+    /// How the message goes on after its block.
+    fn extent(&self) -> Extent
+        requires { LiesWithin self.now }
+        ensures says { (verdict : AVerdict) × Says self.now verdict × IsExtent verdict result }
+        ensures small { result.length ≤ longest_body }
+    {
+        match self.body_length() {
+            Ok(length) => {
+                // A verdict tells this as well, and so it is there.
+                let _since = self.modified_since();
+                Extent {
+                    closes: self.is_closing(),
+                    length,
+                }
+            }
+            Err(_) => Extent {
+                closes: true,
+                length: 0,
+            },
+        }
     }
 }
 
@@ -314,37 +338,23 @@ pub fn measure_block(block: &[u8]) -> Extent
     ensures small { result.length ≤ longest_body }
 {
     let mut headers = [EMPTY_HEADER_SPAN; FIELD_LIMIT];
-    let fault = Extent {
-        closes: true,
-        length: 0,
-    };
-    match parse_request(block, &mut headers) {
-        Ok(Status::Complete(head)) => {
-            if head.len != block.len() {
-                return fault;
-            }
-            measure_head(block, head, &headers[..head.headers])
-        }
-        Ok(Status::Partial) => fault,
-        Err(_) => fault,
+    match Head::parse(block, &mut headers) {
+        Some(head) => head.extent(),
+        None => Extent {
+            closes: true,
+            length: 0,
+        },
     }
 }
 
-/// The verdict of a block. The parser is called once.
+/// The verdict of a block.
 pub fn read_block(alloc: Global, block: &[u8]) -> Result<Verdict, AllocError>
     ensures says { IfOk result (IsVerdict block.now) }
     ensures small { IfOk result (λ verdict. verdict.length ≤ longest_body) }
 {
     let mut headers = [EMPTY_HEADER_SPAN; FIELD_LIMIT];
-    match parse_request(block, &mut headers) {
-        Ok(Status::Complete(head)) => {
-            if head.len == block.len() {
-                read_head(alloc, block, head, &headers[..head.headers])
-            } else {
-                Ok(bad(Fault::Block))
-            }
-        }
-        Ok(Status::Partial) => Ok(bad(Fault::Block)),
-        Err(_) => Ok(bad(Fault::Block)),
+    match Head::parse(block, &mut headers) {
+        Some(head) => head.verdict(alloc),
+        None => Ok(bad(Fault::Block)),
     }
 }

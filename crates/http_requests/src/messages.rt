@@ -2,6 +2,7 @@
 ghost use Rattle.std.specs.Prelude.{◌≡◌, nat_eq, IfOk};
 ghost use Rattle.std.specs.Cmp.Lexicographic.{pointwise, nat_list_eq_equiv};
 ghost use Rattle.std.specs.Cmp.{partial_equiv_from_equiv};
+ghost use Rattle.http_requests.specs.Framing.{closes};
 
 use std::alloc::{AllocError, Global};
 use std::fmt;
@@ -112,6 +113,19 @@ pub enum Meaning {
         modified_since: Option<u64>,
     },
     Bad(Fault),
+}
+
+impl Meaning {
+    /// Whether nothing is read after a message of this meaning: a fault, or a request that closes (RFC 9112,
+    /// section 9.3).
+    pub fn closes(&self) -> bool
+        ensures { result ≡ closes self.now }
+    {
+        match self {
+            Meaning::Request { closes, .. } => *closes,
+            Meaning::Bad(_) => true,
+        }
+    }
 }
 
 /// A message of a connection's text.

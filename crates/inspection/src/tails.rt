@@ -2,13 +2,12 @@
 
 ghost use Rattle.std.specs.Prelude.{◌≡◌, ◌≢◌, ℕ, ◌+◌, ◌<◌, ◌≤◌, ◌^◌, ◌++◌, [], List, length, OnOk};
 ghost use Rattle.http_requests.specs.declared.messages.Message.{Message as AMessage};
-ghost use Rattle.http_requests.specs.Framing.{closes};
-ghost use Rattle.arrivals.specs.Connections.{some_closes};
 ghost use Rattle.inspection.specs.Figures.{end_of};
 ghost use Rattle.inspection.specs.Running.{tail_of, tail_at, rest_of, rest_after_close, rest_unfinished};
 ghost use Rattle.inspection.specs.Running.{most_connections};
 
-use http_requests::{Meaning, Message};
+use arrivals::some_closes;
+use http_requests::Message;
 use std::alloc::{AllocError, Global};
 use std::marker::Model;
 
@@ -21,23 +20,6 @@ pub struct Tail {
     pub end: u64,
     /// Whether a message has closed it.
     pub closed: bool,
-}
-
-/// Whether no message follows this one on its connection.
-fn closes(what: &Meaning) -> bool
-    ensures { result ≡ closes what.now }
-{
-    match what {
-        Meaning::Request { closes, .. } => *closes,
-        Meaning::Bad(_) => true,
-    }
-}
-
-/// Whether one of these messages is the last of its connection.
-fn some_closes(messages: &[Message]) -> bool
-    ensures { result ≡ some_closes messages.now }
-{
-    messages.iter().any(|message| closes(&message.what))
 }
 
 /// Where the last message ends, once these came after others.
