@@ -338,7 +338,7 @@ def read_theirs(stream, requests):
     answers, left = read_answers(stream, requests)
     old = len(answers) < len(requests) and departures.has_no_version(requests[len(answers)])
     if left and not has_error_body(answers, left) and not old:
-        raise h11.RemoteProtocolError("%r behind the last response" % left[:100])
+        raise h11.RemoteProtocolError("%r after the last response" % left[:100])
     return answers
 
 

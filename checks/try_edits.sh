@@ -1,6 +1,6 @@
 #!/usr/bin/env bash
-# Tries the edits of checks/edits/, which must fail as those of must-fail/ must, and stand outside the gate to save its time.
-# It works on a copy of the repository.
+# Tries the edits of checks/edits/, which must fail as those of must-fail/ must, and stand outside the gate to save its time;
+# then sorts them by how they were refused, as .ci/run does. It works on a copy of the repository.
 #
 # usage: try_edits.sh [CRATE..]
 set -euo pipefail
@@ -10,11 +10,13 @@ if [ "${#crates[@]}" = 0 ]; then
     for folder in checks/edits/*/; do crates+=("$(basename "$folder")"); done
 fi
 copy=$(mktemp -d)
-trap 'rm -rf "$copy"' EXIT
+log=$(mktemp)
+trap 'rm -rf "$copy" "$log"' EXIT
 git clone -q . "$copy"
 cd "$copy"
 for crate in "${crates[@]}"; do
     rm -f "crates/$crate/must-fail/"*.edit
     cp "checks/edits/$crate/"*.edit "crates/$crate/must-fail/"
 done
-rt must-fail "${crates[@]}"
+rt must-fail "${crates[@]}" 2>&1 | tee "$log"
+python3 checks/sort_edits.py --again "$log"

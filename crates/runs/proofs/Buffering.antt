@@ -1,5 +1,7 @@
 -- What stands at a device, from what its buffer keeps.
-use Rattle.std.proofs.Common.{◌≡◌, ℕ, ◌+◌, List, [], ◌++◌, refl, length, take, drop, Option, Some, None, sym, ap, ◌∙◌}
+use Rattle.std.specs.Bool.{◌==◌}
+use Rattle.std.specs.Option.{option_map}
+use Rattle.std.proofs.Common.{◌≡◌, ℕ, ◌+◌, cond, List, [], ◌++◌, refl, length, take, drop, Option, Some, None, sym, ap, ◌∙◌}
 use Rattle.std.proofs.lemmas.List.{append_assoc, take-append-drop, append-nil}
 use Rattle.std.proofs.Math.Seq.{take-add}
 use Rattle.std.specs.Io.KnownBytes.{Appends, Keeps, append_known}
@@ -40,3 +42,8 @@ keeps_same (Some bytes) = refl
 pub append_nothing : (known : Option (List ℕ)) → append_known known [] ≡ known
 append_nothing None = refl
 append_nothing (Some bytes) = ap Some (append-nil bytes)
+
+-- where nothing was read ahead, a buffered reader has what its reader has
+pub nothing_ahead : (room : ℕ) (ahead : List ℕ) (known : Option (List ℕ)) → room ≡ 65536 → ahead ≡ [] → cond (room == 0) None (option_map (λ bytes. ahead ++ bytes) known) ≡ known
+nothing_ahead room ahead None is none = rw is refl
+nothing_ahead room ahead (Some bytes) is none = rw (is, none) refl

@@ -3,10 +3,10 @@ use Rattle.paths.specs.Devices.{Device}
 use Rattle.std.proofs.Common.{◌≡◌, ◌⊎◌, inl, inr, ℕ, List, Option, Result, Ok, Err, OnOk, IfErr}
 use Rattle.paths.specs.declared.file.File.{File}
 use Rattle.paths.specs.SnapshotFaults.{ReadsWhole}
+use Rattle.paths.specs.Snapshots.{IsSnapshot}
 use Rattle.replay.specs.declared.outcome.Outcome.{Outcome}
 use Rattle.replay.specs.declared.replay_fault.ReplayFault.{ReplayFault}
 use Rattle.replay.specs.Choices.{Choice, Terms, terms_of}
-use Rattle.paths.specs.KnownText.{WhereKnown}
 use Rattle.replay.specs.Outcomes.{IfCapture, IfTooMany, IfCutShort, StopsTelling, StopsBeyond, IsCutOff}
 use Rattle.runs.specs.declared.fault.Fault.{Fault}
 use Rattle.runs.specs.declared.fault.Fault.TheVariants.{Words, Settings, Snapshot, Replay, Upgrade, Folder, Open, Read, Write, Memory}
@@ -16,30 +16,30 @@ use Rattle.runs.specs.Bundles.{StopsAs, HoldsCapture}
 use Rattle.runs.specs.Wanted.{HasWritten, wanted_of}
 use Rattle.runs.specs.declared.wanted.Wanted.{Wanted}
 use Rattle.runs.specs.declared.wanted.Wanted.TheVariants as wants
-use Rattle.runs.specs.Replays.{OfInput, AnswersAnd, IsReplayFault, IsFilesFault}
+use Rattle.runs.specs.Replays.{OfSnapshot, AnswersAnd, IsReplayFault, IsFilesFault}
 use Rattle.runs.proofs.Programs.{first_of_replay}
 
 -- a replay after a whole snapshot came to no end
-pub stops_after : (wanted : Wanted) (choice : Choice) (snapshot read capture ahead : Option (List ℕ)) (files : List File) (old new : Option (List ℕ)) (f : ReplayFault) → ReadsWhole snapshot read files
+pub stops_after : (wanted : Wanted) (choice : Choice) (snapshot read capture ahead : Option (List ℕ)) (files : List File) (old new : Option (List ℕ)) (f : ReplayFault) → ReadsWhole snapshot read files → IsSnapshot files
     → IfCapture f (StopsTelling (wanted_of wanted (terms_of files choice)) capture ahead old new)
     → IfTooMany f (StopsBeyond (wanted_of wanted (terms_of files choice)) capture old new)
     → IfCutShort f (IsCutOff (wanted_of wanted (terms_of files choice)) capture old new)
-    → OfInput snapshot (λ its. StopsAs (wanted_of wanted (terms_of its choice)) capture ahead old new f)
-stops_after wanted choice snapshot read capture ahead files old new f whole is_stop is_many is_part known = record {
+    → OfSnapshot snapshot (λ its. StopsAs (wanted_of wanted (terms_of its choice)) capture ahead old new f)
+stops_after wanted choice snapshot read capture ahead files old new f whole rules is_stop is_many is_part = record {
   files = files;
-  text = whole.text known;
+  rules = rules;
+  text = whole.text;
   holds = record { stops = is_stop; many = is_many; part = is_part };
 }
 
 -- a weaker fact of the files
-inputs_weaker : (snapshot : Option (List ℕ)) (P Q : List File → Type 0) → ((files : List File) → P files → Q files) → OfInput snapshot P → OfInput snapshot Q
-inputs_weaker snapshot P Q weaker holds known =
-    let whole = holds known in
-    record {
-      files = whole.files;
-      text = whole.text;
-      holds = weaker whole.files whole.holds;
-    }
+files_weaker : (snapshot : Option (List ℕ)) (P Q : List File → Type 0) → ((files : List File) → P files → Q files) → OfSnapshot snapshot P → OfSnapshot snapshot Q
+files_weaker snapshot P Q weaker its = record {
+  files = its.files;
+  rules = its.rules;
+  text = its.text;
+  holds = weaker its.files its.holds;
+}
 
 -- a fault of the run is one of the program
 pub told_of_replay : (wanted : Wanted) (choice : Choice) (snapshot capture ahead : Option (List ℕ)) (old new out_old out_new : Device) (f : Fault) → IsReplayFault wanted choice snapshot capture ahead old new out_old out_new f → IsFilesFault snapshot capture f
@@ -47,7 +47,7 @@ told_of_replay wanted choice snapshot capture ahead old new out_old out_new (Wor
 told_of_replay wanted choice snapshot capture ahead old new out_old out_new (Settings f) says = absurd says
 told_of_replay wanted choice snapshot capture ahead old new out_old out_new (Snapshot f) says = says.0
 told_of_replay wanted choice snapshot capture ahead old new out_old out_new (Replay f) says =
-    inputs_weaker snapshot (λ files. StopsAs (wanted_of wanted (terms_of files choice)) capture ahead old.bytes new.bytes f) _ (λ files told. first_of_replay (wanted_of wanted (terms_of files choice)) capture ahead old.bytes new.bytes f told.stops) says.0
+    files_weaker snapshot (λ files. StopsAs (wanted_of wanted (terms_of files choice)) capture ahead old.bytes new.bytes f) _ (λ files told. first_of_replay (wanted_of wanted (terms_of files choice)) capture ahead old.bytes new.bytes f told.stops) says.0
 told_of_replay wanted choice snapshot capture ahead old new out_old out_new (Upgrade f) says = absurd says
 told_of_replay wanted choice snapshot capture ahead old new out_old out_new (Folder f) says = absurd says
 told_of_replay wanted choice snapshot capture ahead old new out_old out_new (Open place) says = absurd says
@@ -90,22 +90,19 @@ ok_of_rest : (P : Type 0) (f : Fault) (ran told : Result Unit Fault) → OnOk ra
 ok_of_rest P f ran told says (inl same) = rw same says
 ok_of_rest P f ran told says (inr unwritten) = rw unwritten tt
 
--- the capture that was answered, where its bytes are known
-abbrev pub Holds : Option (List ℕ) → List File → Type 0
-Holds capture files = WhereKnown capture (HoldsCapture files)
-
-is_text : (wanted : Wanted) (terms : Terms) (capture old new : Option (List ℕ)) (outcome : Outcome) → HasWritten wanted terms capture old new outcome → Holds capture terms.files
+is_text : (wanted : Wanted) (terms : Terms) (capture old new : Option (List ℕ)) (outcome : Outcome) → HasWritten wanted terms capture old new outcome → HoldsCapture terms.files capture
 is_text (wants.Replies engine) terms capture old new outcome h known = (h.version, h.start, h.records, h.capture known)
 is_text wants.Rows terms capture old new outcome h known = (h.version, h.start, h.records, h.capture known)
 
 pub ok_of_files : (wanted : Wanted) (choice : Choice) (snapshot capture old new : Option (List ℕ)) (P : Outcome → Type 0) (ran rest told : Result Unit Fault)
-    → OnOk ran (OfInput snapshot (λ files. AnswersAnd wanted (terms_of files choice) capture old new P))
+    → OnOk ran (OfSnapshot snapshot (λ files. AnswersAnd wanted (terms_of files choice) capture old new P))
     → (rest ≡ ran) ⊎ (rest ≡ Err (Write places.Replies))
-    → (told ≡ rest) ⊎ (told ≡ Err (Write places.Report)) → OnOk told (OfInput snapshot (Holds capture))
+    → (told ≡ rest) ⊎ (told ≡ Err (Write places.Report)) → OnOk told (OfSnapshot snapshot (λ files. HoldsCapture files capture))
 ok_of_files wanted choice snapshot capture old new P ran rest told says replies_rest report_rest =
     let answered : List File → Type 0 = λ files. AnswersAnd wanted (terms_of files choice) capture old new P in
-    ok_of_rest (OfInput snapshot (Holds capture)) (Write places.Report) rest told
-    (ok_of_rest (OfInput snapshot (Holds capture)) (Write places.Replies) ran rest
-    (ok_weaker (OfInput snapshot answered) (OfInput snapshot (Holds capture)) ran
-    (inputs_weaker snapshot answered (Holds capture) (λ files answer known. is_text wanted (terms_of files choice) capture old new answer.outcome answer.answer known)) says) replies_rest)
+    let held : List File → Type 0 = λ files. HoldsCapture files capture in
+    ok_of_rest (OfSnapshot snapshot held) (Write places.Report) rest told
+    (ok_of_rest (OfSnapshot snapshot held) (Write places.Replies) ran rest
+    (ok_weaker (OfSnapshot snapshot answered) (OfSnapshot snapshot held) ran
+    (files_weaker snapshot answered held (λ files answer known. is_text wanted (terms_of files choice) capture old new answer.outcome answer.answer known)) says) replies_rest)
     report_rest

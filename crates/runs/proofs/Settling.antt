@@ -13,7 +13,7 @@ use Rattle.runs.specs.declared.place.Place.{Place}
 use Rattle.runs.specs.declared.place.Place.TheVariants as places
 use Rattle.runs.specs.Bundles.{AfterSnapshot, WritesAnswer, HoldsCapture, IsBundleFault, IsProgramFault, BundleSays}
 use Rattle.runs.specs.Devices.{Settles, AtDevice, AtDevices, is_cut, is_fault}
-use Rattle.runs.specs.Replays.{OfInput, AnswersAnd, IsReplayFault, IsFilesFault, FilesSays}
+use Rattle.runs.specs.Replays.{OfSnapshot, AnswersAnd, IsReplayFault, IsFilesFault, FilesSays}
 use Rattle.runs.specs.Upgrading.{IsCaptureOfSomeVersion, IsUpgradeFault, IsUpgradeFilesFault, UpgradeSays}
 use Rattle.runs.proofs.Buffering.{append_nothing}
 use Rattle.runs.proofs.Programs.{after_weaker, told_of_program}
@@ -35,11 +35,11 @@ pub opened : (known its : Option (List ℕ)) (items : List ℕ) (view : Device) 
 opened known its items view is same none = is ∙ rw (same, none, append_nothing known) refl
 
 pub bundle_says : (input old : Option (List ℕ)) (seen left before after : Device) (ran : Result Unit Fault) → seen ≡ fresh input → before ≡ fresh old
-    → OnOk ran (is_some seen.bytes ≡ true → AfterSnapshot (unwrap_or seen.bytes []) (WritesAnswer before.bytes after.bytes))
+    → OnOk ran (AfterSnapshot seen.bytes (WritesAnswer before.bytes after.bytes))
     → IfErr ran (IsBundleFault seen.bytes left.bytes before after) → BundleSays input old ran after.bytes
 bundle_says input old seen left before after (Ok done) shows is answer fault =
-    let P : Device → Type 0 = λ s. is_some s.bytes ≡ true → AfterSnapshot (unwrap_or s.bytes []) (WritesAnswer before.bytes after.bytes) in
-    let Q : Device → Type 0 = λ b. is_some input ≡ true → AfterSnapshot (unwrap_or input []) (WritesAnswer b.bytes after.bytes) in
+    let P : Device → Type 0 = λ s. AfterSnapshot s.bytes (WritesAnswer before.bytes after.bytes) in
+    let Q : Device → Type 0 = λ b. AfterSnapshot input (WritesAnswer b.bytes after.bytes) in
     (left.bytes, after.failures, subst Q is (subst P shows answer))
 bundle_says input old seen left before after (Err f) shows is answer fault =
     let P : Device → Type 0 = λ s. IsBundleFault s.bytes left.bytes before after f in
@@ -57,14 +57,14 @@ program_fault input old new told at =
     (told_by (is_cut at.ran) places.Replies old at.whole new at.ran told at.stands)
 
 answered : (input old whole : Option (List ℕ)) (ran told : Result Unit Fault) → BundleSays input old ran whole
-    → (told ≡ ran) ⊎ (told ≡ Err (Write places.Replies)) → OnOk told (is_some input ≡ true → AfterSnapshot (unwrap_or input []) HoldsCapture)
+    → (told ≡ ran) ⊎ (told ≡ Err (Write places.Replies)) → OnOk told (AfterSnapshot input HoldsCapture)
 answered input old whole (Ok done) told says (inl same) =
-    rw same (λ known. after_weaker _ (WritesAnswer old whole) HoldsCapture (λ files bytes answer. (answer.1.version, answer.1.start, answer.1.records, answer.1.capture refl)) (says.2 known))
+    rw same (after_weaker input (WritesAnswer old whole) HoldsCapture (λ files rest answer known. (answer.1.version, answer.1.start, answer.1.records, answer.1.capture known)) says.2)
 answered input old whole (Err f) told says (inl same) = rw same tt
 answered input old whole ran told says (inr unwritten) = rw unwritten tt
 
 pub program_ok : (input old new : Option (List ℕ)) (told : Result Unit Fault) → AtDevice places.Replies (BundleSays input old) old new told
-    → OnOk told (is_some input ≡ true → AfterSnapshot (unwrap_or input []) HoldsCapture)
+    → OnOk told (AfterSnapshot input HoldsCapture)
 program_ok input old new told at = answered input old at.whole at.ran told at.says (told_by (is_cut at.ran) places.Replies old at.whole new at.ran told at.stands)
 
 pub upgrade_says : (input old : Option (List ℕ)) (seen left before after : Device) (ran : Result Unit Fault) → seen ≡ fresh input → before ≡ fresh old
@@ -99,13 +99,13 @@ upgraded_ok input old new told at =
 
 pub files_says : (wanted : Wanted) (choice : Choice) (snapshot capture old out_old : Option (List ℕ)) (snapshot_seen capture_seen left before after out_before out_after : Device) (ran : Result Unit Fault)
     → snapshot_seen ≡ fresh snapshot → capture_seen ≡ fresh capture → before ≡ fresh old → out_before ≡ fresh out_old
-    → OnOk ran (OfInput snapshot_seen.bytes (λ files. AnswersAnd wanted (terms_of files choice) capture_seen.bytes before.bytes after.bytes (λ outcome. Appends out_before.bytes out_after.bytes (report_text outcome))))
+    → OnOk ran (OfSnapshot snapshot_seen.bytes (λ files. AnswersAnd wanted (terms_of files choice) capture_seen.bytes before.bytes after.bytes (λ outcome. Appends out_before.bytes out_after.bytes (report_text outcome))))
     → IfErr ran (IsReplayFault wanted choice snapshot_seen.bytes capture_seen.bytes left.bytes before after out_before out_after) → FilesSays wanted choice snapshot capture old out_old ran after.bytes out_after.bytes
 files_says wanted choice snapshot capture old out_old snapshot_seen capture_seen left before after out_before out_after (Ok done) shows capture_shows is out_is answer fault =
-    let P : Device → Type 0 = λ s. OfInput s.bytes (λ files. AnswersAnd wanted (terms_of files choice) capture_seen.bytes before.bytes after.bytes (λ outcome. Appends out_before.bytes out_after.bytes (report_text outcome))) in
-    let Q : Device → Type 0 = λ s. OfInput snapshot (λ files. AnswersAnd wanted (terms_of files choice) s.bytes before.bytes after.bytes (λ outcome. Appends out_before.bytes out_after.bytes (report_text outcome))) in
-    let R : Device → Type 0 = λ b. OfInput snapshot (λ files. AnswersAnd wanted (terms_of files choice) capture b.bytes after.bytes (λ outcome. Appends out_before.bytes out_after.bytes (report_text outcome))) in
-    let S : Device → Type 0 = λ b. OfInput snapshot (λ files. AnswersAnd wanted (terms_of files choice) capture old after.bytes (λ outcome. Appends b.bytes out_after.bytes (report_text outcome))) in
+    let P : Device → Type 0 = λ s. OfSnapshot s.bytes (λ files. AnswersAnd wanted (terms_of files choice) capture_seen.bytes before.bytes after.bytes (λ outcome. Appends out_before.bytes out_after.bytes (report_text outcome))) in
+    let Q : Device → Type 0 = λ s. OfSnapshot snapshot (λ files. AnswersAnd wanted (terms_of files choice) s.bytes before.bytes after.bytes (λ outcome. Appends out_before.bytes out_after.bytes (report_text outcome))) in
+    let R : Device → Type 0 = λ b. OfSnapshot snapshot (λ files. AnswersAnd wanted (terms_of files choice) capture b.bytes after.bytes (λ outcome. Appends out_before.bytes out_after.bytes (report_text outcome))) in
+    let S : Device → Type 0 = λ b. OfSnapshot snapshot (λ files. AnswersAnd wanted (terms_of files choice) capture old after.bytes (λ outcome. Appends b.bytes out_after.bytes (report_text outcome))) in
     (left.bytes, after.failures, out_after.failures, subst S out_is (subst R is (subst Q capture_shows (subst P shows answer))))
 files_says wanted choice snapshot capture old out_old snapshot_seen capture_seen left before after out_before out_after (Err f) shows capture_shows is out_is answer fault =
     let P : Device → Type 0 = λ s. IsReplayFault wanted choice s.bytes capture_seen.bytes left.bytes before after out_before out_after f in
@@ -120,7 +120,7 @@ files_fault_of wanted choice snapshot capture old whole out_old out_whole (Ok do
 files_fault_of wanted choice snapshot capture old whole out_old out_whole (Err f) says = says.3
 
 files_ok_of : (wanted : Wanted) (choice : Choice) (snapshot capture old whole out_old out_whole : Option (List ℕ)) (ran : Result Unit Fault) → FilesSays wanted choice snapshot capture old out_old ran whole out_whole
-    → OnOk ran (OfInput snapshot (λ files. AnswersAnd wanted (terms_of files choice) capture old whole (λ outcome. Appends out_old out_whole (report_text outcome))))
+    → OnOk ran (OfSnapshot snapshot (λ files. AnswersAnd wanted (terms_of files choice) capture old whole (λ outcome. Appends out_old out_whole (report_text outcome))))
 files_ok_of wanted choice snapshot capture old whole out_old out_whole (Ok done) says = says.3
 files_ok_of wanted choice snapshot capture old whole out_old out_whole (Err f) says = tt
 
@@ -133,7 +133,7 @@ files_fault wanted choice snapshot capture old new out_old out_new told at =
     (told_by (is_fault at.rest) places.Report out_old at.out_whole out_new at.rest told at.report)
 
 pub files_ok : (wanted : Wanted) (choice : Choice) (snapshot capture old new out_old out_new : Option (List ℕ)) (told : Result Unit Fault)
-    → AtDevices (FilesSays wanted choice snapshot capture old out_old) old new out_old out_new told → OnOk told (OfInput snapshot (λ files. WhereKnown capture (HoldsCapture files)))
+    → AtDevices (FilesSays wanted choice snapshot capture old out_old) old new out_old out_new told → OnOk told (OfSnapshot snapshot (λ files. HoldsCapture files capture))
 files_ok wanted choice snapshot capture old new out_old out_new told at =
     ok_of_files wanted choice snapshot capture old at.whole (λ outcome. Appends out_old at.out_whole (report_text outcome)) at.ran at.rest told
     (files_ok_of wanted choice snapshot capture old at.whole out_old at.out_whole at.ran at.says)

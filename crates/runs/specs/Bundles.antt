@@ -1,13 +1,10 @@
 -- The run over one input that holds a snapshot's text and, after it, a capture.
 use Rattle.paths.specs.Devices.{Device, fresh}
-use Rattle.std.specs.Prelude.{◌≡◌, ℕ, ◌+◌, ◌≤◌, true, false, List, [], ◌++◌, length, Option, Some, is_some, unwrap_or}
-use Rattle.std.specs.Prelude.{Result, MatchResult}
+use Rattle.std.specs.Prelude.{◌≡◌, ℕ, true, false, List, [], Option, is_some, unwrap_or, Result, MatchResult}
+use Rattle.paths.specs.KnownText.{WhereKnown}
 use Rattle.paths.specs.declared.file.File.{File}
-use Rattle.paths.specs.Snapshots.{snapshot_text, longest_text, IsSnapshot}
+use Rattle.paths.specs.Snapshots.{IsSnapshot, BeginsWithSnapshot}
 use Rattle.paths.specs.SnapshotFaults.{IsFrontFault, IsForeseen, failures_of}
-use Rattle.captures.specs.declared.record.Record.{Record}
-use Rattle.captures.specs.declared.version.Version.{Version}
-use Rattle.captures.specs.Captures.{IsCaptureText}
 use Rattle.captures.specs.CaptureFaults.{is_unforeseen_kind, IsFirstFault}
 use Rattle.replay.specs.declared.outcome.Outcome.{Outcome}
 use Rattle.replay.specs.declared.replay_fault.ReplayFault.{ReplayFault}
@@ -20,22 +17,24 @@ use Rattle.runs.specs.declared.fault.Fault.{Fault}
 use Rattle.captures.specs.Upgrades as upgrades
 use Rattle.runs.specs.declared.fault.Fault.TheVariants.{Snapshot, Replay, Upgrade, Write, Memory}
 use Rattle.runs.specs.declared.place.Place.TheVariants.{Replies}
+use Rattle.runs.specs.Upgrading.{IsCaptureOfSomeVersion}
 
--- a snapshot's text stands at the start of the input, and P holds of its files and of the rest after it
-pub record AfterSnapshot (input : List ℕ) (P : List File → List ℕ → Type 0) : Type 0 where
+-- There are files that keep the rules of a snapshot, and P holds of them and of the rest of the input. Where the bytes
+-- of the input are known, the text of these files stands at their start, and the bytes after it are the rest.
+pub record AfterSnapshot (input : Option (List ℕ)) (P : List File → Option (List ℕ) → Type 0) : Type 0 where
   pub files : List File
-  pub rest : List ℕ
-  pub text : input ≡ snapshot_text files ++ rest
+  pub rest : Option (List ℕ)
   pub rules : IsSnapshot files
-  pub size : length (snapshot_text files) ≤ longest_text
+  pub text : WhereKnown input (λ bytes. BeginsWithSnapshot bytes files (unwrap_or rest []))
+  pub known : WhereKnown input (λ bytes. is_some rest ≡ true)
   pub after : P files rest
 
 -- the answer of the reference server with the default settings, to this capture, was written
 abbrev pub default_terms : List File → Terms
 default_terms files = terms_of files default_choice
 
-abbrev pub WritesAnswer : Option (List ℕ) → Option (List ℕ) → List File → List ℕ → Type 0
-WritesAnswer old new files capture = (outcome : Outcome) × Answers (default_terms files) (Some capture) old new outcome
+abbrev pub WritesAnswer : Option (List ℕ) → Option (List ℕ) → List File → Option (List ℕ) → Type 0
+WritesAnswer old new files capture = (outcome : Outcome) × Answers (default_terms files) capture old new outcome
 
 -- what a fault of the replay says of its capture, of what of it wasn't read, and of what was written
 pub record StopsAs (t : Telling) (capture ahead old new : Option (List ℕ)) (f : ReplayFault) : Type 0 where
@@ -50,9 +49,8 @@ pub record StopsAs (t : Telling) (capture ahead old new : Option (List ℕ)) (f 
 abbrev pub IsBundleFault : Option (List ℕ) → Option (List ℕ) → Device → Device → Fault
     → Type 0
 IsBundleFault input ahead old new (Snapshot f) = IsForeseen IsFrontFault input f × (new ≡ old)
-IsBundleFault input ahead old new (Replay f) = is_some input ≡ true →
-    AfterSnapshot (unwrap_or input [])
-    (λ files capture. StopsAs (replies_told (default_terms files)) (Some capture) ahead old.bytes new.bytes f)
+IsBundleFault input ahead old new (Replay f) = AfterSnapshot input
+    (λ files capture. StopsAs (replies_told (default_terms files)) capture ahead old.bytes new.bytes f)
 IsBundleFault input ahead old new Memory = new ≡ old
 IsBundleFault input ahead old new other = ⊥
 
@@ -68,18 +66,16 @@ writer_failures (Replay f) = replays.writer_failures f
 writer_failures (Upgrade f) = upgrades.writer_failures f
 writer_failures other = 0
 
--- the bytes after the snapshot are the text of a capture
-abbrev pub HoldsCapture : List File → List ℕ → Type 0
-HoldsCapture files bytes = (version : Version) × (start : ℕ) × (records : List Record)
-    × IsCaptureText version bytes start records
+-- where the bytes after the snapshot are known, they are the text of a capture
+abbrev pub HoldsCapture : List File → Option (List ℕ) → Type 0
+HoldsCapture files capture = WhereKnown capture IsCaptureOfSomeVersion
 
 -- What a fault of the program says of its input: that of a snapshot or a capture is the first, but for a failed read
 -- and out of memory. Other faults are that the replies can't be written to their end, and out of memory.
 abbrev pub IsProgramFault : Option (List ℕ) → Fault → Type 0
 IsProgramFault input (Snapshot f) = IsForeseen IsFrontFault input f
-IsProgramFault input (Replay f) = is_some input ≡ true →
-    AfterSnapshot (unwrap_or input [])
-    (λ files bytes. IfCapture f (λ g. is_unforeseen_kind g.kind ≡ false → IsFirstFault bytes g))
+IsProgramFault input (Replay f) = AfterSnapshot input (λ files capture. IfCapture f
+    (λ g. is_unforeseen_kind g.kind ≡ false → WhereKnown capture (λ bytes. IsFirstFault bytes g)))
 IsProgramFault input (Write Replies) = Unit {0}
 IsProgramFault input Memory = Unit {0}
 IsProgramFault input other = ⊥
@@ -88,5 +84,5 @@ IsProgramFault input other = ⊥
 -- reader before the buffer has left
 abbrev pub BundleSays : Option (List ℕ) → Option (List ℕ) → Result Unit Fault → Option (List ℕ) → Type 0
 BundleSays input old ran whole = (ahead : Option (List ℕ)) × (count : ℕ) × MatchResult ran
-    (λ done. is_some input ≡ true → AfterSnapshot (unwrap_or input []) (WritesAnswer old whole))
+    (λ done. AfterSnapshot input (WritesAnswer old whole))
     (λ f. IsBundleFault input ahead (fresh old) (record { bytes = whole; failures = count }) f)

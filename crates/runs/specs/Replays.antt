@@ -1,10 +1,9 @@
 -- The run over a snapshot and a capture, each in an input of its own, with a report.
 use Rattle.paths.specs.Devices.{Device, fresh}
-use Rattle.std.specs.Prelude.{◌≡◌, ℕ, ◌<◌, true, false, List, [], length, take, Option, Result, MatchResult, is_some}
-use Rattle.std.specs.Prelude.{unwrap_or}
+use Rattle.std.specs.Prelude.{◌≡◌, ℕ, ◌<◌, false, List, length, take, Option, Result, MatchResult}
 use Rattle.std.specs.Io.KnownBytes.{Appends}
 use Rattle.paths.specs.declared.file.File.{File}
-use Rattle.paths.specs.Snapshots.{IsSnapshotText}
+use Rattle.paths.specs.Snapshots.{IsSnapshot, IsSnapshotText}
 use Rattle.paths.specs.SnapshotFaults.{IsFirstFault, IsForeseen, failures_of}
 use Rattle.captures.specs.CaptureFaults.{is_unforeseen_kind}
 use Rattle.captures.specs.CaptureFaults as captures
@@ -21,14 +20,13 @@ use Rattle.runs.specs.declared.fault.Fault.{Fault}
 use Rattle.runs.specs.declared.fault.Fault.TheVariants.{Snapshot, Replay, Write, Memory}
 use Rattle.runs.specs.declared.place.Place.TheVariants.{Replies, Report}
 
--- Where the bytes of the first input are known, they are the text of a snapshot, and P holds of its files.
-pub record OfSnapshot (snapshot : List ℕ) (P : List File → Type 0) : Type 0 where
+-- There are files that keep the rules of a snapshot, and P holds of them. Where the bytes of the input are known, they
+-- are the text of these files.
+pub record OfSnapshot (snapshot : Option (List ℕ)) (P : List File → Type 0) : Type 0 where
   pub files : List File
-  pub text : IsSnapshotText snapshot files
+  pub rules : IsSnapshot files
+  pub text : WhereKnown snapshot (λ bytes. IsSnapshotText bytes files)
   pub holds : P files
-
-abbrev pub OfInput : Option (List ℕ) → (List File → Type 0) → Type 0
-OfInput snapshot P = is_some snapshot ≡ true → OfSnapshot (unwrap_or snapshot []) P
 
 -- what is wanted of the capture was written, and P holds of its outcome
 pub record AnswersAnd (wanted : Wanted) (terms : Terms) (capture old new : Option (List ℕ))
@@ -56,13 +54,14 @@ abbrev pub IsReplayFault : Wanted → Choice → Option (List ℕ) → Option (L
 IsReplayFault wanted choice snapshot capture ahead old new out_old out_new (Snapshot f) =
     IsForeseen IsFirstFault snapshot f × (new ≡ old) × (out_new ≡ out_old)
 IsReplayFault wanted choice snapshot capture ahead old new out_old out_new (Replay f) =
-    OfInput snapshot (λ files. StopsAs (wanted_of wanted (terms_of files choice)) capture ahead old.bytes new.bytes f)
+    OfSnapshot snapshot
+    (λ files. StopsAs (wanted_of wanted (terms_of files choice)) capture ahead old.bytes new.bytes f)
     × (out_new ≡ out_old)
 IsReplayFault wanted choice snapshot capture ahead old new out_old out_new (Write Report) =
-    OfInput snapshot (λ files. AnswersAnd wanted (terms_of files choice) capture old.bytes new.bytes
+    OfSnapshot snapshot (λ files. AnswersAnd wanted (terms_of files choice) capture old.bytes new.bytes
     (λ outcome. WritesPart out_old.bytes out_new.bytes (report_text outcome)))
 IsReplayFault wanted choice snapshot capture ahead old new out_old out_new Memory =
-    OfInput snapshot (λ files. AnswersAnd wanted (terms_of files choice) capture old.bytes new.bytes
+    OfSnapshot snapshot (λ files. AnswersAnd wanted (terms_of files choice) capture old.bytes new.bytes
     (λ outcome. Unit {0}))
     × (out_new ≡ out_old)
 IsReplayFault wanted choice snapshot capture ahead old new out_old out_new other = ⊥
@@ -86,7 +85,7 @@ report_failures other = 0
 abbrev pub IsFilesFault : Option (List ℕ) → Option (List ℕ) → Fault → Type 0
 IsFilesFault snapshot capture (Snapshot f) = IsForeseen IsFirstFault snapshot f
 IsFilesFault snapshot capture (Replay f) =
-    OfInput snapshot (λ files. IfCapture f
+    OfSnapshot snapshot (λ files. IfCapture f
     (λ g. is_unforeseen_kind g.kind ≡ false → WhereKnown capture (λ bytes. captures.IsFirstFault bytes g)))
 IsFilesFault snapshot capture (Write Replies) = Unit {0}
 IsFilesFault snapshot capture (Write Report) = Unit {0}
@@ -98,7 +97,7 @@ abbrev pub FilesSays : Wanted → Choice → Option (List ℕ) → Option (List 
     → Result Unit Fault → Option (List ℕ) → Option (List ℕ) → Type 0
 FilesSays wanted choice snapshot capture old out_old ran whole out_whole = (ahead : Option (List ℕ)) × (count : ℕ)
     × (out_count : ℕ) × MatchResult ran
-    (λ done. OfInput snapshot
+    (λ done. OfSnapshot snapshot
     (λ files. AnswersAnd wanted (terms_of files choice) capture old whole
     (λ outcome. Appends out_old out_whole (report_text outcome))))
     (λ f. IsReplayFault wanted choice snapshot capture ahead

@@ -1,10 +1,9 @@
 //! A replay over files, with a buffer before each.
 
 ghost use Rattle.std.specs.Prelude.{◌≡◌, ◌⊎◌, [], OnOk, IfErr};
-ghost use Rattle.paths.specs.KnownText.{WhereKnown};
 ghost use Rattle.runs.specs.Bundles.{HoldsCapture};
 ghost use Rattle.runs.specs.Devices.{AtDevices, Refused, is_fault};
-ghost use Rattle.runs.specs.Replays.{OfInput, IsFilesFault, FilesSays};
+ghost use Rattle.runs.specs.Replays.{OfSnapshot, IsFilesFault, FilesSays};
 
 use crate::buffer::{Buffered, Device, ROOM, Stood};
 use crate::fault::Fault;
@@ -105,8 +104,8 @@ pub fn run_files<
         (W.contents written) (O.contents out))
         (W.contents written) (W.contents result.1) (O.contents out) (O.contents result.2) result.0 }
     // Where the bytes of the inputs are known, they were a snapshot's text and a capture's, or a fault is their first.
-    ensures ok { OnOk result.0 (OfInput (S.remaining snapshot)
-        (λ files. WhereKnown (C.remaining capture) (HoldsCapture files))) }
+    ensures ok { OnOk result.0 (OfSnapshot (S.remaining snapshot)
+        (λ files. HoldsCapture files (C.remaining capture))) }
     ensures fault { IfErr result.0 (IsFilesFault (S.remaining snapshot) (C.remaining capture)) }
 {
     let (Ok(waiting), Ok(report_waiting)) = (

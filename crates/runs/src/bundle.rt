@@ -1,6 +1,6 @@
 //! A snapshot and after it a capture, replayed from one input.
 
-ghost use Rattle.std.specs.Prelude.{◌≡◌, ◌-◌, ◌<◌, ◌^◌, [], true, is_some, unwrap_or, OnOk, IfErr};
+ghost use Rattle.std.specs.Prelude.{◌≡◌, ◌-◌, ◌<◌, ◌^◌, OnOk, IfErr};
 ghost use Rattle.paths.specs.Devices.{CanFail, CountsBy};
 ghost use Rattle.runs.specs.Bundles.{AfterSnapshot, WritesAnswer, IsBundleFault, reader_failures};
 ghost use Rattle.runs.specs.Bundles.{writer_failures};
@@ -27,9 +27,7 @@ pub fn run_bundle<R: Read, W: Write>(
 ) -> Result<(), Fault>
     requires reading { CanFail input.old }
     requires writing { CanFail output.old }
-    ensures ok { OnOk result
-        (is_some input.old.bytes ≡ true
-        → AfterSnapshot (unwrap_or input.old.bytes []) (WritesAnswer output.old.bytes output.new.bytes)) }
+    ensures ok { OnOk result (AfterSnapshot input.old.bytes (WritesAnswer output.old.bytes output.new.bytes)) }
     ensures fault { IfErr result (IsBundleFault input.old.bytes input.new.bytes output.old output.new) }
     // A device is blamed only where it failed in this call.
     ensures reads { CountsBy reader_failures input.old.failures input.new.failures result }

@@ -1,6 +1,6 @@
 //! The program without arguments, over one input and one output.
 
-ghost use Rattle.std.specs.Prelude.{◌≡◌, ◌⊎◌, [], true, is_some, unwrap_or, Ok, Err, OnOk, IfErr};
+ghost use Rattle.std.specs.Prelude.{◌≡◌, ◌⊎◌, [], Ok, Err, OnOk, IfErr};
 ghost use Rattle.std.specs.Io.KnownBytes.{append_known};
 ghost use Rattle.runs.specs.Bundles.{AfterSnapshot, HoldsCapture, BundleSays, IsProgramFault};
 ghost use Rattle.runs.specs.Devices.{AtDevice, Refused, Settles, is_cut};
@@ -78,8 +78,7 @@ pub fn run_program<R: Read + Drop, W: Write + Drop>(
         ⊎ AtDevice Place.Replies (BundleSays (R.remaining reader) (W.contents writer))
         (W.contents writer) (W.contents result.1) result.0 }
     // Where the bytes of the input are known, they were a snapshot's text and a capture's, or a fault is their first.
-    ensures ok { OnOk result.0
-        (is_some (R.remaining reader) ≡ true → AfterSnapshot (unwrap_or (R.remaining reader) []) HoldsCapture) }
+    ensures ok { OnOk result.0 (AfterSnapshot (R.remaining reader) HoldsCapture) }
     ensures fault { IfErr result.0 (IsProgramFault (R.remaining reader)) }
 {
     let Ok(waiting) = Vec::with_capacity(alloc, ROOM) else {

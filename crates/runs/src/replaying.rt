@@ -8,7 +8,7 @@ ghost use Rattle.replay.specs.Outcomes.{IfCapture, IfTooMany, IfCutShort, IsCutO
 ghost use Rattle.replay.specs.Outcomes as replays;
 ghost use Rattle.report.specs.Reports.{report_text};
 ghost use Rattle.runs.specs.Bundles.{writer_failures};
-ghost use Rattle.runs.specs.Replays.{OfInput, AnswersAnd, IsReplayFault, IsReportFault, snapshot_failures};
+ghost use Rattle.runs.specs.Replays.{OfSnapshot, AnswersAnd, IsReplayFault, IsReportFault, snapshot_failures};
 ghost use Rattle.runs.specs.Replays.{capture_failures, report_failures};
 ghost use Rattle.runs.specs.Wanted.{HasWritten, wanted_of};
 
@@ -104,7 +104,7 @@ pub fn run_replay<T: Threads + Wait + Sync, S: Read, C: Read, W: Write, O: Write
     requires capture { CanFail capture.old }
     requires written { CanFail written.old }
     requires out { CanFail out.old }
-    ensures ok { OnOk result (OfInput snapshot.old.bytes (λ files.
+    ensures ok { OnOk result (OfSnapshot snapshot.old.bytes (λ files.
         AnswersAnd wanted (terms_of files settings.now) capture.old.bytes written.old.bytes written.new.bytes
         (λ outcome. Appends out.old.bytes out.new.bytes (report_text outcome)))) }
     ensures fault { IfErr result

@@ -1,5 +1,6 @@
 //! Whole captures, with the rows that the rules give.
 use super::running::{A, capture_of, check, default_costs, default_policy, tight};
+use std::alloc::{AllocError, Global};
 use std::test::Fail;
 
 #[test]
@@ -50,6 +51,46 @@ fn in_the_order_of_arrival(rt: HostRuntime) -> Result<(), Fail> {
          1,9,7,0,404,admitted,50,99000000000,1000000,208,258,201,HEAD,/none\n\
          2,2,7,0,200,admitted,201,98000000000,1000000,258,459,251,GET,/a.txt\n";
     check(&rt, default_costs(), [default_policy(); 4], &capture, rows)
+}
+
+/// The capture of a text in pieces of one byte, piece k at tick k.
+fn in_bytes(alloc: Global, text: &str) -> Result<String, AllocError> {
+    let mut capture = format!(in alloc; "haboob-capture 1 784111777\n")?;
+    for (tick, byte) in text.chars().enumerate() {
+        write!(capture, "piece {tick} 0 1\n{byte}\n")?;
+    }
+    write!(capture, "stop {}\n", text.len())?;
+    Ok(capture)
+}
+
+/// Texts that come byte by byte, and their rows: two requests; the same with empty lines before each and after both; a
+/// request with a body, and one whose lines end with line feeds alone.
+static IN_BYTES: [(&str, &str); 3] = [
+    (
+        "GET /a.txt HTTP/1.1\r\nHost: a\r\n\r\nGET /a.txt HTTP/1.1\r\nHost: a\r\n\r\n",
+        "0,0,31,0,200,admitted,201,100000000000,1000000,31,232,0,GET,/a.txt\n\
+         1,0,63,0,200,admitted,201,99032000000,1000000,232,433,169,GET,/a.txt\n",
+    ),
+    (
+        "\r\n\nGET /a.txt HTTP/1.1\r\nHost: a\r\n\r\n\r\n\nGET /a.txt HTTP/1.1\r\nHost: a\r\n\r\n\r\n\n",
+        "0,0,34,0,200,admitted,201,100000000000,1000000,34,235,0,GET,/a.txt\n\
+         1,0,69,0,200,admitted,201,99035000000,1000000,235,436,166,GET,/a.txt\n",
+    ),
+    (
+        "POST /a.txt HTTP/1.1\r\nHost: a\r\nContent-Length: 3\r\n\r\nabcGET /a.txt HTTP/1.0\n\n",
+        "0,0,54,0,405,admitted,50,100000000000,1000000,54,104,0,POST,/a.txt\n\
+         1,0,75,0,200,admitted,201,99021000000,1000000,104,305,29,GET,/a.txt\n",
+    ),
+];
+
+/// A request arrives with the byte that ends it, whose place in the text is its tick.
+#[test]
+fn byte_pieces(rt: HostRuntime) -> Result<(), Fail> {
+    for (text, rows) in &IN_BYTES {
+        let capture = in_bytes(rt.alloc(), text)?;
+        check(&rt, default_costs(), [default_policy(); 4], &capture, rows)?;
+    }
+    Ok(())
 }
 
 /// Commas, quotes and percent signs of a method and a target are escaped.

@@ -159,6 +159,31 @@ fn folder_redirect(rt: HostRuntime) -> Result<(), Fail> {
     check(&rt, &none, "GET", "/a.txt", "Missing")
 }
 
+/// Targets of 8,100 bytes: how each begins, what it then says how many times, how it ends, and its answer.
+static LONG_TARGETS: [(&str, &str, usize, &str, &str); 9] = [
+    ("", "/.", 4_042, "/docs/index.html", "File docs/index.html"),
+    ("", "/", 8_096, "docs", "Move /docs/"),
+    ("", "/a/..", 1_620, "", "File index.html"),
+    ("", "/%2e", 2_025, "", "File index.html"),
+    ("/docs?", "a", 8_094, "", "Move /docs/"),
+    ("/", "a", 8_099, "", "Missing"),
+    ("", "/%20", 2_025, "", "Missing"),
+    ("", "/.", 4_048, "/%zz", "BadTarget"),
+    ("/..", "/.", 4_047, "/x/", "BadTarget"),
+];
+
+#[test]
+fn long_targets(rt: HostRuntime) -> Result<(), Fail> {
+    let files = snapshot(rt.alloc(), FOLDERS.as_bytes())?;
+    for (front, part, times, end, want) in &LONG_TARGETS {
+        let middle = part.repeat(rt.alloc(), *times)?;
+        let target = format!(in rt.alloc(); "{front}{middle}{end}")?;
+        assert_eq!(rt; target.len(), 8_100);
+        check(&rt, &files, "GET", &target, want)?;
+    }
+    Ok(())
+}
+
 /// The two halves of a resolution, each by itself.
 #[test]
 fn halves(rt: HostRuntime) -> Result<(), Fail> {

@@ -182,6 +182,32 @@ fn any_floor_same_bytes(rt: HostRuntime) -> Result<(), Fail> {
     Ok(())
 }
 
+/// A fault after two messages, in batches of several sizes: the replies to these stand.
+fn check_fault<T: Abort + AllocGlobal + Threads + Wait + Sync>(
+    rt: &T,
+    capture: &str,
+    want: CaptureFault,
+) -> Result<(), Fail> {
+    for batch in 1..4usize {
+        let shape = Shape {
+            batch,
+            ..DEFAULT_SHAPE
+        };
+        let ran = run_shape(
+            rt,
+            Engine::Staged,
+            shape,
+            default_costs(),
+            default_policy(),
+            capture,
+        );
+        let two = "reply 0 0 150; 200 OK;reply 1 1 150; 200 OK;";
+        assert_eq!(rt; outline(rt.alloc(), &ran.text)?.as_str(), two);
+        assert!(rt; matches!(ran.answer, Err(ReplayFault::Capture(fault)) if fault == want));
+    }
+    Ok(())
+}
+
 /// A fault in the middle of a batch: the replies to the messages of the whole records before it stand.
 #[test]
 fn faults_in_batches(rt: HostRuntime) -> Result<(), Fail> {
@@ -192,22 +218,20 @@ fn faults_in_batches(rt: HostRuntime) -> Result<(), Fail> {
         at: 3,
         kind: CaptureFaultKind::Cut,
     };
-    for batch in 1..4usize {
-        let shape = Shape {
-            batch,
-            ..DEFAULT_SHAPE
-        };
-        let ran = run_shape(
-            &rt,
-            Engine::Staged,
-            shape,
-            default_costs(),
-            default_policy(),
-            &capture,
-        );
-        let want = "reply 0 0 150; 200 OK;reply 1 1 150; 200 OK;";
-        assert_eq!(rt; outline(rt.alloc(), &ran.text)?.as_str(), want);
-        assert!(rt; matches!(ran.answer, Err(ReplayFault::Capture(fault)) if fault == cut));
-    }
-    Ok(())
+    check_fault(&rt, &capture, cut)
+}
+
+/// A piece of a connection that has ended, be it in the batch of its end or in one after it.
+#[test]
+fn piece_after_an_end_in_batches(rt: HostRuntime) -> Result<(), Fail> {
+    let mut capture = format!(in rt.alloc(); "haboob-capture 1 784111777\npiece 0 0 32\n{A}\n")?;
+    write!(
+        capture,
+        "end 0 0\npiece 0 1 32\n{A}\npiece 0 0 32\n{A}\nstop 4\n"
+    )?;
+    let ended = CaptureFault {
+        at: 4,
+        kind: CaptureFaultKind::Ended,
+    };
+    check_fault(&rt, &capture, ended)
 }

@@ -39,6 +39,10 @@ fn capture_faults(rt: HostRuntime) -> Result<(), Fail> {
     check(&rt, &tick, 2, Kind::Tick, one)?;
     let count = format!(in alloc; "haboob-capture 1 784111777\npiece 0 0 32\n{A}\nstop 2\n")?;
     check(&rt, &count, 2, Kind::Count, one)?;
+    let ended = format!(in alloc;
+        "haboob-capture 1 784111777\npiece 0 0 32\n{A}\nend 0 0\npiece 0 0 32\n{A}\nstop 3\n"
+    )?;
+    check(&rt, &ended, 3, Kind::Ended, one)?;
     let trailing = format!(in alloc; "haboob-capture 1 784111777\npiece 0 0 32\n{A}\nstop 1\n.")?;
     check(&rt, &trailing, 2, Kind::Trailing, one)?;
     check(

@@ -183,6 +183,57 @@ fn folder_redirect(rt: HostRuntime) -> Result<(), Fail> {
     check(&rt, files, &[(0, 0, text)], want)
 }
 
+/// The longest location, of 3,068 bytes: a folder's name of 1,022 spaces, each escaped, between two slashes.
+#[test]
+fn longest_location(rt: HostRuntime) -> Result<(), Fail> {
+    let alloc = rt.alloc();
+    let spaces = " ".repeat(alloc, 1022)?;
+    let escaped = "%20".repeat(alloc, 1022)?;
+    let files = format!(in alloc;
+        "haboob-snapshot 1\nfile 784111777 1024 0\n{spaces}/x\n\nend 1\n"
+    )?;
+    let text = format!(in alloc; "GET /{escaped} HTTP/1.1\r\nHost: a\r\n\r\n")?;
+    let capture = capture_of(alloc, &[(0, 0, &text)])?;
+    let ran = run(&rt, alloc, &files, &capture).expect(&rt, "a snapshot");
+    let want = format!(in alloc;
+        "haboob-replies 1\n\
+         reply 0 0 3219\n\
+         HTTP/1.1 301 Moved Permanently\r\n\
+         Date: Sun, 06 Nov 1994 08:49:37 GMT\r\n\
+         Content-Type: text/plain\r\n\
+         Content-Length: 22\r\n\
+         Location: /{escaped}/\r\n\
+         \r\n\
+         301 Moved Permanently\n\
+         \n\
+         stop 1\n"
+    )?;
+    assert_eq!(rt; ran.text.as_slice(), want.as_bytes());
+    Ok(())
+}
+
+/// A target of 8,100 bytes, of which all but the name is dropped, and one that is a name of its own.
+#[test]
+fn long_targets(rt: HostRuntime) -> Result<(), Fail> {
+    let alloc = rt.alloc();
+    let dots = "/.".repeat(alloc, 4047)?;
+    let text = format!(in alloc; "GET {dots}/a.txt HTTP/1.1\r\nHost: a\r\n\r\n")?;
+    check(
+        &rt,
+        FILES,
+        &[(0, 0, &text)],
+        "reply 0 0 150; 200 OK;stop 1;",
+    )?;
+    let letters = "a".repeat(alloc, 8099)?;
+    let text = format!(in alloc; "GET /{letters} HTTP/1.1\r\nHost: a\r\n\r\n")?;
+    check(
+        &rt,
+        FILES,
+        &[(0, 0, &text)],
+        "reply 0 0 123; 404 Not Found;stop 1;",
+    )
+}
+
 #[test]
 fn not_modified_since(rt: HostRuntime) -> Result<(), Fail> {
     let text = "GET /a.txt HTTP/1.1\r\n\
@@ -198,6 +249,32 @@ fn not_modified_since(rt: HostRuntime) -> Result<(), Fail> {
     let newer = "haboob-snapshot 1\nfile 784111778 5 3\na.txt\nhi\n\nend 1\n";
     let want = "reply 0 0 150; 200 OK;reply 1 0 150; 200 OK;stop 2;";
     check(&rt, newer, &[(0, 0, text)], want)
+}
+
+/// If-None-Match switches If-Modified-Since off, and does no more.
+#[test]
+fn if_none_match(rt: HostRuntime) -> Result<(), Fail> {
+    let text = "GET /a.txt HTTP/1.1\r\n\
+         Host: a\r\n\
+         If-Modified-Since: Sun, 06 Nov 1994 08:49:37 GMT\r\n\
+         If-None-Match: \"a\"\r\n\
+         \r\n\
+         HEAD /a.txt HTTP/1.1\r\n\
+         Host: a\r\n\
+         If-None-Match: \"a\"\r\n\
+         If-Modified-Since: Sun, 06 Nov 1994 08:49:37 GMT\r\n\
+         \r\n\
+         GET /a.txt HTTP/1.1\r\n\
+         Host: a\r\n\
+         If-None-Match: *\r\n\
+         \r\n\
+         GET /a.txt HTTP/1.1\r\n\
+         Host: a\r\n\
+         If-Modified-Since: Sun, 06 Nov 1994 08:49:37 GMT\r\n\
+         \r\n";
+    let want =
+        "reply 0 0 150; 200 OK;reply 1 0 147; 200 OK;reply 2 0 150; 200 OK;reply 3 0 112; 304 Not Modified;stop 4;";
+    check(&rt, FILES, &[(0, 0, text)], want)
 }
 
 #[test]

@@ -1,7 +1,7 @@
 //! Replies byte for byte.
 use crate::tests::{page, record, snapshot};
 use page_cache::MediaType;
-use paths::{Outcome, resolve};
+use paths::{Input, Outcome, Snapshot, resolve};
 use responses::{Given, Link, Status};
 use std::marker::Brand;
 use std::test::Fail;
@@ -130,6 +130,42 @@ fn folder_redirect(rt: HostRuntime) -> Result<(), Fail> {
                   301 Moved Permanently\n\
                   \n";
             assert_eq!(rt; got.as_slice(), want.as_slice());
+        }
+        _ => assert!(rt; false, "no redirect"),
+    }
+    Ok(())
+}
+
+/// The longest location has 3,068 bytes: a folder's name has at most 1,022, each of which may be escaped, and stands
+/// between two slashes.
+#[test]
+fn longest_location(rt: HostRuntime) -> Result<(), Fail> {
+    let alloc = rt.alloc();
+    let spaces = " ".repeat(alloc, 1022)?;
+    let escaped = "%20".repeat(alloc, 1022)?;
+    let text = format!(in alloc;
+        "haboob-snapshot 1\nfile 784111777 1024 0\n{spaces}/x\n\nend 1\n"
+    )?;
+    let mut input = Input::new(text.as_bytes());
+    let files = Snapshot::read(alloc, &mut input)?;
+    let target = format!(in alloc; "/{escaped}")?;
+    match resolve(alloc, &files, b"GET", target.as_bytes())? {
+        Outcome::Move(location) => {
+            assert_eq!(rt; location.as_slice().len(), 3068);
+            let moved = Given::<Brand>::Moved { location };
+            let got = record(alloc, false, Link::Silent, moved)?;
+            let want = format!(in alloc;
+                "reply 0 7 3219\n\
+                 HTTP/1.1 301 Moved Permanently\r\n\
+                 Date: Sun, 06 Nov 1994 08:49:37 GMT\r\n\
+                 Content-Type: text/plain\r\n\
+                 Content-Length: 22\r\n\
+                 Location: /{escaped}/\r\n\
+                 \r\n\
+                 301 Moved Permanently\n\
+                 \n"
+            )?;
+            assert_eq!(rt; got.as_slice(), want.as_bytes());
         }
         _ => assert!(rt; false, "no redirect"),
     }

@@ -11,4 +11,4 @@ returns-in_err-files-clause-fault g c =
 pub returns-in_err-outcome-clause-fault : goal.returns-in_err-outcome-clause-fault
 returns-in_err-outcome-clause-fault g c =
     let stop = err_from_is_err_and c.from_residual-in_err-outcome.result c.from_residual-in_err-outcome.ensures.1 in
-    rw (stop.1, stop.2) (stops_after c.args.wanted c.args.settings.now _ _ _ _ c.in_ok-files.files _ _ _ c.in_ok-files.ensures.ok c.in_err-outcome.ensures.stops c.in_err-outcome.ensures.many c.in_err-outcome.ensures.part, refl)
+    rw (stop.1, stop.2) (stops_after c.args.wanted c.args.settings.now _ _ _ _ c.in_ok-files.files _ _ _ c.in_ok-files.ensures.ok (rw (← c.files.view_is) c.files.invariant) c.in_err-outcome.ensures.stops c.in_err-outcome.ensures.many c.in_err-outcome.ensures.part, refl)
