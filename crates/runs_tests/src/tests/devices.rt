@@ -1,10 +1,13 @@
 //! Devices that fail.
+ghost use Rattle.std.specs.Prelude.{[], None, Some, IfOk};
+ghost use Rattle.runs.specs.Bundles.{AfterSnapshot, WritesAnswer};
+
 use super::running::{FIRST_RUN, Narrow, REPLIES, SNAPSHOT};
 use captures::CaptureFaultKind;
 use paths::{Input, Output, SnapshotFaultKind};
 use replay::ReplayFault;
 use runs::{Fault, Place, run_bundle, run_program};
-use std::alloc::AllocGlobal;
+use std::alloc::{AllocGlobal, Global};
 use std::io;
 use std::io::{ErrorKind, Write};
 use std::process::Abort;
@@ -161,4 +164,24 @@ fn answer_at_a_vector(rt: HostRuntime) -> Result<(), Fail> {
     assert_eq!(rt; device[..6], *b"before".as_slice());
     assert_eq!(rt; device[6..], *REPLIES.as_bytes());
     Ok(())
+}
+
+/// The replies to what a reader gives whose type tells no bytes: these are the whole answer all the same, to a capture
+/// after a snapshot that keeps the rules.
+fn replies_to(alloc: Global, reader: Flaky<'_>) -> Result<Vec<u8>, Fault>
+    ensures { IfOk result (λ replies. AfterSnapshot None (WritesAnswer (Some []) (Some replies.items))) }
+{
+    let mut replies = Output::new(Vec::new(alloc));
+    run_bundle(alloc, &mut Input::new(reader), &mut replies)?;
+    Ok(replies.into_writer())
+}
+
+#[test]
+fn answer_to_a_reader_that_tells_nothing(rt: HostRuntime) {
+    let ran = replies_to(rt.alloc(), Flaky::new(FIRST_RUN.as_bytes(), 8, usize::MAX));
+    let Ok(replies) = ran else {
+        assert!(rt; false, "the run comes to no end");
+        return;
+    };
+    assert_eq!(rt; replies[..], *REPLIES.as_bytes());
 }
