@@ -26,6 +26,23 @@ use Rattle.captures.specs.declared.capture_fault.CaptureFaultKind.TheVariants.{C
 use Rattle.captures.specs.declared.capture_fault.CaptureFaultKind.TheVariants.{Length, Count, Trailing, TooLarge, Read}
 use Rattle.captures.specs.declared.capture_fault.CaptureFaultKind.TheVariants.{Memory}
 
+-- the name of a kind, as in a line that tells of the fault
+abbrev pub kind_name : CaptureFaultKind → List ℕ
+kind_name Cut = codes "Cut"
+kind_name Header = codes "Header"
+kind_name Kind = codes "Kind"
+kind_name Number = codes "Number"
+kind_name Tick = codes "Tick"
+kind_name Connection = codes "Connection"
+kind_name Ended = codes "Ended"
+kind_name LateTier = codes "Tier"
+kind_name Length = codes "Length"
+kind_name Count = codes "Count"
+kind_name Trailing = codes "Trailing"
+kind_name TooLarge = codes "TooLarge"
+kind_name Read = codes "Read"
+kind_name Memory = codes "Memory"
+
 -- the fault of a record, a part of which could not be read
 abbrev pub kind_of : Stop → CaptureFaultKind
 kind_of stops.TooLong = Kind

@@ -1,5 +1,5 @@
 -- What was taken of a text when a read failed.
-use Rattle.std.proofs.Common.{◌≡◌, ℕ, ◌+◌, ◌-◌, ◌<◌, ◌≤◌, ◌==◌, ◌||◌, ◌⊎◌, inl, inr, not, cond, nat_lt, nat_le, Bool, true, false, List, [], ◌∷◌, ◌++◌, length, take, drop, Option, Some, None, Result, Ok, Err, refl, sym, ap, ◌∙◌, subst, arith, codes, nat_eq, is_some, unwrap_or}
+use Rattle.std.proofs.Common.{◌≡◌, ℕ, suc, zero, ◌+◌, ◌-◌, ◌<◌, ◌≤◌, ◌==◌, ◌||◌, ◌⊎◌, inl, inr, not, cond, nat_lt, nat_le, Bool, true, false, List, [], ◌∷◌, ◌++◌, length, take, drop, Option, Some, None, IfSome, Result, Ok, Err, refl, sym, ap, ◌∙◌, subst, arith, codes, nat_eq, is_some, unwrap_or}
 use Rattle.std.specs.List.{list_all, list_any, prefix_len, starts_with}
 use Rattle.std.proofs.lemmas.Bool.{eqb-false, ne_eqb}
 use Rattle.std.proofs.lemmas.Bool.Decides.{nat_tests}
@@ -11,14 +11,15 @@ use Rattle.paths.specs.declared.file.File.{File}
 use Rattle.paths.specs.declared.file.FileLine.{FileLine}
 use Rattle.paths.specs.declared.file.Heading.{Heading}
 use Rattle.paths.specs.declared.snapshot_fault.SnapshotFaultKind.{SnapshotFaultKind}
-use Rattle.paths.specs.declared.snapshot_fault.SnapshotFaultKind.TheVariants.{Cut, Read, Number, Kind}
+use Rattle.paths.specs.declared.snapshot_fault.SnapshotFaultKind.TheVariants.{Cut, Read, Memory, Number, Kind}
 use Rattle.paths.specs.Numbers.{number_of, three_numbers}
 use Rattle.paths.specs.Texts.{Ahead, ahead_of, byte_at, run_at, line_at, line_front, front, ended}
-use Rattle.paths.specs.Snapshots.{feed, text_before_end, longest_text, latest_time, most_bytes, longest_name, most_files, is_name, comes_before, lies_in, IsSnapshot}
+use Rattle.paths.specs.Snapshots.{feed, file_line, file_text, text_before_end, longest_text, Follows, latest_time, most_bytes, longest_name, most_files, is_name, comes_before, lies_in, IsSnapshot}
 use Rattle.paths.specs.SnapshotFaults.{kind_of, named, ◌>>=◌, file_heading, end_heading, heading_of, name_at, body_at, file_at, announced, entry_at}
-use Rattle.paths.specs.Parts.{TookPart, FailsInSnapshot, NamesAfter}
+use Rattle.paths.specs.Parts.{TookPart, FailsInSnapshot, Reached, LacksInEntry}
 use Rattle.paths.proofs.Taking.{Takes, TakesLine, line_whole, line_ends, ended_past}
-use Rattle.paths.proofs.Inverse.{unless_ok, ok_is, line_inverse, run_inverse, name_inverse}
+use Rattle.paths.proofs.Entries.{entry_text, entry_takes}
+use Rattle.paths.proofs.Inverse.{TakesAhead, unless_ok, ok_is, line_inverse, run_inverse, name_inverse}
 use Rattle.paths.proofs.NoFault.{bind_is, named_is, pass, neither, byte_again, run_again}
 use Rattle.paths.proofs.FilesOrFault.{name_fits}
 
@@ -146,6 +147,15 @@ read_is stops.TooLarge kind a b = absurd cc
 read_is stops.Read kind a b = refl
 read_is stops.Memory kind a b = absurd cc
 
+no_run : (n l : ℕ) → 0 < n → run_at n (record { bytes = []; left = l }) ≡ Err stops.Cut
+no_run n l some =
+    let none : nat_le n (length (take l [])) ≡ false = let s = length-take {A = ℕ} l [] in grind (arith, nat_tests) in
+    pass_err (nat_le n (length (take l []))) _ _ none ∙ ap (λ (e : Stop). let r : Result (List ℕ × Ahead) Stop = Err e in r) (ended_nil l)
+  where
+    pass_err : (b : Bool) (x : List ℕ × Ahead) (e : Stop) → b ≡ false → cond b (Ok x) (Err e) ≡ Err e
+    pass_err true x e h = absurd cc
+    pass_err false x e h = refl
+
 body_cut : (n l nl : ℕ) (bytes : List ℕ) → length bytes ≡ n → l ≡ n + nl → body_at n (record { bytes = bytes; left = l }) ≡ Err Cut
 body_cut n l nl bytes is left =
     let mid : Ahead = record { bytes = []; left = nl } in
@@ -157,6 +167,21 @@ name_cut files n l nl name is left =
     let mid : Ahead = record { bytes = []; left = nl } in
     bind_is (named kind_of (run_at n (record { bytes = name; left = l }))) _ (name, mid) (named_is kind_of _ (name, mid) (run_alone n l nl name is left))
     ∙ bind_err (named kind_of (byte_at mid)) _ Cut (named_err kind_of _ stops.Cut (no_byte nl))
+
+-- of nothing
+body_none : (n l : ℕ) → body_at n (record { bytes = []; left = l }) ≡ Err Cut
+body_none zero l = body_cut 0 l l [] refl (omega arith)
+body_none (suc n) l = bind_err (named kind_of (run_at (suc n) (record { bytes = []; left = l }))) _ Cut (named_err kind_of _ stops.Cut (no_run (suc n) l (omega arith)))
+
+name_none : (files : List File) (n l : ℕ) → name_at files n (record { bytes = []; left = l }) ≡ Err Cut
+name_none files zero l = name_cut files 0 l l [] refl (omega arith)
+name_none files (suc n) l = bind_err (named kind_of (run_at (suc n) (record { bytes = []; left = l }))) _ Cut (named_err kind_of _ stops.Cut (no_run (suc n) l (omega arith)))
+
+-- where nothing was taken, it is cut
+pub body_lacks : (n : ℕ) (o m : Option (List ℕ)) (l ml : ℕ) → TookPart (λ part. part ≡ []) o l m ml
+    → TookPart (λ part. body_at n (record { bytes = part; left = l }) ≡ Err Cut) o l m ml
+body_lacks n o m l ml h = part_is (λ part. part ≡ []) (λ part. body_at n (record { bytes = part; left = l }) ≡ Err Cut) o m l ml
+    (λ t none. ap (λ v. body_at n (record { bytes = v; left = l })) none ∙ body_none n l) h
 
 pub run_takes : (n : ℕ) (o m : Option (List ℕ)) (l ml : ℕ) (run : List ℕ) → (is_some o ≡ true → (run_at n (ahead_of o l) ≡ Ok (run, ahead_of m ml)) × (is_some m ≡ true)) → Takes o l m ml run
 run_takes n o m l ml run h = record {
@@ -212,6 +237,24 @@ file_fails files line o m p l ml pl name in_time size room some short read h k =
     ∙ (bind_is (name_at files line.name_len all) _ (name, mid) (name_alone files line.name_len (ahead_of o l) (ahead_of m ml) name (read k).0 part)
     ∙ bind_err (body_at line.len mid) _ Cut cut)))) h k
 
+-- memory ran out for its name
+pub file_lacks : (files : List File) (line : FileLine) (o m : Option (List ℕ)) (l ml : ℕ)
+    → line.mtime ≤ latest_time → line.len ≤ most_bytes → length files < most_files → 0 < line.name_len → line.name_len ≤ longest_name
+    → TookPart (λ part. part ≡ []) o l m ml → TookPart (λ part. file_at files line (record { bytes = part; left = l }) ≡ Err Cut) o l m ml
+file_lacks files line o m l ml in_time size room some short h =
+    let a : nat_lt latest_time line.mtime ≡ false = grind (arith, nat_tests) in
+    let b : nat_lt most_bytes line.len ≡ false = grind (arith, nat_tests) in
+    let c : nat_le most_files (length files) ≡ false = grind (arith, nat_tests) in
+    let d : nat_lt longest_name line.name_len ≡ false = grind (arith, nat_tests) in
+    let e : (line.name_len == 0) ≡ false = ne_eqb line.name_len 0 (λ same. omega arith) in
+    let nothing : Ahead = record { bytes = []; left = l } in
+    part_is (λ part. part ≡ []) (λ part. file_at files line (record { bytes = part; left = l }) ≡ Err Cut) o m l ml
+    (λ t none. ap (λ v. file_at files line (record { bytes = v; left = l })) none
+    ∙ (pass (nat_lt latest_time line.mtime) _ _ a
+    ∙ (pass (nat_lt most_bytes line.len || nat_le most_files (length files)) _ _ (neither _ _ b c)
+    ∙ (pass (line.name_len == 0 || nat_lt longest_name line.name_len) _ _ (neither _ _ e d)
+    ∙ bind_err (name_at files line.name_len nothing) _ Cut (name_none files line.name_len l))))) h
+
 -- ---- entries
 
 heading_kinds : (line : List ℕ) (kind : SnapshotFaultKind) → heading_of line ≡ Err kind → (kind ≡ Number) ⊎ (kind ≡ Kind)
@@ -228,11 +271,15 @@ heading_kinds line kind h = go (starts_with nat_eq line (codes "file ")) (starts
 pub heading_not_read : (line : List ℕ) (kind : SnapshotFaultKind) → heading_of line ≡ Err kind → kind ≡ Read → ⊥
 heading_not_read line kind h is = elim (heading_kinds line kind h) [ inl number ↦ absurd cc | inr other ↦ absurd cc ]
 
--- a read failed in what a line announced
+-- nor out of memory
+pub heading_not_lacking : (line : List ℕ) (kind : SnapshotFaultKind) → heading_of line ≡ Err kind → kind ≡ Memory → ⊥
+heading_not_lacking line kind h is = elim (heading_kinds line kind h) [ inl number ↦ absurd cc | inr other ↦ absurd cc ]
+
+-- a call failed in what a line announced: the line had been taken
 pub entry_fails : (files : List File) (o m p : Option (List ℕ)) (l ml pl : ℕ) (line : List ℕ) (heading : Heading) → heading_of line ≡ Ok heading
     → (is_some o ≡ true → (following : Ahead) × (line_at (ahead_of o l) ≡ Ok (line, following)) × (is_some m ≡ true) × ((h : Heading) → heading_of line ≡ Ok h → following ≡ ahead_of m ml))
     → (is_some m ≡ true → TookPart (λ part. announced files heading (record { bytes = part; left = ml }) ≡ Err Cut) m ml p pl) → is_some o ≡ true
-    → TookPart (λ part. entry_at files (record { bytes = part; left = l }) ≡ Err Cut) o l p pl
+    → TookPart (λ part. (0 < length part) × (entry_at files (record { bytes = part; left = l }) ≡ Err Cut)) o l p pl
 entry_fails files o m p l ml pl line heading is read h k =
     let got = λ (known : is_some o ≡ true). let r = read known in subst (λ (v : Ahead). line_at (ahead_of o l) ≡ Ok (line, v)) (r.3 heading is) r.1 in
     let t : Takes o l m ml (line ++ feed ∷ []) = record {
@@ -240,34 +287,90 @@ entry_fails files o m p l ml pl line heading is read h k =
       count = λ known. (line_inverse (ahead_of o l) (ahead_of m ml) line (got known)).left;
       known = λ known. (read known).2;
     } in
-    part_after (λ part. announced files heading (record { bytes = part; left = ml }) ≡ Err Cut) (λ part. entry_at files (record { bytes = part; left = l }) ≡ Err Cut) o m p l ml pl (line ++ feed ∷ []) t
+    part_after (λ part. announced files heading (record { bytes = part; left = ml }) ≡ Err Cut) (λ part. (0 < length part) × (entry_at files (record { bytes = part; left = l }) ≡ Err Cut)) o m p l ml pl (line ++ feed ∷ []) t
     (λ part left cut.
     let all : Ahead = record { bytes = (line ++ feed ∷ []) ++ part; left = l } in
-    let mid : Ahead = record { bytes = part; left = ml } in
-    bind_is (named kind_of (line_at all)) _ (line, mid) (named_is kind_of _ (line, mid) (line_alone (ahead_of o l) (ahead_of m ml) line (got k) part))
-    ∙ (bind_is (heading_of line) _ heading is ∙ cut)) h k
+    let mid : Ahead = record { bytes = part; left = ml } in (
+      omega (arith, length-append (line ++ feed ∷ []) part, length-append line (feed ∷ [])),
+      bind_is (named kind_of (line_at all)) _ (line, mid) (named_is kind_of _ (line, mid) (line_alone (ahead_of o l) (ahead_of m ml) line (got k) part))
+          ∙ (bind_is (heading_of line) _ heading is ∙ cut),
+    )) h k
+
+-- the part that a failed read leaves is cut
+pub entry_cut : (files : List File) (o p : Option (List ℕ)) (l pl : ℕ)
+    → TookPart (λ part. (0 < length part) × (entry_at files (record { bytes = part; left = l }) ≡ Err Cut)) o l p pl
+    → TookPart (λ part. entry_at files (record { bytes = part; left = l }) ≡ Err Cut) o l p pl
+entry_cut files o p l pl h = part_is _ (λ part. entry_at files (record { bytes = part; left = l }) ≡ Err Cut) o p l pl (λ t both. both.1) h
 
 -- the entry after files that were taken whole
+reached : (P : List ℕ → Type 0) (o n m : Option (List ℕ)) (nl ml entry : ℕ) (files : List File) (kind : SnapshotFaultKind) → IsSnapshot files
+    → entry ≡ length files + 1 → (t : Takes o longest_text n nl (text_before_end files)) → (k : is_some o ≡ true) → (more : TookPart P n nl m ml)
+    → Reached (unwrap_or o []) (record { entry = entry; kind = kind }) files more.part (unwrap_or m [])
+reached P o n m nl ml entry files kind rules is t k more = record {
+  taken = t.bytes k ∙ (ap (λ v. text_before_end files ++ v) more.bytes ∙ sym (append_assoc (text_before_end files) more.part (unwrap_or m [])));
+  rules = rules;
+  size = omega (arith, t.count k, more.count);
+  entry = is;
+}
+
+left_is : (o n : Option (List ℕ)) (nl : ℕ) (files : List File) → Takes o longest_text n nl (text_before_end files) → is_some o ≡ true
+    → nl ≡ longest_text - length (text_before_end files)
+left_is o n nl files t k = omega (arith, t.count k)
+
 pub front_fails : (o n m : Option (List ℕ)) (nl ml entry : ℕ) (files : List File) (kind : SnapshotFaultKind) → IsSnapshot files → entry ≡ length files + 1
     → Takes o longest_text n nl (text_before_end files) → (is_some n ≡ true → TookPart (λ part. entry_at files (record { bytes = part; left = nl }) ≡ Err Cut) n nl m ml)
     → is_some o ≡ true → FailsInSnapshot (unwrap_or o []) (unwrap_or m []) (record { entry = entry; kind = kind })
 front_fails o n m nl ml entry files kind rules is t h k =
     let more = h (t.known k) in
-    let left : nl ≡ longest_text - length (text_before_end files) = omega (arith, t.count k) in
     inr (
       files,
       more.part,
-      record {
-        taken = t.bytes k ∙ (ap (λ v. text_before_end files ++ v) more.bytes ∙ sym (append_assoc (text_before_end files) more.part (unwrap_or m [])));
-        rules = rules;
-        size = omega (arith, t.count k, more.count);
-        entry = is;
-        cut = subst (λ (q : ℕ). entry_at files (record { bytes = more.part; left = q }) ≡ Err Cut) left more.holds;
-      },
+      (
+        reached _ o n m nl ml entry files kind rules is t k more,
+        subst (λ (q : ℕ). entry_at files (record { bytes = more.part; left = q }) ≡ Err Cut) (left_is o n nl files t k) more.holds,
+      ),
     )
 
--- memory ran out for that entry
-pub front_lacks : (o n : Option (List ℕ)) (nl entry : ℕ) (files : List File) (kind : SnapshotFaultKind) → IsSnapshot files → entry ≡ length files + 1
-    → Takes o longest_text n nl (text_before_end files) → is_some o ≡ true
-    → (fs : List File) × (rest : List ℕ) × NamesAfter (unwrap_or o []) (record { entry = entry; kind = kind }) fs rest
-front_lacks o n nl entry files kind rules is t k = (files, unwrap_or n [], record { whole = t.bytes k; rules = rules; entry = is })
+-- memory ran out in that entry
+pub front_lacks : (o n m : Option (List ℕ)) (nl ml entry : ℕ) (files : List File) (kind : SnapshotFaultKind) → IsSnapshot files → entry ≡ length files + 1
+    → Takes o longest_text n nl (text_before_end files)
+    → (is_some n ≡ true → TookPart (λ part. (0 < length part) × (entry_at files (record { bytes = part; left = nl }) ≡ Err Cut)) n nl m ml)
+    → is_some o ≡ true
+    → (fs : List File) × (part : List ℕ) × LacksInEntry (unwrap_or o []) (record { entry = entry; kind = kind }) fs part (unwrap_or m [])
+front_lacks o n m nl ml entry files kind rules is t h k =
+    let more = h (t.known k) in (
+      files,
+      more.part,
+      (
+        reached _ o n m nl ml entry files kind rules is t k more,
+        more.holds.0,
+        inl (subst (λ (q : ℕ). entry_at files (record { bytes = more.part; left = q }) ≡ Err Cut) (left_is o n nl files t k) more.holds.1),
+      ),
+    )
+
+-- or for the place of a file that was read
+pub front_has_no_room : (o n m : Option (List ℕ)) (nl ml entry : ℕ) (files : List File) (f : File) (x : Option File) (kind : SnapshotFaultKind) → x ≡ Some f
+    → IsSnapshot files → IfSome x (λ file. Follows files file) → entry ≡ length files + 1
+    → Takes o longest_text n nl (text_before_end files) → (is_some n ≡ true → (entry_at files (ahead_of n nl) ≡ Ok (x, ahead_of m ml)) × (is_some m ≡ true))
+    → is_some o ≡ true
+    → (fs : List File) × (part : List ℕ) × LacksInEntry (unwrap_or o []) (record { entry = entry; kind = kind }) fs part (unwrap_or m [])
+front_has_no_room o n m nl ml entry files f x kind some rules fits is t h k =
+    let follows : Follows files f = subst (λ (e : Option File). IfSome e (λ file. Follows files file)) some fits in
+    let known = t.known k in
+    let small : length files ≤ most_files = let few = rules.count in omega arith in
+    let step = subst (λ (e : Option File). TakesAhead (ahead_of n nl) (entry_text files e) (ahead_of m ml)) some (entry_takes files (ahead_of n nl) (ahead_of m ml) x small (h known).0) in
+    let more : TookPart (λ part. part ≡ file_text f) n nl m ml = record {
+      part = file_text f;
+      bytes = step.bytes;
+      count = step.left;
+      known = (h known).1;
+      holds = refl;
+    } in (
+      files,
+      file_text f,
+      (
+        reached _ o n m nl ml entry files kind rules is t k more,
+        omega (arith, length-append (file_line f) (feed ∷ (f.name ++ feed ∷ (f.bytes ++ feed ∷ [])))),
+        inr (f, follows, refl),
+      ),
+    )

@@ -1,8 +1,8 @@
 -- What was taken of a text when a read failed.
-use Rattle.std.specs.Prelude.{◌≡◌, ℕ, ◌+◌, ◌-◌, ◌≤◌, ◌⊎◌, true, List, [], ◌++◌, length, Option, Result, Err, IfErr}
+use Rattle.std.specs.Prelude.{◌≡◌, ℕ, ◌+◌, ◌-◌, ◌<◌, ◌≤◌, ◌⊎◌, true, List, [], ◌++◌, length, Option, Result, Err, IfErr}
 use Rattle.std.specs.Prelude.{is_some, unwrap_or}
 use Rattle.paths.specs.Texts.{Ahead}
-use Rattle.paths.specs.Snapshots.{longest_text, text_before_end, snapshot_text, IsSnapshot}
+use Rattle.paths.specs.Snapshots.{longest_text, file_text, text_before_end, snapshot_text, IsSnapshot, Follows}
 use Rattle.paths.specs.SnapshotFaults.{header_at, entry_at}
 use Rattle.paths.specs.declared.file.File.{File}
 use Rattle.paths.specs.declared.snapshot_fault.SnapshotFault.{SnapshotFault}
@@ -33,14 +33,33 @@ abbrev pub FailsWithin : {X Y E : Type 0} → E → E → (Ahead → Result (X �
 FailsWithin failed cut f old left new left_new r = FailsAfter failed
     (λ part. f (record { bytes = part; left = left }) ≡ Err cut) old left new left_new r
 
--- A read failed in the entry after these files: their texts were taken whole, and of the entry itself only a part,
--- which is cut. The fault names that entry.
-pub record FailsInEntry (text : List ℕ) (f : SnapshotFault) (files : List File) (part rest : List ℕ) : Type 0 where
+-- memory ran out: some bytes had been taken, and f finds them cut
+abbrev pub LacksWithin : {X Y E : Type 0} → E → E → (Ahead → Result (X × Ahead) E) → Option (List ℕ) → ℕ
+    → Option (List ℕ) → ℕ → Result Y E → Type 0
+LacksWithin lacking cut f old left new left_new r = FailsAfter lacking
+    (λ part. (0 < length part) × (f (record { bytes = part; left = left }) ≡ Err cut)) old left new left_new r
+
+-- A call that failed had taken the texts of these files whole, and this part after them. The fault names the entry after
+-- the files.
+pub record Reached (text : List ℕ) (f : SnapshotFault) (files : List File) (part rest : List ℕ) : Type 0 where
   pub taken : text ≡ (text_before_end files ++ part) ++ rest
   pub rules : IsSnapshot files
   pub size : length (text_before_end files) + length part ≤ longest_text
   pub entry : f.entry ≡ length files + 1
-  pub cut : entry_at files (record { bytes = part; left = longest_text - length (text_before_end files) }) ≡ Err Cut
+
+-- the part is one of the entry after these files, which is cut
+abbrev pub IsCutEntry : List File → List ℕ → Type 0
+IsCutEntry files part =
+    entry_at files (record { bytes = part; left = longest_text - length (text_before_end files) }) ≡ Err Cut
+
+-- a read failed in the entry that the fault names
+abbrev pub FailsInEntry : List ℕ → SnapshotFault → List File → List ℕ → List ℕ → Type 0
+FailsInEntry text f files part rest = Reached text f files part rest × IsCutEntry files part
+
+-- memory ran out for the entry that the fault names: some of it had been taken, or the whole of one more file
+abbrev pub LacksInEntry : List ℕ → SnapshotFault → List File → List ℕ → List ℕ → Type 0
+LacksInEntry text f files part rest = Reached text f files part rest × (0 < length part)
+    × (IsCutEntry files part ⊎ ((file : File) × Follows files file × (part ≡ file_text file)))
 
 -- it failed in the first line, which is entry 0
 pub record FailsInHeader (text : List ℕ) (f : SnapshotFault) (part rest : List ℕ) : Type 0 where
@@ -61,21 +80,16 @@ pub record FailsAtEnd (text : List ℕ) (f : SnapshotFault) (files : List File) 
   pub size : length (snapshot_text files) ≤ longest_text
   pub entry : f.entry ≡ length files + 1
 
--- The fault names the entry after these files, whose texts stand whole before it.
-pub record NamesAfter (text : List ℕ) (f : SnapshotFault) (files : List File) (rest : List ℕ) : Type 0 where
-  pub whole : text ≡ text_before_end files ++ rest
-  pub rules : IsSnapshot files
-  pub entry : f.entry ≡ length files + 1
-
--- where the bytes of the input are known, it does so where memory ran out
-abbrev pub NamesLacking : Option (List ℕ) → SnapshotFault → Type 0
-NamesLacking old f = f.kind ≡ Memory → is_some old ≡ true → (files : List File) × (rest : List ℕ)
-    × NamesAfter (unwrap_or old []) f files rest
+-- where the bytes of the input are known and memory ran out
+abbrev pub NamesLacking : Option (List ℕ) → Option (List ℕ) → SnapshotFault → Type 0
+NamesLacking old new f = f.kind ≡ Memory → is_some old ≡ true → (files : List File) × (part : List ℕ)
+    × LacksInEntry (unwrap_or old []) f files part (unwrap_or new [])
 
 -- where the bytes of the input are known and the fault is a failed read
 abbrev pub NamesFailed : (List ℕ → List ℕ → SnapshotFault → Type 0) → Option (List ℕ) → Option (List ℕ) → SnapshotFault
     → Type 0
 NamesFailed Fails old new f = f.kind ≡ Read → is_some old ≡ true → Fails (unwrap_or old []) (unwrap_or new []) f
 
+-- it failed in an entry, or after the last line
 abbrev pub FailsInText : List ℕ → List ℕ → SnapshotFault → Type 0
 FailsInText text rest f = FailsInSnapshot text rest f ⊎ ((files : List File) × FailsAtEnd text f files rest)

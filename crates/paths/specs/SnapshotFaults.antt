@@ -21,6 +21,22 @@ use Rattle.paths.specs.declared.snapshot_fault.SnapshotFaultKind.TheVariants.{Cu
 use Rattle.paths.specs.declared.snapshot_fault.SnapshotFaultKind.TheVariants.{Order, Conflict, Length, Count, Trailing}
 use Rattle.paths.specs.declared.snapshot_fault.SnapshotFaultKind.TheVariants.{Read, Memory}
 
+-- the name of a kind, as in a line that tells of the fault
+abbrev pub kind_name : SnapshotFaultKind → List ℕ
+kind_name Cut = codes "Cut"
+kind_name Header = codes "Header"
+kind_name Kind = codes "Kind"
+kind_name Number = codes "Number"
+kind_name TooLarge = codes "TooLarge"
+kind_name Name = codes "Name"
+kind_name Order = codes "Order"
+kind_name Conflict = codes "Conflict"
+kind_name Length = codes "Length"
+kind_name Count = codes "Count"
+kind_name Trailing = codes "Trailing"
+kind_name Read = codes "Read"
+kind_name Memory = codes "Memory"
+
 -- the fault of an entry, a part of which could not be read
 abbrev pub kind_of : Stop → SnapshotFaultKind
 kind_of stops.TooLong = Kind

@@ -4,7 +4,7 @@ ghost use Rattle.std.specs.Prelude.{◌≡◌, ◌<◌, ◌≤◌, ◌-◌, ◌^
 ghost use Rattle.std.specs.List.{list_all, list_any, slice_split};
 ghost use Rattle.paths.specs.Devices.{CanFail};
 ghost use Rattle.paths.specs.Texts.{Gives};
-ghost use Rattle.paths.specs.Parts.{FailsWithin};
+ghost use Rattle.paths.specs.Parts.{FailsAtOnce, FailsWithin, LacksWithin};
 ghost use Rattle.paths.specs.Snapshots.{slash, is_name, is_part, FitsName, Follows};
 ghost use Rattle.paths.specs.SnapshotFaults.{CountsKind, is_unforeseen_kind, header_at, name_at, body_at, file_at};
 ghost use Rattle.paths.specs.SnapshotFaults.{announced, entry_at};
@@ -88,6 +88,8 @@ fn read_name<R: Read>(
     // Where a read failed, no whole name had been taken.
     ensures part { FailsWithin SnapshotFaultKind.Read SnapshotFaultKind.Cut (name_at files.now len)
         input.old.bytes left.old input.new.bytes left.new result }
+    // Where there was no memory, nothing had been taken.
+    ensures lacks { FailsAtOnce SnapshotFaultKind.Memory input.old.bytes left.old input.new.bytes left.new result }
     ensures fits { IfOk result (λ name. FitsName files.now len name) }
     ensures count { CountsKind input.old.failures input.new.failures result }
 {
@@ -117,6 +119,8 @@ fn read_body<R: Read>(
     // Where a read failed, no whole run had been taken.
     ensures part { FailsWithin SnapshotFaultKind.Read SnapshotFaultKind.Cut (body_at len)
         input.old.bytes left.old input.new.bytes left.new result }
+    // Where there was no memory, nothing had been taken.
+    ensures lacks { FailsAtOnce SnapshotFaultKind.Memory input.old.bytes left.old input.new.bytes left.new result }
     ensures length { IfOk result (λ bytes. length bytes ≡ len) }
     ensures count { CountsKind input.old.failures input.new.failures result }
 {
@@ -141,6 +145,9 @@ fn read_file<R: Read>(
         input.old.bytes left.old input.new.bytes left.new result }
     // Where a read failed, no whole file had been taken.
     ensures part { FailsWithin SnapshotFaultKind.Read SnapshotFaultKind.Cut (file_at files.now line)
+        input.old.bytes left.old input.new.bytes left.new result }
+    // Nor where there was no memory.
+    ensures lacks { FailsWithin SnapshotFaultKind.Memory SnapshotFaultKind.Cut (file_at files.now line)
         input.old.bytes left.old input.new.bytes left.new result }
     ensures fits { IfOk result (λ file. Follows files.now file) }
     ensures count { CountsKind input.old.failures input.new.failures result }
@@ -177,6 +184,9 @@ fn read_announced<R: Read>(
     // Where a read failed, no whole file had been taken.
     ensures part { FailsWithin SnapshotFaultKind.Read SnapshotFaultKind.Cut (announced files.now heading)
         input.old.bytes left.old input.new.bytes left.new result }
+    // Nor where there was no memory.
+    ensures lacks { FailsWithin SnapshotFaultKind.Memory SnapshotFaultKind.Cut (announced files.now heading)
+        input.old.bytes left.old input.new.bytes left.new result }
     ensures fits { IfOk result (λ entry. IfSome entry (λ file. Follows files.now file)) }
     ensures count { CountsKind input.old.failures input.new.failures result }
 {
@@ -207,6 +217,9 @@ pub(crate) fn read_entry<R: Read>(
         input.old.bytes left.old input.new.bytes left.new result }
     // Where a read failed, no whole entry had been taken.
     ensures part { FailsWithin SnapshotFaultKind.Read SnapshotFaultKind.Cut (entry_at files.now)
+        input.old.bytes left.old input.new.bytes left.new result }
+    // Where there was no memory, some of the entry had been taken, and no whole one.
+    ensures lacks { LacksWithin SnapshotFaultKind.Memory SnapshotFaultKind.Cut (entry_at files.now)
         input.old.bytes left.old input.new.bytes left.new result }
     ensures fits { IfOk result (λ entry. IfSome entry (λ file. Follows files.now file)) }
     ensures count { CountsKind input.old.failures input.new.failures result }

@@ -26,8 +26,8 @@ impl Snapshot {
         // Where a read failed, the fault names the entry of which a part had been taken.
         ensures failed { IfErr result (NamesFailed FailsInSnapshot input.old.bytes input.new.bytes) }
         ensures count { CountsFault input.old.failures input.new.failures result }
-        // Where memory ran out, the fault names an entry after files that stand whole.
-        ensures lacking { IfErr result (NamesLacking input.old.bytes) }
+        // Where memory ran out, the fault names the entry of which some bytes had been taken, at most a whole file.
+        ensures lacking { IfErr result (NamesLacking input.old.bytes input.new.bytes) }
         // The first line takes no memory.
         ensures memory { IfErr result (λ f. f.entry ≡ 0 → f.kind ≢ SnapshotFaultKind.Memory) }
     {
@@ -64,8 +64,8 @@ impl Snapshot {
         // line.
         ensures failed { IfErr result (NamesFailed FailsInText input.old.bytes input.new.bytes) }
         ensures count { CountsFault input.old.failures input.new.failures result }
-        // Where memory ran out, the fault names an entry after files that stand whole.
-        ensures lacking { IfErr result (NamesLacking input.old.bytes) }
+        // Where memory ran out, the fault names the entry of which some bytes had been taken, at most a whole file.
+        ensures lacking { IfErr result (NamesLacking input.old.bytes input.new.bytes) }
         // The first line takes no memory.
         ensures memory { IfErr result (λ f. f.entry ≡ 0 → f.kind ≢ SnapshotFaultKind.Memory) }
     {

@@ -174,6 +174,8 @@ pub fn read_run<R: Read>(
     // Where a read failed, no whole run had been taken.
     ensures part { FailsWithin Stop.Read Stop.Cut (run_at count)
         input.old.bytes left.old input.new.bytes left.new result }
+    // Where there was no memory, nothing had been taken.
+    ensures lacks { FailsAtOnce Stop.Memory input.old.bytes left.old input.new.bytes left.new result }
     ensures length { IfOk result (λ run. length run ≡ count) }
     ensures count { Counts input.old.failures input.new.failures result }
 {

@@ -5,6 +5,8 @@ use Rattle.paths.specs.Snapshots.{question_mark}
 use Rattle.paths.specs.declared.snapshot_fault.SnapshotFault.{SnapshotFault}
 use Rattle.paths.specs.declared.snapshot_fault.SnapshotFaultKind.{SnapshotFaultKind}
 use Rattle.paths.specs.declared.snapshot_fault.SnapshotFaultKind.TheVariants as entries
+use Rattle.paths.specs.SnapshotFaults.{kind_name as entry_kind}
+use Rattle.captures.specs.CaptureFaults.{kind_name as record_kind}
 use Rattle.captures.specs.declared.capture_fault.CaptureFault.{CaptureFault}
 use Rattle.captures.specs.declared.capture_fault.CaptureFaultKind.{CaptureFaultKind}
 use Rattle.captures.specs.declared.capture_fault.CaptureFaultKind.TheVariants as records
@@ -118,44 +120,13 @@ file_fault_name files.Link = codes "Link"
 file_fault_name files.Special = codes "Special"
 file_fault_name files.Read = codes "Read"
 
-abbrev pub snapshot_kind_name : SnapshotFaultKind → List ℕ
-snapshot_kind_name entries.Cut = codes "Cut"
-snapshot_kind_name entries.Header = codes "Header"
-snapshot_kind_name entries.Kind = codes "Kind"
-snapshot_kind_name entries.Number = codes "Number"
-snapshot_kind_name entries.TooLarge = codes "TooLarge"
-snapshot_kind_name entries.Name = codes "Name"
-snapshot_kind_name entries.Order = codes "Order"
-snapshot_kind_name entries.Conflict = codes "Conflict"
-snapshot_kind_name entries.Length = codes "Length"
-snapshot_kind_name entries.Count = codes "Count"
-snapshot_kind_name entries.Trailing = codes "Trailing"
-snapshot_kind_name entries.Read = codes "Read"
-snapshot_kind_name entries.Memory = codes "Memory"
-
-abbrev pub capture_kind_name : CaptureFaultKind → List ℕ
-capture_kind_name records.Cut = codes "Cut"
-capture_kind_name records.Header = codes "Header"
-capture_kind_name records.Kind = codes "Kind"
-capture_kind_name records.Number = codes "Number"
-capture_kind_name records.Tick = codes "Tick"
-capture_kind_name records.Connection = codes "Connection"
-capture_kind_name records.Ended = codes "Ended"
-capture_kind_name records.Tier = codes "Tier"
-capture_kind_name records.Length = codes "Length"
-capture_kind_name records.Count = codes "Count"
-capture_kind_name records.Trailing = codes "Trailing"
-capture_kind_name records.TooLarge = codes "TooLarge"
-capture_kind_name records.Read = codes "Read"
-capture_kind_name records.Memory = codes "Memory"
-
 -- the line on standard error
 abbrev pub text_of : Told → List ℕ
 text_of Usage = codes "usage"
 text_of Engine = codes "engine"
 text_of (Settings f) = codes "settings: " ++ fault_text f
-text_of (Entry f) = codes "snapshot: entry " ++ decimal f.entry ++ codes ": " ++ snapshot_kind_name f.kind
-text_of (Record f) = codes "capture: record " ++ decimal f.at ++ codes ": " ++ capture_kind_name f.kind
+text_of (Entry f) = codes "snapshot: entry " ++ decimal f.entry ++ codes ": " ++ entry_kind f.kind
+text_of (Record f) = codes "capture: record " ++ decimal f.at ++ codes ": " ++ record_kind f.kind
 text_of (TooMany number) = codes "capture: message " ++ decimal number ++ codes ": TooMany"
 text_of (File fault) = codes "folder: " ++ file_fault_name fault
 text_of (Open place) = codes "open: " ++ place_name place

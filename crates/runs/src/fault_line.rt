@@ -11,7 +11,6 @@ ghost use Rattle.options.specs.Keys.{path_of};
 
 use crate::fault::{Fault, told_file};
 use crate::file_fault::{FileFault, FolderFault};
-use crate::kind_names::{capture_kind_name, snapshot_kind_name};
 use crate::told::Told;
 use arrayvec::ArrayVec;
 use command_line::WordFault;
@@ -98,11 +97,11 @@ fn line_of(told: Told) -> Line
             numbered_line(
                 "snapshot: entry ",
                 fault.entry,
-                snapshot_kind_name(fault.kind),
+                fault.kind.name(),
             )
         }
         Told::Record(fault) => {
-            numbered_line("capture: record ", fault.at, capture_kind_name(fault.kind))
+            numbered_line("capture: record ", fault.at, fault.kind.name())
         }
         Told::TooMany(number) => numbered_line("capture: message ", number, "TooMany"),
         Told::File(fault) => plain_line("folder: ", fault.name(), b'\n'),

@@ -14,7 +14,6 @@ mod file_fault;
 mod folder;
 mod in_force;
 mod inspecting;
-mod kind_names;
 mod place;
 mod program;
 mod replaying;

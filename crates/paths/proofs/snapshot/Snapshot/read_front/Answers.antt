@@ -1,7 +1,7 @@
 use Rattle.std.proofs.Common.{◌+◌, ap, ◌∙◌, arith}
 use Rattle.paths.proofs.Entries.{front_starts, front_goes_on, front_ends, front_faults}
 use Rattle.paths.proofs.snapshot.Snapshot.read_front.Goals as goal
-use Rattle.paths.proofs.PartLemmas.{front_fails, front_lacks}
+use Rattle.paths.proofs.PartLemmas.{front_fails, front_lacks, front_has_no_room}
 
 pub loop-files-init : goal.loop-files-init
 loop-files-init g c = (front_starts _ _ _ _ _ c.new-files.ensures c.in-Ok.ensures.line, c.in-Ok.ensures.count)
@@ -25,8 +25,9 @@ returns-in-Err-read_entry-clause-failed g c = λ failed k.
 
 pub returns-in-Err-push-clause-lacking : goal.returns-in-Err-push-clause-lacking
 returns-in-Err-push-clause-lacking g c = λ lacks k.
-    front_lacks _ _ _ _ _ _ c.len-entry.ensures.rules (ap (λ n. n + 1) c.len-entry.ensures.count) c.loop-files.invariant.0 k
+    front_has_no_room _ _ _ _ _ _ _ _ _ _ c.in-Ok-Some.field-0-is c.len-entry.ensures.rules c.in-Ok-Some.ensures.fits
+    (ap (λ n. n + 1) c.len-entry.ensures.count) c.loop-files.invariant.0 c.in-Ok-Some.ensures.entry k
 
 pub returns-in-Err-read_entry-clause-lacking : goal.returns-in-Err-read_entry-clause-lacking
 returns-in-Err-read_entry-clause-lacking g c = λ lacks k.
-    front_lacks _ _ _ _ _ _ c.len-entry.ensures.rules (ap (λ n. n + 1) c.len-entry.ensures.count) c.loop-files.invariant.0 k
+    front_lacks _ _ _ _ _ _ _ _ c.len-entry.ensures.rules (ap (λ n. n + 1) c.len-entry.ensures.count) c.loop-files.invariant.0 (c.in-Err-read_entry.ensures.lacks lacks) k
