@@ -3,6 +3,8 @@ use Rattle.std.proofs.Common.{◌≡◌, ℕ, ◌≤◌, ◌⊎◌, inl, inr, Li
 use Rattle.std.specs.Result.{IsErrAnd}
 use Rattle.std.specs.Io.KnownBytes.{Appends}
 use Rattle.std.proofs.lemmas.List.{flat_map_more}
+use Rattle.paths.proofs.Appending.{appends_then, prefix_then}
+use Rattle.paths.specs.Devices.{AppendsPrefix, WritesPrefix}
 use Rattle.captures.specs.declared.version.Version.{Version}
 use Rattle.captures.specs.declared.version.Version.TheVariants.{Two}
 use Rattle.captures.specs.declared.record.Record.{Record}
@@ -16,9 +18,7 @@ use Rattle.paths.specs.KnownText.{WhereKnown}
 use Rattle.captures.specs.Captures.{feed, first_line, last_line, record_text, text_before_stop, longest_text, IsCapture, IsCaptureText}
 use Rattle.captures.specs.CaptureFaults.{IsForeseen, IsHeaderFault, failures_of}
 use Rattle.captures.specs.Readers.{ReaderAfter, Gave, FailsFirst, FailsNext}
-use Rattle.captures.specs.Writing.{AppendsPrefix, WritesPrefix}
 use Rattle.captures.specs.Upgrades.{Upgrades, Reads, Stops, IsCutShort, told_as, upgrade_fault, IfCapture, IfCutShort, IsWriteOrMemory, reader_failures, writer_failures}
-use Rattle.captures.proofs.WritingLemmas.{appends_then, prefix_then}
 
 -- ---- what is told of a capture's fault
 

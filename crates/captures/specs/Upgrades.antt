@@ -1,6 +1,7 @@
 -- A capture of either version becomes one of version 2, and what has been written of it where the call stops.
 use Rattle.std.specs.Prelude.{◌≡◌, ℕ, ◌+◌, ◌≤◌, ◌⊎◌, false, List, ◌++◌, length, Option, Err}
 use Rattle.std.specs.Io.KnownBytes.{Appends}
+use Rattle.paths.specs.Devices.{AppendsPrefix}
 use Rattle.paths.specs.KnownText.{WhereKnown}
 use Rattle.captures.specs.declared.version.Version.{Version}
 use Rattle.captures.specs.declared.version.Version.TheVariants.{Two}
@@ -13,7 +14,6 @@ use Rattle.captures.specs.declared.upgrade_fault.UpgradeFault.TheVariants.{Captu
 use Rattle.captures.specs.Captures.{text_before_stop, capture_text, longest_text, IsCapture, IsCaptureText}
 use Rattle.captures.specs.CaptureFaults.{is_unforeseen_kind, IsHeaderFault, IsFaultAfter, failures_of}
 use Rattle.captures.specs.Readers.{FailsFirst, FailsNext}
-use Rattle.captures.specs.Writing.{AppendsPrefix}
 
 -- The upgraded text of a capture is that of version 2 with the same start and the same records.
 abbrev pub upgraded : ℕ → List Record → List ℕ

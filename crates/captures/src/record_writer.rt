@@ -2,50 +2,16 @@
 
 ghost use Rattle.std.specs.Prelude.{◌≡◌, ◌<◌, ◌-◌, ◌^◌, ◌++◌, ◌∷◌, [], codes, decimal, IfOk, IfErr};
 ghost use Rattle.std.specs.String.{string_bytes};
-ghost use Rattle.paths.specs.Devices.{CanFail, CountsBy};
+ghost use Rattle.paths.specs.Devices.{CanFail, CountsBy, WritesPrefix};
 ghost use Rattle.captures.specs.Captures.{first_line, piece_line, record_text};
 ghost use Rattle.captures.specs.Upgrades.{writer_failures, IsWriteOrMemory};
-ghost use Rattle.captures.specs.Writing.{WritesPrefix, line_of, rest_of};
+ghost use Rattle.captures.specs.Writing.{line_of, rest_of};
 ghost use Rattle.captures.specs.declared.version.Version.TheVariants.{Two};
 
 use crate::{Record, UpgradeFault};
-use paths::{Failed, Output};
+use paths::Output;
 use std::alloc::{AllocError, Global};
 use std::io::Write;
-
-/// Writes all the bytes, in as many writes as it takes. At an `Err` a prefix of them was written.
-fn write_all<W: Write>(output: &mut Output<W>, bytes: &[u8]) -> Result<(), UpgradeFault>
-    requires { CanFail output.old }
-    ensures prefix { WritesPrefix output.old.bytes output.new.bytes result bytes.now }
-    ensures count { CountsBy writer_failures output.old.failures output.new.failures result }
-    ensures own { IfErr result IsWriteOrMemory }
-{
-    let mut written = 0;
-    while written < bytes.len() {
-        match output.write_some(&bytes[written..]) {
-            Ok(more) => written += more,
-            Err(Failed) => return Err(UpgradeFault::Write),
-        }
-    }
-    Ok(())
-}
-
-/// Writes one text and then another.
-fn write_both<W: Write>(
-    output: &mut Output<W>,
-    first: &[u8],
-    second: &[u8],
-) -> Result<(), UpgradeFault>
-    requires { CanFail output.old }
-    ensures prefix { WritesPrefix output.old.bytes output.new.bytes result (first.now ++ second.now) }
-    ensures count { CountsBy writer_failures output.old.failures output.new.failures result }
-    ensures own { IfErr result IsWriteOrMemory }
-{
-    match write_all(output, first) {
-        Ok(()) => write_all(output, second),
-        Err(fault) => Err(fault),
-    }
-}
 
 /// Writes the first line of a capture of version 2.
 pub(crate) fn write_first_line<W: Write>(
@@ -58,10 +24,9 @@ pub(crate) fn write_first_line<W: Write>(
     ensures count { CountsBy writer_failures output.old.failures output.new.failures result }
     ensures own { IfErr result IsWriteOrMemory }
 {
-    match format!(in alloc; "haboob-capture 2 {start}\n") {
-        Ok(line) => write_all(output, line.as_bytes()),
-        Err(_) => Err(UpgradeFault::Memory),
-    }
+    let line = format!(in alloc; "haboob-capture 2 {start}\n")?;
+    output.write_all(line.as_bytes())?;
+    Ok(())
 }
 
 /// The line before the bytes of a piece.
@@ -95,10 +60,9 @@ fn write_line<W: Write>(
     ensures count { CountsBy writer_failures output.old.failures output.new.failures result }
     ensures own { IfErr result IsWriteOrMemory }
 {
-    match record_line(alloc, next) {
-        Ok(line) => write_all(output, line.as_bytes()),
-        Err(_) => Err(UpgradeFault::Memory),
-    }
+    let line = record_line(alloc, next)?;
+    output.write_all(line.as_bytes())?;
+    Ok(())
 }
 
 /// Writes what comes after the line of a record: the bytes of a piece, with a line feed.
@@ -108,10 +72,10 @@ fn write_rest<W: Write>(output: &mut Output<W>, next: &Record) -> Result<(), Upg
     ensures count { CountsBy writer_failures output.old.failures output.new.failures result }
     ensures own { IfErr result IsWriteOrMemory }
 {
-    match next {
-        Record::Piece { bytes, .. } => write_both(output, bytes.as_slice(), b"\n"),
-        Record::End { .. } | Record::Tier { .. } => Ok(()),
+    if let Record::Piece { bytes, .. } = next {
+        output.write_both(bytes.as_slice(), b"\n")?;
     }
+    Ok(())
 }
 
 /// Writes a record.
@@ -143,8 +107,7 @@ pub(crate) fn write_last_line<W: Write>(
     ensures count { CountsBy writer_failures output.old.failures output.new.failures result }
     ensures own { IfErr result IsWriteOrMemory }
 {
-    match format!(in alloc; "stop {count}\n") {
-        Ok(line) => write_all(output, line.as_bytes()),
-        Err(_) => Err(UpgradeFault::Memory),
-    }
+    let line = format!(in alloc; "stop {count}\n")?;
+    output.write_all(line.as_bytes())?;
+    Ok(())
 }

@@ -1,25 +1,22 @@
 //! Writing the table: its heading, and its rows.
 
 ghost use Rattle.std.specs.Prelude.{◌≡◌, ◌<◌, ◌-◌, ◌^◌};
-ghost use Rattle.paths.specs.Devices.{CanFail};
-ghost use Rattle.responses.specs.Records.{WritesFront, CountsWrite};
+ghost use Rattle.paths.specs.Devices.{CanFail, WritesProperPrefix, CountsFailed};
 ghost use Rattle.explaining.specs.Rows.{heading, row_text};
 
 use crate::Row;
 use crate::line::row_line;
 use crate::text::write_text;
 use paths::{Failed, Output};
-use responses::write_all;
 use std::io::Write;
 
 /// Writes the heading. At an `Err` the writer failed in this call, and a prefix of the heading stands there.
 pub fn write_heading<W: Write>(output: &mut Output<W>) -> Result<(), Failed>
     requires { CanFail output.old }
-    ensures front { WritesFront output.old.bytes output.new.bytes result heading }
-    ensures count { CountsWrite output.old.failures output.new.failures result }
+    ensures prefix { WritesProperPrefix output.old.bytes output.new.bytes result heading }
+    ensures count { CountsFailed output.old.failures output.new.failures result }
 {
-    write_all(
-        output,
+    output.write_all(
         b"number,connection,tick,tier,status,decision,service,credit,rate,start,finish,waited,method,target\n",
     )
 }
@@ -33,14 +30,14 @@ pub fn write_row<W: Write>(
     target: &[u8],
 ) -> Result<(), Failed>
     requires { CanFail output.old }
-    ensures front { WritesFront output.old.bytes output.new.bytes result (row_text row.now method.now target.now) }
-    ensures count { CountsWrite output.old.failures output.new.failures result }
+    ensures prefix { WritesProperPrefix output.old.bytes output.new.bytes result (row_text row.now method.now target.now) }
+    ensures count { CountsFailed output.old.failures output.new.failures result }
 {
     let line = row_line(row);
-    write_all(output, line.as_slice())?;
+    output.write_all(line.as_slice())?;
     write_text(output, method)?;
-    write_all(output, b",")?;
+    output.write_all(b",")?;
     write_text(output, target)?;
-    write_all(output, b"\n")?;
+    output.write_all(b"\n")?;
     Ok(())
 }

@@ -1,13 +1,11 @@
 //! A field of bytes, percent-encoded where they would part fields or lines.
 
 ghost use Rattle.std.specs.Prelude.{◌≡◌, ◌<◌, ◌-◌, ◌^◌};
-ghost use Rattle.paths.specs.Devices.{CanFail};
-ghost use Rattle.responses.specs.Records.{WritesFront, CountsWrite};
+ghost use Rattle.paths.specs.Devices.{CanFail, WritesProperPrefix, CountsFailed};
 ghost use Rattle.explaining.specs.Rows.{text_field};
 
 use paths::{Failed, Output};
 use percent_encoding::{AsciiSet, CONTROLS, ascii_set, percent_encode};
-use responses::write_all;
 use std::io::Write;
 
 /// The bytes that a field escapes, beside those outside ASCII.
@@ -16,11 +14,11 @@ const ESCAPED: AsciiSet = ascii_set!(CONTROLS.add(b' ').add(b'"').add(b'%').add(
 /// Writes bytes as a field. It takes no memory.
 pub(crate) fn write_text<W: Write>(output: &mut Output<W>, bytes: &[u8]) -> Result<(), Failed>
     requires { CanFail output.old }
-    ensures front { WritesFront output.old.bytes output.new.bytes result (text_field bytes.now) }
-    ensures count { CountsWrite output.old.failures output.new.failures result }
+    ensures prefix { WritesProperPrefix output.old.bytes output.new.bytes result (text_field bytes.now) }
+    ensures count { CountsFailed output.old.failures output.new.failures result }
 {
     for piece in percent_encode(bytes, ESCAPED) {
-        write_all(output, piece.as_bytes())?;
+        output.write_all(piece.as_bytes())?;
     }
     Ok(())
 }

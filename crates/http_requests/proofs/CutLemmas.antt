@@ -9,7 +9,7 @@ use Rattle.http_requests.specs.declared.heads.Verdict.{Verdict}
 use Rattle.http_requests.specs.declared.cutting.Stage.{Stage}
 use Rattle.http_requests.specs.declared.cutting.Stage.TheVariants.{Seeking, Body, Closed, Failed}
 use Rattle.http_requests.specs.Framing.{blank_len, NoBlock, IsWhole, IsOver, IsNext, Messages}
-use Rattle.http_requests.specs.Cutting.{Progress, BodyMessages, Yields, YieldsIn, IsFront, IsStage, IsSound, HasFailed, EndBetween, Enters, Cuts, Begins, Waits, Took, CutterAfter, Fed, FedSome}
+use Rattle.http_requests.specs.Cutting.{Progress, BodyMessages, Yields, YieldsIn, IsUnfinished, IsStage, IsSound, HasFailed, EndBetween, Enters, Cuts, Begins, Waits, Took, CutterAfter, Fed, FedSome}
 use Rattle.http_requests.proofs.FoundLemmas.{front_empty}
 use Rattle.http_requests.proofs.MessageLemmas.{messages_prefix, body_step}
 
@@ -27,7 +27,7 @@ live_seeking c e f = cc
 pub live_closed : (c : Progress) → c.stage ≡ Closed → ¬ (HasFailed c)
 live_closed c e f = cc
 
-pub sound_front : (c : Progress) → c.stage ≡ Seeking → IsSound c → IsFront c.held
+pub sound_front : (c : Progress) → c.stage ≡ Seeking → IsSound c → IsUnfinished c.held
 sound_front c e s = (rw e at s.stage).0
 
 held_read : (c : Progress) → c.stage ≡ Seeking → IsSound c → length c.held ≤ c.read

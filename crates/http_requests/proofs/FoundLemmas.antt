@@ -13,12 +13,12 @@ use Rattle.http_requests.specs.declared.scanning.Found.TheVariants.{Wait, Over, 
 use Rattle.http_requests.specs.Heads.{IsVerdict, bad}
 use Rattle.http_requests.specs.Framing.{blank_len, Messages}
 use Rattle.http_requests.specs.Scanning.{IsFound, NoEndIn}
-use Rattle.http_requests.specs.Cutting.{BodyMessages, IsFront, Begins, Waits}
+use Rattle.http_requests.specs.Cutting.{BodyMessages, IsUnfinished, Begins, Waits}
 use Rattle.http_requests.proofs.FrontLemmas.{blank_append, blank_two, blank_kept, front_kept, block_append, noblock_append, ends_within, ends_append, blank_fixed}
 use Rattle.http_requests.proofs.MessageLemmas.{whole_step, over_step, wait_step}
 
 -- no block stands in nothing
-pub front_empty : (held : List ℕ) → held ≡ [] → IsFront held
+pub front_empty : (held : List ℕ) → held ≡ [] → IsUnfinished held
 front_empty held h = rw h (refl, (λ e short ends. let w = ends_within [] e ends in omega (arith, w.0, w.1)), omega arith)
 
 whole_cut : (p q len : ℕ) (b y : List ℕ) (v : Verdict) → IsFound b (Whole q len) → IsVerdict (take len (drop q b)) v
@@ -150,7 +150,7 @@ waits_found held text b after n q within some bis f is =
 drop_none : (q : ℕ) (s : List ℕ) → q ≡ 0 → drop q s ≡ s
 drop_none q s h = rw h refl
 
-held_short : (held t : List ℕ) (q len : ℕ) → IsFront held → IsFound (held ++ t) (Whole q len) → length held < q + len
+held_short : (held t : List ℕ) (q len : ℕ) → IsUnfinished held → IsFound (held ++ t) (Whole q len) → length held < q + len
 held_short held t q len s f =
     let e = ends_within _ len f.2.ends in
     elim (cases_lt (length held) 2) [
@@ -163,11 +163,11 @@ held_short held t q len s f =
     ]
 
 -- a block's end lies past what was held
-pub short_held : (held text b : List ℕ) (n q len : ℕ) → IsFront held → b ≡ held ++ take n text → IsFound b (Whole q len) → length held < q + len
+pub short_held : (held text b : List ℕ) (n q len : ℕ) → IsUnfinished held → b ≡ held ++ take n text → IsFound b (Whole q len) → length held < q + len
 short_held held text b n q len s bis f = held_short held (take n text) q len s (rw bis at f)
 
 -- what was held has no end, and so has none before what was joined
-pub no_end_joined : (held text b : List ℕ) (n : ℕ) → IsFront held → b ≡ held ++ take n text → NoEndIn (length held) b
+pub no_end_joined : (held text b : List ℕ) (n : ℕ) → IsUnfinished held → b ≡ held ++ take n text → NoEndIn (length held) b
 no_end_joined held text b n s bis e le ends =
     let i = s.2 in
     s.1 e (omega (arith, i, le)) (rw (← ends_append held (take n text) e le, ← bis) ends)

@@ -1,6 +1,6 @@
 -- What a cutter holds between two pieces, and what it has done with the pieces so far.
 use Rattle.std.specs.Prelude.{◌≡◌, ℕ, ◌+◌, ◌-◌, ◌<◌, ◌≤◌, List, [], ◌∷◌, ◌++◌, length, take, drop, MatchBool}
-use Rattle.http_requests.specs.Limits.{longest_block, longest_body}
+use Rattle.http_requests.specs.Limits.{max_block_bytes, max_body_bytes}
 use Rattle.http_requests.specs.declared.messages.Meaning.{Meaning}
 use Rattle.http_requests.specs.declared.messages.Message.{Message}
 use Rattle.http_requests.specs.declared.heads.Verdict.{Verdict}
@@ -8,8 +8,8 @@ use Rattle.http_requests.specs.declared.cutting.Stage.{Stage}
 use Rattle.http_requests.specs.declared.cutting.Stage.TheVariants.{Seeking, Body, Closed, Failed}
 use Rattle.http_requests.specs.Framing.{NoBlock, Messages, MessagesOf, blank_len, closes}
 
--- what a cutter keeps of the text: where it stands, how many bytes were read, and the front of a
--- block that isn't whole
+-- what a cutter keeps of the text: where it stands, how many bytes were read, and the prefix that was
+-- read of a block that isn't whole
 pub record Progress : Type 0 where
   pub stage : Stage
   pub read : ℕ
@@ -35,14 +35,14 @@ Yields Failed read held y ms = ms ≡ []
 abbrev pub YieldsIn : Progress → List ℕ → List Message → Type 0
 YieldsIn c y ms = Yields c.stage c.read c.held y ms
 
--- the front of a block that isn't whole
-abbrev pub IsFront : List ℕ → Type 0
-IsFront held = (blank_len held ≡ 0) × NoBlock held × (length held < longest_block)
+-- the prefix of a block that isn't whole
+abbrev pub IsUnfinished : List ℕ → Type 0
+IsUnfinished held = (blank_len held ≡ 0) × NoBlock held × (length held < max_block_bytes)
 
--- what is held at each stage: the front of a block that was read, or nothing
+-- what is held at each stage: the prefix of a block that was read, or nothing
 abbrev pub IsStage : Stage → ℕ → List ℕ → Type 0
-IsStage Seeking read held = IsFront held × (length held ≤ read)
-IsStage (Body what left) read held = (0 < left) × (left ≤ longest_body) × (held ≡ [])
+IsStage Seeking read held = IsUnfinished held × (length held ≤ read)
+IsStage (Body what left) read held = (0 < left) × (left ≤ max_body_bytes) × (held ≡ [])
 IsStage Closed read held = Unit {0}
 IsStage Failed read held = Unit {0}
 
@@ -86,7 +86,7 @@ pub record Begins (held text : List ℕ) (n : ℕ) (verdict : Verdict) : Type 0 
 pub record Waits (held text : List ℕ) (n : ℕ) (after : List ℕ) : Type 0 where
   pub some : 0 < n
   pub within : n ≤ length text
-  pub front : IsFront after
+  pub front : IsUnfinished after
   pub kept : length after ≤ length held + n
   pub yields :
       (p : ℕ) (y : List ℕ) (ms : List Message)

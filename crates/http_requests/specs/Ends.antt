@@ -1,6 +1,6 @@
 -- Where a block ends, told by the bytes before that place.
 use Rattle.std.specs.Prelude.{◌≡◌, ℕ, ◌+◌, ◌≤◌, ◌⊎◌, List, ◌++◌, length, codes}
-use Rattle.http_requests.specs.Limits.{longest_block}
+use Rattle.http_requests.specs.Limits.{max_block_bytes}
 
 -- the line feed of a block's last line, and the empty line after it, which ends with LF or CR LF (RFC 9112, 2.1 and
 -- 2.2)
@@ -20,4 +20,4 @@ pub record EndsAfter (s : List ℕ) (e : ℕ) : Type 0 where
 pub record IsShortestBlock (s : List ℕ) (e : ℕ) : Type 0 where
   pub ends : EndsAfter s e
   pub shortest : (k : ℕ) → EndsAfter s k → e ≤ k
-  pub limit : e ≤ longest_block
+  pub limit : e ≤ max_block_bytes

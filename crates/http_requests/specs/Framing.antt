@@ -1,7 +1,7 @@
 -- The messages of a whole text (RFC 9112, sections 2 and 6).
 use Rattle.std.specs.Prelude.{◌≡◌, ℕ, suc, ◌+◌, ◌-◌, ◌<◌, ◌≤◌, ◌⊎◌, Bool, true, ◌&&◌, ◌||◌, if◌then◌else◌, ◌==◌, IsTrue}
 use Rattle.std.specs.Prelude.{nat_le, false, List, [], ◌∷◌, length, take, drop, slice_index, MatchBool}
-use Rattle.http_requests.specs.Limits.{longest_block}
+use Rattle.http_requests.specs.Limits.{line_feed, carriage_return, max_block_bytes}
 use Rattle.http_requests.specs.declared.messages.Fault.TheVariants.{TooLong}
 use Rattle.http_requests.specs.declared.messages.Meaning.{Meaning}
 use Rattle.http_requests.specs.declared.messages.Meaning.TheVariants.{Request, Bad}
@@ -12,42 +12,43 @@ use Rattle.http_requests.specs.Heads.{IsVerdict}
 -- the text begins with LF
 abbrev pub begins_lf : List ℕ → Bool
 begins_lf [] = false
-begins_lf (b ∷ bytes) = b == 10
+begins_lf (b ∷ bytes) = b == line_feed
 
 -- the byte belongs to an empty line: it is LF, or CR with LF after it
 abbrev pub is_blank : ℕ → List ℕ → Bool
-is_blank b bytes = b == 10 || (b == 13 && begins_lf bytes)
+is_blank b bytes = b == line_feed || (b == carriage_return && begins_lf bytes)
 
--- how many bytes the empty lines in front take (RFC 9112, 2.2)
+-- how many bytes the empty lines take with which a text begins (RFC 9112, 2.2)
 abbrev pub blank_len : List ℕ → ℕ
 blank_len [] = 0
 blank_len (b ∷ bytes) = if is_blank b bytes then suc (blank_len bytes) else 0
 
 -- an LF LF or LF CR LF that lies wholly in the text ends before the place e
 unfoldable pub ends_at : List ℕ → ℕ → Bool
-ends_at s e = nat_le 2 e && (nat_le e (length s) && (slice_index s (e - 1) == 10
-    && (slice_index s (e - 2) == 10 || (nat_le 3 e && (slice_index s (e - 2) == 13 && slice_index s (e - 3) == 10)))))
+ends_at s e = nat_le 2 e && (nat_le e (length s) && (slice_index s (e - 1) == line_feed
+    && (slice_index s (e - 2) == line_feed
+    || (nat_le 3 e && (slice_index s (e - 2) == carriage_return && slice_index s (e - 3) == line_feed)))))
 
 -- the same as a fact
 abbrev pub EndsAt : List ℕ → ℕ → Type 0
 EndsAt s e = IsTrue (ends_at s e)
 
--- no block of at most 8,192 bytes stands in front
+-- the text begins with no block of at most 8,192 bytes
 abbrev pub NoBlock : List ℕ → Type 0
-NoBlock s = (e : ℕ) → e ≤ longest_block → EndsAt s e → ⊥
+NoBlock s = (e : ℕ) → e ≤ max_block_bytes → EndsAt s e → ⊥
 
--- the block in front ends before the place e: its first end, within the limit
+-- the block with which the text begins ends before the place e: its first end, within the limit
 pub record IsBlock (s : List ℕ) (e : ℕ) : Type 0 where
   pub ends : EndsAt s e
   pub first : (k : ℕ) → k < e → EndsAt s k → ⊥
-  pub short : e ≤ longest_block
+  pub short : e ≤ max_block_bytes
 
 -- a message after which nothing is read: a fault, or a request that closes
 abbrev pub closes : Meaning → Bool
 closes (Request method target version closing since) = closing
 closes (Bad fault) = true
 
--- a block in front whose body lies in the text as well: what it says, and the place after its body
+-- the text begins with a block, and has its body as well: what it says, and the place after its body
 pub record IsWhole (s : List ℕ) (what : Meaning) (k : ℕ) : Type 0 where
   pub e : ℕ
   pub verdict : Verdict
@@ -61,10 +62,10 @@ pub record IsWhole (s : List ℕ) (what : Meaning) (k : ℕ) : Type 0 where
 pub record IsOver (s : List ℕ) (what : Meaning) (k : ℕ) : Type 0 where
   pub none : NoBlock s
   pub what_is : what ≡ Bad TooLong
-  pub k_is : k ≡ longest_block
-  pub within : longest_block ≤ length s
+  pub k_is : k ≡ max_block_bytes
+  pub within : max_block_bytes ≤ length s
 
--- the message at the front of the rest of a text, after the empty lines there: what it is, and the
+-- the message with which the rest of a text begins, after the empty lines there: what it is, and the
 -- place after it
 pub record IsNext (r : List ℕ) (what : Meaning) (k : ℕ) : Type 0 where
   pub j : ℕ

@@ -5,7 +5,7 @@ use Rattle.std.specs.Prelude.{[], ◌∷◌, map, length, Option, Some, None, Ma
 use Rattle.std.specs.List.{flat_map, list_all, list_any, slice_split}
 use Rattle.std.specs.Char.{is_ascii_alphanumeric, is_ascii_digit, to_ascii_lowercase}
 use Rattle.std.specs.Str.Parse.{digits_value}
-use Rattle.http_requests.specs.Limits.{longest_body}
+use Rattle.http_requests.specs.Limits.{comma, max_fields, max_body_bytes}
 use Rattle.httparse.specs.Grammar.{RequestHead, ReadsRequest, trim_ows}
 use Rattle.httparse.specs.Spans.{name_and_value}
 use Rattle.httpdate.specs.declared.date.HttpDate.{HttpDate}
@@ -74,13 +74,13 @@ head_fault minor lines =
     if is_host_fault minor (values_of (codes "host") lines) then Some Host
     else (if is_given (values_of (codes "transfer-encoding") lines) then Some Coding
     else (if is_length_fault (values_of (codes "content-length") lines) then Some Length
-    else (if nat_lt longest_body (body_length (values_of (codes "content-length") lines)) then Some BodySize
+    else (if nat_lt max_body_bytes (body_length (values_of (codes "content-length") lines)) then Some BodySize
     else None)))
 
 -- the options of the comma list that all lines together form, each without the spaces and tabs at
 -- both ends (RFC 9110, 5.3 and 5.6.1)
 abbrev pub options_of : List (List ℕ) → List (List ℕ)
-options_of values = flat_map (λ value. map trim_ows (slice_split (λ b. b == 44) value)) values
+options_of values = flat_map (λ value. map trim_ows (slice_split (λ b. b == comma) value)) values
 
 -- the option is among them, in any case (RFC 9110, 7.6.1)
 abbrev pub has_option : List ℕ → List FieldLine → Bool
@@ -147,7 +147,7 @@ HeadSays head verdict = PartsSay head.method head.target head.minor (lines_of he
 
 -- the whole block is this head, with at most 64 fields
 abbrev pub IsHead : List ℕ → RequestHead → Type 0
-IsHead block head = ReadsRequest block head [] × (length head.fields ≤ 64)
+IsHead block head = ReadsRequest block head [] × (length head.fields ≤ max_fields)
 
 -- the verdict of a block: what its head says, or `Block` where it is no head
 unfoldable pub IsVerdict : List ℕ → Verdict → Type 0

@@ -1,6 +1,6 @@
 -- Where the messages of a text lie in it, and what each was read from.
 use Rattle.std.specs.Prelude.{◌≡◌, ℕ, ◌+◌, ◌≤◌, Bool, List, [], ◌∷◌, ◌++◌, length, Option, None, codes}
-use Rattle.http_requests.specs.Limits.{longest_block}
+use Rattle.http_requests.specs.Limits.{max_fields, max_block_bytes}
 use Rattle.httparse.specs.Grammar.{LineEnd, print_blank, RequestHead, ReadsRequest}
 use Rattle.http_requests.specs.declared.messages.Version.{Version}
 use Rattle.http_requests.specs.declared.messages.Fault.TheVariants.{TooLong}
@@ -17,7 +17,7 @@ pub record IsReadFrom
     (since : Option ℕ) : Type 0 where
   pub head : RequestHead
   pub reads : ReadsRequest block head []
-  pub fields : length head.fields ≤ 64
+  pub fields : length head.fields ≤ max_fields
   pub no_fault : head_fault head.minor (lines_of head) ≡ None
   pub method_is : method ≡ head.method
   pub target_is : target ≡ head.target
@@ -31,7 +31,7 @@ pub record IsReadFrom
 abbrev pub Means : Meaning → List ℕ → List ℕ → Type 0
 Means (Request method target version closing since) block body =
     IsReadFrom block body method target version closing since
-Means (Bad TooLong) block body = (length block ≡ longest_block) × NoBlock block × (body ≡ [])
+Means (Bad TooLong) block body = (length block ≡ max_block_bytes) × NoBlock block × (body ≡ [])
 Means (Bad fault) block body = IsVerdict block (bad fault) × (body ≡ [])
 
 -- the rest of a text, from place p of it, is empty lines, a message's block, which doesn't begin

@@ -1,6 +1,6 @@
 -- What stands at the start of a text.
 use Rattle.std.specs.Prelude.{◌≡◌, ℕ, ◌+◌, ◌<◌, ◌≤◌, List, length, drop}
-use Rattle.http_requests.specs.Limits.{longest_block}
+use Rattle.http_requests.specs.Limits.{max_block_bytes}
 use Rattle.http_requests.specs.declared.scanning.Found.{Found}
 use Rattle.http_requests.specs.declared.scanning.Found.TheVariants.{Wait, Over, Whole}
 use Rattle.http_requests.specs.Framing.{EndsAt, NoBlock, IsBlock, blank_len}
@@ -11,6 +11,6 @@ NoEndIn n s = (e : ℕ) → e ≤ n → EndsAt s e → ⊥
 
 -- what was found at the start of a text
 abbrev pub IsFound : List ℕ → Found → Type 0
-IsFound r (Wait q) = (q ≡ blank_len r) × (q ≤ length r) × NoBlock (drop q r) × (length r < q + longest_block)
-IsFound r (Over k) = (k ≡ blank_len r + longest_block) × NoBlock (drop (blank_len r) r) × (k ≤ length r)
+IsFound r (Wait q) = (q ≡ blank_len r) × (q ≤ length r) × NoBlock (drop q r) × (length r < q + max_block_bytes)
+IsFound r (Over k) = (k ≡ blank_len r + max_block_bytes) × NoBlock (drop (blank_len r) r) × (k ≤ length r)
 IsFound r (Whole q len) = (q ≡ blank_len r) × (q + len ≤ length r) × IsBlock (drop q r) len

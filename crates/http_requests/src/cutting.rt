@@ -1,11 +1,11 @@
 //! Cutting a text that comes in pieces.
 ghost use Rattle.std.specs.Prelude.{◌≡◌, ◌<◌, ◌≤◌, [], drop, length, IfNone, IfOk, IfSome, OnSome};
-ghost use Rattle.http_requests.specs.Limits.{longest_body, longest_text};
-ghost use Rattle.http_requests.specs.Cutting.{Begins, IsFront, Waits};
+ghost use Rattle.http_requests.specs.Limits.{max_body_bytes, max_text_bytes};
+ghost use Rattle.http_requests.specs.Cutting.{Begins, IsUnfinished, Waits};
 
 use crate::heads::{Verdict, bad, read_block};
 use crate::messages::{Fault, Meaning, Message};
-use crate::scanning::{BLOCK_LIMIT, Found, find};
+use crate::scanning::{Found, MAX_BLOCK_BYTES, find};
 use std::alloc::{AllocError, Global};
 use std::marker::Model;
 use std::mem;
@@ -24,7 +24,7 @@ pub enum Stage {
 }
 
 /// Drops the first bytes.
-fn drop_front(bytes: &mut Vec<u8>, n: usize)
+fn drop_first(bytes: &mut Vec<u8>, n: usize)
     requires { n ≤ length bytes.old.items }
     ensures { bytes.new.items ≡ drop n bytes.old.items }
 {
@@ -42,7 +42,7 @@ fn take_here(
     requires empty { held.old.items ≡ [] }
     requires some { 0 < length text.now }
     ensures begins { IfOk result (λ took. IfSome took.1 (Begins held.old.items text.now took.0)) }
-    ensures small { IfOk result (λ took. IfSome took.1 (λ verdict. verdict.length ≤ longest_body)) }
+    ensures small { IfOk result (λ took. IfSome took.1 (λ verdict. verdict.length ≤ max_body_bytes)) }
     ensures waits { IfOk result (λ took. IfNone took.1 (Waits held.old.items text.now took.0 held.new.items)) }
     ensures empty { IfOk result (λ took. OnSome took.1 (held.new.items ≡ [])) }
 {
@@ -59,25 +59,25 @@ fn take_here(
     }
 }
 
-/// Takes bytes of a text where the front of a block is held. What is held isn't scanned again.
+/// Takes bytes of a text where a block is held that is not whole yet. What is held isn't scanned again.
 fn take_joined(
     alloc: Global,
     held: &mut Vec<u8>,
     text: &[u8],
 ) -> Result<(usize, Option<Verdict>), AllocError>
-    requires front { IsFront held.old.items }
+    requires front { IsUnfinished held.old.items }
     requires some { 0 < length text.now }
     ensures begins { IfOk result (λ took. IfSome took.1 (Begins held.old.items text.now took.0)) }
-    ensures small { IfOk result (λ took. IfSome took.1 (λ verdict. verdict.length ≤ longest_body)) }
+    ensures small { IfOk result (λ took. IfSome took.1 (λ verdict. verdict.length ≤ max_body_bytes)) }
     ensures waits { IfOk result (λ took. IfNone took.1 (Waits held.old.items text.now took.0 held.new.items)) }
     ensures empty { IfOk result (λ took. OnSome took.1 (held.new.items ≡ [])) }
 {
     let had = held.len();
-    let most = text.len().min(BLOCK_LIMIT - had);
+    let most = text.len().min(MAX_BLOCK_BYTES - had);
     held.extend_from_slice(&text[..most])?;
     match find(held, had) {
         Found::Wait(start) => {
-            drop_front(held, start);
+            drop_first(held, start);
             Ok((most, None))
         }
         Found::Over(len) => {
@@ -98,10 +98,10 @@ fn take_block(
     held: &mut Vec<u8>,
     text: &[u8],
 ) -> Result<(usize, Option<Verdict>), AllocError>
-    requires front { IsFront held.old.items }
+    requires front { IsUnfinished held.old.items }
     requires some { 0 < length text.now }
     ensures begins { IfOk result (λ took. IfSome took.1 (Begins held.old.items text.now took.0)) }
-    ensures small { IfOk result (λ took. IfSome took.1 (λ verdict. verdict.length ≤ longest_body)) }
+    ensures small { IfOk result (λ took. IfSome took.1 (λ verdict. verdict.length ≤ max_body_bytes)) }
     ensures waits { IfOk result (λ took. IfNone took.1 (Waits held.old.items text.now took.0 held.new.items)) }
     ensures empty { IfOk result (λ took. OnSome took.1 (held.new.items ≡ [])) }
 {
@@ -143,7 +143,7 @@ impl State {
     /// Goes on after a block: with its body, or by adding the message that ends here.
     fn enter(&mut self, what: Meaning, left: u64, out: &mut Vec<Message>) -> Result<(), AllocError>
         requires empty { self.old.held.items ≡ [] }
-        requires small { left ≤ longest_body }
+        requires small { left ≤ max_body_bytes }
         ensures sound { OnOk result (IsSound (progress self.new)) }
         ensures live { OnOk result (¬ (HasFailed (progress self.new))) }
         ensures enters { OnOk result (Enters what left self.old.read (progress self.new) out.old.items out.new.items) }
@@ -172,7 +172,7 @@ impl State {
     fn cut(&mut self, text: &[u8], out: &mut Vec<Message>) -> Result<usize, AllocError>
         requires sound { IsSound (progress self.old) }
         requires some { 0 < length text.now }
-        requires room { self.old.read + length text.now ≤ longest_text }
+        requires room { self.old.read + length text.now ≤ max_text_bytes }
         ensures ok { IfOk result (Took (progress self.old) text.now (progress self.new) out.old.items out.new.items) }
         ensures out { OnErr result (out.new.items ≡ out.old.items) }
         ensures read { OnErr result (self.new.read ≤ self.old.read + length text.now) }
@@ -206,7 +206,7 @@ impl State {
     /// Takes a piece of the text.
     fn feed(&mut self, piece: &[u8], out: &mut Vec<Message>) -> Result<(), AllocError>
         requires sound { IsSound (progress self.old) }
-        requires room { self.old.read + length piece.now ≤ longest_text }
+        requires room { self.old.read + length piece.now ≤ max_text_bytes }
         ensures ok { OnOk result ((past : List ℕ) (sofar : List AMessage) → CutterAfter past sofar (progress self.old)
             → Fed past sofar (progress self.new) piece.now out.old.items out.new.items) }
         ensures some { OnErr result ((past : List ℕ) (sofar : List AMessage)
@@ -269,7 +269,7 @@ impl Cutter {
     /// the first of those messages, and each later call is answered by the same error and adds
     /// nothing.
     pub fn feed(&mut self, piece: &[u8], out: &mut Vec<Message>) -> Result<(), AllocError>
-        requires { self.old.read + length piece.now ≤ longest_text }
+        requires { self.old.read + length piece.now ≤ max_text_bytes }
 
         // Whatever the text so far was, its messages and the new ones are those of the longer text.
         ensures ok { OnOk result ((past : List ℕ) (sofar : List AMessage) → CutterAfter past sofar self.old

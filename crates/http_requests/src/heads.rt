@@ -5,7 +5,7 @@ ghost use Rattle.httparse.specs.Grammar.{is_ows, trim_ows};
 ghost use Rattle.httparse.specs.Spans.{span_bytes};
 ghost use Rattle.std.specs.Str.Parse.{digits_value};
 ghost use Rattle.std.specs.List.{list_all, list_any, slice_split};
-ghost use Rattle.http_requests.specs.Limits.{longest_body};
+ghost use Rattle.http_requests.specs.Limits.{max_body_bytes};
 ghost use Rattle.http_requests.specs.Heads.{IsVerdict, same_text, values_of, is_host_byte, is_host_fault, is_given};
 ghost use Rattle.http_requests.specs.Heads.{is_numeral, body_length, head_fault, has_option, is_closing};
 ghost use Rattle.http_requests.specs.Heads.{is_get_or_head, IsModifiedSince, bad};
@@ -21,10 +21,10 @@ use httpdate::HttpDate;
 use std::alloc::{AllocError, Global};
 
 /// The most bytes that a body may have.
-const BODY_LIMIT: u64 = 65_536;
+const MAX_BODY_BYTES: u64 = 65_536;
 
 /// The most fields that a head may have.
-const FIELD_LIMIT: usize = 64;
+const MAX_FIELDS: usize = 64;
 
 /// The verdict of a block: what it is, and how many bytes of body follow it.
 #[derive(Drop)]
@@ -98,7 +98,7 @@ fn number(value: &[u8]) -> Option<u64>
         if !digit.is_ascii_digit() {
             return None;
         }
-        number = (number * 10 + (*digit - b'0') as u64).min(BODY_LIMIT + 1);
+        number = (number * 10 + (*digit - b'0') as u64).min(MAX_BODY_BYTES + 1);
     }
     Some(number)
 }
@@ -152,7 +152,7 @@ struct Head<'a> {
 impl<'a> Head<'a> {
     /// The head that the whole block is, or `None` where it is no head. The places of its header lines are written to
     /// `headers`.
-    fn parse(block: &'a [u8], headers: &'a mut [HeaderSpan; FIELD_LIMIT]) -> Option<Head<'a>>
+    fn parse(block: &'a [u8], headers: &'a mut [HeaderSpan; MAX_FIELDS]) -> Option<Head<'a>>
         ensures within { IfSome result LiesWithin }
         ensures says { IfSome result (λ head. (verdict : AVerdict) → Says head verdict → IsVerdict block.now verdict) }
         ensures none { IfNone result (IsVerdict block.now (bad Block)) }
@@ -223,7 +223,7 @@ impl<'a> Head<'a> {
             (λ n. (head_fault self.now.minor (lines_at self.now) ≡ None)
             × (n ≡ body_length (values_of (codes "content-length") (lines_at self.now))))
             (λ fault. head_fault self.now.minor (lines_at self.now) ≡ Some fault) }
-        ensures small { IfOk result (λ n. n ≤ longest_body) }
+        ensures small { IfOk result (λ n. n ≤ max_body_bytes) }
     {
         if self.is_host_fault() {
             return Err(Fault::Host);
@@ -234,7 +234,7 @@ impl<'a> Head<'a> {
         match self.lines_named(b"content-length") {
             Lines::Absent => Ok(0),
             Lines::Once(value) => match number(value.of(self.block)) {
-                Some(n) if n <= BODY_LIMIT => Ok(n),
+                Some(n) if n <= MAX_BODY_BYTES => Ok(n),
                 Some(_) => Err(Fault::BodySize),
                 None => Err(Fault::Length),
             },
@@ -287,7 +287,7 @@ impl<'a> Head<'a> {
     fn verdict(&self, alloc: Global) -> Result<Verdict, AllocError>
         requires { LiesWithin self.now }
         ensures says { IfOk result (Says self.now) }
-        ensures small { IfOk result (λ verdict. verdict.length ≤ longest_body) }
+        ensures small { IfOk result (λ verdict. verdict.length ≤ max_body_bytes) }
     {
         let length = match self.body_length() {
             Ok(length) => length,
@@ -313,7 +313,7 @@ impl<'a> Head<'a> {
     fn extent(&self) -> Extent
         requires { LiesWithin self.now }
         ensures says { (verdict : AVerdict) × Says self.now verdict × IsExtent verdict result }
-        ensures small { result.length ≤ longest_body }
+        ensures small { result.length ≤ max_body_bytes }
     {
         match self.body_length() {
             Ok(length) => {
@@ -335,9 +335,9 @@ impl<'a> Head<'a> {
 /// How a message of this block goes on. It takes no memory.
 pub fn measure_block(block: &[u8]) -> Extent
     ensures says { (verdict : AVerdict) × IsVerdict block.now verdict × IsExtent verdict result }
-    ensures small { result.length ≤ longest_body }
+    ensures small { result.length ≤ max_body_bytes }
 {
-    let mut headers = [EMPTY_HEADER_SPAN; FIELD_LIMIT];
+    let mut headers = [EMPTY_HEADER_SPAN; MAX_FIELDS];
     match Head::parse(block, &mut headers) {
         Some(head) => head.extent(),
         None => Extent {
@@ -350,9 +350,9 @@ pub fn measure_block(block: &[u8]) -> Extent
 /// The verdict of a block.
 pub fn read_block(alloc: Global, block: &[u8]) -> Result<Verdict, AllocError>
     ensures says { IfOk result (IsVerdict block.now) }
-    ensures small { IfOk result (λ verdict. verdict.length ≤ longest_body) }
+    ensures small { IfOk result (λ verdict. verdict.length ≤ max_body_bytes) }
 {
-    let mut headers = [EMPTY_HEADER_SPAN; FIELD_LIMIT];
+    let mut headers = [EMPTY_HEADER_SPAN; MAX_FIELDS];
     match Head::parse(block, &mut headers) {
         Some(head) => head.verdict(alloc),
         None => Ok(bad(Fault::Block)),

@@ -1,6 +1,6 @@
 //! What holds of the messages of each text, whoever cuts it.
 ghost use Rattle.std.specs.Prelude.{◌≡◌, ◌++◌, ◌≤◌, ℕ, List, length, map, IfOk};
-ghost use Rattle.http_requests.specs.Limits.{longest_text};
+ghost use Rattle.http_requests.specs.Limits.{max_text_bytes};
 ghost use Rattle.http_requests.specs.declared.messages.Message.{Message as AMessage};
 ghost use Rattle.http_requests.specs.Framing.{MessagesOf, EndsAt, IsBlock};
 ghost use Rattle.http_requests.specs.Ends.{EndsAfter, IsShortestBlock};
@@ -41,7 +41,7 @@ pub fn in_order()
 /// The messages of a text that comes in these pieces. They are the same for each way to cut the
 /// text into pieces.
 pub fn cut_pieces(alloc: Global, pieces: &[&[u8]]) -> Result<Vec<Message>, AllocError>
-    requires { length (joined (map (λ piece. piece.now) pieces.now)) ≤ longest_text }
+    requires { length (joined (map (λ piece. piece.now) pieces.now)) ≤ max_text_bytes }
     ensures messages { IfOk result (λ out. MessagesOf (joined (map (λ piece. piece.now) pieces.now)) out.items) }
     ensures only { IfOk result (λ out. (ms : List AMessage)
         → MessagesOf (joined (map (λ piece. piece.now) pieces.now)) ms → out.items ≡ ms) }

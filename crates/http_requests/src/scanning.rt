@@ -1,18 +1,18 @@
 //! The empty lines and the block at the start of a text.
 ghost use Rattle.std.specs.Prelude.{◌≡◌, ◌≤◌, length, IfSome, IfNone};
-ghost use Rattle.http_requests.specs.Limits.{longest_block};
+ghost use Rattle.http_requests.specs.Limits.{max_block_bytes};
 ghost use Rattle.http_requests.specs.Framing.{ends_at, NoBlock, IsBlock, blank_len};
 ghost use Rattle.http_requests.specs.Scanning.{IsFound, NoEndIn};
 
 use memchr::memchr;
 
 /// The most bytes that a block may have. A longer one is a fault.
-pub const BLOCK_LIMIT: usize = 8192;
+pub const MAX_BLOCK_BYTES: usize = 8192;
 
 /// What stands at the start of a text.
 #[derive(Clone, Copy)]
 pub enum Found {
-    /// No block is whole: how many bytes of empty lines stand in front.
+    /// No block is whole: how many bytes of empty lines the text begins with.
     Wait(usize),
     /// A block beyond the limit: the place after its last byte within the limit.
     Over(usize),
@@ -31,7 +31,7 @@ fn ends_at(s: &[u8], e: usize) -> bool
         && (s[e - 2] == b'\n' || (e >= 3 && s[e - 2] == b'\r' && s[e - 3] == b'\n'))
 }
 
-/// How many bytes the empty lines in front take (RFC 9112, section 2.2).
+/// How many bytes the empty lines take with which a text begins (RFC 9112, section 2.2).
 #[tactic(auto, using(crate::proofs::FrontLemmas::blank_le, crate::proofs::FrontLemmas::blank_at))]
 fn blanks(s: &[u8]) -> usize
     ensures is { result ≡ blank_len s.now }
@@ -50,12 +50,12 @@ fn blanks(s: &[u8]) -> usize
 /// line feeds after those are looked at.
 fn block_end(s: &[u8], seen: usize) -> Option<usize>
     requires within { seen ≤ length s.now }
-    requires limit { seen ≤ longest_block }
+    requires limit { seen ≤ max_block_bytes }
     requires none { NoEndIn seen s.now }
     ensures some { IfSome result (λ e. IsBlock s.now e) }
     ensures none { IfNone result (NoBlock s.now) }
 {
-    let last = s.len().min(BLOCK_LIMIT);
+    let last = s.len().min(MAX_BLOCK_BYTES);
     let mut at = seen;
     while at < last {
         match memchr(b'\n', &s[at..last]) {
@@ -77,7 +77,7 @@ fn block_end(s: &[u8], seen: usize) -> Option<usize>
 #[tactic(auto, using(crate::proofs::FrontLemmas::ends_within))]
 pub fn find(r: &[u8], seen: usize) -> Found
     requires within { seen ≤ length r.now }
-    requires limit { seen ≤ longest_block }
+    requires limit { seen ≤ max_block_bytes }
     requires none { NoEndIn seen r.now }
     ensures { IsFound r.now result }
 {
@@ -86,8 +86,8 @@ pub fn find(r: &[u8], seen: usize) -> Found
     match block_end(&r[start..], seen) {
         Some(len) => Found::Whole(start, len),
         None => {
-            if r.len() - start >= BLOCK_LIMIT {
-                Found::Over(start + BLOCK_LIMIT)
+            if r.len() - start >= MAX_BLOCK_BYTES {
+                Found::Over(start + MAX_BLOCK_BYTES)
             } else {
                 Found::Wait(start)
             }

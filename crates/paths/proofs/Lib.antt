@@ -1,3 +1,4 @@
+pub mod Appending
 pub mod Decimals
 pub mod Entries
 pub mod FilesOrFault

@@ -38,3 +38,23 @@ abbrev pub WritesSome : Option (List ℕ) → Option (List ℕ) → Result ℕ F
 WritesSome old new r bytes = MatchResult r
     (λ n. Appends old new (take n bytes) × (n ≤ length bytes) × (0 < length bytes → 0 < n))
     (λ _. Keeps old new)
+
+-- a prefix of the text was written
+abbrev pub AppendsPrefix : Option (List ℕ) → Option (List ℕ) → List ℕ → Type 0
+AppendsPrefix old new text = (n : ℕ) × (n ≤ length text) × Appends old new (take n text)
+
+-- a prefix of it, and not all
+abbrev pub AppendsProperPrefix : Option (List ℕ) → Option (List ℕ) → List ℕ → Type 0
+AppendsProperPrefix old new text = (n : ℕ) × (n < length text) × Appends old new (take n text)
+
+-- at `Ok` all the text was written, at `Err` a prefix of it
+abbrev pub WritesPrefix : {X E : Type 0} → Option (List ℕ) → Option (List ℕ) → Result X E → List ℕ → Type 0
+WritesPrefix old new r text = MatchResult r (λ _. Appends old new text) (λ _. AppendsPrefix old new text)
+
+-- at `Ok` all the text was written, at `Err` a prefix of it and not all
+abbrev pub WritesProperPrefix : {X E : Type 0} → Option (List ℕ) → Option (List ℕ) → Result X E → List ℕ → Type 0
+WritesProperPrefix old new r text = MatchResult r (λ _. Appends old new text) (λ _. AppendsProperPrefix old new text)
+
+-- the device failed once at `Err`, and not at `Ok`
+abbrev pub CountsFailed : {X E : Type 0} → ℕ → ℕ → Result X E → Type 0
+CountsFailed old new r = CountsBy (λ _. 1) old new r

@@ -1,7 +1,7 @@
 //! A writer that is lent to a call, and the count of its failures.
 
-ghost use Rattle.std.specs.Prelude.{◌≡◌, ◌+◌, ◌-◌, ◌<◌, ◌^◌, OnOk, OnErr};
-ghost use Rattle.paths.specs.Devices.{WritesSome, fresh, CanFail};
+ghost use Rattle.std.specs.Prelude.{◌≡◌, ◌+◌, ◌++◌, ◌-◌, ◌<◌, ◌^◌, OnOk, OnErr};
+ghost use Rattle.paths.specs.Devices.{WritesSome, WritesProperPrefix, CountsFailed, fresh, CanFail};
 
 use crate::Failed;
 use std::io::Write;
@@ -63,6 +63,31 @@ impl<W: Write> Output<W> {
                 self.failures += 1;
                 Err(Failed)
             }
+        }
+    }
+
+    /// Writes all the bytes, in as many writes as it takes. At an `Err` a prefix of them was written, and not all.
+    pub fn write_all(&mut self, bytes: &[u8]) -> Result<(), Failed>
+        requires { CanFail self.old }
+        ensures prefix { WritesProperPrefix self.old.bytes self.new.bytes result bytes.now }
+        ensures count { CountsFailed self.old.failures self.new.failures result }
+    {
+        let mut written = 0;
+        while written < bytes.len() {
+            written += self.write_some(&bytes[written..])?;
+        }
+        Ok(())
+    }
+
+    /// Writes one text and then another.
+    pub fn write_both(&mut self, first: &[u8], second: &[u8]) -> Result<(), Failed>
+        requires { CanFail self.old }
+        ensures prefix { WritesProperPrefix self.old.bytes self.new.bytes result (first.now ++ second.now) }
+        ensures count { CountsFailed self.old.failures self.new.failures result }
+    {
+        match self.write_all(first) {
+            Ok(()) => self.write_all(second),
+            Err(failed) => Err(failed),
         }
     }
 }

@@ -10,6 +10,8 @@ use Rattle.std.proofs.lemmas.List.{length-append, length-map, get_or_append_left
 use Rattle.std.proofs.lemmas.List.Sums.{sum_by-cons}
 use Rattle.std.proofs.Math.Seq.{get_or-append_seam, take-append-add}
 use Rattle.std.specs.Io.KnownBytes.{Appends}
+use Rattle.paths.proofs.Appending.{prefix_all}
+use Rattle.paths.specs.Devices.{AppendsPrefix}
 use Rattle.captures.specs.declared.record.Record.{Record}
 use Rattle.captures.specs.declared.record.Record.TheVariants.{Piece, End, Tier}
 use Rattle.captures.specs.declared.progress.Progress.{Progress}
@@ -40,9 +42,9 @@ use Rattle.replay.specs.Counting.{summary_of}
 use Rattle.replay.specs.Serving.{DeskAfter, AreBy, IsLater, Serves, Written, ServesFull, ServesInPart, TellsMore, TellsFull, TellsInPart, HasTold}
 use Rattle.replay.specs.Telling.{Telling, IsTelling, Told, ToldInPart, replies_told}
 use Rattle.paths.specs.KnownText.{WhereKnown}
-use Rattle.replay.specs.Outcomes.{Answers, AppendsInPart, told_as, capture_fault, IfCapture, IfTooMany, IfCutShort, IsOwn, IsWriteOrMemory, IsCutShort, IsCutOff, StopsBeyond, StopsFull, StopsTelling, Stops, Taken, reader_failures, writer_failures}
+use Rattle.replay.specs.Outcomes.{Answers, told_as, capture_fault, IfCapture, IfTooMany, IfCutShort, IsOwn, IsWriteOrMemory, IsCutShort, IsCutOff, StopsBeyond, StopsFull, StopsTelling, Stops, Taken, reader_failures, writer_failures}
 use Rattle.arrivals.proofs.Arriving.{from_piece, reads_none, arrives_none, reads_piece, reads_end, reads_tier, arrives_piece, arrives_end, arrives_tier}
-use Rattle.replay.proofs.Writing.{part_all, replies_laws}
+use Rattle.replay.proofs.Writing.{replies_laws}
 use Rattle.replay.proofs.Texts.{told_none, text_begun, text_told, text_part, text_ended, text_ended_part}
 use Rattle.replay.proofs.Judging.{answered_is}
 
@@ -311,7 +313,7 @@ all_told t terms v start count records arrivals connections desk input old mid n
 pub ends_short : (t : Telling) (terms : Terms) (v : Version) (start count : ℕ) (records : List Record) (arrivals : List Arrival) (connections : List Connection) (desk : Desk)
     (input old mid new : Option (List ℕ)) → IsTelling t → IsCapture v start records → WhereKnown input (λ bytes. IsCaptureText v bytes start records)
     → Serves terms records arrivals connections desk
-    → Appends old mid (t.so_far start arrivals) → AppendsInPart mid new (t.last count) → count ≡ desk.totals.answered
+    → Appends old mid (t.so_far start arrivals) → AppendsPrefix mid new (t.last count) → count ≡ desk.totals.answered
     → IsCutOff t input old new
 ends_short t terms v start count records arrivals connections desk input old mid new laws rules capture serves before last counted =
     inr (inr (record {
@@ -487,7 +489,7 @@ cut_among t terms v input now old new start records arrivals p connections desk 
   taken = taken v input now start records arrivals p fits serves.arrived;
   within = length arrivals;
   few = serves.stands.few;
-  written = rw (take_all arrivals) (part_all old new _ written);
+  written = rw (take_all arrivals) (prefix_all old new _ written);
 }))
 
 pub halts_full : (t : Telling) (v : Version) (input now old mid new : Option (List ℕ)) (start n : ℕ) (records : List Record) (arrivals : List Arrival) (rs : List Record) (p : Progress)
@@ -580,7 +582,7 @@ answers_all terms v start count records arrivals connections desk input old mid 
 pub ends_in_part : (terms : Terms) (v : Version) (start count : ℕ) (records : List Record) (arrivals : List Arrival) (connections : List Connection) (desk : Desk)
     (input old mid new : Option (List ℕ)) → IsCapture v start records → WhereKnown input (λ bytes. IsCaptureText v bytes start records)
     → Serves terms records arrivals connections desk
-    → Appends old mid (text_before_stop (replies_of terms start (handled terms arrivals))) → AppendsInPart mid new (last_line count) → count ≡ desk.totals.answered
+    → Appends old mid (text_before_stop (replies_of terms start (handled terms arrivals))) → AppendsPrefix mid new (last_line count) → count ≡ desk.totals.answered
     → IsCutShort terms input old new
 ends_in_part terms v start count records arrivals connections desk input old mid new rules capture serves before last counted =
     ends_short (replies_told terms) terms v start count records arrivals connections desk input old mid new (replies_laws terms) rules capture serves before last counted

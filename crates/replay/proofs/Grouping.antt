@@ -5,14 +5,13 @@ use Rattle.std.specs.List.{list_all}
 use Rattle.std.specs.Io.KnownBytes.{Appends}
 use Rattle.std.proofs.lemmas.List.{map-append}
 use Rattle.std.proofs.lemmas.Grind.{flat_map-append}
+use Rattle.paths.proofs.Appending.{appends_then, prefix_then, appends_none, prefix_first}
+use Rattle.paths.specs.Devices.{AppendsPrefix}
 use Rattle.paths.specs.declared.file.File.{File}
 use Rattle.responses.specs.Records.{record_text}
 use Rattle.replay.specs.Backs.{slip_of_ticket, reply_to}
 use Rattle.replay.specs.Groups.{all_of, records_of}
-use Rattle.replay.specs.Outcomes.{AppendsInPart}
 use Rattle.replay.specs.declared.ticket.Ticket.{Ticket}
-use Rattle.replay.proofs.Writing.{appends_then, part_then, appends_none}
-use Rattle.replay.proofs.Upcoming.{part_longer}
 
 -- these tickets are answered, and those of the other groups follow them
 pub record Answered {X : Type 0} (files : List File) (tickets : List (Ticket X)) (old now : Option (List ℕ)) (rest : List (List (Ticket X))) : Type 0 where
@@ -42,14 +41,14 @@ answered_more files tickets group old now new rest others a steps one = record {
 }
 
 pub answered_part : {X : Type 0} (files : List File) (tickets group : List (Ticket X)) (old now new : Option (List ℕ)) (rest others : List (List (Ticket X)))
-    → Answered files tickets old now rest → rest ≡ group ∷ others → AppendsInPart now new (records_of files group) → AppendsInPart old new (records_of files tickets)
+    → Answered files tickets old now rest → rest ≡ group ∷ others → AppendsPrefix now new (records_of files group) → AppendsPrefix old new (records_of files tickets)
 answered_part files tickets group old now new rest others a steps one =
     let all : records_of files tickets ≡ records_of files a.done ++ (records_of files group ++ records_of files (all_of others)) =
     ap (records_of files) (parted files tickets group old now rest others a steps) ∙ records_more files (a.done ++ group) (all_of others)
     ∙ ap (λ t. t ++ records_of files (all_of others)) (records_more files a.done group)
     ∙ append_assoc (records_of files a.done) (records_of files group) (records_of files (all_of others)) in
-    rw all (part_then old now new (records_of files a.done) (records_of files group ++ records_of files (all_of others)) a.written
-    (part_longer now new (records_of files group) (records_of files (all_of others)) one))
+    rw all (prefix_then old now new (records_of files a.done) (records_of files group ++ records_of files (all_of others)) a.written
+    (prefix_first now new (records_of files group) (records_of files (all_of others)) one))
 
 pub answered_all : {X : Type 0} (files : List File) (tickets : List (Ticket X)) (old now : Option (List ℕ)) (rest : List (List (Ticket X)))
     → Answered files tickets old now rest → rest ≡ [] → Appends old now (records_of files tickets)

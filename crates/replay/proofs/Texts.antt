@@ -1,10 +1,10 @@
 -- What is told of messages: its text, of one more message and to its end.
 use Rattle.std.proofs.Common.{◌≡◌, ℕ, List, [], ◌++◌, length, Option}
 use Rattle.std.specs.Io.KnownBytes.{Appends}
+use Rattle.paths.proofs.Appending.{appends_none, appends_then, prefix_then}
+use Rattle.paths.specs.Devices.{AppendsPrefix}
 use Rattle.arrivals.specs.Arrivals.{Arrival}
-use Rattle.replay.specs.Outcomes.{AppendsInPart}
 use Rattle.replay.specs.Telling.{Telling, IsTelling, Told, ToldInPart}
-use Rattle.replay.proofs.Writing.{appends_none, appends_then, part_then}
 
 -- ---- messages that come after others
 
@@ -19,7 +19,7 @@ told_more t start earlier first more old mid new laws before after =
 pub told_part : (t : Telling) (start : ℕ) (earlier first more : List Arrival) (old mid new : Option (List ℕ)) → IsTelling t → Told t start earlier first old mid
     → ToldInPart t start (earlier ++ first) more mid new → ToldInPart t start earlier (first ++ more) old new
 told_part t start earlier first more old mid new laws before after =
-    rw (laws.more start earlier first more) (part_then old mid new (t.after start earlier first) (t.after start (earlier ++ first) more) before after)
+    rw (laws.more start earlier first more) (prefix_then old mid new (t.after start earlier first) (t.after start (earlier ++ first) more) before after)
 
 -- ---- the whole text
 
@@ -32,9 +32,9 @@ text_told t start arrivals more old mid new laws before after =
     rw (laws.goes_on start arrivals more) (appends_then old mid new (t.so_far start arrivals) (t.after start arrivals more) before after)
 
 pub text_part : (t : Telling) (start : ℕ) (arrivals more : List Arrival) (old mid new : Option (List ℕ)) → IsTelling t → Appends old mid (t.so_far start arrivals)
-    → ToldInPart t start arrivals more mid new → AppendsInPart old new (t.so_far start (arrivals ++ more))
+    → ToldInPart t start arrivals more mid new → AppendsPrefix old new (t.so_far start (arrivals ++ more))
 text_part t start arrivals more old mid new laws before after =
-    rw (laws.goes_on start arrivals more) (part_then old mid new (t.so_far start arrivals) (t.after start arrivals more) before after)
+    rw (laws.goes_on start arrivals more) (prefix_then old mid new (t.so_far start arrivals) (t.after start arrivals more) before after)
 
 pub text_ended : (t : Telling) (start count : ℕ) (arrivals : List Arrival) (old mid new : Option (List ℕ)) → IsTelling t → count ≡ length arrivals
     → Appends old mid (t.so_far start arrivals) → Appends mid new (t.last count) → Appends old new (t.whole start arrivals)
@@ -42,6 +42,6 @@ text_ended t start count arrivals old mid new laws e before after =
     rw (laws.ends start arrivals, ← e) (appends_then old mid new (t.so_far start arrivals) (t.last count) before after)
 
 pub text_ended_part : (t : Telling) (start count : ℕ) (arrivals : List Arrival) (old mid new : Option (List ℕ)) → IsTelling t → count ≡ length arrivals
-    → Appends old mid (t.so_far start arrivals) → AppendsInPart mid new (t.last count) → AppendsInPart old new (t.whole start arrivals)
+    → Appends old mid (t.so_far start arrivals) → AppendsPrefix mid new (t.last count) → AppendsPrefix old new (t.whole start arrivals)
 text_ended_part t start count arrivals old mid new laws e before after =
-    rw (laws.ends start arrivals, ← e) (part_then old mid new (t.so_far start arrivals) (t.last count) before after)
+    rw (laws.ends start arrivals, ← e) (prefix_then old mid new (t.so_far start arrivals) (t.last count) before after)

@@ -5,6 +5,8 @@ use Rattle.std.proofs.lemmas.List.{length-append, length-map, length-take-le, dr
 use Rattle.std.proofs.lemmas.Grind.{flat_map-append, common_steps}
 use Rattle.std.proofs.Math.Seq.{take-append_seam, drop-append_seam}
 use Rattle.std.specs.Io.KnownBytes.{Appends}
+use Rattle.paths.proofs.Appending.{prefix_then, prefix_none, appends_then, prefix_first}
+use Rattle.paths.specs.Devices.{AppendsPrefix}
 use Rattle.paths.specs.declared.file.File.{File}
 use Rattle.cost_model.specs.Services.{CostTable}
 use Rattle.responses.specs.Records.{record_text}
@@ -17,7 +19,7 @@ use Rattle.replay.specs.Fronts.{front_value}
 use Rattle.replay.specs.Backs.{slip_of_ticket, reply_to}
 use Rattle.arrivals.specs.Batches.{joined}
 use Rattle.replay.specs.Ticketing.{incoming_of, AreOf, AreSighted, InTime}
-use Rattle.replay.specs.Outcomes.{AppendsInPart, IsWriteOrMemory, IfTooMany, IfCutShort}
+use Rattle.replay.specs.Outcomes.{IsWriteOrMemory, IfTooMany, IfCutShort}
 use Rattle.replay.specs.Waiting.{Upcoming}
 use Rattle.arrivals.specs.declared.incoming.Incoming.{Incoming}
 use Rattle.replay.specs.declared.sight.Sighted.{Sighted}
@@ -27,7 +29,7 @@ use Rattle.replay.specs.declared.replay_fault.ReplayFault.{ReplayFault}
 use Rattle.replay.specs.declared.replay_fault.ReplayFault.TheVariants as faults
 use Rattle.replay.proofs.SameAnswer.{reply_is}
 use Rattle.replay.proofs.Judging.{answered_is}
-use Rattle.replay.proofs.Writing.{part_then, part_none, appends_then, written_none, written_more}
+use Rattle.replay.proofs.Writing.{written_none, written_more}
 
 -- ---- lists
 
@@ -124,17 +126,6 @@ replies_are X terms start hs tickets replies slips e =
 
 -- ---- writing
 
--- a prefix of a prefix's part
-pub part_longer : (old new : Option (List ℕ)) (text rest : List ℕ) → AppendsInPart old new text → AppendsInPart old new (text ++ rest)
-part_longer old new text rest part =
-    let short = go part.0 text in
-    (short.0, rw short.1 part.1)
-  where
-    go : (n : ℕ) (xs : List ℕ) → (k : ℕ) × (take k (xs ++ rest) ≡ take n xs)
-    go zero xs = (0, refl)
-    go (suc n) [] = (0, refl)
-    go (suc n) (x ∷ xs) = let more = go n xs in (suc more.0, ap (λ ys. x ∷ ys) more.1)
-
 -- one reply among others
 pub split_at : {A : Type 0} (xs : List A) (i : ℕ) (d : A) → i < length xs → xs ≡ take i xs ++ (get_or xs i d ∷ drop (suc i) xs)
 split_at [] i d lt = absurd (omega (arith, lt))
@@ -147,13 +138,13 @@ taken_more (x ∷ xs) zero d lt = refl
 taken_more (x ∷ xs) (suc i) d lt = ap (λ ys. x ∷ ys) (taken_more xs i d (omega (arith, lt)))
 
 pub reply_cut : (old mid new : Option (List ℕ)) (replies : List (ℕ × ℕ × List ℕ)) (i : ℕ) (r : ℕ × ℕ × List ℕ) → i < length replies → r ≡ get_or replies i r
-    → Appends old mid (flat_map record_text (take i replies)) → AppendsInPart mid new (record_text r) → AppendsInPart old new (flat_map record_text replies)
+    → Appends old mid (flat_map record_text (take i replies)) → AppendsPrefix mid new (record_text r) → AppendsPrefix old new (flat_map record_text replies)
 reply_cut old mid new replies i r lt is before part =
     let all : flat_map record_text replies ≡ flat_map record_text (take i replies) ++ (record_text r ++ flat_map record_text (drop (suc i) replies)) =
     ap (flat_map record_text) (split_at replies i r lt ∙ ap (λ x. take i replies ++ (x ∷ drop (suc i) replies)) (sym is))
     ∙ flat_map-append record_text (take i replies) (r ∷ drop (suc i) replies) in
-    rw all (part_then old mid new (flat_map record_text (take i replies)) (record_text r ++ flat_map record_text (drop (suc i) replies)) before
-    (part_longer mid new (record_text r) (flat_map record_text (drop (suc i) replies)) part))
+    rw all (prefix_then old mid new (flat_map record_text (take i replies)) (record_text r ++ flat_map record_text (drop (suc i) replies)) before
+    (prefix_first mid new (record_text r) (flat_map record_text (drop (suc i) replies)) part))
 
 pub reply_more : (old mid new : Option (List ℕ)) (replies : List (ℕ × ℕ × List ℕ)) (i : ℕ) (r : ℕ × ℕ × List ℕ) → i < length replies → r ≡ get_or replies i r
     → Appends old mid (flat_map record_text (take i replies)) → Appends mid new (record_text r) → Appends old new (flat_map record_text (take (i + 1) replies))
@@ -197,7 +188,7 @@ err_more (Err f) P Q more h = more h
 pub unwritten : {T : Type 0} (r : Result T ReplayFault) (terms : Terms) (messages : List Incoming) (desk : Desk) (old : Option (List ℕ))
     → OnErr r ((arrivals more : List Arrival) → Upcoming terms arrivals more messages desk → WrittenInPart terms desk.start arrivals more old old)
 unwritten (Ok x) terms messages desk old = tt
-unwritten (Err f) terms messages desk old = λ arrivals more up. part_none old (records_after terms desk.start arrivals more)
+unwritten (Err f) terms messages desk old = λ arrivals more up. prefix_none old (records_after terms desk.start arrivals more)
 
 pub no_messages : (n : ℕ) (xs : List Incoming) → n ≡ length xs → (n == 0) ≡ true → xs ≡ []
 no_messages n [] e t = refl

@@ -4,6 +4,9 @@ use Rattle.std.proofs.lemmas.List.{append_assoc, map-append, length-map}
 use Rattle.std.proofs.lemmas.Grind.{flat_map-append}
 use Rattle.std.proofs.Math.Seq.{take-suc, take-append-add}
 use Rattle.std.specs.Io.KnownBytes.{Appends}
+use Rattle.paths.specs.Devices.{AppendsPrefix}
+use Rattle.paths.proofs.Appending.{appends_none, appends_then, prefix_then}
+use Rattle.paths.specs.Devices.{AppendsPrefix}
 use Rattle.http_requests.specs.declared.messages.Message.{Message}
 use Rattle.responses.specs.Records.{record_text}
 use Rattle.arrivals.specs.declared.incoming.Origin.{Origin}
@@ -12,37 +15,9 @@ use Rattle.arrivals.specs.Arrivals.{Arrival}
 use Rattle.arrivals.specs.Connections.{arrivals_with}
 use Rattle.replay.specs.Offers.{handled_next, handled_after, handled}
 use Rattle.replay.specs.Replies.{reply_of, replies_of, first_line, last_line, text_before_stop}
-use Rattle.replay.specs.Outcomes.{AppendsInPart}
 use Rattle.replay.specs.Telling.{IsTelling, replies_told}
 use Rattle.replay.specs.Serving.{records_after, Written, WrittenInPart}
 use Rattle.replay.proofs.Offering.{handled_more, handled_one, handled_count}
-
--- ---- bytes
-
-pub appends_none : (old : Option (List ℕ)) → Appends old old []
-appends_none None = tt
-appends_none (Some x) = sym (append-nil x)
-
-pub appends_then : (old mid new : Option (List ℕ)) (a b : List ℕ) → Appends old mid a → Appends mid new b → Appends old new (a ++ b)
-appends_then None mid new a b first second = tt
-appends_then (Some x) None new a b first second = absurd first
-appends_then (Some x) (Some y) None a b first second = absurd second
-appends_then (Some x) (Some y) (Some z) a b first second = second ∙ ap (λ v. v ++ b) first ∙ append_assoc x a b
-
--- nothing of a text was written, all of its front, and a part of what comes after
-pub part_none : (old : Option (List ℕ)) (text : List ℕ) → AppendsInPart old old text
-part_none old text = (0, appends_none old)
-
-pub part_front : (old new : Option (List ℕ)) (front following : List ℕ) → Appends old new front → AppendsInPart old new (front ++ following)
-part_front old new front following h =
-    let e : take (length front + 0) (front ++ following) ≡ front = take-append-add front following 0 ∙ append-nil front in
-    (length front + 0, rw e h)
-
-pub part_all : (old new : Option (List ℕ)) (text : List ℕ) → Appends old new text → AppendsInPart old new text
-part_all old new text h = rw (append-nil text) at (part_front old new text [] h)
-
-pub part_then : (old mid new : Option (List ℕ)) (front following : List ℕ) → Appends old mid front → AppendsInPart mid new following → AppendsInPart old new (front ++ following)
-part_then old mid new front following before part = (length front + part.0, rw (take-append-add front following part.0) (appends_then old mid new front (take part.0 following) before part.1))
 
 -- ---- messages
 
@@ -79,7 +54,7 @@ written_more terms start earlier first more old mid new before after =
 pub part_more : (terms : Terms) (start : ℕ) (earlier first more : List Arrival) (old mid new : Option (List ℕ)) → Written terms start earlier first old mid
     → WrittenInPart terms start (earlier ++ first) more mid new → WrittenInPart terms start earlier (first ++ more) old new
 part_more terms start earlier first more old mid new before after =
-    rw (records_more terms start earlier first more) (part_then old mid new (records_after terms start earlier first) (records_after terms start (earlier ++ first) more) before after)
+    rw (records_more terms start earlier first more) (prefix_then old mid new (records_after terms start earlier first) (records_after terms start (earlier ++ first) more) before after)
 
 -- ---- the whole text
 

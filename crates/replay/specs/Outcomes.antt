@@ -2,6 +2,7 @@
 use Rattle.std.specs.Prelude.{◌≡◌, ℕ, ◌+◌, ◌<◌, ◌≤◌, ◌⊎◌, Bool, true, false, List, ◌++◌, length, take, Option}
 use Rattle.std.specs.Prelude.{Err}
 use Rattle.std.specs.Io.KnownBytes.{Appends}
+use Rattle.paths.specs.Devices.{AppendsPrefix}
 use Rattle.paths.specs.KnownText.{WhereKnown}
 use Rattle.captures.specs.declared.record.Record.{Record}
 use Rattle.captures.specs.declared.capture_fault.CaptureFault.{CaptureFault}
@@ -131,17 +132,13 @@ pub record StopsBeyond (t : Telling) (input old new : Option (List ℕ)) (number
 abbrev pub StopsFull : Terms → Option (List ℕ) → Option (List ℕ) → Option (List ℕ) → ℕ → Type 0
 StopsFull terms input old new number = StopsBeyond (replies_told terms) input old new number
 
--- a prefix of the text was written
-abbrev pub AppendsInPart : Option (List ℕ) → Option (List ℕ) → List ℕ → Type 0
-AppendsInPart old new text = (n : ℕ) × Appends old new (take n text)
-
 -- A prefix was written of the first line and what is told of the messages, within the limit, that arrived with these
 -- records.
 pub record StopsAmong (t : Telling) (input old new : Option (List ℕ)) : Type 0 where
   pub taken : Taken input
   pub within : ℕ
   pub few : within ≤ most_messages
-  pub written : AppendsInPart old new (t.so_far taken.start (take within taken.arrivals))
+  pub written : AppendsPrefix old new (t.so_far taken.start (take within taken.arrivals))
 
 -- The input is a capture's text, and a prefix of all that is told of it was written.
 pub record StopsAtEnd (t : Telling) (input old new : Option (List ℕ)) : Type 0 where
@@ -153,11 +150,11 @@ pub record StopsAtEnd (t : Telling) (input old new : Option (List ℕ)) : Type 0
   pub capture : WhereKnown input (λ bytes. IsCaptureText version bytes start records)
   pub arrived : AreArrivals records arrivals
   pub few : length arrivals ≤ most_messages
-  pub written : AppendsInPart old new (t.whole start arrivals)
+  pub written : AppendsPrefix old new (t.whole start arrivals)
 
 -- a replay that was cut short has written a prefix of what was due
 abbrev pub IsCutOff : Telling → Option (List ℕ) → Option (List ℕ) → Option (List ℕ) → Type 0
-IsCutOff t input old new = AppendsInPart old new t.first ⊎ (StopsAmong t input old new ⊎ StopsAtEnd t input old new)
+IsCutOff t input old new = AppendsPrefix old new t.first ⊎ (StopsAmong t input old new ⊎ StopsAtEnd t input old new)
 
 abbrev pub IsCutShort : Terms → Option (List ℕ) → Option (List ℕ) → Option (List ℕ) → Type 0
 IsCutShort terms input old new = IsCutOff (replies_told terms) input old new

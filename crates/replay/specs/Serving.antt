@@ -1,6 +1,7 @@
 -- How an engine stands between two messages, and between two records.
 use Rattle.std.specs.Prelude.{◌≡◌, ℕ, ◌+◌, ◌<◌, ◌≤◌, List, ◌++◌, length, take, All, Option, flat_map}
 use Rattle.std.specs.Io.KnownBytes.{Appends}
+use Rattle.paths.specs.Devices.{AppendsPrefix}
 use Rattle.captures.specs.declared.record.Record.{Record}
 use Rattle.captures.specs.declared.record.Record.TheVariants.{Piece, End, Tier}
 use Rattle.captures.specs.declared.version.Version.{Version}
@@ -49,8 +50,7 @@ abbrev pub Written : Terms → ℕ → List Arrival → List Arrival → Option 
 Written terms start earlier arrivals old new = Appends old new (records_after terms start earlier arrivals)
 
 abbrev pub WrittenInPart : Terms → ℕ → List Arrival → List Arrival → Option (List ℕ) → Option (List ℕ) → Type 0
-WrittenInPart terms start earlier arrivals old new = (n : ℕ)
-    × Appends old new (take n (records_after terms start earlier arrivals))
+WrittenInPart terms start earlier arrivals old new = AppendsPrefix old new (records_after terms start earlier arrivals)
 
 -- these records were read, and the messages that arrived with them were answered
 pub record Serves (terms : Terms) (records : List Record) (arrivals : List Arrival) (connections : List Connection)

@@ -1,6 +1,7 @@
 -- What a replay writes of the messages of a capture, one after another: their replies, or the rows of a table.
-use Rattle.std.specs.Prelude.{◌≡◌, ℕ, List, [], ◌++◌, length, take, flat_map, Option}
+use Rattle.std.specs.Prelude.{◌≡◌, ℕ, List, [], ◌++◌, length, flat_map, Option}
 use Rattle.std.specs.Io.KnownBytes.{Appends}
+use Rattle.paths.specs.Devices.{AppendsPrefix}
 use Rattle.responses.specs.Records.{record_text}
 use Rattle.arrivals.specs.Arrivals.{Arrival}
 use Rattle.replay.specs.Choices.{Terms}
@@ -44,4 +45,4 @@ abbrev pub Told : Telling → ℕ → List Arrival → List Arrival → Option (
 Told t start earlier arrivals old new = Appends old new (t.after start earlier arrivals)
 
 abbrev pub ToldInPart : Telling → ℕ → List Arrival → List Arrival → Option (List ℕ) → Option (List ℕ) → Type 0
-ToldInPart t start earlier arrivals old new = (n : ℕ) × Appends old new (take n (t.after start earlier arrivals))
+ToldInPart t start earlier arrivals old new = AppendsPrefix old new (t.after start earlier arrivals)

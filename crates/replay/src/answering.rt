@@ -3,14 +3,14 @@
 ghost use Rattle.std.specs.Prelude.{◌≡◌, ◌<◌, ◌≤◌, ◌-◌, ◌+◌, ◌^◌, [], ℕ, List, true, length, take, OnOk};
 ghost use Rattle.std.specs.Prelude.{IfOk, IfErr, OnErr};
 ghost use Rattle.std.specs.Io.KnownBytes.{Appends};
-ghost use Rattle.paths.specs.Devices.{CanFail, CountsBy};
+ghost use Rattle.paths.specs.Devices.{CanFail, CountsBy, AppendsPrefix};
 ghost use Rattle.paths.specs.Snapshots.{file_of, latest_time};
 ghost use Rattle.responses.specs.Records.{record_text};
 ghost use Rattle.captures.specs.Captures.{latest_start, latest_tick};
 ghost use Rattle.replay.specs.Choices.{Terms, terms_of};
 ghost use Rattle.arrivals.specs.Arrivals.{Arrival};
 ghost use Rattle.replay.specs.Outcomes.{writer_failures, IsOwn, IfTooMany, IfCutShort};
-ghost use Rattle.replay.specs.Outcomes.{AppendsInPart, IsWriteOrMemory};
+ghost use Rattle.replay.specs.Outcomes.{IsWriteOrMemory};
 ghost use Rattle.replay.specs.Serving.{DeskAfter, AreBy};
 ghost use Rattle.replay.specs.Telling.{IsTelling};
 ghost use Rattle.replay.specs.Steps.{DecidesNext, TellsNext, TellsNextInPart};
@@ -82,7 +82,7 @@ fn give_file<F: Tree, W: Write>(
     requires failures { CanFail writer.old }
     ensures written { OnOk result (Appends writer.old.bytes writer.new.bytes
         (record_text (given_as F.files slip.now (file_of F.files file).bytes))) }
-    ensures part { OnErr result (AppendsInPart writer.old.bytes writer.new.bytes
+    ensures part { OnErr result (AppendsPrefix writer.old.bytes writer.new.bytes
         (record_text (given_as F.files slip.now (file_of F.files file).bytes))) }
     ensures failures { CountsBy writer_failures writer.old.failures writer.new.failures result }
     ensures own { IfErr result IsWriteOrMemory }
@@ -108,7 +108,7 @@ pub(crate) fn answer_ticket<F: Tree, W: Write>(
     requires failures { CanFail writer.old }
     ensures written { OnOk result (Appends writer.old.bytes writer.new.bytes
         (record_text (reply_to F.files (slip_of_ticket ticket)))) }
-    ensures part { OnErr result (AppendsInPart writer.old.bytes writer.new.bytes
+    ensures part { OnErr result (AppendsPrefix writer.old.bytes writer.new.bytes
         (record_text (reply_to F.files (slip_of_ticket ticket)))) }
     ensures failures { CountsBy writer_failures writer.old.failures writer.new.failures result }
     ensures own { IfErr result IsWriteOrMemory }

@@ -3,7 +3,7 @@
 ghost use Rattle.std.specs.Prelude.{◌≡◌, ◌+◌, ◌≤◌, ◌<◌, ◌-◌, ◌^◌, ◌⊎◌, ◌∷◌, [], List, ◌++◌};
 ghost use Rattle.std.specs.Prelude.{IfOk, IfErr, OnOk, OnErr};
 ghost use Rattle.std.specs.Io.KnownBytes.{Appends};
-ghost use Rattle.paths.specs.Devices.{CanFail, CountsBy};
+ghost use Rattle.paths.specs.Devices.{CanFail, CountsBy, AppendsPrefix};
 ghost use Rattle.captures.specs.declared.version.Version.{Version as AVersion};
 ghost use Rattle.captures.specs.Captures.{IsRecord, size_of, sizes_of, latest_start, longest_text};
 ghost use Rattle.captures.specs.declared.record.Record.{Record as ARecord};
@@ -18,7 +18,7 @@ ghost use Rattle.arrivals.specs.Tiers.{AreTiers};
 ghost use Rattle.admission.specs.Requests.{Offer};
 ghost use Rattle.admission.specs.After.{ControllerAfter};
 ghost use Rattle.admission.specs.Standing.{policies_of};
-ghost use Rattle.replay.specs.Outcomes.{Answers, AppendsInPart, IfCapture, IfTooMany, IfCutShort, IsCutShort, IsOwn};
+ghost use Rattle.replay.specs.Outcomes.{Answers, IfCapture, IfTooMany, IfCutShort, IsCutShort, IsOwn};
 ghost use Rattle.replay.specs.Outcomes.{Stops, StopsFull, reader_failures, writer_failures};
 ghost use Rattle.replay.specs.Outcomes.{IsWriteOrMemory, StopsTelling, StopsBeyond, IsCutOff};
 
@@ -35,7 +35,7 @@ use arrivals::{Connections, Origin, Series, Tiers};
 use captures::{CaptureReader, Record};
 use http_requests::Message;
 use paths::{Input, Output, Snapshot, Tree};
-use responses::{HeadRenderer, write_all};
+use responses::HeadRenderer;
 use std::alloc::{AllocError, Global};
 use std::io::{Read, Write};
 use std::marker::PhantomData;
@@ -44,11 +44,11 @@ use std::marker::PhantomData;
 pub(crate) fn write_first_line<W: Write>(writer: &mut Output<W>) -> Result<(), ReplayFault>
     requires { CanFail writer.old }
     ensures written { OnOk result (Appends writer.old.bytes writer.new.bytes first_line) }
-    ensures part { OnErr result (AppendsInPart writer.old.bytes writer.new.bytes first_line) }
+    ensures part { OnErr result (AppendsPrefix writer.old.bytes writer.new.bytes first_line) }
     ensures failures { CountsBy writer_failures writer.old.failures writer.new.failures result }
     ensures own { IfErr result IsWriteOrMemory }
 {
-    write_all(writer, b"haboob-replies 1\n")?;
+    writer.write_all(b"haboob-replies 1\n")?;
     Ok(())
 }
 
@@ -60,12 +60,12 @@ pub(crate) fn write_last_line<W: Write>(
 ) -> Result<(), ReplayFault>
     requires { CanFail writer.old }
     ensures written { OnOk result (Appends writer.old.bytes writer.new.bytes (last_line count)) }
-    ensures part { OnErr result (AppendsInPart writer.old.bytes writer.new.bytes (last_line count)) }
+    ensures part { OnErr result (AppendsPrefix writer.old.bytes writer.new.bytes (last_line count)) }
     ensures failures { CountsBy writer_failures writer.old.failures writer.new.failures result }
     ensures own { IfErr result IsWriteOrMemory }
 {
     let line = format!(in alloc; "stop {count}\n")?;
-    write_all(writer, line.as_bytes())?;
+    writer.write_all(line.as_bytes())?;
     Ok(())
 }
 

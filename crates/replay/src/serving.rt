@@ -11,13 +11,13 @@ ghost use Rattle.responses.specs.Records.{record_text};
 ghost use Rattle.arrivals.specs.Arrivals.{Arrival};
 ghost use Rattle.arrivals.specs.Batches.{joined};
 ghost use Rattle.replay.specs.Choices.{terms_of};
-ghost use Rattle.replay.specs.Outcomes.{AppendsInPart, writer_failures, IsOwn, IsWriteOrMemory, IfTooMany};
+ghost use Rattle.replay.specs.Outcomes.{writer_failures, IsOwn, IsWriteOrMemory, IfTooMany};
 ghost use Rattle.replay.specs.Outcomes.{IfCutShort, most_messages};
 ghost use Rattle.replay.specs.Steps.{DecidesComing, WritesComing, WritesComingInPart};
 ghost use Rattle.replay.specs.Steps.{WritesFirst, WritesFirstInPart};
 ghost use Rattle.replay.specs.Waiting.{Upcoming};
 ghost use Rattle.std.specs.Io.KnownBytes.{Appends};
-ghost use Rattle.paths.specs.Devices.{CanFail, CountsBy};
+ghost use Rattle.paths.specs.Devices.{CanFail, CountsBy, AppendsPrefix};
 
 use crate::back::run_back;
 use crate::deciding::decide_all;
@@ -51,7 +51,7 @@ fn write_replies<F: Tree, W: Write>(
 ) -> Result<(), ReplayFault>
     requires { CanFail writer.old }
     ensures written { OnOk result (Appends writer.old.bytes writer.new.bytes (flat_map record_text replies.now)) }
-    ensures part { OnErr result (AppendsInPart writer.old.bytes writer.new.bytes (flat_map record_text replies.now)) }
+    ensures part { OnErr result (AppendsPrefix writer.old.bytes writer.new.bytes (flat_map record_text replies.now)) }
     ensures failures { CountsBy writer_failures writer.old.failures writer.new.failures result }
     ensures own { IfErr result IsWriteOrMemory }
 {
@@ -72,7 +72,7 @@ fn answer_group<F: Tree + Send + Sync, G: Gate + Sync, T: Threads + Wait + Sync,
     requires ready { list_all (λ t. is_back F.files (Waits t)) group.items ≡ true }
     requires failures { CanFail writer.old }
     ensures written { OnOk result (Appends writer.old.bytes writer.new.bytes (records_of F.files group.items)) }
-    ensures part { OnErr result (AppendsInPart writer.old.bytes writer.new.bytes (records_of F.files group.items)) }
+    ensures part { OnErr result (AppendsPrefix writer.old.bytes writer.new.bytes (records_of F.files group.items)) }
     ensures failures { CountsBy writer_failures writer.old.failures writer.new.failures result }
     ensures own { IfErr result IsWriteOrMemory }
 {
@@ -101,7 +101,7 @@ fn answer_tickets<F: Tree + Send + Sync, G: Gate + Sync, T: Threads + Wait + Syn
     requires ready { list_all (λ t. is_back F.files (Waits t)) tickets.items ≡ true }
     requires failures { CanFail writer.old }
     ensures written { OnOk result (Appends writer.old.bytes writer.new.bytes (records_of F.files tickets.items)) }
-    ensures part { OnErr result (AppendsInPart writer.old.bytes writer.new.bytes (records_of F.files tickets.items)) }
+    ensures part { OnErr result (AppendsPrefix writer.old.bytes writer.new.bytes (records_of F.files tickets.items)) }
     ensures failures { CountsBy writer_failures writer.old.failures writer.new.failures result }
     ensures own { IfErr result IsWriteOrMemory }
 {

@@ -2,11 +2,11 @@
 
 ghost use Rattle.std.specs.Prelude.{◌≡◌, ◌<◌, ◌≤◌, ◌-◌, ◌+◌, ◌^◌, List, OnOk, OnErr, IfErr};
 ghost use Rattle.std.specs.Io.KnownBytes.{Appends};
-ghost use Rattle.paths.specs.Devices.{CanFail, CountsBy};
+ghost use Rattle.paths.specs.Devices.{CanFail, CountsBy, AppendsPrefix};
 ghost use Rattle.captures.specs.Captures.{latest_start, latest_tick};
 ghost use Rattle.arrivals.specs.Arrivals.{Arrival};
 ghost use Rattle.replay.specs.Choices.{Terms, terms_of};
-ghost use Rattle.replay.specs.Outcomes.{AppendsInPart, writer_failures, IsWriteOrMemory};
+ghost use Rattle.replay.specs.Outcomes.{writer_failures, IsWriteOrMemory};
 ghost use Rattle.replay.specs.Serving.{DeskAfter, AreBy};
 ghost use Rattle.replay.specs.Telling.{Telling, IsTelling};
 ghost use Rattle.replay.specs.Steps.{DecidesNext, TellsNext, TellsNextInPart};
@@ -37,7 +37,7 @@ pub(crate) trait Tells {
         ensures written { OnOk result ((terms : Terms)
             → Appends writer.old.bytes writer.new.bytes (telling terms).first) }
         ensures part { OnErr result
-            ((terms : Terms) → AppendsInPart writer.old.bytes writer.new.bytes (telling terms).first) }
+            ((terms : Terms) → AppendsPrefix writer.old.bytes writer.new.bytes (telling terms).first) }
         ensures failures { CountsBy writer_failures writer.old.failures writer.new.failures result }
         ensures own { IfErr result IsWriteOrMemory };
 
@@ -79,7 +79,7 @@ pub(crate) trait Tells {
         ensures written { OnOk result
             ((terms : Terms) → Appends writer.old.bytes writer.new.bytes ((telling terms).last count)) }
         ensures part { OnErr result
-            ((terms : Terms) → AppendsInPart writer.old.bytes writer.new.bytes ((telling terms).last count)) }
+            ((terms : Terms) → AppendsPrefix writer.old.bytes writer.new.bytes ((telling terms).last count)) }
         ensures failures { CountsBy writer_failures writer.old.failures writer.new.failures result }
         ensures own { IfErr result IsWriteOrMemory };
 }

@@ -2,7 +2,6 @@
 #![tactic(auto)]
 
 mod dates;
-mod device;
 mod fields;
 mod head;
 mod record;
@@ -12,7 +11,6 @@ mod shared_page;
 mod slip;
 mod write_fault;
 
-pub use device::write_all;
 pub use record::{write_record, write_reply};
 pub use rendering::HeadRenderer;
 pub use reply::{Reply, render, try_render};

@@ -1,11 +1,10 @@
 //! A reply as a record of the replies text.
 
 ghost use Rattle.std.specs.Prelude.{◌≡◌, ◌<◌, ◌≤◌, ◌+◌, ◌-◌, ◌^◌, ◌++◌, [], ◌∷◌, decimal};
-ghost use Rattle.paths.specs.Devices.{CanFail};
+ghost use Rattle.paths.specs.Devices.{CanFail, WritesProperPrefix, CountsFailed};
 ghost use Rattle.arrayvec.specs.ArrayVec.{array_vec_len};
-ghost use Rattle.responses.specs.Records.{record_line, record_text, WritesFront, CountsWrite};
+ghost use Rattle.responses.specs.Records.{record_line, record_text};
 
-use crate::device::write_all;
 use crate::{Reply, Write};
 use arrayvec::ArrayVec;
 use itoa::Buffer;
@@ -50,15 +49,15 @@ pub fn write_record<W: io::Write>(
     body: &[u8],
 ) -> Result<(), Write>
     requires { CanFail output.old }
-    ensures record { WritesFront output.old.bytes output.new.bytes result
+    ensures record { WritesProperPrefix output.old.bytes output.new.bytes result
         (record_text (number, conn, front.now ++ body.now)) }
-    ensures count { CountsWrite output.old.failures output.new.failures result }
+    ensures count { CountsFailed output.old.failures output.new.failures result }
 {
     let line = record_line(number, conn, front.len() + body.len());
-    write_all(output, line.as_slice())?;
-    write_all(output, front)?;
-    write_all(output, body)?;
-    write_all(output, b"\n")?;
+    output.write_all(line.as_slice())?;
+    output.write_all(front)?;
+    output.write_all(body)?;
+    output.write_all(b"\n")?;
     Ok(())
 }
 
@@ -68,8 +67,8 @@ pub fn write_reply<F: Tree, W: io::Write>(
     reply: &Reply<F>,
 ) -> Result<(), Write>
     requires { CanFail output.old }
-    ensures record { WritesFront output.old.bytes output.new.bytes result (record_text reply.now) }
-    ensures count { CountsWrite output.old.failures output.new.failures result }
+    ensures record { WritesProperPrefix output.old.bytes output.new.bytes result (record_text reply.now) }
+    ensures count { CountsFailed output.old.failures output.new.failures result }
 {
     let (front, body) = reply.parts();
     write_record(output, reply.number(), reply.conn(), front, body)

@@ -5,24 +5,14 @@ use Rattle.std.proofs.Common.{◌≡◌, ℕ, ◌+◌, cond, List, [], ◌++◌,
 use Rattle.std.proofs.lemmas.List.{append_assoc, take-append-drop, append-nil}
 use Rattle.std.proofs.Math.Seq.{take-add}
 use Rattle.std.specs.Io.KnownBytes.{Appends, Keeps, append_known}
-use Rattle.runs.specs.Buffers.{front_of, IsPart}
-
-appends_then : (old mid new : Option (List ℕ)) (a b : List ℕ) → Appends old mid a → Appends mid new b → Appends old new (a ++ b)
-appends_then None mid new a b first second = tt
-appends_then (Some x) None new a b first second = absurd first
-appends_then (Some x) (Some y) None a b first second = absurd second
-appends_then (Some x) (Some y) (Some z) a b first second = second ∙ ap (λ v. v ++ b) first ∙ append_assoc x a b
-
--- one write further
-pub appends_more : (old mid new : Option (List ℕ)) (bytes : List ℕ) (at n : ℕ) → Appends old mid (take at bytes) → Appends mid new (take n (drop at bytes)) → Appends old new (take (at + n) bytes)
-appends_more old mid new bytes at n first second = rw take-add (appends_then old mid new (take at bytes) (take n (drop at bytes)) first second)
+use Rattle.runs.specs.Buffers.{front_of, IsPrefix}
 
 some_of : {x y : List ℕ} → Some x ≡ Some y → x ≡ y
 some_of e = cc
 
 -- a prefix stands at the device, and the rest waits
 pub part_stands : (stood old new : Option (List ℕ)) (waited waits : List ℕ) → front_of stood old ≡ stood → front_of stood new ≡ stood
-    → Keeps (append_known old waited) (append_known new waits) → IsPart stood (append_known old waited) new
+    → Keeps (append_known old waited) (append_known new waits) → IsPrefix stood (append_known old waited) new
 part_stands None old new waited waits before begins keeps = tt
 part_stands (Some s) None new waited waits before begins keeps = absurd (let never : None ≡ Some s = before in cc)
 part_stands (Some s) (Some xs) None waited waits before begins keeps = absurd keeps

@@ -1,5 +1,6 @@
 -- From what becomes of each file to what the run that writes a snapshot says.
-use Rattle.paths.specs.Devices.{Device}
+use Rattle.paths.proofs.Appending.{prefix_all, prefix_first}
+use Rattle.paths.specs.Devices.{Device, AppendsPrefix}
 use Rattle.std.proofs.Common.{◌≡◌, ◌≢◌, inl, inr, ℕ, ◌+◌, ◌<◌, ◌≤◌, Bool, true, false, List, [], ◌∷◌, ◌++◌, length, take, drop, get_or, is_some, Option, Some, None, Result, Ok, Err, IfOk, IfErr, refl, sym, ap, ◌∙◌, subst, arith, decimal, append-nil}
 use Rattle.std.proofs.lemmas.Fmt.{length-decimal-le}
 use Rattle.std.proofs.lemmas.List.{append_assoc, length-append, take_more, take_all, take-append-drop}
@@ -13,10 +14,8 @@ use Rattle.snapshots.specs.declared.write_fault.WriteFault.TheVariants as rules
 use Rattle.snapshots.specs.Keeping.{a_file}
 use Rattle.snapshots.specs.Rules.{broken_rule}
 use Rattle.snapshots.specs.Writers.{Took, refused_for}
-use Rattle.snapshots.specs.Writing.{AppendsPrefix}
 use Rattle.snapshots.proofs.Rulings.{keeps}
 use Rattle.snapshots.proofs.Taken.{whole}
-use Rattle.snapshots.proofs.WritingLemmas.{prefix_all, prefix_first}
 use Rattle.runs.specs.declared.fault.Fault.{Fault}
 use Rattle.runs.specs.declared.fault.Fault.TheVariants.{Write, Memory}
 use Rattle.runs.specs.declared.file_fault.FileFault.{FileFault}

@@ -7,7 +7,7 @@ front_of (Some stood) (Some now) = Some (take (length stood) now)
 front_of stood now = None
 
 -- what stood before stands, and after it a prefix of what was to follow: where the bytes are known
-abbrev pub IsPart : Option (List ℕ) → Option (List ℕ) → Option (List ℕ) → Type 0
-IsPart None whole now = Unit {0}
-IsPart (Some stood) (Some whole) (Some now) = (more rest : List ℕ) × (now ≡ stood ++ more) × (whole ≡ now ++ rest)
-IsPart (Some stood) whole now = ⊥
+abbrev pub IsPrefix : Option (List ℕ) → Option (List ℕ) → Option (List ℕ) → Type 0
+IsPrefix None whole now = Unit {0}
+IsPrefix (Some stood) (Some whole) (Some now) = (more rest : List ℕ) × (now ≡ stood ++ more) × (whole ≡ now ++ rest)
+IsPrefix (Some stood) whole now = ⊥

@@ -7,7 +7,7 @@ use Rattle.runs.specs.declared.fault.Fault.{Fault}
 use Rattle.runs.specs.declared.fault.Fault.TheVariants.{Replay, Upgrade, Write, Memory}
 use Rattle.runs.specs.declared.place.Place.{Place}
 use Rattle.runs.specs.declared.place.Place.TheVariants.{Replies, Report}
-use Rattle.runs.specs.Buffers.{IsPart}
+use Rattle.runs.specs.Buffers.{IsPrefix}
 
 -- a write failed in the run, and so no other is made
 abbrev pub is_failed_write : Fault → Bool
@@ -29,8 +29,8 @@ abbrev pub Settles : Bool → Place → Option (List ℕ) → Option (List ℕ) 
     → Result Unit Fault → Type 0
 Settles cut place old whole new ran told =
     ((told ≡ ran) × (cut ≡ false) × Keeps whole new)
-    ⊎ (((told ≡ ran) × (cut ≡ true) × IsPart old whole new)
-    ⊎ ((told ≡ Err (Write place)) × (cut ≡ false) × IsPart old whole new))
+    ⊎ (((told ≡ ran) × (cut ≡ true) × IsPrefix old whole new)
+    ⊎ ((told ≡ Err (Write place)) × (cut ≡ false) × IsPrefix old whole new))
 
 -- A run over one device with a buffer before it came to `ran` and was to leave `whole` at the device, of which P holds.
 pub record AtDevice (place : Place) (P : Result Unit Fault → Option (List ℕ) → Type 0) (old new : Option (List ℕ))

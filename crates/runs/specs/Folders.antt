@@ -2,6 +2,7 @@
 use Rattle.std.specs.Prelude.{◌≡◌, ◌⊎◌, ℕ, ◌+◌, Bool, false, List, [], ◌∷◌, ◌++◌, map, string_bytes, Option, Some, None}
 use Rattle.std.specs.Prelude.{Result, Ok, Err}
 use Rattle.std.specs.Io.KnownBytes.{Appends}
+use Rattle.paths.specs.Devices.{AppendsPrefix}
 use Rattle.paths.specs.declared.file.File.{File}
 use Rattle.paths.specs.Snapshots.{text_before_end, snapshot_text, IsSnapshotText}
 use Rattle.snapshots.specs.declared.so_far.SoFar.{SoFar}
@@ -10,7 +11,6 @@ use Rattle.snapshots.specs.declared.write_fault.WriteFault.TheVariants as rules
 use Rattle.snapshots.specs.Keeping.{a_file}
 use Rattle.snapshots.specs.Rules.{broken_rule}
 use Rattle.snapshots.specs.Writers.{Took}
-use Rattle.snapshots.specs.Writing.{AppendsPrefix}
 use Rattle.runs.specs.declared.fault.Fault.{Fault}
 use Rattle.runs.specs.declared.fault.Fault.TheVariants.{Folder, Write, Memory}
 use Rattle.runs.specs.declared.file_fault.FileFault.{FileFault}

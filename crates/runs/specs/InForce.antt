@@ -1,5 +1,5 @@
 -- The run that writes out the settings that are in force.
-use Rattle.paths.specs.Devices.{Device, fresh}
+use Rattle.paths.specs.Devices.{Device, fresh, AppendsProperPrefix}
 use Rattle.std.specs.Prelude.{◌≡◌, ℕ, false, List, Option, Result, Ok, Err, MatchResult}
 use Rattle.std.specs.Io.KnownBytes.{Appends}
 use Rattle.options.specs.ConfigFaults.{is_memory}
@@ -8,7 +8,6 @@ use Rattle.options.specs.WrittenOut.{settings_text}
 use Rattle.runs.specs.declared.fault.Fault.{Fault}
 use Rattle.runs.specs.declared.fault.Fault.TheVariants.{Settings, Write, Memory}
 use Rattle.runs.specs.declared.place.Place.TheVariants.{Report}
-use Rattle.runs.specs.Replays.{WritesPart}
 
 -- the settings of a document were written out
 abbrev pub WritesSettings : List ℕ → Option (List ℕ) → Option (List ℕ) → Type 0
@@ -24,7 +23,7 @@ IsOfSettings document other = ⊥
 abbrev pub IsSettingsFault : List ℕ → Device → Device → Fault → Type 0
 IsSettingsFault document old new (Settings f) = IsOfSettings document (Settings f) × (new ≡ old)
 IsSettingsFault document old new (Write Report) =
-    (text : List ℕ) × (settings_text document ≡ Ok text) × WritesPart old.bytes new.bytes text
+    (text : List ℕ) × (settings_text document ≡ Ok text) × AppendsProperPrefix old.bytes new.bytes text
 IsSettingsFault document old new other = ⊥
 
 -- What a fault of the program says of its document. Other faults are that the output can't be written to its end, and

@@ -12,9 +12,8 @@ use Rattle.paths.specs.KnownText.{WhereKnown}
 use Rattle.runs.specs.declared.fault.Fault.{Fault}
 use Rattle.runs.specs.declared.fault.Fault.TheVariants.{Replay, Write, Memory}
 use Rattle.runs.specs.declared.place.Place.TheVariants.{Report}
-use Rattle.paths.specs.Devices.{Device, fresh}
+use Rattle.paths.specs.Devices.{Device, fresh, AppendsProperPrefix}
 use Rattle.runs.specs.Devices.{Settles}
-use Rattle.runs.specs.Replays.{WritesPart}
 
 -- the figures of the whole capture were written
 abbrev pub Inspects : Option (List ℕ) → Option (List ℕ) → Option (List ℕ) → Type 0
@@ -39,7 +38,7 @@ abbrev pub IsInspectFault :
     Option (List ℕ) → Option (List ℕ) → Device → Device → Fault → Type 0
 IsInspectFault input ahead old new (Replay (Capture f)) = InspectsBefore input ahead old new f
 IsInspectFault input ahead old new (Write Report) =
-    (i : Inspection) × AreDue input ahead i × WritesPart old.bytes new.bytes (inspection_text i)
+    (i : Inspection) × AreDue input ahead i × AppendsProperPrefix old.bytes new.bytes (inspection_text i)
 IsInspectFault input ahead old new Memory = new ≡ old
 IsInspectFault input ahead old new other = ⊥
 

@@ -1,7 +1,7 @@
 -- The run over a snapshot and a capture, each in an input of its own, with a report.
-use Rattle.paths.specs.Devices.{Device, fresh}
-use Rattle.std.specs.Prelude.{◌≡◌, ℕ, ◌<◌, false, List, length, take, Option, Result, MatchResult}
+use Rattle.std.specs.Prelude.{◌≡◌, ℕ, false, List, Option, Result, MatchResult}
 use Rattle.std.specs.Io.KnownBytes.{Appends}
+use Rattle.paths.specs.Devices.{Device, AppendsProperPrefix, fresh}
 use Rattle.paths.specs.declared.file.File.{File}
 use Rattle.paths.specs.Snapshots.{IsSnapshot, IsSnapshotText}
 use Rattle.paths.specs.SnapshotFaults.{IsFirstFault, IsForeseen, failures_of}
@@ -35,13 +35,9 @@ pub record AnswersAnd (wanted : Wanted) (terms : Terms) (capture old new : Optio
   pub answer : HasWritten wanted terms capture old new outcome
   pub holds : P outcome
 
--- a prefix of a text was written, and not all of it
-abbrev pub WritesPart : Option (List ℕ) → Option (List ℕ) → List ℕ → Type 0
-WritesPart old new text = (n : ℕ) × (n < length text) × Appends old new (take n text)
-
 -- what a fault of the report says of its text and of the output: no memory for it, or a failed write
 abbrev pub IsReportFault : List ℕ → Device → Device → Fault → Type 0
-IsReportFault text old new (Write Report) = WritesPart old.bytes new.bytes text
+IsReportFault text old new (Write Report) = AppendsProperPrefix old.bytes new.bytes text
 IsReportFault text old new Memory = new ≡ old
 IsReportFault text old new other = ⊥
 
@@ -59,7 +55,7 @@ IsReplayFault wanted choice snapshot capture ahead old new out_old out_new (Repl
     × (out_new ≡ out_old)
 IsReplayFault wanted choice snapshot capture ahead old new out_old out_new (Write Report) =
     OfSnapshot snapshot (λ files. AnswersAnd wanted (terms_of files choice) capture old.bytes new.bytes
-    (λ outcome. WritesPart out_old.bytes out_new.bytes (report_text outcome)))
+    (λ outcome. AppendsProperPrefix out_old.bytes out_new.bytes (report_text outcome)))
 IsReplayFault wanted choice snapshot capture ahead old new out_old out_new Memory =
     OfSnapshot snapshot (λ files. AnswersAnd wanted (terms_of files choice) capture old.bytes new.bytes
     (λ outcome. Unit {0}))

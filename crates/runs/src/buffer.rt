@@ -1,6 +1,6 @@
 //! A buffer before a device of the program, which tries no failed write again.
 
-ghost use Rattle.runs.specs.Buffers.{front_of, IsPart};
+ghost use Rattle.runs.specs.Buffers.{front_of, IsPrefix};
 ghost use Rattle.std.specs.Prelude.{◌≡◌, ◌≤◌, [], length, take, true};
 ghost use Rattle.std.specs.Io.KnownBytes.{Appends, Keeps, WriteAppends, append_known};
 ghost use Rattle.std.specs.Io.{WritesAtMost};
@@ -135,7 +135,7 @@ impl<N: Stood, W: Write> Buffered<N, W> {
         ensures due { result.1 ≡ true → due ≡ true }
         ensures all { result.1 ≡ true
             → Keeps (append_known (W.contents self.device.writer) self.waiting.items) (W.contents result.0) }
-        ensures part { IsPart N.stood (append_known (W.contents self.device.writer) self.waiting.items)
+        ensures part { IsPrefix N.stood (append_known (W.contents self.device.writer) self.waiting.items)
             (W.contents result.0) }
     {
         let done = self.write_rest(due);

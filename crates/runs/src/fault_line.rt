@@ -1,8 +1,7 @@
 //! The one line that tells a fault.
 
 ghost use Rattle.std.specs.Prelude.{◌≡◌, ◌-◌, ◌+◌, ◌<◌, ◌≤◌, ◌^◌, ◌++◌, ◌∷◌, [], length, codes, decimal, option_map};
-ghost use Rattle.paths.specs.Devices.{CanFail};
-ghost use Rattle.responses.specs.Records.{WritesFront, CountsWrite};
+ghost use Rattle.paths.specs.Devices.{CanFail, WritesProperPrefix, CountsFailed};
 ghost use Rattle.runs.specs.FaultLines.{line_of, named_line, named_line_of, skipped_line, text_of, text_told};
 ghost use Rattle.runs.specs.FaultLines.{told_file, usage_of};
 ghost use Rattle.arrayvec.specs.ArrayVec.{array_vec_len};
@@ -17,7 +16,7 @@ use command_line::WordFault;
 use itoa::Buffer;
 use options::{ConfigFault, Key};
 use paths::{Failed, Output};
-use responses::{Write, write_all};
+use responses::Write;
 use std::io;
 
 /// Room for the longest line: `haboob: `, 17 bytes, a number of 64 bits, `: `, 12 bytes and a line feed.
@@ -93,16 +92,8 @@ fn line_of(told: Told) -> Line
         Told::Usage => plain_line("", "usage", b'\n'),
         Told::Engine => plain_line("", "engine", b'\n'),
         Told::Settings(fault) => settings_line(fault),
-        Told::Entry(fault) => {
-            numbered_line(
-                "snapshot: entry ",
-                fault.entry,
-                fault.kind.name(),
-            )
-        }
-        Told::Record(fault) => {
-            numbered_line("capture: record ", fault.at, fault.kind.name())
-        }
+        Told::Entry(fault) => { numbered_line("snapshot: entry ", fault.entry, fault.kind.name()) }
+        Told::Record(fault) => { numbered_line("capture: record ", fault.at, fault.kind.name()) }
         Told::TooMany(number) => numbered_line("capture: message ", number, "TooMany"),
         Told::File(fault) => plain_line("folder: ", fault.name(), b'\n'),
         Told::Open(place) => plain_line("open: ", place.name(), b'\n'),
@@ -122,31 +113,15 @@ fn file_heading(fault: FileFault) -> Line
     }
 }
 
-/// Writes one text and then another.
-fn write_both<W: io::Write>(
-    writer: &mut Output<W>,
-    first: &[u8],
-    second: &[u8],
-) -> Result<(), Failed>
-    requires { CanFail writer.old }
-    ensures text { WritesFront writer.old.bytes writer.new.bytes result (first.now ++ second.now) }
-    ensures count { CountsWrite writer.old.failures writer.new.failures result }
-{
-    match write_all(writer, first) {
-        Ok(()) => write_all(writer, second),
-        Err(failed) => Err(failed),
-    }
-}
-
 /// Writes the line of what can't be taken.
 fn write_named<W: io::Write>(writer: &mut Output<W>, fault: &FolderFault) -> Result<(), Failed>
     requires { CanFail writer.old }
-    ensures line { WritesFront writer.old.bytes writer.new.bytes result
+    ensures line { WritesProperPrefix writer.old.bytes writer.new.bytes result
         (named_line_of (told_file fault.now.fault) fault.now.name.items) }
-    ensures count { CountsWrite writer.old.failures writer.new.failures result }
+    ensures count { CountsFailed writer.old.failures writer.new.failures result }
 {
-    match write_all(writer, file_heading(fault.fault).as_slice()) {
-        Ok(()) => write_both(writer, &fault.name, b"\n"),
+    match writer.write_all(file_heading(fault.fault).as_slice()) {
+        Ok(()) => writer.write_both(&fault.name, b"\n"),
         Err(failed) => Err(failed),
     }
 }
@@ -155,10 +130,10 @@ fn write_named<W: io::Write>(writer: &mut Output<W>, fault: &FolderFault) -> Res
 /// call, and a prefix of the line stands there.
 pub fn write_skipped<W: io::Write>(count: usize, writer: &mut Output<W>) -> Result<(), Write>
     requires { CanFail writer.old }
-    ensures line { WritesFront writer.old.bytes writer.new.bytes result (skipped_line count) }
-    ensures count { CountsWrite writer.old.failures writer.new.failures result }
+    ensures line { WritesProperPrefix writer.old.bytes writer.new.bytes result (skipped_line count) }
+    ensures count { CountsFailed writer.old.failures writer.new.failures result }
 {
-    write_all(writer, skipped_line(count).as_slice())?;
+    writer.write_all(skipped_line(count).as_slice())?;
     Ok(())
 }
 
@@ -200,15 +175,15 @@ impl Fault {
     /// `Err` the writer failed in this call, and a prefix of the line stands there.
     pub fn write_line<W: io::Write>(&self, writer: &mut Output<W>) -> Result<(), Write>
         requires { CanFail writer.old }
-        ensures line { WritesFront writer.old.bytes writer.new.bytes result (text_told self.now) }
-        ensures count { CountsWrite writer.old.failures writer.new.failures result }
+        ensures line { WritesProperPrefix writer.old.bytes writer.new.bytes result (text_told self.now) }
+        ensures count { CountsFailed writer.old.failures writer.new.failures result }
     {
         if let Some(text) = self.usage() {
-            write_all(writer, text.as_bytes())?;
+            writer.write_all(text.as_bytes())?;
         } else if let Some(fault) = self.named() {
             write_named(writer, fault)?;
         } else {
-            write_all(writer, line_of(self.told()).as_slice())?;
+            writer.write_all(line_of(self.told()).as_slice())?;
         }
         Ok(())
     }

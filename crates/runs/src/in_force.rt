@@ -15,7 +15,6 @@ use crate::place::Place;
 use crate::program::write_rest;
 use options::settings_text;
 use paths::Output;
-use responses::write_all;
 use std::alloc::Global;
 use std::io::Write;
 use std::marker::Brand;
@@ -40,7 +39,7 @@ pub fn run_settings<W: Write>(
     ensures settings { OnOk result (AreSettings document.now) }
 {
     let text = settings_text(alloc, document)?;
-    match write_all(output, text.as_bytes()) {
+    match output.write_all(text.as_bytes()) {
         Ok(()) => Ok(()),
         Err(_) => Err(Fault::Write(Place::Report)),
     }

@@ -18,7 +18,6 @@ use crate::program::write_rest;
 use inspection::{InspectFault, Inspection, inspect, inspection_text};
 use paths::{Input, Output};
 use replay::ReplayFault;
-use responses::write_all;
 use std::alloc::Global;
 use std::io::{BufReader, Read, Write};
 use std::marker::Brand;
@@ -35,7 +34,7 @@ fn write_inspection<W: Write>(
     ensures count { CountsBy report_failures output.old.failures output.new.failures result }
 {
     let text = inspection_text(alloc, inspection)?;
-    match write_all(output, text.as_bytes()) {
+    match output.write_all(text.as_bytes()) {
         Ok(()) => Ok(()),
         Err(_) => Err(Fault::Write(Place::Report)),
     }

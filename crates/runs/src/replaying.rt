@@ -19,7 +19,6 @@ use command_line::Engine;
 use paths::{Input, Output, Snapshot, Tree};
 use replay::{Outcome, ReplayFault, Settings, explain_replay, plain_replay, staged_replay};
 use report::report;
-use responses::write_all;
 use stage_graph::NoGate;
 use std::alloc::Global;
 use std::io::{Read, Write};
@@ -39,7 +38,7 @@ fn write_report<O: Write>(
     ensures count { CountsBy report_failures out.old.failures out.new.failures result }
 {
     let text = report(alloc, outcome)?;
-    match write_all(out, text.as_bytes()) {
+    match out.write_all(text.as_bytes()) {
         Ok(()) => Ok(()),
         Err(_) => Err(Fault::Write(Place::Report)),
     }

@@ -2,4 +2,3 @@ pub mod Prefixes
 pub mod Keeps
 pub mod Rulings
 pub mod Taken
-pub mod WritingLemmas

@@ -3,6 +3,8 @@ use Rattle.std.proofs.Common.{◌≡◌, ℕ, ◌+◌, Bool, true, false, List, 
 use Rattle.std.proofs.lemmas.Fmt.{length-decimal-le}
 use Rattle.std.proofs.lemmas.List.{append_assoc, length-append}
 use Rattle.std.specs.Io.KnownBytes.{Appends}
+use Rattle.paths.proofs.Appending.{appends_then, prefix_first, prefix_all, prefix_then}
+use Rattle.paths.specs.Devices.{AppendsPrefix}
 use Rattle.paths.specs.declared.file.File.{File}
 use Rattle.paths.specs.Snapshots.{feed, file_line, file_text, last_line, text_before_end, snapshot_text, IsSnapshotText}
 use Rattle.paths.proofs.FilesOrFault.{rules_none, rules_more}
@@ -13,11 +15,9 @@ use Rattle.paths.specs.declared.snapshot_fault.SnapshotFault.{SnapshotFault}
 use Rattle.snapshots.specs.declared.so_far.SoFar.{SoFar}
 use Rattle.snapshots.specs.Rules.{broken_rule}
 use Rattle.snapshots.specs.Keeping.{Grown, more}
-use Rattle.snapshots.specs.Writing.{AppendsPrefix}
 use Rattle.snapshots.specs.Writers.{Took}
 use Rattle.snapshots.proofs.Keeps.{kept_more, text_push, whole_size}
 use Rattle.snapshots.proofs.Rulings.{none_broken}
-use Rattle.snapshots.proofs.WritingLemmas.{appends_then, prefix_first, prefix_all, prefix_then}
 
 pub took_none : (old new : Option (List ℕ)) (s : SoFar) → Appends old new (text_before_end []) → s.count ≡ 0 → s.size ≡ 18 → s.names.last.items ≡ [] → s.names.lengths.items ≡ [] → Took [] old new s
 took_none old new s h count size last lengths = record {

@@ -1,4 +1,3 @@
 pub mod Keeping
 pub mod Rules
 pub mod Writers
-pub mod Writing

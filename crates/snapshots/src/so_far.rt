@@ -2,16 +2,14 @@
 
 ghost use Rattle.std.specs.Prelude.{◌≡◌, ◌≢◌, ◌≤◌, ◌<◌, ◌-◌, ◌^◌, [], length, decimal};
 ghost use Rattle.std.specs.Prelude.{IfOk, IfErr, IfSome, Err, Some};
-ghost use Rattle.paths.specs.Devices.{CanFail};
+ghost use Rattle.paths.specs.Devices.{CanFail, AppendsPrefix};
 ghost use Rattle.paths.specs.Snapshots.{file_text, text_before_end, longest_name, most_bytes};
 ghost use Rattle.snapshots.specs.Keeping.{a_file, broken_by, Grown};
 ghost use Rattle.snapshots.specs.Rules.{is_good_name};
-ghost use Rattle.snapshots.specs.Writing.{AppendsPrefix};
 ghost use Rattle.snapshots.specs.Writers.{Took, refused_for, Counts};
 
 use crate::WriteFault;
 use crate::names::Names;
-use crate::texts::write_all;
 use itoa::Buffer;
 use paths::{LATEST_TIME, LONGEST_NAME, LONGEST_TEXT, MOST_BYTES, MOST_FILES, Output, is_name};
 use std::alloc::{AllocError, Global};
@@ -65,7 +63,7 @@ impl SoFar {
         ensures count { Counts output.old.failures output.new.failures result }
     {
         let line = b"haboob-snapshot 1\n";
-        write_all(output, line)?;
+        output.write_all(line)?;
         Ok(SoFar {
             count: 0,
             size: line.len(),

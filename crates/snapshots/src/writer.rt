@@ -1,17 +1,16 @@
 //! The writer of a snapshot, file by file.
 
 ghost use Rattle.std.specs.Prelude.{◌≡◌, ◌≢◌, ◌<◌, ◌-◌, ◌^◌, ◌++◌, [], ◌∷◌, ℕ, List, Option, OnOk, IfOk, IfErr};
-ghost use Rattle.paths.specs.Devices.{CanFail};
+ghost use Rattle.paths.specs.Devices.{CanFail, AppendsPrefix, WritesPrefix};
 ghost use Rattle.paths.specs.declared.file.File.{File as AFile};
 ghost use Rattle.paths.specs.Snapshots.{text_before_end, snapshot_text, IsSnapshotText};
 ghost use Rattle.snapshots.specs.Keeping.{a_file};
 ghost use Rattle.snapshots.specs.Rules.{broken_rule};
-ghost use Rattle.snapshots.specs.Writing.{AppendsPrefix, WritesPrefix};
 ghost use Rattle.snapshots.specs.Writers.{Took, refused_for, Counts};
 
 use crate::WriteFault;
 use crate::so_far::SoFar;
-use crate::texts::{file_head, last_line, write_all, write_file};
+use crate::texts::{file_head, last_line, write_file};
 use paths::Output;
 use std::alloc::Global;
 use std::io::Write;
@@ -111,7 +110,7 @@ impl SnapshotWriter {
         ensures count { Counts output.old.failures output.new.failures result }
     {
         let line = last_line(self.alloc, self.so_far.count)?;
-        write_all(output, line.as_bytes())?;
+        output.write_all(line.as_bytes())?;
         Ok(())
     }
 }

@@ -2,12 +2,12 @@
 use Rattle.std.proofs.Common.{◌≡◌, ℕ, ◌+◌, ◌<◌, ◌≤◌, List, [], ◌∷◌, ◌++◌, length, take, get_or, Option, Result, Ok, Err, OnOk, sym, ap, ◌∙◌, subst}
 use Rattle.std.proofs.lemmas.List.{take_more, take_all}
 use Rattle.std.specs.Io.KnownBytes.{Appends}
+use Rattle.paths.specs.Devices.{WritesPrefix}
 use Rattle.paths.specs.declared.file.File.{File}
 use Rattle.paths.specs.Snapshots.{snapshot_text, IsSnapshotText}
 use Rattle.snapshots.specs.declared.write_fault.WriteFault.{WriteFault}
 use Rattle.snapshots.specs.declared.so_far.SoFar.{SoFar}
 use Rattle.snapshots.specs.Keeping.{a_file}
-use Rattle.snapshots.specs.Writing.{WritesPrefix}
 use Rattle.snapshots.specs.Writers.{Took}
 
 pub took_item : (files : List File) (i : ℕ) (item : File) (name bytes : List ℕ) (before new : Option (List ℕ)) (s : SoFar) → i < length files → item ≡ get_or files i item

@@ -1,11 +1,20 @@
 use Rattle.std.proofs.Common.{List, ℕ, subst, ◌∙◌}
-use Rattle.captures.specs.Writing.{WritesPrefix}
-use Rattle.captures.proofs.WritingLemmas.{prefix_none}
+use Rattle.std.proofs.lemmas.Result.{err_from_is_err_and}
+use Rattle.std.specs.Io.KnownBytes.{Appends}
+use Rattle.paths.specs.Devices.{AppendsPrefix}
+use Rattle.paths.proofs.Appending.{prefix_none, proper_is_prefix}
 use Rattle.captures.proofs.record_writer.write_line.Goals as goal
 
-pub returns-in-Ok-clause-prefix : goal.returns-in-Ok-clause-prefix
-returns-in-Ok-clause-prefix g c =
-    subst (λ (w : List ℕ). WritesPrefix c.args.output.now.bytes c.write_all.new.output.bytes c.write_all.result w) (c.as_bytes.ensures.value ∙ c.in-Ok.ensures) c.write_all.ensures.prefix
+pub returns-in_err-line-clause-prefix : goal.returns-in_err-line-clause-prefix
+returns-in_err-line-clause-prefix g c =
+    let refused = err_from_is_err_and c.from_residual.result c.from_residual.ensures.1 in
+    rw refused.1 (prefix_none _ _)
 
-pub returns-in-Err-clause-prefix : goal.returns-in-Err-clause-prefix
-returns-in-Err-clause-prefix g c = prefix_none _ _
+pub returns-in_err-write_all-clause-prefix : goal.returns-in_err-write_all-clause-prefix
+returns-in_err-write_all-clause-prefix g c =
+    let failed = err_from_is_err_and c.from_residual-in_err-write_all.result c.from_residual-in_err-write_all.ensures.1 in
+    rw failed.1 (subst (λ (w : List ℕ). AppendsPrefix c.args.output.now.bytes c.write_all.new.self.bytes w) (c.as_bytes.ensures.value ∙ c.in_ok-line.ensures) (proper_is_prefix _ _ _ c.in_err-write_all.ensures.prefix))
+
+pub returns-clause-prefix : goal.returns-clause-prefix
+returns-clause-prefix g c =
+    subst (λ (w : List ℕ). Appends c.args.output.now.bytes c.write_all.new.self.bytes w) (c.as_bytes.ensures.value ∙ c.in_ok-line.ensures) c.in_ok-write_all.ensures.prefix

@@ -1,5 +1,6 @@
+use Rattle.paths.proofs.Appending.{writes_then, prefix_first}
 use Rattle.captures.specs.Writing.{line_of, rest_of}
-use Rattle.captures.proofs.WritingLemmas.{writes_then, prefix_first, line_then}
+use Rattle.captures.proofs.WritingLemmas.{line_then}
 use Rattle.captures.proofs.record_writer.write_record.Goals as goal
 
 pub returns-in-Ok-clause-prefix : goal.returns-in-Ok-clause-prefix

@@ -1,7 +1,7 @@
 use Rattle.std.proofs.Common.{◌∙◌, ◌++◌, ◌∷◌, [], ℕ, List, Option, refl, arith, rules}
+use Rattle.paths.proofs.Appending.{prefix_all}
 use Rattle.captures.specs.Upgrades.{Stops, IfCapture, upgrade_fault}
 use Rattle.captures.proofs.UpgradeLemmas.{told, told_short, told_unless, told_memory, told_reads, told_writes, own_capture, passed_on, fits_own, gave_more, first_written, first_prefix, more_written, more_prefix, stops_first, stops_after, short_among, all_read, moved, own_errs, short_errs, part_end, ok_end}
-use Rattle.captures.proofs.WritingLemmas.{prefix_all}
 use Rattle.std.proofs.lemmas.List.{length_push}
 use Rattle.captures.proofs.upgrading.upgrade.Goals as goal
 

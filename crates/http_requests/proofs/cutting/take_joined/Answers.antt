@@ -24,7 +24,7 @@ returns-in-Wait-clause-waits c =
     waits_found c.args.held.now.items c.args.text.now c.deref.result.now _ c.min-most.result c.in-Wait.start
     (grind (arith, m, h)) (grind (arith, m, h, lim, some))
     (c.deref.ensures.value ∙ c.in_ok-extend_from_slice.ensures.items) c.in-Wait.ensures
-    (rw (c.deref.ensures.value) c.drop_front.ensures)
+    (rw (c.deref.ensures.value) c.drop_first.ensures)
 
 pub returns-in-Over-clause-begins : goal.returns-in-Over-clause-begins
 returns-in-Over-clause-begins c =

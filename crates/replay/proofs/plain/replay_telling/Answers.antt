@@ -1,9 +1,9 @@
 use Rattle.std.proofs.Common.{◌∙◌, [], ◌∷◌, ◌++◌, ℕ, List, Option, refl, sym, ap, subst, inl, inr, rules}
 use Rattle.std.specs.Io.KnownBytes.{Appends}
+use Rattle.paths.proofs.Appending.{prefix_all}
 use Rattle.replay.specs.Choices.{terms_of}
 use Rattle.replay.specs.Outcomes.{StopsTelling, IsCutOff}
 use Rattle.replay.proofs.Texts.{text_begun, text_told}
-use Rattle.replay.proofs.Writing.{part_all}
 use Rattle.replay.proofs.Judging.{stands_none, cut_short, passed_on, on_many, on_cut}
 use Rattle.arrivals.proofs.Gathering.{gave_some}
 use Rattle.replay.proofs.ByRecord.{serves_none, no_tiers, sizes_left, is_later, gave_end, all_told, ends_short, told, told_short, own_capture, halts_first, halts_told, halts_full, cut_among, cut_part}
@@ -14,10 +14,10 @@ returns-in-Err-clause-stops g c = rw c.from.ensures (told _ (StopsTelling (g.T.T
     (halts_first (g.T.Tells.telling (terms_of g.F.Tree.files c.args.settings.now)) c.args.reader.now.bytes _ c.args.writer.now.bytes c.begin.new.writer.bytes _ (c.in_ok-begin.ensures.written (terms_of g.F.Tree.files c.args.settings.now)) c.in-Err.ensures.at c.in-Err.ensures.fault (rw c.in-Err.is at c.open.follows.holds-at-none).1))
 
 pub returns-in-Err-clause-part : goal.returns-in-Err-clause-part
-returns-in-Err-clause-part g c = rw c.from.ensures (told_short _ (IsCutOff (g.T.Tells.telling (terms_of g.F.Tree.files c.args.settings.now)) c.args.reader.now.bytes c.args.writer.now.bytes c.begin.new.writer.bytes) (inl (part_all c.args.writer.now.bytes c.begin.new.writer.bytes _ (c.in_ok-begin.ensures.written (terms_of g.F.Tree.files c.args.settings.now)))))
+returns-in-Err-clause-part g c = rw c.from.ensures (told_short _ (IsCutOff (g.T.Tells.telling (terms_of g.F.Tree.files c.args.settings.now)) c.args.reader.now.bytes c.args.writer.now.bytes c.begin.new.writer.bytes) (inl (prefix_all c.args.writer.now.bytes c.begin.new.writer.bytes _ (c.in_ok-begin.ensures.written (terms_of g.F.Tree.files c.args.settings.now)))))
 
 pub returns-in_err-new-clause-part : goal.returns-in_err-new-clause-part
-returns-in_err-new-clause-part g c = cut_short c.from_residual-in_err-new.result _ (inl (part_all c.args.writer.now.bytes c.begin.new.writer.bytes _ (c.in_ok-begin.ensures.written (terms_of g.F.Tree.files c.args.settings.now))))
+returns-in_err-new-clause-part g c = cut_short c.from_residual-in_err-new.result _ (inl (prefix_all c.args.writer.now.bytes c.begin.new.writer.bytes _ (c.in_ok-begin.ensures.written (terms_of g.F.Tree.files c.args.settings.now))))
 
 pub loop-next-init : goal.loop-next-init
 loop-next-init g c =

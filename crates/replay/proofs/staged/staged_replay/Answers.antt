@@ -1,10 +1,10 @@
 use Rattle.std.proofs.Common.{◌≡◌, ◌∙◌, [], ◌++◌, ℕ, List, Option, refl, sym, ap, subst, inl, inr, rules}
 use Rattle.std.specs.Io.KnownBytes.{Appends}
+use Rattle.paths.proofs.Appending.{prefix_all}
 use Rattle.replay.specs.Choices.{terms_of}
 use Rattle.replay.specs.Offers.{handled}
 use Rattle.replay.specs.Replies.{replies_of, text_before_stop}
 use Rattle.replay.specs.Outcomes.{Stops, IsCutShort, capture_fault}
-use Rattle.replay.proofs.Writing.{part_all}
 use Rattle.replay.proofs.Judging.{stands_none, cut_short, passed_on, on_many, on_cut}
 use Rattle.replay.proofs.ByRecord.{serves_none, no_tiers, first_written, more_written, answers_all, ends_in_part, told, told_short, stops_first, stops_told, left_first, stops_full, short_among, short_part, blamed_told}
 use Rattle.replay.specs.Waiting.{connections_of}
@@ -16,13 +16,13 @@ returns-in-Err-clause-stops g c = rw c.from.ensures (told _ (Stops (terms_of g.F
     (stops_first (terms_of g.F.Tree.files c.args.settings.now) c.args.reader.now.bytes _ c.args.writer.now.bytes c.write_first_line.new.writer.bytes _ c.in_ok-write_first_line.ensures.written c.in-Err.ensures.at c.in-Err.ensures.fault (rw c.in-Err.is at c.open.follows.holds-at-none).1))
 
 pub returns-in-Err-clause-part : goal.returns-in-Err-clause-part
-returns-in-Err-clause-part g c = rw c.from.ensures (told_short _ (IsCutShort (terms_of g.F.Tree.files c.args.settings.now) c.args.reader.now.bytes c.args.writer.now.bytes c.write_first_line.new.writer.bytes) (inl (part_all c.args.writer.now.bytes c.write_first_line.new.writer.bytes _ c.in_ok-write_first_line.ensures.written)))
+returns-in-Err-clause-part g c = rw c.from.ensures (told_short _ (IsCutShort (terms_of g.F.Tree.files c.args.settings.now) c.args.reader.now.bytes c.args.writer.now.bytes c.write_first_line.new.writer.bytes) (inl (prefix_all c.args.writer.now.bytes c.write_first_line.new.writer.bytes _ c.in_ok-write_first_line.ensures.written)))
 
 pub returns-in_err-new-clause-part : goal.returns-in_err-new-clause-part
-returns-in_err-new-clause-part g c = cut_short c.from_residual-in_err-new.result _ (inl (part_all c.args.writer.now.bytes c.write_first_line.new.writer.bytes _ c.in_ok-write_first_line.ensures.written))
+returns-in_err-new-clause-part g c = cut_short c.from_residual-in_err-new.result _ (inl (prefix_all c.args.writer.now.bytes c.write_first_line.new.writer.bytes _ c.in_ok-write_first_line.ensures.written))
 
 pub returns-in_err-new-2-clause-part : goal.returns-in_err-new-2-clause-part
-returns-in_err-new-2-clause-part g c = cut_short c.from_residual-in_err-new-2.result _ (inl (part_all c.args.writer.now.bytes c.write_first_line.new.writer.bytes _ c.in_ok-write_first_line.ensures.written))
+returns-in_err-new-2-clause-part g c = cut_short c.from_residual-in_err-new-2.result _ (inl (prefix_all c.args.writer.now.bytes c.write_first_line.new.writer.bytes _ c.in_ok-write_first_line.ensures.written))
 
 pub loop-floors-init : goal.loop-floors-init
 loop-floors-init g c =

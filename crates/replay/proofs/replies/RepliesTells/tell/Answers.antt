@@ -1,19 +1,19 @@
 use Rattle.std.proofs.Common.{subst, refl}
 use Rattle.std.specs.Io.KnownBytes.{Appends}
+use Rattle.paths.proofs.Appending.{prefix_none}
+use Rattle.paths.specs.Devices.{AppendsPrefix}
 use Rattle.replay.specs.Choices.{terms_of}
-use Rattle.replay.specs.Outcomes.{AppendsInPart}
-use Rattle.replay.proofs.Writing.{part_none}
 use Rattle.replay.proofs.Judging.{reply_written, on_err}
 use Rattle.replay.proofs.Upcoming.{ok_more, err_more}
 use Rattle.replay.proofs.replies.RepliesTells.tell.Goals as goal
 
 pub returns-in_err-sight-clause-part : goal.returns-in_err-sight-clause-part
 returns-in_err-sight-clause-part g c =
-    on_err c.from_residual.result _ (λ arrivals a stands from meaning. part_none c.args.writer.now.bytes _)
+    on_err c.from_residual.result _ (λ arrivals a stands from meaning. prefix_none c.args.writer.now.bytes _)
 
 pub returns-in_err-ticket-clause-part : goal.returns-in_err-ticket-clause-part
 returns-in_err-ticket-clause-part g c =
-    on_err c.from_residual-in_err-ticket.result _ (λ arrivals a stands from meaning. part_none c.args.writer.now.bytes _)
+    on_err c.from_residual-in_err-ticket.result _ (λ arrivals a stands from meaning. prefix_none c.args.writer.now.bytes _)
 
 pub returns-clause-written : goal.returns-clause-written
 returns-clause-written g c = ok_more c.answer_ticket.result _ _
@@ -28,5 +28,5 @@ returns-clause-part g c = err_more c.answer_ticket.result _ _
     (λ part arrivals a stands from meaning.
     (let slips = c.in_ok-ticket.ensures.slip arrivals a stands from meaning in
     let all = reply_written _ (terms_of g.F.Tree.files c.args.server.now) c.args.desk.now.start arrivals a _ _ slips refl in
-    subst (λ text. AppendsInPart c.args.writer.now.bytes c.answer_ticket.new.writer.bytes text) all part))
+    subst (λ text. AppendsPrefix c.args.writer.now.bytes c.answer_ticket.new.writer.bytes text) all part))
     c.answer_ticket.ensures.part

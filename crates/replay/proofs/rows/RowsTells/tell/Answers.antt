@@ -1,8 +1,9 @@
-use Rattle.std.proofs.Common.{subst, take, arith}
+use Rattle.std.proofs.Common.{subst, arith}
 use Rattle.std.specs.Io.KnownBytes.{Appends}
+use Rattle.paths.specs.Devices.{AppendsPrefix}
+use Rattle.paths.proofs.Appending.{prefix_none, proper_is_prefix}
 use Rattle.replay.specs.Choices.{terms_of}
 use Rattle.replay.proofs.Offering.{last_by}
-use Rattle.replay.proofs.Writing.{part_none}
 use Rattle.replay.proofs.Judging.{on_err}
 use Rattle.replay.proofs.RowByRow.{costs_known, foreseen, row_written}
 use Rattle.replay.proofs.rows.RowsTells.tell.Goals as goal
@@ -17,11 +18,11 @@ outlook-found-requires-clause-forward g c =
 
 pub returns-in_err-sight-clause-part : goal.returns-in_err-sight-clause-part
 returns-in_err-sight-clause-part g c =
-    on_err c.from_residual.result _ (λ arrivals a stands from meaning. part_none c.args.writer.now.bytes _)
+    on_err c.from_residual.result _ (λ arrivals a stands from meaning. prefix_none c.args.writer.now.bytes _)
 
 pub returns-in_err-ticket-clause-part : goal.returns-in_err-ticket-clause-part
 returns-in_err-ticket-clause-part g c =
-    on_err c.from_residual-in_err-ticket.result _ (λ arrivals a stands from meaning. part_none c.args.writer.now.bytes _)
+    on_err c.from_residual-in_err-ticket.result _ (λ arrivals a stands from meaning. prefix_none c.args.writer.now.bytes _)
 
 pub returns-in_err-write_row-clause-part : goal.returns-in_err-write_row-clause-part
 returns-in_err-write_row-clause-part g c =
@@ -32,8 +33,8 @@ returns-in_err-write_row-clause-part g c =
     let costs = costs_known g.F.Tree.files c.args.server.now.costs c.args.what.now a.message.what _ _ c.service_in-service.ensures.is c.in_ok-sight.ensures meaning in
     let row = c.row_of-row.ensures terms c.args.desk.now.start arrivals a from costs finds (c.in_ok-ticket.ensures.slip arrivals a stands from meaning) in
     let text = row_written terms arrivals a c.row_of-row.result c.args.what.now c.method_of.result.now c.target_of.result.now row meaning c.method_of.ensures c.target_of.ensures in
-    let part = c.in_err-write_row.ensures.front in
-    (part.0, subst (λ v. Appends c.args.writer.now.bytes c.write_row.new.output.bytes (take part.0 v)) text part.2)))
+    let part = proper_is_prefix _ _ _ c.in_err-write_row.ensures.prefix in
+    subst (λ v. AppendsPrefix c.args.writer.now.bytes c.write_row.new.output.bytes v) text part))
 
 pub returns-clause-written : goal.returns-clause-written
 returns-clause-written g c = λ arrivals a stands from meaning.
@@ -42,4 +43,4 @@ returns-clause-written g c = λ arrivals a stands from meaning.
     let costs = costs_known g.F.Tree.files c.args.server.now.costs c.args.what.now a.message.what _ _ c.service_in-service.ensures.is c.in_ok-sight.ensures meaning in
     let row = c.row_of-row.ensures terms c.args.desk.now.start arrivals a from costs finds (c.in_ok-ticket.ensures.slip arrivals a stands from meaning) in
     let text = row_written terms arrivals a c.row_of-row.result c.args.what.now c.method_of.result.now c.target_of.result.now row meaning c.method_of.ensures c.target_of.ensures in
-    subst (λ v. Appends c.args.writer.now.bytes c.write_row.new.output.bytes v) text c.in_ok-write_row.ensures.front
+    subst (λ v. Appends c.args.writer.now.bytes c.write_row.new.output.bytes v) text c.in_ok-write_row.ensures.prefix

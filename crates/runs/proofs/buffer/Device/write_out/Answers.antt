@@ -1,6 +1,6 @@
 use Rattle.std.proofs.Common.{arith, length-drop}
 use Rattle.std.proofs.lemmas.List.{take_rest}
-use Rattle.runs.proofs.Buffering.{appends_more}
+use Rattle.paths.proofs.Appending.{appends_more}
 use Rattle.runs.proofs.buffer.Device.write_out.Goals as goal
 
 pub loop-written-preserved : goal.loop-written-preserved

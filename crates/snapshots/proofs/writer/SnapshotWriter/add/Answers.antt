@@ -1,5 +1,6 @@
 use Rattle.std.proofs.Common.{◌∙◌, sym, ap, length, arith}
 use Rattle.std.proofs.lemmas.Result.{err_from_is_err_and}
+use Rattle.paths.proofs.Appending.{proper_is_prefix}
 use Rattle.snapshots.specs.Keeping.{a_file}
 use Rattle.snapshots.proofs.Rulings.{rule_is}
 use Rattle.snapshots.proofs.Taken.{took_more, part_more}
@@ -30,7 +31,7 @@ returns-in_err-write_file-clause-rule g c =
 pub returns-in_err-write_file-clause-part : goal.returns-in_err-write_file-clause-part
 returns-in_err-write_file-clause-part g c =
     let failed = err_from_is_err_and c.from_residual-in_err-write_file.result c.from_residual-in_err-write_file.ensures.1 in
-    rw (failed.1, ← c.self.view_is) (λ files before took _. part_more files (a_file c.args.name.now c.args.mtime c.args.bytes.now) _ _ _ _ _ took (c.deref.ensures.value ∙ c.in_ok-head.ensures) c.in_err-write_file.ensures.prefix)
+    rw (failed.1, ← c.self.view_is) (λ files before took _. part_more files (a_file c.args.name.now c.args.mtime c.args.bytes.now) _ _ _ _ _ took (c.deref.ensures.value ∙ c.in_ok-head.ensures) (proper_is_prefix _ _ _ c.in_err-write_file.ensures.prefix))
 
 pub returns-clause-rule : goal.returns-clause-rule
 returns-clause-rule g c = rw (← c.self.view_is) (λ files before took.

@@ -1,7 +1,7 @@
 use Rattle.std.proofs.Common.{arith, length-drop, ◌∙◌}
 use Rattle.std.proofs.lemmas.List.{take_rest}
-use Rattle.responses.proofs.Writing.{appends_more}
-use Rattle.responses.proofs.device.write_all.Goals as goal
+use Rattle.paths.proofs.Appending.{appends_more}
+use Rattle.paths.proofs.output.Output.write_all.Goals as goal
 
 pub loop-written-preserved : goal.loop-written-preserved
 loop-written-preserved g c =
