@@ -1,7 +1,7 @@
 -- What is kept of the connections of a capture between two of its records.
 use Rattle.std.specs.Prelude.{◌≡◌, ℕ, ◌+◌, ◌≤◌, Bool, List, [], ◌++◌, length, map, slice_index_or}
 use Rattle.std.specs.List.{list_any}
-use Rattle.captures.specs.Captures.{longest_text}
+use Rattle.captures.specs.Captures.{max_text_bytes}
 use Rattle.captures.specs.declared.record.Record.{Record}
 use Rattle.http_requests.specs.declared.messages.Message.{Message}
 use Rattle.http_requests.specs.Framing.{MessagesOf, closes}
@@ -19,8 +19,8 @@ HasRead Closed text ms = (more : List ℕ) → MessagesOf (text ++ more) ms
 
 -- the connection may read n bytes more
 abbrev pub HasRoom : Connection → ℕ → Type 0
-HasRoom Silent n = n ≤ longest_text
-HasRoom (Open cutter) n = cutter.read + n ≤ longest_text
+HasRoom Silent n = n ≤ max_text_bytes
+HasRoom (Open cutter) n = cutter.read + n ≤ max_text_bytes
 HasRoom Closed n = Unit {0}
 
 -- some message closes the connection

@@ -1,7 +1,7 @@
 -- What is kept of a connection while a batch is read and cut.
 use Rattle.std.specs.Prelude.{◌≡◌, ℕ, ◌+◌, ◌≤◌, ◌==◌, List, [], ◌∷◌, ◌++◌, length, slice_index_or, if◌then◌else◌}
 use Rattle.std.specs.List.{sum_by}
-use Rattle.captures.specs.Captures.{longest_text}
+use Rattle.captures.specs.Captures.{max_text_bytes}
 use Rattle.http_requests.specs.declared.messages.Message.{Message}
 use Rattle.arrivals.specs.Connections.{HasRead}
 use Rattle.arrivals.specs.Batches.{ReadsOn}
@@ -37,7 +37,7 @@ pub record CanRead (connection : Connection) (pieces : List (List ℕ)) : Type 0
   pub text : List ℕ
   pub ms : List Message
   pub has : HasRead connection text ms
-  pub room : length text + total pieces ≤ longest_text
+  pub room : length text + total pieces ≤ max_text_bytes
 
 -- it can be cut
 pub record IsReady (p : Place) : Type 0 where

@@ -1,7 +1,7 @@
 //! All connections of a capture, read piece by piece.
 
 ghost use Rattle.std.specs.Prelude.{◌≡◌, ◌≢◌, ◌<◌, ◌≤◌, [], ℕ, List, length, ◌+◌, OnOk, IfOk, IfSome, IfNone};
-ghost use Rattle.captures.specs.Captures.{longest_text};
+ghost use Rattle.captures.specs.Captures.{max_text_bytes};
 ghost use Rattle.http_requests.specs.declared.messages.Message.{Message as AMessage};
 ghost use Rattle.http_requests.specs.Cutting.{CutterAfter};
 ghost use Rattle.arrivals.specs.Connections.{HasRead, HasRoom, ReadMore, connection_at, some_closes};
@@ -35,7 +35,7 @@ impl Connection {
     fn into_cutter(self, alloc: Global) -> Option<Cutter>
         ensures reads { IfSome result (λ cutter. (text : List ℕ) (ms : List AMessage) → HasRead self text ms
             → CutterAfter text ms cutter) }
-        ensures room { IfSome result (λ cutter. (n : ℕ) → HasRoom self n → cutter.read + n ≤ longest_text) }
+        ensures room { IfSome result (λ cutter. (n : ℕ) → HasRoom self n → cutter.read + n ≤ max_text_bytes) }
         ensures closed { IfNone result (self ≡ Closed) }
     {
         match self {

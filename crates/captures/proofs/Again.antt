@@ -18,7 +18,7 @@ use Rattle.paths.specs.Numbers.{◌>>=◌ as ◌>?=◌}
 use Rattle.paths.specs.Texts.{Ahead, byte_at, run_at, line_at, front, past as beyond, ended}
 use Rattle.paths.specs.declared.stop.Stop.{Stop}
 use Rattle.paths.proofs.Taking.{line_whole}
-use Rattle.captures.specs.Captures.{front as front_of, last_connection, has_tiers, Past, feed, first_line, piece_line, end_line, tier_line, record_text, latest_start, latest_tick, most_bytes, last_tier, Follows}
+use Rattle.captures.specs.Captures.{front as front_of, last_connection, has_tiers, Past, feed, first_line, piece_line, end_line, tier_line, record_text, max_start, max_tick, max_piece_bytes, max_tier, Follows}
 use Rattle.captures.specs.declared.version.Version.{Version}
 use Rattle.captures.specs.declared.version.Version.TheVariants.{One, Two}
 use Rattle.captures.specs.CaptureFaults.{named, ◌>>=◌, kind_of, header_kind_of, start_heading, start_of, header_at, two_numbers, piece_heading, end_heading, tier_heading, stop_heading, heading_of, open_connection, allowed, body_at, piece_at, tier_record, record_at}
@@ -133,7 +133,7 @@ record IsLine (line : List ℕ) : Type 0 where
 digits_short : (k n : ℕ) → 0 < k → n < 10 ^ k → n < 2 ^ 64 - 1 → length (decimal n) ≤ k
 digits_short k n some small wide = length-decimal-le k n some small (omega arith)
 
-piece_is_line : (t c l : ℕ) → t ≤ latest_tick → c ≤ 65535 → l ≤ most_bytes → IsLine (piece_line t c l)
+piece_is_line : (t c l : ℕ) → t ≤ max_tick → c ≤ 65535 → l ≤ max_piece_bytes → IsLine (piece_line t c l)
 piece_is_line t c l ht hc hl =
     let T = decimal t in let C = decimal c in let L = decimal l in
     let nl = λ (n : ℕ) (h : n < 2 ^ 64 - 1). decimal_passes 10 n (omega arith) h in
@@ -144,7 +144,7 @@ piece_is_line t c l ht hc hl =
       short = omega (arith, digits_short 16 t (omega arith) (omega arith) (omega arith), digits_short 5 c (omega arith) (omega arith) (omega arith), digits_short 5 l (omega arith) (omega arith) (omega arith), length-append T (32 ∷ (C ++ 32 ∷ L)), length-append C (32 ∷ L));
     })
 
-end_is_line : (t c : ℕ) → t ≤ latest_tick → c ≤ 65535 → IsLine (end_line t c)
+end_is_line : (t c : ℕ) → t ≤ max_tick → c ≤ 65535 → IsLine (end_line t c)
 end_is_line t c ht hc =
     let T = decimal t in let C = decimal c in
     let tail : prefix_len (λ b. not (b == 10)) (T ++ 32 ∷ C) ≡ length (T ++ 32 ∷ C) =
@@ -154,7 +154,7 @@ end_is_line t c ht hc =
       short = omega (arith, digits_short 16 t (omega arith) (omega arith) (omega arith), digits_short 5 c (omega arith) (omega arith) (omega arith), length-append T (32 ∷ C));
     })
 
-tier_is_line : (c t : ℕ) → c ≤ 65535 → t ≤ last_tier → IsLine (tier_line c t)
+tier_is_line : (c t : ℕ) → c ≤ 65535 → t ≤ max_tier → IsLine (tier_line c t)
 tier_is_line c t hc ht =
     let C = decimal c in let T = decimal t in
     let tail : prefix_len (λ b. not (b == 10)) (C ++ 32 ∷ T) ≡ length (C ++ 32 ∷ T) =
@@ -212,18 +212,18 @@ open_again v past conn few live =
     let c : nat_lt (last_connection v) conn ≡ false = grind (arith, nat_tests) in
     pass (nat_lt (last_connection v) conn) _ _ c ∙ pass (past.ended conn) _ _ live
 
-allowed_again : (v : Version) (past : Past) (tick conn : ℕ) → tick ≤ latest_tick → past.tick ≤ tick → conn ≤ last_connection v → past.ended conn ≡ false → allowed v past tick conn ≡ Ok conn
+allowed_again : (v : Version) (past : Past) (tick conn : ℕ) → tick ≤ max_tick → past.tick ≤ tick → conn ≤ last_connection v → past.ended conn ≡ false → allowed v past tick conn ≡ Ok conn
 allowed_again v past tick conn in_time rising few live =
-    let a : nat_lt latest_tick tick ≡ false = grind (arith, nat_tests) in
+    let a : nat_lt max_tick tick ≡ false = grind (arith, nat_tests) in
     let b : nat_lt tick past.tick ≡ false = grind (arith, nat_tests) in
-    pass (nat_lt latest_tick tick || nat_lt tick past.tick) _ _ (neither _ _ a b) ∙ open_again v past conn few live
+    pass (nat_lt max_tick tick || nat_lt tick past.tick) _ _ (neither _ _ a b) ∙ open_again v past conn few live
 
-tier_again : (v : Version) (past : Past) (conn tier : ℕ) → conn ≤ last_connection v → past.ended conn ≡ false → past.used conn ≡ false → tier ≤ last_tier
+tier_again : (v : Version) (past : Past) (conn tier : ℕ) → conn ≤ last_connection v → past.ended conn ≡ false → past.used conn ≡ false → tier ≤ max_tier
     → tier_record v past (record { conn = conn; tier = tier }) ≡ Ok (Tier conn tier)
 tier_again v past conn tier few live unused low =
-    let a : nat_lt last_tier tier ≡ false = grind (arith, nat_tests) in
+    let a : nat_lt max_tier tier ≡ false = grind (arith, nat_tests) in
     bind_is (open_connection v past conn) _ conn (open_again v past conn few live)
-    ∙ pass (nat_lt last_tier tier || past.used conn) _ _ (neither _ _ a unused)
+    ∙ pass (nat_lt max_tier tier || past.used conn) _ _ (neither _ _ a unused)
 
 body_again : (n : ℕ) (bytes t : List ℕ) (l nl : ℕ) → length bytes ≡ n → l ≡ n + (1 + nl) → body_at n (record { bytes = bytes ++ feed ∷ t; left = l }) ≡ Ok (bytes, record { bytes = t; left = nl })
 body_again n bytes t l nl is left =
@@ -249,9 +249,9 @@ record_again v past (Piece tick conn bytes) t l nl (rising, live, (in_time, few,
     let read : line_at (record { bytes = line ++ feed ∷ (bytes ++ feed ∷ t); left = l }) ≡ Ok (line, mid) = line_again line (bytes ++ feed ∷ t) l (length bytes + (1 + nl)) is (omega (arith, length-append line (feed ∷ body), length-append bytes (feed ∷ []))) in
     let heading : heading_of v line ≡ Ok (headings.Piece (record { tick = tick; conn = conn; len = length bytes })) = piece_heading_again v tick conn (length bytes) (omega arith) (omega arith) (omega arith) in
     let allow = allowed_again v past tick conn in_time rising few live in
-    let sized : (length bytes == 0 || nat_lt most_bytes (length bytes)) ≡ false = neither _ _ (ne_eqb (length bytes) 0 (λ e. omega arith)) (grind (arith, nat_tests)) in
+    let sized : (length bytes == 0 || nat_lt max_piece_bytes (length bytes)) ≡ false = neither _ _ (ne_eqb (length bytes) 0 (λ e. omega arith)) (grind (arith, nat_tests)) in
     let piece : piece_at v past (record { tick = tick; conn = conn; len = length bytes }) mid ≡ Ok (Piece tick conn bytes, last) =
-    bind_is (allowed v past tick conn) _ conn allow ∙ (pass (length bytes == 0 || nat_lt most_bytes (length bytes)) _ _ sized ∙ bind_is (body_at (length bytes) mid) _ (bytes, last) (body_again (length bytes) bytes t (length bytes + (1 + nl)) nl refl refl)) in
+    bind_is (allowed v past tick conn) _ conn allow ∙ (pass (length bytes == 0 || nat_lt max_piece_bytes (length bytes)) _ _ sized ∙ bind_is (body_at (length bytes) mid) _ (bytes, last) (body_again (length bytes) bytes t (length bytes + (1 + nl)) nl refl refl)) in
     ap (λ w. record_at v past (record { bytes = w; left = l })) whole
     ∙ (bind_is (named kind_of (line_at (record { bytes = line ++ feed ∷ (bytes ++ feed ∷ t); left = l }))) _ (line, mid) (named_is kind_of _ (line, mid) read)
     ∙ (bind_is (heading_of v line) _ _ heading ∙ bind_is (piece_at v past (record { tick = tick; conn = conn; len = length bytes }) mid) _ (Piece tick conn bytes, last) piece))
@@ -297,17 +297,17 @@ first_is_line Two start small = record {
   short = omega (arith, digits_short 20 start (omega arith) (omega arith) small, length-append (front_of Two) (decimal start));
 }
 
-start_again : (v : Version) (start : ℕ) → start ≤ latest_start → start_heading v (number_of (decimal start)) ≡ Ok (v, start)
+start_again : (v : Version) (start : ℕ) → start ≤ max_start → start_heading v (number_of (decimal start)) ≡ Ok (v, start)
 start_again v start in_time =
-    let on_time : nat_lt latest_start start ≡ false = grind (arith, nat_tests) in
-    ap (start_heading v) (number_again start (omega arith)) ∙ pass (nat_lt latest_start start) _ _ on_time
+    let on_time : nat_lt max_start start ≡ false = grind (arith, nat_tests) in
+    ap (start_heading v) (number_again start (omega arith)) ∙ pass (nat_lt max_start start) _ _ on_time
 
-first_again : (v : Version) (start : ℕ) → start ≤ latest_start → start_of (first_line v start) ≡ Ok (v, start)
+first_again : (v : Version) (start : ℕ) → start ≤ max_start → start_of (first_line v start) ≡ Ok (v, start)
 first_again One start in_time = start_again One start in_time
 first_again Two start in_time = start_again Two start in_time
 
 -- the first line is read as its version and its start
-pub header_again : (v : Version) (start : ℕ) (t : List ℕ) (l nl : ℕ) → start ≤ latest_start → l ≡ length (first_line v start ++ feed ∷ []) + nl
+pub header_again : (v : Version) (start : ℕ) (t : List ℕ) (l nl : ℕ) → start ≤ max_start → l ≡ length (first_line v start ++ feed ∷ []) + nl
     → header_at (record { bytes = (first_line v start ++ feed ∷ []) ++ t; left = l }) ≡ Ok ((v, start), record { bytes = t; left = nl })
 header_again v start t l nl in_time left =
     let line = first_line v start in

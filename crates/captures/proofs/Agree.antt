@@ -8,7 +8,7 @@ use Rattle.std.proofs.lemmas.List.Folds.{list_any_none}
 use Rattle.std.proofs.lemmas.Grind.{flat_map-append}
 use Rattle.paths.specs.Texts.{Ahead}
 use Rattle.paths.proofs.Inverse.{ok_is}
-use Rattle.captures.specs.Captures.{Past, feed, first_line, record_text, text_before_stop, longest_text, latest_start, is_end_of, is_use_of, connection_of, LetsFollow, tick_of, ticks_of, IsRecord, IsCapture, IsCaptureText, past_of, Follows}
+use Rattle.captures.specs.Captures.{Past, feed, first_line, record_text, text_before_stop, max_text_bytes, max_start, is_end_of, is_use_of, connection_of, LetsFollow, tick_of, ticks_of, IsRecord, IsCapture, IsCaptureText, past_of, Follows}
 use Rattle.captures.specs.declared.version.Version.{Version}
 use Rattle.captures.specs.CaptureFaults.{header_at, record_at, FaultsAfter, IsHeaderFault, IsFirstFault}
 use Rattle.captures.specs.declared.record.Record.{Record}
@@ -116,7 +116,7 @@ follows_front v start ss more r c = go r c
 abbrev pub header_text : Version → ℕ → List ℕ
 header_text v start = first_line v start ++ feed ∷ []
 
-same_start : (v w : Version) (s t : ℕ) (x y : List ℕ) → s ≤ latest_start → t ≤ latest_start → header_text v s ++ x ≡ header_text w t ++ y → (v ≡ w) × (s ≡ t) × (x ≡ y)
+same_start : (v w : Version) (s t : ℕ) (x y : List ℕ) → s ≤ max_start → t ≤ max_start → header_text v s ++ x ≡ header_text w t ++ y → (v ≡ w) × (s ≡ t) × (x ≡ y)
 same_start v w s t x y hs ht h =
     let l = length (header_text v s) + length (header_text w t) in
     let a = header_again v s x l (length (header_text w t)) hs refl in
@@ -130,7 +130,7 @@ following : (v : Version) (start : ℕ) (rs : List Record) (rest bytes : List �
 following v start rs rest bytes h = h ∙ append_assoc (header_text v start) (flat_map record_text rs) rest
 
 -- the two versions and the two starts are one, and what is after them too
-starts_agree : (v w : Version) (s t : ℕ) (rs ss : List Record) (x y bytes : List ℕ) → s ≤ latest_start → t ≤ latest_start
+starts_agree : (v w : Version) (s t : ℕ) (rs ss : List Record) (x y bytes : List ℕ) → s ≤ max_start → t ≤ max_start
     → bytes ≡ text_before_stop v s rs ++ x → bytes ≡ text_before_stop w t ss ++ y → (v ≡ w) × (s ≡ t) × (flat_map record_text rs ++ x ≡ flat_map record_text ss ++ y)
 starts_agree v w s t rs ss x y bytes hs ht a b =
     same_start v w s t (flat_map record_text rs ++ x) (flat_map record_text ss ++ y) hs ht (sym (following v s rs x bytes a) ∙ following w t ss y bytes b)
@@ -164,24 +164,24 @@ not_both : {A : Type 0} (x : A) (k : CaptureFaultKind) (r : Result A CaptureFaul
 not_both x k r a b = absurd cc
 
 -- no fault stands in the first line of what begins with one
-header_good : (v : Version) (bytes : List ℕ) (s : ℕ) (rest : List ℕ) (f : CaptureFault) → s ≤ latest_start → length (header_text v s) ≤ longest_text → bytes ≡ header_text v s ++ rest → IsHeaderFault bytes f → ⊥
+header_good : (v : Version) (bytes : List ℕ) (s : ℕ) (rest : List ℕ) (f : CaptureFault) → s ≤ max_start → length (header_text v s) ≤ max_text_bytes → bytes ≡ header_text v s ++ rest → IsHeaderFault bytes f → ⊥
 header_good v bytes s rest f in_time size is fault =
-    let good = header_again v s rest longest_text (longest_text - length (header_text v s)) in_time (omega arith) in
-    not_both _ f.kind (header_at (record { bytes = header_text v s ++ rest; left = longest_text })) good (sym (ap (λ w. header_at (record { bytes = w; left = longest_text })) is) ∙ fault.1)
+    let good = header_again v s rest max_text_bytes (max_text_bytes - length (header_text v s)) in_time (omega arith) in
+    not_both _ f.kind (header_at (record { bytes = header_text v s ++ rest; left = max_text_bytes })) good (sym (ap (λ w. header_at (record { bytes = w; left = max_text_bytes })) is) ∙ fault.1)
 
 -- nor after records where one more stands
 record_good : (v : Version) (bytes : List ℕ) (t : ℕ) (ss : List Record) (f : CaptureFault) (rest : List ℕ) (q : Record) (z : List ℕ) → FaultsAfter v bytes t ss f rest
-    → rest ≡ record_text q ++ z → Follows v (past_of ss) q → length (text_before_stop v t ss) + length (record_text q) ≤ longest_text → ⊥
+    → rest ≡ record_text q ++ z → Follows v (past_of ss) q → length (text_before_stop v t ss) + length (record_text q) ≤ max_text_bytes → ⊥
 record_good v bytes t ss f rest q z fault is follows size =
-    let l = longest_text - length (text_before_stop v t ss) in
+    let l = max_text_bytes - length (text_before_stop v t ss) in
     let good = record_again v (past_of ss) q z l (l - length (record_text q)) follows (omega arith) in
     not_both _ f.kind (record_at v (past_of ss) (record { bytes = record_text q ++ z; left = l })) good (sym (ap (λ w. record_at v (past_of ss) (record { bytes = w; left = l })) is) ∙ fault.kind)
 
 -- nor where the last line stands
 stop_good : (v : Version) (bytes : List ℕ) (t : ℕ) (ss : List Record) (f : CaptureFault) (rest : List ℕ) → FaultsAfter v bytes t ss f rest
-    → rest ≡ stop_text (length ss) → length ss < 2 ^ 64 - 1 → length (text_before_stop v t ss) + length (stop_text (length ss)) ≤ longest_text → ⊥
+    → rest ≡ stop_text (length ss) → length ss < 2 ^ 64 - 1 → length (text_before_stop v t ss) + length (stop_text (length ss)) ≤ max_text_bytes → ⊥
 stop_good v bytes t ss f rest fault is small size =
-    let l = longest_text - length (text_before_stop v t ss) in
+    let l = max_text_bytes - length (text_before_stop v t ss) in
     let good = stop_again v (past_of ss) l (l - length (stop_text (length ss))) small (omega arith) in
     not_both _ f.kind (record_at v (past_of ss) (record { bytes = stop_text (length ss); left = l })) good (sym (ap (λ w. record_at v (past_of ss) (record { bytes = w; left = l })) is) ∙ fault.kind)
 
@@ -200,22 +200,22 @@ after_good v bytes s t rs ss f rest small c fault =
     let both = starts_agree v v s t rs ss (stop_text (length rs)) rest bytes c.rules.in_time fault.rules.in_time c.text fault.whole in
     let long = ap length c.text in
     let size = c.size in
-    let all : length (text_before_stop v s rs) + length (stop_text (length rs)) ≤ longest_text = omega (arith, length-append (text_before_stop v s rs) (stop_text (length rs))) in
+    let all : length (text_before_stop v s rs) + length (stop_text (length rs)) ≤ max_text_bytes = omega (arith, length-append (text_before_stop v s rs) (stop_text (length rs))) in
     elim (agree v ss rs rest (stop_text (length rs)) fault.rules.each c.rules.each (sym both.2)) [
       | inl a ↦ shorter both.1 all a.0 a.1 a.2 fault
       | inr b ↦ no_stop_then (length rs) b.0 _ b.3
     ]
   where
-    shorter : s ≡ t → length (text_before_stop v s rs) + length (stop_text (length rs)) ≤ longest_text → (more : List Record) → rs ≡ ss ++ more
+    shorter : s ≡ t → length (text_before_stop v s rs) + length (stop_text (length rs)) ≤ max_text_bytes → (more : List Record) → rs ≡ ss ++ more
         → rest ≡ flat_map record_text more ++ stop_text (length rs) → FaultsAfter v bytes t ss f rest → ⊥
     shorter same all [] e g fault =
         let is : rs ≡ ss = e ∙ append-nil ss in
-        let size = subst (λ (p : ℕ × List Record). length (text_before_stop v p.0 p.1) + length (stop_text (length p.1)) ≤ longest_text) (λ i. (same i, is i)) all in
+        let size = subst (λ (p : ℕ × List Record). length (text_before_stop v p.0 p.1) + length (stop_text (length p.1)) ≤ max_text_bytes) (λ i. (same i, is i)) all in
         let few = subst (λ (l : List Record). length l < 2 ^ 64 - 1) is small in
         stop_good v bytes t ss f rest fault (g ∙ ap (λ (l : List Record). stop_text (length l)) is) few size
     shorter same all (q ∷ more) e g fault =
         let rules = subst (λ (p : ℕ × List Record). IsCapture v p.0 p.1) (λ i. (same i, e i)) c.rules in
-        let size = subst (λ (p : ℕ × List Record). length (text_before_stop v p.0 p.1) ≤ longest_text) (λ i. (same i, e i)) (let a = all in omega arith) in
+        let size = subst (λ (p : ℕ × List Record). length (text_before_stop v p.0 p.1) ≤ max_text_bytes) (λ i. (same i, e i)) (let a = all in omega arith) in
         record_good v bytes t ss f rest q (flat_map record_text more ++ stop_text (length rs)) fault (g ∙ append_assoc (record_text q) (flat_map record_text more) (stop_text (length rs)))
         (follows_front v t ss more q rules) (omega (arith, one_more_text v t ss more q))
 
@@ -241,11 +241,11 @@ fewer : (v : Version) (bytes : List ℕ) (t u : ℕ) (ss rs : List Record) (f g 
     → u ≡ t → rs ≡ ss ++ more → x ≡ flat_map record_text more ++ y → f ≡ g
 fewer v bytes t u ss rs f g x y [] a b same e h =
     let is : ss ≡ rs = sym (e ∙ append-nil ss) in
-    let kind = subst (λ (p : ℕ × (List Record × List ℕ)). record_at v (past_of p.1.0) (record { bytes = p.1.1; left = longest_text - length (text_before_stop v p.0 p.1.0) }) ≡ Err f.kind) (λ i. (sym same i, (is i, h i))) a.kind in
+    let kind = subst (λ (p : ℕ × (List Record × List ℕ)). record_at v (past_of p.1.0) (record { bytes = p.1.1; left = max_text_bytes - length (text_before_stop v p.0 p.1.0) }) ≡ Err f.kind) (λ i. (sym same i, (is i, h i))) a.kind in
     same_fault f g (a.at ∙ (ap (λ (l : List Record). length l + 1) is ∙ sym b.at)) (same_kind _ f.kind g.kind kind b.kind)
 fewer v bytes t u ss rs f g x y (q ∷ more) a b same e h =
     let rules = subst (λ (p : ℕ × List Record). IsCapture v p.0 p.1) (λ i. (same i, e i)) b.rules in
-    let size = subst (λ (p : ℕ × List Record). length (text_before_stop v p.0 p.1) ≤ longest_text) (λ i. (same i, e i)) b.size in
+    let size = subst (λ (p : ℕ × List Record). length (text_before_stop v p.0 p.1) ≤ max_text_bytes) (λ i. (same i, e i)) b.size in
     absurd (record_good v bytes t ss f x q (flat_map record_text more ++ y) a (h ∙ append_assoc (record_text q) (flat_map record_text more) y)
     (follows_front v t ss more q rules) (omega (arith, one_more_text v t ss more q)))
 
@@ -292,15 +292,15 @@ no_last_line n r y h = stop_apart n r [] y (append-nil (stop_text n) ∙ h)
 
 -- no fault of the first line stands in bytes that begin with one
 pub no_header_fault : (v : Version) (bytes : List ℕ) (s : ℕ) (rs : List Record) (rest : List ℕ) (f : CaptureFault) → IsCapture v s rs
-    → bytes ≡ text_before_stop v s rs ++ rest → length (text_before_stop v s rs) ≤ longest_text → IsHeaderFault bytes f → ⊥
+    → bytes ≡ text_before_stop v s rs ++ rest → length (text_before_stop v s rs) ≤ max_text_bytes → IsHeaderFault bytes f → ⊥
 no_header_fault v bytes s rs rest f rules is size fault =
     header_good v bytes s (flat_map record_text rs ++ rest) f rules.in_time (omega (arith, size, header_below v s rs)) (following v s rs rest bytes is) fault
 
 -- nor any after the first of records that stand whole, within the limit
 pub no_fault_among : (v w : Version) (bytes : List ℕ) (s t : ℕ) (rs ss : List Record) (f : CaptureFault) (x y : List ℕ) (q : Record) (more : List Record) → FaultsAfter v bytes s rs f x
-    → IsCapture w t ss → length (text_before_stop w t ss) ≤ longest_text → v ≡ w → s ≡ t → ss ≡ rs ++ q ∷ more → x ≡ flat_map record_text (q ∷ more) ++ y → ⊥
+    → IsCapture w t ss → length (text_before_stop w t ss) ≤ max_text_bytes → v ≡ w → s ≡ t → ss ≡ rs ++ q ∷ more → x ≡ flat_map record_text (q ∷ more) ++ y → ⊥
 no_fault_among v w bytes s t rs ss f x y q more fault rules size same start is rest =
     let whole : IsCapture v s (rs ++ q ∷ more) = subst (λ (p : Version × (ℕ × List Record)). IsCapture p.0 p.1.0 p.1.1) (λ i. (sym same i, (sym start i, is i))) rules in
-    let long : length (text_before_stop v s (rs ++ q ∷ more)) ≤ longest_text = subst (λ (p : Version × (ℕ × List Record)). length (text_before_stop p.0 p.1.0 p.1.1) ≤ longest_text) (λ i. (sym same i, (sym start i, is i))) size in
+    let long : length (text_before_stop v s (rs ++ q ∷ more)) ≤ max_text_bytes = subst (λ (p : Version × (ℕ × List Record)). length (text_before_stop p.0 p.1.0 p.1.1) ≤ max_text_bytes) (λ i. (sym same i, (sym start i, is i))) size in
     record_good v bytes s rs f x q (flat_map record_text more ++ y) fault (rest ∙ append_assoc (record_text q) (flat_map record_text more) y)
     (follows_front v s rs more q whole) (omega (arith, long, one_more_text v s rs more q))

@@ -2,7 +2,7 @@
 use Rattle.std.proofs.Common.{◌≡◌, ℕ, suc, zero, ◌+◌, ◌-◌, ◌^◌, ◌<◌, ◌⊎◌, inl, inr, List, [], ◌∷◌, ◌++◌, length, Option, Some, None, Result, Ok, Err, refl, sym, ap, ◌∙◌, subst, arith, flat_map}
 use Rattle.std.proofs.lemmas.List.{append_assoc, append-nil, length-append, flat_map_more}
 use Rattle.paths.specs.Texts.{Ahead}
-use Rattle.captures.specs.Captures.{feed, first_line, record_text, text_before_stop, longest_text, IsCapture, IsCaptureText, past_of}
+use Rattle.captures.specs.Captures.{feed, first_line, record_text, text_before_stop, max_text_bytes, IsCapture, IsCaptureText, past_of}
 use Rattle.captures.specs.declared.version.Version.{Version}
 use Rattle.captures.specs.CaptureFaults.{header_at, record_at, IsFirstFault}
 use Rattle.captures.specs.declared.record.Record.{Record}
@@ -17,17 +17,17 @@ Read bytes = ((v : Version) × (start : ℕ) × (records : List Record) × IsCap
 
 -- from n records on, with what is left of the text
 reads_on : (v : Version) (bytes : List ℕ) (fuel start : ℕ) (rs : List Record) (rest : List ℕ) (l : ℕ) → IsCapture v start rs
-    → bytes ≡ text_before_stop v start rs ++ rest → longest_text ≡ length (text_before_stop v start rs) + l → l < fuel → Read bytes
+    → bytes ≡ text_before_stop v start rs ++ rest → max_text_bytes ≡ length (text_before_stop v start rs) + l → l < fuel → Read bytes
 reads_on v bytes zero start rs rest l rules whole left more = absurd (omega arith)
 reads_on v bytes (suc fuel) start rs rest l rules whole left more = step (reads_on v bytes fuel start) (record_at v (past_of rs) (record { bytes = rest; left = l })) refl
   where
     count : length rs < 2 ^ 64 - 1
     count = omega (arith, left, sizes_below rs, length-append (first_line v start ++ feed ∷ []) (flat_map record_text rs))
 
-    step : ((rs : List Record) (rest : List ℕ) (l : ℕ) → IsCapture v start rs → bytes ≡ text_before_stop v start rs ++ rest → longest_text ≡ length (text_before_stop v start rs) + l → l < fuel → Read bytes)
+    step : ((rs : List Record) (rest : List ℕ) (l : ℕ) → IsCapture v start rs → bytes ≡ text_before_stop v start rs ++ rest → max_text_bytes ≡ length (text_before_stop v start rs) + l → l < fuel → Read bytes)
         → (r : Result (Option Record × Ahead) CaptureFaultKind) → record_at v (past_of rs) (record { bytes = rest; left = l }) ≡ r → Read bytes
     step again (Err k) e =
-        let same : l ≡ longest_text - length (text_before_stop v start rs) = omega (arith, left) in
+        let same : l ≡ max_text_bytes - length (text_before_stop v start rs) = omega (arith, left) in
         inr (
           record { at = length rs + 1; kind = k },
           inr (
@@ -64,12 +64,12 @@ reads_on v bytes (suc fuel) start rs rest l rules whole left more = step (reads_
         (omega (arith, left, length-append (text_before_stop v start rs) (record_text r))) (omega (arith, size_below r, more))
 
 pub reads : (bytes : List ℕ) → Read bytes
-reads bytes = step (header_at (record { bytes = bytes; left = longest_text })) refl
+reads bytes = step (header_at (record { bytes = bytes; left = max_text_bytes })) refl
   where
-    step : (r : Result ((Version × ℕ) × Ahead) CaptureFaultKind) → header_at (record { bytes = bytes; left = longest_text }) ≡ r → Read bytes
+    step : (r : Result ((Version × ℕ) × Ahead) CaptureFaultKind) → header_at (record { bytes = bytes; left = max_text_bytes }) ≡ r → Read bytes
     step (Err k) e = inr (record { at = 0; kind = k }, inl (refl, e))
     step (Ok ((v, start), b)) e =
-        let took = header_inverse v (record { bytes = bytes; left = longest_text }) b start e in
+        let took = header_inverse v (record { bytes = bytes; left = max_text_bytes }) b start e in
         let all : text_before_stop v start [] ≡ first_line v start ++ feed ∷ [] = append-nil (first_line v start ++ feed ∷ []) in
         reads_on v bytes (b.left + 1) start [] b.bytes b.left (rules_none v start took.1)
         (took.0.bytes ∙ ap (λ w. w ++ b.bytes) (sym all)) (took.0.left ∙ ap (λ w. length w + b.left) (sym all)) (omega arith)

@@ -10,7 +10,7 @@ use Rattle.std.proofs.lemmas.List.Sums.{sum_by_push, sum_by-cons}
 use Rattle.std.proofs.lemmas.Grind.{flat_map-append}
 use Rattle.paths.specs.Texts.{ahead_of}
 use Rattle.paths.proofs.Inverse.{TakesAhead}
-use Rattle.captures.specs.Captures.{Past, feed, first_line, record_text, text_before_stop, longest_text, latest_start, is_end_of, is_use_of, connection_of, LetsFollow, tick_of, ticks_of, IsRecord, IsCapture, IsCaptureText, past_of, Follows, size_of, sizes_of}
+use Rattle.captures.specs.Captures.{Past, feed, first_line, record_text, text_before_stop, max_text_bytes, max_start, is_end_of, is_use_of, connection_of, LetsFollow, tick_of, ticks_of, IsRecord, IsCapture, IsCaptureText, past_of, Follows, size_of, sizes_of}
 use Rattle.captures.specs.declared.version.Version.{Version}
 use Rattle.captures.specs.CaptureFaults.{header_at, record_at, is_unforeseen_kind, IsForeseen, IsFaultAfter}
 use Rattle.captures.specs.Readers.{seen, after, ReaderAfter}
@@ -74,7 +74,7 @@ rules_more v start records (Tier conn tier) c f = record {
   tiers_first = all_pairs_push LetsFollow records (Tier conn tier) c.tiers_first (λ k d lt. none_passes (is_use_of conn) records k d f.1 lt);
 }
 
-pub rules_none : (v : Version) (start : ℕ) → start ≤ latest_start → IsCapture v start []
+pub rules_none : (v : Version) (start : ℕ) → start ≤ max_start → IsCapture v start []
 rules_none v start h = record {
   in_time = h;
   each = search rules;
@@ -92,12 +92,12 @@ sizes_below (r ∷ records) = omega (arith, sizes_below records, size_below r, s
 
 -- ---- the reader
 
-pub fits_begins : (v : Version) (text now : Option (List ℕ)) (start left : ℕ) (s : SoFar) → seen s ≡ past_of [] → start ≤ latest_start
-    → (is_some text ≡ true → (header_at (ahead_of text longest_text) ≡ Ok ((v, start), ahead_of now left)) × (is_some now ≡ true))
-    → ReaderAfter v text start [] (record { version = v; start = start; left = left; room = longest_text; so_far = s; stage = Reading }) now
+pub fits_begins : (v : Version) (text now : Option (List ℕ)) (start left : ℕ) (s : SoFar) → seen s ≡ past_of [] → start ≤ max_start
+    → (is_some text ≡ true → (header_at (ahead_of text max_text_bytes) ≡ Ok ((v, start), ahead_of now left)) × (is_some now ≡ true))
+    → ReaderAfter v text start [] (record { version = v; start = start; left = left; room = max_text_bytes; so_far = s; stage = Reading }) now
 fits_begins v text now start left s none in_time h =
     let all : text_before_stop v start [] ≡ first_line v start ++ feed ∷ [] = append-nil (first_line v start ++ feed ∷ []) in
-    let took = λ (k : is_some text ≡ true). (header_inverse v (ahead_of text longest_text) (ahead_of now left) start (h k).0).0 in
+    let took = λ (k : is_some text ≡ true). (header_inverse v (ahead_of text max_text_bytes) (ahead_of now left) start (h k).0).0 in
     record {
       stage = refl;
       version = refl;
@@ -166,7 +166,7 @@ pub fits_faults : (v : Version) (text now : Option (List ℕ)) (start at : ℕ) 
     → (is_some now ≡ true → is_unforeseen_kind kind ≡ false → record_at p.version (seen p.so_far) (ahead_of now p.left) ≡ Err kind)
     → IsForeseen (λ bytes. IsFaultAfter v bytes start records) text (record { at = at; kind = kind })
 fits_faults v text now start at records p kind is f h = λ k foreseen.
-    let left : p.left ≡ longest_text - length (text_before_stop v start records) = let all = f.left k in omega arith in (
+    let left : p.left ≡ max_text_bytes - length (text_before_stop v start records) = let all = f.left k in omega arith in (
       unwrap_or now [],
       record {
         whole = f.front k;
@@ -192,7 +192,7 @@ fits_has_room v text now new start new_left records p x r some f full h k =
     omega (arith, sizes_below records, size_below r, length-append (first_line v start ++ feed ∷ []) (flat_map record_text records))
 
 -- the number of the record that is next
-pub fits_at : (v : Version) (text now : Option (List ℕ)) (start : ℕ) (records : List Record) (p : Progress) → ReaderAfter v text start records p now → (p.so_far.count ≡ length records) × (p.so_far.count ≤ longest_text)
+pub fits_at : (v : Version) (text now : Option (List ℕ)) (start : ℕ) (records : List Record) (p : Progress) → ReaderAfter v text start records p now → (p.so_far.count ≡ length records) × (p.so_far.count ≤ max_text_bytes)
 fits_at v text now start records p f =
     let count : p.so_far.count ≡ length records = ap (λ (s : Past). s.count) f.past in
     (count, let r = f.room in omega arith)

@@ -10,7 +10,7 @@ use Rattle.paths.specs.declared.stop.Stop.TheVariants as stops
 use Rattle.paths.proofs.Taking.{Takes}
 use Rattle.paths.proofs.Inverse.{line_inverse}
 use Rattle.paths.proofs.PartLemmas.{none_after, part_after, no_byte, run_alone, run_takes, line_alone}
-use Rattle.captures.specs.Captures.{last_connection, has_tiers, Past, feed, longest_text, latest_tick, last_tier, text_before_stop, past_of}
+use Rattle.captures.specs.Captures.{last_connection, has_tiers, Past, feed, max_text_bytes, max_tick, max_tier, text_before_stop, past_of}
 use Rattle.captures.specs.declared.version.Version.{Version}
 use Rattle.captures.specs.CaptureFaults.{kind_of, named, ◌>>=◌, two_numbers, piece_heading, end_heading, tier_heading, stop_heading, heading_of, open_connection, allowed, tier_record, body_at, announced, record_at, IsUnfinished, failures_of}
 use Rattle.captures.specs.Readers.{seen, ReaderAfter, FailsInRecord}
@@ -66,7 +66,7 @@ open_kinds v past conn kind h = go (nat_lt (last_connection v) conn) (past.ended
     go false false e = absurd cc
 
 allowed_kinds : (v : Version) (past : Past) (tick conn : ℕ) (kind : CaptureFaultKind) → allowed v past tick conn ≡ Err kind → (kind ≡ Tick) ⊎ ((kind ≡ Connection) ⊎ (kind ≡ Ended))
-allowed_kinds v past tick conn kind h = go (nat_lt latest_tick tick || nat_lt tick past.tick) h
+allowed_kinds v past tick conn kind h = go (nat_lt max_tick tick || nat_lt tick past.tick) h
   where
     go : (a : Bool) → cond a (Err Tick) (open_connection v past conn) ≡ Err kind → (kind ≡ Tick) ⊎ ((kind ≡ Connection) ⊎ (kind ≡ Ended))
     go true e = inl cc
@@ -92,7 +92,7 @@ tier_not_read v past line kind h is = go (open_connection v past line.conn) refl
 
     go : (r : Result ℕ CaptureFaultKind) → open_connection v past line.conn ≡ r → ⊥
     go (Err e) is_err = open_not_read v past line.conn e is_err (let k = sym (bind_err (open_connection v past line.conn) _ e is_err) ∙ h in cc)
-    go (Ok c) is_ok = late c (nat_lt last_tier line.tier || past.used c) (sym (bind_is (open_connection v past line.conn) _ c is_ok) ∙ h)
+    go (Ok c) is_ok = late c (nat_lt max_tier line.tier || past.used c) (sym (bind_is (open_connection v past line.conn) _ c is_ok) ∙ h)
 
 -- ---- records
 
@@ -146,7 +146,7 @@ pub fits_fails : (v : Version) (text now new : Option (List ℕ)) (start new_lef
     → is_some text ≡ true → (part : List ℕ) × FailsInRecord v (unwrap_or text []) start records part (unwrap_or new [])
 fits_fails v text now new start new_left records p f h k =
     let more = h (f.known k) in
-    let left : p.left ≡ longest_text - length (text_before_stop v start records) = let all = f.left k in omega arith in (
+    let left : p.left ≡ max_text_bytes - length (text_before_stop v start records) = let all = f.left k in omega arith in (
       more.part,
       record {
         taken = f.front k ∙ (ap (λ w. text_before_stop v start records ++ w) more.bytes ∙ sym (append_assoc (text_before_stop v start records) more.part (unwrap_or new [])));

@@ -4,7 +4,7 @@ use Rattle.std.proofs.lemmas.Bool.Decides.{nat_tests, Decides-eqb}
 use Rattle.std.proofs.lemmas.List.{append_assoc, append-nil, length-append}
 use Rattle.paths.specs.Texts.{Ahead, line_at, run_at, byte_at}
 use Rattle.paths.proofs.Inverse.{TakesAhead, ahead_then, unless_ok, when_ok, ok_is, line_inverse, run_inverse, byte_takes}
-use Rattle.captures.specs.Captures.{last_connection, has_tiers, Past, feed, piece_line, record_text, latest_tick, most_bytes, last_tier, size_of, Follows}
+use Rattle.captures.specs.Captures.{last_connection, has_tiers, Past, feed, piece_line, record_text, max_tick, max_piece_bytes, max_tier, size_of, Follows}
 use Rattle.captures.specs.declared.version.Version.{Version}
 use Rattle.captures.specs.CaptureFaults.{kind_of, named, heading_of, IsHeadingOf, open_connection, allowed, body_at, piece_at, tier_record, close_at, announced, record_at}
 use Rattle.captures.specs.declared.record.Record.{Record}
@@ -41,11 +41,11 @@ open_inverse v past conn c h =
     let same : conn ≡ c = ok_is {A = ℕ} {E = CaptureFaultKind} _ _ _ _ refl refl last.1 in
     (sym same, let t = limit.0 in grind (arith, nat_tests), last.0)
 
-allowed_inverse : (v : Version) (past : Past) (tick conn c : ℕ) → allowed v past tick conn ≡ Ok c → (c ≡ conn) × (tick ≤ latest_tick) × (conn ≤ last_connection v) × (past.tick ≤ tick) × (past.ended conn ≡ false)
+allowed_inverse : (v : Version) (past : Past) (tick conn c : ℕ) → allowed v past tick conn ≡ Ok c → (c ≡ conn) × (tick ≤ max_tick) × (conn ≤ last_connection v) × (past.tick ≤ tick) × (past.ended conn ≡ false)
 allowed_inverse v past tick conn c h =
-    let time = unless_ok (nat_lt latest_tick tick || nat_lt tick past.tick) Tick _ _ h in
+    let time = unless_ok (nat_lt max_tick tick || nat_lt tick past.tick) Tick _ _ h in
     let names = open_inverse v past conn c time.1 in
-    let late = either_false (nat_lt latest_tick tick) (nat_lt tick past.tick) time.0 in (
+    let late = either_false (nat_lt max_tick tick) (nat_lt tick past.tick) time.0 in (
       names.0,
       let t = late.0 in grind (arith, nat_tests),
       names.1,
@@ -57,18 +57,18 @@ allowed_inverse v past tick conn c h =
 record GivesTier (v : Version) (past : Past) (l : TierLine) (r : Record) : Type 0 where
   is : r ≡ Tier l.conn l.tier
   in_conn : l.conn ≤ last_connection v
-  in_tier : l.tier ≤ last_tier
+  in_tier : l.tier ≤ max_tier
   follows : has_tiers v ≡ true → Follows v past r
 
 tier_inverse : (v : Version) (past : Past) (l : TierLine) (r : Record) → tier_record v past l ≡ Ok r → GivesTier v past l r
 tier_inverse v past l r h =
     let conn = bind_ok (open_connection v past l.conn) _ _ h in
     let names = open_inverse v past l.conn conn.0 conn.1 in
-    let good = unless_ok (nat_lt last_tier l.tier || past.used conn.0) LateTier _ _ conn.2 in
-    let parts = either_false (nat_lt last_tier l.tier) (past.used conn.0) good.0 in
+    let good = unless_ok (nat_lt max_tier l.tier || past.used conn.0) LateTier _ _ conn.2 in
+    let parts = either_false (nat_lt max_tier l.tier) (past.used conn.0) good.0 in
     let made : Tier conn.0 l.tier ≡ r = ok_is {A = Record} {E = CaptureFaultKind} _ _ _ _ refl refl good.1 in
     let is : r ≡ Tier l.conn l.tier = sym made ∙ ap (λ c. Tier c l.tier) names.0 in
-    let in_tier : l.tier ≤ last_tier = let t = parts.0 in grind (arith, nat_tests) in
+    let in_tier : l.tier ≤ max_tier = let t = parts.0 in grind (arith, nat_tests) in
     let unused : past.used l.conn ≡ false = sym (ap past.used names.0) ∙ parts.1 in
     record {
       is = is;
@@ -97,22 +97,22 @@ record TakesPiece (v : Version) (past : Past) (a : Ahead) (l : PieceLine) (r : R
   is : r ≡ Piece l.tick l.conn bytes
   took : TakesAhead a (bytes ++ feed ∷ []) b
   len : length bytes ≡ l.len
-  in_tick : l.tick ≤ latest_tick
+  in_tick : l.tick ≤ max_tick
   in_conn : l.conn ≤ last_connection v
-  in_len : l.len ≤ most_bytes
+  in_len : l.len ≤ max_piece_bytes
   follows : Follows v past r
 
 piece_inverse : (v : Version) (past : Past) (l : PieceLine) (a b : Ahead) (r : Record) → piece_at v past l a ≡ Ok (r, b) → TakesPiece v past a l r b
 piece_inverse v past l a b r h =
     let conn = bind_ok (allowed v past l.tick l.conn) _ _ h in
     let within = allowed_inverse v past l.tick l.conn conn.0 conn.1 in
-    let sized = unless_ok (l.len == 0 || nat_lt most_bytes l.len) Length _ _ conn.2 in
+    let sized = unless_ok (l.len == 0 || nat_lt max_piece_bytes l.len) Length _ _ conn.2 in
     let body = bind_ok (body_at l.len a) _ _ sized.1 in
     let read = body_inverse l.len a body.0.1 body.0.0 body.1 in
     let pair : (Piece l.tick conn.0 body.0.0, body.0.1) ≡ (r, b) = ok_is {A = Record × Ahead} {E = CaptureFaultKind} _ _ _ _ refl refl body.2 in
-    let long = either_false (l.len == 0) (nat_lt most_bytes l.len) sized.0 in
+    let long = either_false (l.len == 0) (nat_lt max_piece_bytes l.len) sized.0 in
     let is : r ≡ Piece l.tick l.conn body.0.0 = sym (ap (λ (p : Record × Ahead). p.0) pair) ∙ ap (λ c. Piece l.tick c body.0.0) within.0 in
-    let in_len : l.len ≤ most_bytes = let t = long.1 in grind (arith, nat_tests) in
+    let in_len : l.len ≤ max_piece_bytes = let t = long.1 in grind (arith, nat_tests) in
     let some : 0 < l.len = let t = long.0 in grind (arith, nat_tests) in
     record {
       bytes = body.0.0;

@@ -15,7 +15,7 @@ use Rattle.captures.specs.declared.capture_fault.CaptureFaultKind.TheVariants as
 use Rattle.captures.specs.declared.upgrade_fault.UpgradeFault.{UpgradeFault}
 use Rattle.captures.specs.declared.upgrade_fault.UpgradeFault.TheVariants.{Capture, Memory, Write as Unwritten}
 use Rattle.paths.specs.KnownText.{WhereKnown}
-use Rattle.captures.specs.Captures.{feed, first_line, last_line, record_text, text_before_stop, longest_text, IsCapture, IsCaptureText}
+use Rattle.captures.specs.Captures.{feed, first_line, last_line, record_text, text_before_stop, max_text_bytes, IsCapture, IsCaptureText}
 use Rattle.captures.specs.CaptureFaults.{IsForeseen, IsHeaderFault, failures_of}
 use Rattle.captures.specs.Readers.{ReaderAfter, Gave, FailsFirst, FailsNext}
 use Rattle.captures.specs.Upgrades.{Upgrades, Reads, Stops, IsCutShort, told_as, upgrade_fault, IfCapture, IfCutShort, IsWriteOrMemory, reader_failures, writer_failures}
@@ -109,7 +109,7 @@ pub gave_more : (v : Version) (text now : Option (List ℕ)) (start : ℕ) (reco
 gave_more v text now start records p x r is h = subst (λ (o : Option Record). Gave v text start records (Ok o) p now) is h
 
 -- there are fewer records than 64 bits count
-pub fits_few : (v : Version) (text now : Option (List ℕ)) (start : ℕ) (records : List Record) (p : Progress) → ReaderAfter v text start records p now → length records ≤ longest_text
+pub fits_few : (v : Version) (text now : Option (List ℕ)) (start : ℕ) (records : List Record) (p : Progress) → ReaderAfter v text start records p now → length records ≤ max_text_bytes
 fits_few v text now start records p f = let r = f.room in omega arith
 
 -- ---- what stands

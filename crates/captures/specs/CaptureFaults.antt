@@ -9,8 +9,8 @@ use Rattle.paths.specs.Numbers.{◌>>=◌ as ◌>?=◌}
 use Rattle.paths.specs.Texts.{Ahead, line_at, run_at, byte_at}
 use Rattle.paths.specs.declared.stop.Stop.{Stop}
 use Rattle.paths.specs.declared.stop.Stop.TheVariants as stops
-use Rattle.captures.specs.Captures.{front, last_connection, has_tiers, feed, latest_start, latest_tick, most_bytes}
-use Rattle.captures.specs.Captures.{longest_text, last_tier, Past, past_of, text_before_stop, IsCapture}
+use Rattle.captures.specs.Captures.{front, last_connection, has_tiers, feed, max_start, max_tick, max_piece_bytes}
+use Rattle.captures.specs.Captures.{max_text_bytes, max_tier, Past, past_of, text_before_stop, IsCapture}
 use Rattle.captures.specs.declared.version.Version.{Version}
 use Rattle.captures.specs.declared.version.Version.TheVariants.{One, Two}
 use Rattle.captures.specs.declared.record.Record.{Record}
@@ -71,7 +71,7 @@ abbrev pub ◌>>=◌ : {A B : Type 0} → Result A CaptureFaultKind → (A → R
 
 -- the version and the start that the first line gives
 abbrev pub start_heading : Version → Option ℕ → Result (Version × ℕ) CaptureFaultKind
-start_heading v (Some start) = if nat_lt latest_start start then Err Header else Ok (v, start)
+start_heading v (Some start) = if nat_lt max_start start then Err Header else Ok (v, start)
 start_heading v None = Err Number
 
 abbrev pub start_of : List ℕ → Result (Version × ℕ) CaptureFaultKind
@@ -134,7 +134,7 @@ open_connection v past conn =
 -- the connection of a piece or an end, whose tick and connection may stand after this past
 abbrev pub allowed : Version → Past → ℕ → ℕ → Result ℕ CaptureFaultKind
 allowed v past tick conn =
-    if nat_lt latest_tick tick || nat_lt tick past.tick then Err Tick
+    if nat_lt max_tick tick || nat_lt tick past.tick then Err Tick
     else open_connection v past conn
 
 -- the bytes of a piece, n
@@ -148,7 +148,7 @@ body_at n a = do
 abbrev pub piece_at : Version → Past → PieceLine → Ahead → Result (Record × Ahead) CaptureFaultKind
 piece_at v past line a = do
   conn ← allowed v past line.tick line.conn
-  if line.len == 0 || nat_lt most_bytes line.len then Err Length
+  if line.len == 0 || nat_lt max_piece_bytes line.len then Err Length
       else (do
         bytes ← body_at line.len a
         Ok (Piece line.tick conn bytes.0, bytes.1))
@@ -157,7 +157,7 @@ piece_at v past line a = do
 abbrev pub tier_record : Version → Past → TierLine → Result Record CaptureFaultKind
 tier_record v past line = do
   conn ← open_connection v past line.conn
-  if nat_lt last_tier line.tier || past.used conn then Err LateTier else Ok (Tier conn line.tier)
+  if nat_lt max_tier line.tier || past.used conn then Err LateTier else Ok (Tier conn line.tier)
 
 -- the end of the input
 abbrev pub close_at : Ahead → Result (Unit {0} × Ahead) CaptureFaultKind
@@ -202,15 +202,15 @@ pub record FaultsAfter (v : Version) (text : List ℕ) (start : ℕ) (records : 
     (rest : List ℕ) : Type 0 where
   pub whole : text ≡ text_before_stop v start records ++ rest
   pub rules : IsCapture v start records
-  pub size : length (text_before_stop v start records) ≤ longest_text
+  pub size : length (text_before_stop v start records) ≤ max_text_bytes
   pub at : f.at ≡ length records + 1
   pub kind : record_at v (past_of records)
-      (record { bytes = rest; left = longest_text - length (text_before_stop v start records) }) ≡ Err f.kind
+      (record { bytes = rest; left = max_text_bytes - length (text_before_stop v start records) }) ≡ Err f.kind
 
 -- The first fault of bytes that are no capture text: that of the first line, which is record 0, or of the record after
 -- those that stand whole, by the rules of the version that the first line gave.
 abbrev pub IsHeaderFault : List ℕ → CaptureFault → Type 0
-IsHeaderFault text f = (f.at ≡ 0) × (header_at (record { bytes = text; left = longest_text }) ≡ Err f.kind)
+IsHeaderFault text f = (f.at ≡ 0) × (header_at (record { bytes = text; left = max_text_bytes }) ≡ Err f.kind)
 
 abbrev pub IsFaultAfter : Version → List ℕ → ℕ → List Record → CaptureFault → Type 0
 IsFaultAfter v text start records f = (rest : List ℕ) × FaultsAfter v text start records f rest

@@ -26,20 +26,20 @@ abbrev pub feed : ℕ
 feed = 10
 
 -- the latest start (seconds since 1970-01-01), the latest tick, the most bytes of a piece and of a text, the last tier
-abbrev pub latest_start : ℕ
-latest_start = 4102444800
+abbrev pub max_start : ℕ
+max_start = 4102444800
 
-abbrev pub latest_tick : ℕ
-latest_tick = 1000000000000000
+abbrev pub max_tick : ℕ
+max_tick = 1000000000000000
 
-abbrev pub most_bytes : ℕ
-most_bytes = 65536
+abbrev pub max_piece_bytes : ℕ
+max_piece_bytes = 65536
 
-abbrev pub longest_text : ℕ
-longest_text = 1073741824
+abbrev pub max_text_bytes : ℕ
+max_text_bytes = 1073741824
 
-abbrev pub last_tier : ℕ
-last_tier = 3
+abbrev pub max_tier : ℕ
+max_tier = 3
 
 -- the line before a piece, the line of an end and of a tier, the first and the last line, without their line feeds
 abbrev pub piece_line : ℕ → ℕ → ℕ → List ℕ
@@ -112,9 +112,9 @@ tier_of c records = last_of (flat_map (tier_given c) records)
 -- a record within the limits
 abbrev pub IsRecord : Version → Record → Type 0
 IsRecord v (Piece tick conn bytes) =
-    (tick ≤ latest_tick) × (conn ≤ last_connection v) × (0 < length bytes) × (length bytes ≤ most_bytes)
-IsRecord v (End tick conn) = (tick ≤ latest_tick) × (conn ≤ last_connection v)
-IsRecord v (Tier conn tier) = (has_tiers v ≡ true) × (conn ≤ last_connection v) × (tier ≤ last_tier)
+    (tick ≤ max_tick) × (conn ≤ last_connection v) × (0 < length bytes) × (length bytes ≤ max_piece_bytes)
+IsRecord v (End tick conn) = (tick ≤ max_tick) × (conn ≤ last_connection v)
+IsRecord v (Tier conn tier) = (has_tiers v ≡ true) × (conn ≤ last_connection v) × (tier ≤ max_tier)
 
 -- a tier comes before each piece of its connection, and once
 abbrev pub LetsFollow : Record → Record → Type 0
@@ -125,7 +125,7 @@ LetsFollow r (Tier conn tier) = is_use_of conn r ≡ false
 -- The rules of a capture: ticks don't fall, nothing of a connection comes after its end, and its tier comes first. (An
 -- end may come without a piece.)
 pub record IsCapture (v : Version) (start : ℕ) (records : List Record) : Type 0 where
-  pub in_time : start ≤ latest_start
+  pub in_time : start ≤ max_start
   pub each : All (IsRecord v) records
   pub rising : AllPairs (λ s t. s ≤ t) (ticks_of records)
   pub ends_last : AllPairs (λ r s. is_end_of (connection_of s) r ≡ false) records
@@ -135,7 +135,7 @@ pub record IsCapture (v : Version) (start : ℕ) (records : List Record) : Type 
 pub record IsCaptureText (v : Version) (bytes : List ℕ) (start : ℕ) (records : List Record) : Type 0 where
   pub text : bytes ≡ capture_text v start records
   pub rules : IsCapture v start records
-  pub size : length bytes ≤ longest_text
+  pub size : length bytes ≤ max_text_bytes
 
 -- What the rules ask of the records so far when one more comes: how many they are, the last tick (0 where none gave
 -- one), which connections have ended, and which had a piece or a tier.

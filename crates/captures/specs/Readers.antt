@@ -4,7 +4,7 @@ use Rattle.std.specs.Prelude.{Option, Some, None, Result, Ok, Err, IfErr, slice_
 use Rattle.std.specs.Prelude.{unwrap_or}
 use Rattle.std.specs.Int.{bit_at}
 use Rattle.paths.specs.Devices.{CountsBy}
-use Rattle.captures.specs.Captures.{Past, past_of, longest_text, text_before_stop, IsCapture, IsCaptureText, sizes_of}
+use Rattle.captures.specs.Captures.{Past, past_of, max_text_bytes, text_before_stop, IsCapture, IsCaptureText, sizes_of}
 use Rattle.captures.specs.CaptureFaults.{IsFaultAfter, IsForeseen, IsUnfinished, header_at, record_at, failures_of}
 use Rattle.captures.specs.declared.version.Version.{Version}
 use Rattle.captures.specs.declared.record.Record.{Record}
@@ -44,9 +44,9 @@ pub record ReaderAfter (v : Version) (text : Option (List ℕ)) (start : ℕ) (r
   pub begun : p.start ≡ start
   pub rules : IsCapture v start records
   pub past : seen p.so_far ≡ past_of records
-  pub room : length records + sizes_of records + p.room ≡ longest_text
+  pub room : length records + sizes_of records + p.room ≡ max_text_bytes
   pub front : is_some text ≡ true → unwrap_or text [] ≡ text_before_stop v start records ++ unwrap_or now []
-  pub left : is_some text ≡ true → longest_text ≡ length (text_before_stop v start records) + p.left
+  pub left : is_some text ≡ true → max_text_bytes ≡ length (text_before_stop v start records) + p.left
   pub known : is_some text ≡ true → is_some now ≡ true
 
 -- What the next call on such a reader answers: one more record; `None` only where the text is the capture of these
@@ -90,8 +90,8 @@ GaveKind v text start records (Err kind) p now = Gave v text start records
 -- A read failed in the first line: of the text a part was taken, in which that line doesn't end.
 pub record FailsInFirstLine (text part rest : List ℕ) : Type 0 where
   pub taken : text ≡ part ++ rest
-  pub size : length part ≤ longest_text
-  pub cut : header_at (record { bytes = part; left = longest_text }) ≡ Err Cut
+  pub size : length part ≤ max_text_bytes
+  pub cut : header_at (record { bytes = part; left = max_text_bytes }) ≡ Err Cut
 
 -- so it is where the fault of the first line is a failed read, and the bytes of the input are known; `now` is what is
 -- ahead then
@@ -104,10 +104,10 @@ FailsFirst text f now = f.kind ≡ Read → is_some text ≡ true
 pub record FailsInRecord (v : Version) (text : List ℕ) (start : ℕ) (records : List Record)
     (part rest : List ℕ) : Type 0 where
   pub taken : text ≡ (text_before_stop v start records ++ part) ++ rest
-  pub size : length (text_before_stop v start records) + length part ≤ longest_text
+  pub size : length (text_before_stop v start records) + length part ≤ max_text_bytes
   pub unfinished : IsUnfinished
       (record_at v (past_of records)
-      (record { bytes = part; left = longest_text - length (text_before_stop v start records) }))
+      (record { bytes = part; left = max_text_bytes - length (text_before_stop v start records) }))
 
 -- so it is where a reader that has given these records answers a failed read, and the bytes of the input are known
 abbrev pub FailsNext : Version → Option (List ℕ) → ℕ → List Record → Result (Option Record) CaptureFault

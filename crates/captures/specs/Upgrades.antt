@@ -11,7 +11,7 @@ use Rattle.captures.specs.declared.capture_fault.CaptureFaultKind.{CaptureFaultK
 use Rattle.captures.specs.declared.capture_fault.CaptureFaultKind.TheVariants as kinds
 use Rattle.captures.specs.declared.upgrade_fault.UpgradeFault.{UpgradeFault}
 use Rattle.captures.specs.declared.upgrade_fault.UpgradeFault.TheVariants.{Capture, Memory, Write as Unwritten}
-use Rattle.captures.specs.Captures.{text_before_stop, capture_text, longest_text, IsCapture, IsCaptureText}
+use Rattle.captures.specs.Captures.{text_before_stop, capture_text, max_text_bytes, IsCapture, IsCaptureText}
 use Rattle.captures.specs.CaptureFaults.{is_unforeseen_kind, IsHeaderFault, IsFaultAfter, failures_of}
 use Rattle.captures.specs.Readers.{FailsFirst, FailsNext}
 
@@ -52,7 +52,7 @@ pub record Reads (input : Option (List ℕ)) : Type 0 where
   pub rest : List ℕ
   pub rules : IsCapture version start records
   pub begins : WhereKnown input (λ bytes. bytes ≡ text_before_stop version start records ++ rest)
-  pub size : WhereKnown input (λ bytes. length (text_before_stop version start records) ≤ longest_text)
+  pub size : WhereKnown input (λ bytes. length (text_before_stop version start records) ≤ max_text_bytes)
 
 -- The upgrade stopped at the record after these: it has written the first line and these records, and no last line.
 -- Where it was a read that failed, nothing that was read after them is a whole record.

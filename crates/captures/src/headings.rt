@@ -9,14 +9,14 @@ use crate::{CaptureFaultKind, Version};
 use paths::{number, number_and_rest, three_numbers};
 
 /// The latest start of a capture, in seconds since 1970-01-01.
-const LATEST_START: u64 = 4_102_444_800;
+const MAX_START: u64 = 4_102_444_800;
 
 /// A version, and the start that a field gives.
 fn read_field(version: Version, field: &[u8]) -> Result<(Version, u64), CaptureFaultKind>
     ensures { result ≡ start_heading version (number_of field.now) }
 {
     match number(field) {
-        Some(start) if start <= LATEST_START => Ok((version, start)),
+        Some(start) if start <= MAX_START => Ok((version, start)),
         Some(_) => Err(CaptureFaultKind::Header),
         None => Err(CaptureFaultKind::Number),
     }

@@ -19,7 +19,7 @@ use std::alloc::Global;
 use std::io::Read;
 
 /// The most bytes of a capture text.
-const LONGEST_TEXT: usize = 1_073_741_824;
+const MAX_TEXT_BYTES: usize = 1_073_741_824;
 
 /// How far a capture was read.
 #[derive(Drop)]
@@ -62,13 +62,13 @@ impl Progress {
         ensures failed { IfErr result (λ f. FailsFirst input.old.bytes f input.new.bytes) }
         ensures count { CountsFault input.old.failures input.new.failures result }
     {
-        let mut left = LONGEST_TEXT;
+        let mut left = MAX_TEXT_BYTES;
         match read_header(input, &mut left) {
             Ok((version, start)) => Ok(Progress {
                 version,
                 start,
                 left,
-                room: LONGEST_TEXT,
+                room: MAX_TEXT_BYTES,
                 so_far: SoFar::new(),
                 stage: Stage::Reading,
             }),

@@ -4,7 +4,7 @@ ghost use Rattle.std.specs.Prelude.{◌≡◌, ◌<◌, ◌≤◌, ◌-◌, ◌^
 ghost use Rattle.paths.specs.Devices.{CanFail};
 ghost use Rattle.paths.specs.Texts.{Counts, Gives, line_at};
 ghost use Rattle.paths.specs.Parts.{FailsAtOnce, FailsAfter, FailsWithin};
-ghost use Rattle.captures.specs.Captures.{Follows, latest_start};
+ghost use Rattle.captures.specs.Captures.{Follows, max_start};
 ghost use Rattle.captures.specs.CaptureFaults.{CountsKind, IsUnfinished, IsHeadingOf, is_unforeseen_kind, header_at};
 ghost use Rattle.captures.specs.CaptureFaults.{body_at, piece_at, close_at, announced, record_at};
 ghost use Rattle.captures.specs.Readers.{seen};
@@ -19,7 +19,7 @@ use std::alloc::Global;
 use std::io::Read;
 
 /// The most bytes of a piece.
-const MOST_BYTES: u64 = 65_536;
+const MAX_PIECE_BYTES: u64 = 65_536;
 /// The fewest bytes of a line that announces something, as `stop 0`, with its line feed.
 const SHORTEST_LINE: usize = 7;
 /// The fewest bytes of a piece's line, as `piece 0 0 1`, with its line feed.
@@ -35,7 +35,7 @@ pub(crate) fn read_header<R: Read>(
     // Where a read failed, no whole line had been taken.
     ensures part { FailsWithin CaptureFaultKind.Read CaptureFaultKind.Cut header_at
         input.old.bytes left.old input.new.bytes left.new result }
-    ensures limit { IfOk result (λ first. first.1 ≤ latest_start) }
+    ensures limit { IfOk result (λ first. first.1 ≤ max_start) }
     ensures count { CountsKind input.old.failures input.new.failures result }
     // It takes no memory.
     ensures memory { IfErr result (λ kind. kind ≢ CaptureFaultKind.Memory) }
@@ -89,7 +89,7 @@ fn read_piece<R: Read>(
     ensures count { CountsKind input.old.failures input.new.failures result }
 {
     let conn = so_far.allow(version, line.tick, line.conn)?;
-    if line.len == 0 || line.len > MOST_BYTES {
+    if line.len == 0 || line.len > MAX_PIECE_BYTES {
         return Err(CaptureFaultKind::Length);
     }
     let bytes = read_body(alloc, input, left, line.len as usize)?;

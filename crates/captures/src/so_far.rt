@@ -10,9 +10,9 @@ use crate::heading::TierLine;
 use crate::{CaptureFaultKind, Record, Version};
 
 /// The latest tick, in microseconds.
-const LATEST_TICK: u64 = 1_000_000_000_000_000;
+const MAX_TICK: u64 = 1_000_000_000_000_000;
 /// The last tier.
-const LAST_TIER: u64 = 3;
+const MAX_TIER: u64 = 3;
 
 /// What the rules ask of the records so far.
 #[derive(Drop)]
@@ -65,7 +65,7 @@ impl SoFar {
         ensures allowed { result ≡ allowed version (seen self.now) tick conn }
         ensures same { IfOk result (λ c. c ≡ conn) }
     {
-        if tick > LATEST_TICK || tick < self.tick {
+        if tick > MAX_TICK || tick < self.tick {
             return Err(CaptureFaultKind::Tick);
         }
         self.open(version, conn)
@@ -80,7 +80,7 @@ impl SoFar {
         ensures { result ≡ tier_record version (seen self.now) line }
     {
         let conn = self.open(version, line.conn)?;
-        if line.tier > LAST_TIER || self.used.contains(conn) {
+        if line.tier > MAX_TIER || self.used.contains(conn) {
             return Err(CaptureFaultKind::Tier);
         }
         Ok(Record::Tier {

@@ -1,7 +1,7 @@
 //! The service times of a document, and the time of one answer.
 
 ghost use Rattle.std.specs.Prelude.{◌≡◌, ◌≤◌, true, false, IfOk, IfErr};
-ghost use Rattle.paths.specs.Snapshots.{most_bytes};
+ghost use Rattle.paths.specs.Snapshots.{max_file_bytes};
 ghost use Rattle.cost_model.specs.Services.{is_in_range, bytes_cost, service, longest_service};
 
 use crate::MAX_COST;
@@ -61,7 +61,7 @@ impl Costs {
 /// How many ticks the server works on a request with this outcome: `head` and `unmodified` say that a file's bytes are
 /// not given, `len` is its length.
 pub fn service(costs: Costs, outcome: &Outcome, head: bool, unmodified: bool, len: u64) -> u64
-    requires { len ≤ most_bytes }
+    requires { len ≤ max_file_bytes }
     ensures ticks { result ≡ service costs outcome.now head unmodified len }
     ensures range { (1 ≤ result) × (result ≤ longest_service) }
 {

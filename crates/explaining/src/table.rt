@@ -30,7 +30,8 @@ pub fn write_row<W: Write>(
     target: &[u8],
 ) -> Result<(), Failed>
     requires { CanFail output.old }
-    ensures prefix { WritesProperPrefix output.old.bytes output.new.bytes result (row_text row.now method.now target.now) }
+    ensures prefix { WritesProperPrefix output.old.bytes output.new.bytes result
+        (row_text row.now method.now target.now) }
     ensures count { CountsFailed output.old.failures output.new.failures result }
 {
     let line = row_line(row);

@@ -3,7 +3,7 @@
 use crate::folder::{FileFolder, list_folder};
 use crate::overwritten::{Node, Overwritten};
 use command_line::{Job, WordFault, read_words};
-use options::{LONGEST_SETTINGS, default_settings, read_settings};
+use options::{MAX_SETTINGS_BYTES, default_settings, read_settings};
 use paths::Output;
 use replay::Settings;
 use runs::{
@@ -17,7 +17,7 @@ use std::sync::Wait;
 use std::thread::Threads;
 
 /// How many bytes of a settings file are read: one more than it may have.
-const MOST_READ: u64 = LONGEST_SETTINGS as u64 + 1;
+const MAX_SETTINGS_READ: u64 = MAX_SETTINGS_BYTES as u64 + 1;
 
 /// What is said of arguments that are no text.
 const NOT_TEXT: &str = "error: a word is not UTF-8\n\nFor more information, try '--help'.\n";
@@ -47,7 +47,7 @@ fn document_in(rt: &HostRuntime, name: &str) -> Result<(Vec<u8>, Node), Fault> {
     let file = open(rt, name, Place::Settings)?;
     let node = Node::of(&file, Place::Settings)?;
     let mut bytes = Vec::new(rt.alloc());
-    match file.take(MOST_READ).read_to_end(&mut bytes) {
+    match file.take(MAX_SETTINGS_READ).read_to_end(&mut bytes) {
         Ok(_) => Ok((bytes, node)),
         Err(error) if error.kind() == ErrorKind::OutOfMemory => Err(Fault::Memory),
         Err(_) => Err(Fault::Read(Place::Settings)),

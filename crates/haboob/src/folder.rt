@@ -1,7 +1,7 @@
 //! The walk through a folder, and the reading of its files.
 
 use crate::overwritten::Node;
-use paths::MOST_BYTES;
+use paths::MAX_FILE_BYTES;
 use runs::{Contents, Fault, FileFault, Folder, Found, Place};
 use std::alloc::{AllocError, Global};
 use std::fs::{DirEntry, File, Metadata, read_dir};
@@ -165,11 +165,11 @@ impl<'a> FileFolder<'a> {
         if !known.is_file() {
             return Ok(Err(FileFault::Special));
         }
-        if known.len() > MOST_BYTES {
+        if known.len() > MAX_FILE_BYTES {
             return Ok(Err(FileFault::Size));
         }
         let mut bytes = Vec::with_capacity(alloc, known.len() as usize + 1)?;
-        file.take(MOST_BYTES + 1).read_to_end(&mut bytes)?;
+        file.take(MAX_FILE_BYTES + 1).read_to_end(&mut bytes)?;
         let mtime = u64::try_from(known.mtime()).unwrap_or(0);
         Ok(Ok(Contents { mtime, bytes }))
     }

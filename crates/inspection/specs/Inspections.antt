@@ -5,7 +5,7 @@ use Rattle.captures.specs.declared.record.Record.{Record}
 use Rattle.captures.specs.declared.capture_fault.CaptureFault.{CaptureFault}
 use Rattle.captures.specs.declared.capture_fault.CaptureFaultKind.{CaptureFaultKind}
 use Rattle.captures.specs.declared.capture_fault.CaptureFaultKind.TheVariants as kinds
-use Rattle.captures.specs.Captures.{IsCapture, IsCaptureText, longest_text, text_before_stop}
+use Rattle.captures.specs.Captures.{IsCapture, IsCaptureText, max_text_bytes, text_before_stop}
 use Rattle.captures.specs.CaptureFaults.{is_unforeseen_kind, IsHeaderFault, IsFaultAfter, failures_of}
 use Rattle.captures.specs.Readers.{FailsFirst, FailsNext}
 use Rattle.arrivals.specs.Arrivals.{Arrival, AreArrivals}
@@ -32,7 +32,7 @@ pub record HoldsBefore (input ahead : Option (List ℕ)) (i : Inspection) (f : C
   pub rest : List ℕ
   pub rules : IsCapture i.version i.start records
   pub begins : WhereKnown input (λ bytes. bytes ≡ text_before_stop i.version i.start records ++ rest)
-  pub size : WhereKnown input (λ bytes. length (text_before_stop i.version i.start records) ≤ longest_text)
+  pub size : WhereKnown input (λ bytes. length (text_before_stop i.version i.start records) ≤ max_text_bytes)
   pub arrived : AreArrivals records arrivals
   pub figures : AreFigures records arrivals i
   pub at : f.at ≡ length records + 1

@@ -4,7 +4,7 @@ use Rattle.std.specs.Prelude.{map, replicate, slice_get, slice_index_or, codes, 
 use Rattle.std.specs.Prelude.{Some, unwrap_or}
 use Rattle.captures.specs.declared.record.Record.{Record}
 use Rattle.captures.specs.declared.record.Record.TheVariants.{Piece, End, Tier}
-use Rattle.captures.specs.Captures.{last_of, ticks_of, sizes_of, size_of, longest_text}
+use Rattle.captures.specs.Captures.{last_of, ticks_of, sizes_of, size_of, max_text_bytes}
 use Rattle.http_requests.specs.declared.messages.Message.{Message}
 use Rattle.http_requests.specs.declared.messages.Meaning.{Meaning}
 use Rattle.http_requests.specs.declared.messages.Meaning.TheVariants.{Request, Bad}
@@ -140,7 +140,7 @@ rest_unfinished t = if t.closed then 0 else rest_of t
 
 -- no more bytes came on it than a capture's text has
 abbrev pub FewBytes : Tail → Type 0
-FewBytes t = t.bytes ≤ longest_text
+FewBytes t = t.bytes ≤ max_text_bytes
 
 -- a share with n bytes of one more connection
 abbrev pub with_bytes : Share → ℕ → Share
@@ -197,7 +197,7 @@ IsNoEarlier records (Tier conn tier) = Unit {0}
 
 -- there is room for the record after these
 abbrev pub HasRoomFor : List Record → Record → Type 0
-HasRoomFor records r = length records + sizes_of records + (size_of r + 1) ≤ longest_text
+HasRoomFor records r = length records + sizes_of records + (size_of r + 1) ≤ max_text_bytes
 
 -- these records were read, and what they hold is kept
 pub record Holds (records : List Record) (arrivals : List Arrival) (connections : List Connection)

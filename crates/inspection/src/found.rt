@@ -3,7 +3,7 @@
 ghost use Rattle.std.specs.Prelude.{◌≡◌, ℕ, ◌+◌, ◌-◌, ◌<◌, ◌≤◌, ◌^◌, [], List, length, OnOk};
 ghost use Rattle.http_requests.specs.declared.messages.Meaning.{Meaning as AMeaning};
 ghost use Rattle.captures.specs.declared.record.Record.{Record as ARecord};
-ghost use Rattle.captures.specs.Captures.{sizes_of, longest_text};
+ghost use Rattle.captures.specs.Captures.{sizes_of, max_text_bytes};
 ghost use Rattle.arrivals.specs.Arrivals.{Arrival};
 ghost use Rattle.inspection.specs.Figures.{AreFigures, messages_by_kind};
 ghost use Rattle.inspection.specs.Running.{FewRecords, most_connections, tail_at, IsFound, TookPiece, with_tick};
@@ -142,7 +142,7 @@ impl Found {
 /// The figures of what was found.
 pub(crate) fn inspection_of(version: Version, start: u64, found: &Found) -> Inspection
     requires { (records : List ARecord) × (arrivals : List Arrival) × IsFound records arrivals found.now
-        × (sizes_of records ≤ longest_text) }
+        × (sizes_of records ≤ max_text_bytes) }
     ensures version { result.version ≡ version }
     ensures start { result.start ≡ start }
     ensures figures { (records : List ARecord) (arrivals : List Arrival) → IsFound records arrivals found.now

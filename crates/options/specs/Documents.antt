@@ -6,6 +6,7 @@ use Rattle.toml.specs.Data.{Data, integer, array, table, Items, no_items, item, 
 use Rattle.toml.specs.Data.{as_table}
 use Rattle.options.specs.declared.config_fault.Key.{Key}
 use Rattle.options.specs.declared.config_fault.ConfigFault.{ConfigFault}
+use Rattle.options.specs.Bounds.{bounds_of, is_within}
 use Rattle.options.specs.Keys.{name_of, table_of, key_at}
 use Rattle.options.specs.ConfigFaults.{shape, range}
 
@@ -46,15 +47,14 @@ abbrev pub value_at : Members → Key → Result (Option Data) ConfigFault
 value_at document key = value_in (table_of key) (get_member (name_of (table_of key)) document) (name_of key)
 
 -- an integer within its range, or the default
-abbrev pub number_or : Key → ℕ → ℕ → ℕ → Option Data → Result ℕ ConfigFault
-number_or key default least most None = Ok default
-number_or key default least most (Some (integer (pos n))) = if nat_le least n && nat_le n most then Ok n else Err
-    (range key)
-number_or key default least most (Some (integer (negsuc n))) = Err (range key)
-number_or key default least most (Some _) = Err (shape key)
+abbrev pub number_or : Key → ℕ → Option Data → Result ℕ ConfigFault
+number_or key default None = Ok default
+number_or key default (Some (integer (pos n))) = if is_within (bounds_of key) n then Ok n else Err (range key)
+number_or key default (Some (integer (negsuc n))) = Err (range key)
+number_or key default (Some _) = Err (shape key)
 
-abbrev pub number : Members → Key → ℕ → ℕ → ℕ → Result ℕ ConfigFault
-number document key default least most = value_at document key >>= number_or key default least most
+abbrev pub number : Members → Key → ℕ → Result ℕ ConfigFault
+number document key default = value_at document key >>= number_or key default
 
 -- An integer below 0 is taken for 0, which no list of a floor may have either.
 abbrev pub natural : ℤ → ℕ

@@ -1,3 +1,4 @@
+pub mod Bounds
 pub mod ConfigFaults
 pub mod Keys
 pub mod Documents

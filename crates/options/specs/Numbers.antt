@@ -4,7 +4,7 @@ use Rattle.cost_model.specs.Services.{CostTable}
 use Rattle.token_bucket.specs.Limits.{MAX_DEPTH, MAX_RATE}
 use Rattle.admission.specs.Limits.{MAX_WINDOW, MAX_EVERY, MAX_UP, MIN_DOWN, MAX_DOWN, MAX_TARGET}
 use Rattle.admission.specs.Rules.{Rules}
-use Rattle.replay.specs.Choices.{most_records, most_cache, longest_retry}
+use Rattle.replay.specs.Choices.{max_batch, max_cache, max_retry_after}
 
 -- the lists of a floor: where its stages end, their workers, and what their queues hold
 pub record FloorLists : Type 0 where
@@ -41,9 +41,9 @@ pub record AreWithin (p : Rules) : Type 0 where
 
 -- so are those of each policy, and the other numbers
 pub record AreChoices (c : Choices) : Type 0 where
-  pub batch : (1 ≤ c.batch) × (c.batch ≤ most_records)
-  pub cache : c.cache ≤ most_cache
-  pub retry_after : c.retry_after ≤ longest_retry
+  pub batch : (1 ≤ c.batch) × (c.batch ≤ max_batch)
+  pub cache : c.cache ≤ max_cache
+  pub retry_after : c.retry_after ≤ max_retry_after
   pub policy : AreWithin c.policy
   pub tier1 : AreWithin c.tier1
   pub tier2 : AreWithin c.tier2

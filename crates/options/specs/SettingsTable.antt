@@ -1,4 +1,4 @@
--- The settings of a document: each key's default and range, and what must hold between them.
+-- The settings of a document: each key's default, and what must hold between them.
 use Rattle.std.specs.Prelude.{ℕ, ◌&&◌, List, [], ◌∷◌, length, Option, Some, None, Result, Ok, Err, nat_eq, nat_le}
 use Rattle.std.specs.Prelude.{is_none, if◌then◌else◌}
 use Rattle.std.specs.Str.{is_utf8}
@@ -35,28 +35,28 @@ back_of document = do
   capacities ← numbers document keys.BackCapacities (64 ∷ 64 ∷ [])
   Ok (record { cuts = cuts; workers = workers; capacities = capacities })
 
--- each key with its default, its least and its greatest value
+-- each key with its default
 abbrev pub costs_of : Members → Result CostTable ConfigFault
 costs_of document = do
-  file ← number document keys.File 200 1 1000000
-  kib ← number document keys.Kib 10 0 1000000
-  error ← number document keys.Error 50 1 1000000
+  file ← number document keys.File 200
+  kib ← number document keys.Kib 10
+  error ← number document keys.Error 50
   Ok (record { file = file; kib = kib; error = error })
 
--- each key of a policy's table, with what holds where it is left out, its least and its greatest value
+-- each key of a policy's table, with what holds where it is left out
 unfoldable pub policy_in : Members → PolicyTable → Rules → Result Rules ConfigFault
 policy_in document table otherwise = do
-  window ← number document (keys.InPolicy table policy.Window) otherwise.window 1 4096
-  every ← number document (keys.InPolicy table policy.Every) otherwise.every 1 4096
-  smoothing ← number document (keys.InPolicy table policy.Smoothing) otherwise.smoothing 0 999
-  rate ← number document (keys.InPolicy table policy.Rate) otherwise.rate 1 1000000000
-  rate_min ← number document (keys.InPolicy table policy.RateMin) otherwise.rate_min 1 1000000000
-  rate_max ← number document (keys.InPolicy table policy.RateMax) otherwise.rate_max 1 1000000000
-  up ← number document (keys.InPolicy table policy.Up) otherwise.up 0 1000000000
-  down ← number document (keys.InPolicy table policy.Down) otherwise.down 101 10000
-  target ← number document (keys.InPolicy table policy.Target) otherwise.target 1 1000000000000
-  low ← number document (keys.InPolicy table policy.Low) otherwise.low 0 100
-  depth ← number document (keys.InPolicy table policy.Depth) otherwise.depth 1 1000000
+  window ← number document (keys.InPolicy table policy.Window) otherwise.window
+  every ← number document (keys.InPolicy table policy.Every) otherwise.every
+  smoothing ← number document (keys.InPolicy table policy.Smoothing) otherwise.smoothing
+  rate ← number document (keys.InPolicy table policy.Rate) otherwise.rate
+  rate_min ← number document (keys.InPolicy table policy.RateMin) otherwise.rate_min
+  rate_max ← number document (keys.InPolicy table policy.RateMax) otherwise.rate_max
+  up ← number document (keys.InPolicy table policy.Up) otherwise.up
+  down ← number document (keys.InPolicy table policy.Down) otherwise.down
+  target ← number document (keys.InPolicy table policy.Target) otherwise.target
+  low ← number document (keys.InPolicy table policy.Low) otherwise.low
+  depth ← number document (keys.InPolicy table policy.Depth) otherwise.depth
   Ok (record {
     window = window;
     every = every;
@@ -92,11 +92,11 @@ abbrev pub written_in : Members → Result Choices ConfigFault
 written_in document = do
   front ← front_of document
   back ← back_of document
-  batch ← number document keys.Batch 1024 1 65536
-  cache ← number document keys.Cache 67108864 0 1073741824
+  batch ← number document keys.Batch 1024
+  cache ← number document keys.Cache 67108864
   costs ← costs_of document
   policy ← policy_in document tables.Policy default_policy
-  retry_after ← number document keys.RetryAfter 1 0 86400
+  retry_after ← number document keys.RetryAfter 1
   tier1 ← policy_in document tables.Tier1 policy
   tier2 ← policy_in document tables.Tier2 policy
   tier3 ← policy_in document tables.Tier3 policy

@@ -20,7 +20,7 @@ use std::alloc::Global;
 use toml::Table;
 
 /// The most bytes of a settings document.
-pub const LONGEST_SETTINGS: usize = 65_536;
+pub const MAX_SETTINGS_BYTES: usize = 65_536;
 
 /// The settings of a document (docs/FORMATS.md, "Settings"): each key as it stands there, or its default.
 ///
@@ -44,7 +44,7 @@ pub(crate) fn document_of(alloc: Global, bytes: &[u8]) -> Result<Table, ConfigFa
         (λ document. document_of bytes.now ≡ Some (table_view document))
         (λ fault. is_memory fault ≡ false → (document_of bytes.now ≡ None) × (fault ≡ no_text)) }
 {
-    if bytes.len() > LONGEST_SETTINGS {
+    if bytes.len() > MAX_SETTINGS_BYTES {
         return Err(ConfigFault::TEXT);
     }
     let Ok(text) = std::str::from_utf8(bytes) else {
@@ -81,11 +81,11 @@ fn written_in(alloc: Global, document: &Table) -> Result<Choices, ConfigFault>
 {
     let front = front_of(alloc, document)?;
     let back = back_of(alloc, document)?;
-    let batch = number(document, Key::Batch, 1024, 1, 65_536)?;
-    let cache = number(document, Key::Cache, 67_108_864, 0, 1_073_741_824)?;
+    let batch = number(document, Key::Batch, 1024)?;
+    let cache = number(document, Key::Cache, 67_108_864)?;
     let costs = costs_of(document)?;
     let policy = policy_in(document, PolicyTable::Policy, default_policy())?;
-    let retry_after = number(document, Key::RetryAfter, 1, 0, 86_400)?;
+    let retry_after = number(document, Key::RetryAfter, 1)?;
     let tier1 = policy_in(document, PolicyTable::Tier1, policy)?;
     let tier2 = policy_in(document, PolicyTable::Tier2, policy)?;
     let tier3 = policy_in(document, PolicyTable::Tier3, policy)?;
@@ -132,9 +132,9 @@ fn back_of(alloc: Global, document: &Table) -> Result<FloorLists, ConfigFault>
 fn costs_of(document: &Table) -> Result<CostNumbers, ConfigFault>
     ensures { result ≡ costs_of (table_view document.now) }
 {
-    let file = number(document, Key::File, 200, 1, 1_000_000)?;
-    let kib = number(document, Key::Kib, 10, 0, 1_000_000)?;
-    let error = number(document, Key::Error, 50, 1, 1_000_000)?;
+    let file = number(document, Key::File, 200)?;
+    let kib = number(document, Key::Kib, 10)?;
+    let error = number(document, Key::Error, 50)?;
     Ok(CostNumbers { file, kib, error })
 }
 
@@ -173,17 +173,17 @@ fn policy_in(
         Depth, Down, Every, Low, Rate, RateMax, RateMin, Smoothing, Target, Up, Window,
     };
     let at = |key| Key::InPolicy(table, key);
-    let window = number(document, at(Window), otherwise.window, 1, 4096)?;
-    let every = number(document, at(Every), otherwise.every, 1, 4096)?;
-    let smoothing = number(document, at(Smoothing), otherwise.smoothing, 0, 999)?;
-    let rate = number(document, at(Rate), otherwise.rate, 1, 1_000_000_000)?;
-    let rate_min = number(document, at(RateMin), otherwise.rate_min, 1, 1_000_000_000)?;
-    let rate_max = number(document, at(RateMax), otherwise.rate_max, 1, 1_000_000_000)?;
-    let up = number(document, at(Up), otherwise.up, 0, 1_000_000_000)?;
-    let down = number(document, at(Down), otherwise.down, 101, 10_000)?;
-    let target = number(document, at(Target), otherwise.target, 1, 1_000_000_000_000)?;
-    let low = number(document, at(Low), otherwise.low, 0, 100)?;
-    let depth = number(document, at(Depth), otherwise.depth, 1, 1_000_000)?;
+    let window = number(document, at(Window), otherwise.window)?;
+    let every = number(document, at(Every), otherwise.every)?;
+    let smoothing = number(document, at(Smoothing), otherwise.smoothing)?;
+    let rate = number(document, at(Rate), otherwise.rate)?;
+    let rate_min = number(document, at(RateMin), otherwise.rate_min)?;
+    let rate_max = number(document, at(RateMax), otherwise.rate_max)?;
+    let up = number(document, at(Up), otherwise.up)?;
+    let down = number(document, at(Down), otherwise.down)?;
+    let target = number(document, at(Target), otherwise.target)?;
+    let low = number(document, at(Low), otherwise.low)?;
+    let depth = number(document, at(Depth), otherwise.depth)?;
     Ok(PolicyNumbers {
         window,
         every,

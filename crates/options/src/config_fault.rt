@@ -1,9 +1,11 @@
 //! What is wrong with a document, and at which key.
 
 ghost use Rattle.std.specs.Prelude.{◌≡◌, ◌≤◌, length};
+ghost use Rattle.options.specs.Bounds.{bounds_of};
 ghost use Rattle.options.specs.Keys.{is_table, keys_in, name_of, table_of};
 ghost use Rattle.options.specs.ConfigFaults.{kind_name, range, shape};
 
+use crate::policy_key::Bounds;
 use crate::{PolicyKey, PolicyTable};
 use std::alloc::AllocError;
 use std::error::Error;
@@ -96,6 +98,23 @@ impl Key {
             Key::Policy(table) | Key::InPolicy(table, _) => Key::Policy(table),
             Key::Page | Key::RetryAfter => Key::Page,
         }
+    }
+
+    /// The least and the greatest number that may stand there, nought where none may.
+    pub(crate) fn bounds(self) -> Bounds
+        ensures { result ≡ bounds_of self }
+    {
+        let (least, greatest) = match self {
+            Key::InPolicy(_, key) => return key.bounds(),
+            Key::Batch => (1, 65_536),
+            Key::Cache => (0, 1_073_741_824),
+            Key::File => (1, 1_000_000),
+            Key::Kib => (0, 1_000_000),
+            Key::Error => (1, 1_000_000),
+            Key::RetryAfter => (0, 86_400),
+            _ => (0, 0),
+        };
+        Bounds { least, greatest }
     }
 }
 

@@ -2,6 +2,7 @@
 
 ghost use Rattle.std.specs.Prelude.{◌≡◌, ◌≤◌, false, Ok, Err, IfOk, MatchResult, bytes_eq, find, option_map};
 ghost use Rattle.toml.specs.View.{view, array_view, table_view};
+ghost use Rattle.options.specs.Bounds.{IsWithin, bounds_of};
 ghost use Rattle.options.specs.Keys.{key_at, keys_in, name_of, policy_key_name, policy_keys};
 ghost use Rattle.options.specs.Documents.{is_known, items_known, members_known, value_at, number, numbers, naturals};
 ghost use Rattle.options.specs.ConfigFaults.{is_memory};
@@ -102,17 +103,11 @@ fn value_at<'a>(document: &'a Table, key: Key) -> Result<Option<&'a Value>, Conf
 ///
 /// # Errors
 ///
-/// `Shape` where the value isn't an integer, `Range` where it is below `least` or above `most`.
-pub(crate) fn number(
-    document: &Table,
-    key: Key,
-    default: u64,
-    least: u64,
-    most: u64,
-) -> Result<u64, ConfigFault>
-    requires { (least ≤ default) × (default ≤ most) }
-    ensures value { result ≡ number (table_view document.now) key default least most }
-    ensures within { IfOk result (λ n. (least ≤ n) × (n ≤ most)) }
+/// `Shape` where the value isn't an integer, `Range` where it is out of the key's bounds.
+pub(crate) fn number(document: &Table, key: Key, default: u64) -> Result<u64, ConfigFault>
+    requires { IsWithin (bounds_of key) default }
+    ensures value { result ≡ number (table_view document.now) key default }
+    ensures within { IfOk result (λ n. IsWithin (bounds_of key) n) }
 {
     let Some(value) = value_at(document, key)? else {
         return Ok(default);
@@ -121,7 +116,7 @@ pub(crate) fn number(
         return Err(ConfigFault::shape(key));
     };
     match u64::try_from(integer) {
-        Ok(number) if least <= number && number <= most => Ok(number),
+        Ok(number) if key.bounds().contain(number) => Ok(number),
         _ => Err(ConfigFault::range(key)),
     }
 }

@@ -9,7 +9,7 @@ mod numbers;
 mod policy_key;
 mod written_out;
 
-pub use config::{LONGEST_SETTINGS, read_settings};
+pub use config::{MAX_SETTINGS_BYTES, read_settings};
 pub use config_fault::{ConfigFault, ConfigFaultKind, Key};
 pub use defaults::default_settings;
 pub use policy_key::{PolicyKey, PolicyTable};

@@ -1,6 +1,7 @@
 //! The tables and keys of policies.
 
 ghost use Rattle.std.specs.Prelude.{◌≡◌, ◌≤◌, length};
+ghost use Rattle.options.specs.Bounds.{is_within, policy_bounds};
 ghost use Rattle.options.specs.Keys.{policy_keys, policy_key_name, policy_table_name};
 
 /// A table of a settings document that holds a policy. Requests of tier 0 are under `policy`, those of tier 1 under
@@ -29,6 +30,22 @@ impl PolicyTable {
             PolicyTable::Tier2 => "tier2",
             PolicyTable::Tier3 => "tier3",
         }
+    }
+}
+
+/// The least and the greatest number of a key.
+#[derive(Clone, Copy, Debug, PartialEq, Eq)]
+pub(crate) struct Bounds {
+    pub(crate) least: u64,
+    pub(crate) greatest: u64,
+}
+
+impl Bounds {
+    /// Whether a number is within them.
+    pub(crate) fn contain(self, number: u64) -> bool
+        ensures { result ≡ is_within self number }
+    {
+        self.least <= number && number <= self.greatest
     }
 }
 
@@ -67,6 +84,26 @@ impl PolicyKey {
             PolicyKey::Low => "low",
             PolicyKey::Depth => "depth",
         }
+    }
+
+    /// The least and the greatest number that may stand there.
+    pub(crate) fn bounds(self) -> Bounds
+        ensures { result ≡ policy_bounds self }
+    {
+        let (least, greatest) = match self {
+            PolicyKey::Window => (1, 4096),
+            PolicyKey::Every => (1, 4096),
+            PolicyKey::Smoothing => (0, 999),
+            PolicyKey::Rate => (1, 1_000_000_000),
+            PolicyKey::RateMin => (1, 1_000_000_000),
+            PolicyKey::RateMax => (1, 1_000_000_000),
+            PolicyKey::Up => (0, 1_000_000_000),
+            PolicyKey::Down => (101, 10_000),
+            PolicyKey::Target => (1, 1_000_000_000_000),
+            PolicyKey::Low => (0, 100),
+            PolicyKey::Depth => (1, 1_000_000),
+        };
+        Bounds { least, greatest }
     }
 }
 

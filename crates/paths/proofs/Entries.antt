@@ -9,7 +9,7 @@ use Rattle.paths.specs.declared.file.Heading.TheVariants as headings
 use Rattle.paths.specs.declared.snapshot_fault.SnapshotFaultKind.{SnapshotFaultKind}
 use Rattle.paths.specs.declared.snapshot_fault.SnapshotFaultKind.TheVariants.{Count, Trailing}
 use Rattle.paths.specs.Texts.{Ahead, ahead_of, line_at}
-use Rattle.paths.specs.Snapshots.{feed, file_text, first_line, last_line, text_before_end, snapshot_text, longest_text, most_files, IsSnapshot}
+use Rattle.paths.specs.Snapshots.{feed, file_text, first_line, last_line, text_before_end, snapshot_text, max_text_bytes, max_files, IsSnapshot}
 use Rattle.paths.specs.SnapshotFaults.{kind_of, named, header_at, heading_of, file_at, announced, entry_at, ReadsFront, IsForeseen, IsFrontFault, IsFirstFault, is_unforeseen_kind}
 use Rattle.std.specs.Io.KnownBytes.{Consumes}
 use Rattle.paths.specs.Devices.{TakesByte}
@@ -29,7 +29,7 @@ file_parts : (f : File) (l : FileLine) → f.mtime ≡ l.mtime → length f.name
     → ((codes "file " ++ (decimal l.mtime ++ 32 ∷ (decimal l.name_len ++ 32 ∷ decimal l.len))) ++ feed ∷ []) ++ ((f.name ++ feed ∷ []) ++ (f.bytes ++ feed ∷ [])) ≡ file_text f
 file_parts f l m n b = rw (← m, ← n, ← b) (parts (codes "file ") (decimal f.mtime) (decimal (length f.name)) (decimal (length f.bytes)) f.name f.bytes)
 
-announced_takes : (files : List File) (line : List ℕ) (heading : Heading) (a b : Ahead) (o : Option File) → heading_of line ≡ Ok heading → length files ≤ most_files
+announced_takes : (files : List File) (line : List ℕ) (heading : Heading) (a b : Ahead) (o : Option File) → heading_of line ≡ Ok heading → length files ≤ max_files
     → announced files heading a ≡ Ok (o, b) → (rest : List ℕ) × TakesAhead a rest b × ((line ++ feed ∷ []) ++ rest ≡ entry_text files o)
 announced_takes files line (headings.File l) a b o is small h =
     let file = bind_ok (file_at files l a) _ _ h in
@@ -53,7 +53,7 @@ announced_takes files line (headings.End count) a b o is small h =
       append-nil (line ++ feed ∷ []) ∙ ap (λ v. v ++ feed ∷ []) (text ∙ ap (λ n. codes "end " ++ decimal n) same),
     )
 
-pub entry_takes : (files : List File) (a b : Ahead) (o : Option File) → length files ≤ most_files → entry_at files a ≡ Ok (o, b) → TakesAhead a (entry_text files o) b
+pub entry_takes : (files : List File) (a b : Ahead) (o : Option File) → length files ≤ max_files → entry_at files a ≡ Ok (o, b) → TakesAhead a (entry_text files o) b
 entry_takes files a b o small h =
     let line = bind_ok (named kind_of (line_at a)) _ _ h in
     let read = line_inverse a line.0.1 line.0.0 (named_ok kind_of (line_at a) line.0 line.1) in
@@ -66,35 +66,35 @@ takes_known o n l nl taken h = record { bytes = λ k. (h k).0.bytes; count = λ 
 
 -- the first line, and no file yet
 pub front_starts : (o n : Option (List ℕ)) (nl : ℕ) (u : Unit {0}) (files : List File) → files ≡ []
-    → (is_some o ≡ true → (header_at (ahead_of o longest_text) ≡ Ok (u, ahead_of n nl)) × (is_some n ≡ true)) → Takes o longest_text n nl (text_before_end files)
+    → (is_some o ≡ true → (header_at (ahead_of o max_text_bytes) ≡ Ok (u, ahead_of n nl)) × (is_some n ≡ true)) → Takes o max_text_bytes n nl (text_before_end files)
 front_starts o n nl u files none h =
-    let t = takes_known o n longest_text nl (first_line ++ feed ∷ []) (λ k. (header_inverse (ahead_of o longest_text) (ahead_of n nl) u (h k).0, (h k).1)) in
-    subst (λ (fs : List File). Takes o longest_text n nl (text_before_end fs)) (sym none) t
+    let t = takes_known o n max_text_bytes nl (first_line ++ feed ∷ []) (λ k. (header_inverse (ahead_of o max_text_bytes) (ahead_of n nl) u (h k).0, (h k).1)) in
+    subst (λ (fs : List File). Takes o max_text_bytes n nl (text_before_end fs)) (sym none) t
 
 -- one more file
-pub front_goes_on : (o n m : Option (List ℕ)) (nl ml : ℕ) (files more : List File) (f : File) (x : Option File) → x ≡ Some f → more ≡ files ++ f ∷ [] → length files ≤ most_files
-    → Takes o longest_text n nl (text_before_end files) → (is_some n ≡ true → (entry_at files (ahead_of n nl) ≡ Ok (x, ahead_of m ml)) × (is_some m ≡ true))
-    → Takes o longest_text m ml (text_before_end more)
+pub front_goes_on : (o n m : Option (List ℕ)) (nl ml : ℕ) (files more : List File) (f : File) (x : Option File) → x ≡ Some f → more ≡ files ++ f ∷ [] → length files ≤ max_files
+    → Takes o max_text_bytes n nl (text_before_end files) → (is_some n ≡ true → (entry_at files (ahead_of n nl) ≡ Ok (x, ahead_of m ml)) × (is_some m ≡ true))
+    → Takes o max_text_bytes m ml (text_before_end more)
 front_goes_on o n m nl ml files more f x some is small t h =
     let step = takes_known n m nl ml (file_text f) (λ k. (subst (λ (e : Option File). TakesAhead (ahead_of n nl) (entry_text files e) (ahead_of m ml)) some (entry_takes files (ahead_of n nl) (ahead_of m ml) x small (h k).0), (h k).1)) in
-    let both = takes_more o n m longest_text nl ml (text_before_end files) (file_text f) t step in
-    subst (λ (v : List ℕ). Takes o longest_text m ml v) (flat_map_more file_text (first_line ++ feed ∷ []) files f ∙ ap text_before_end (sym is)) both
+    let both = takes_more o n m max_text_bytes nl ml (text_before_end files) (file_text f) t step in
+    subst (λ (v : List ℕ). Takes o max_text_bytes m ml v) (flat_map_more file_text (first_line ++ feed ∷ []) files f ∙ ap text_before_end (sym is)) both
 
 -- the last line
-pub front_ends : (o n m : Option (List ℕ)) (nl ml : ℕ) (files : List File) (x : Option File) → x ≡ None → length files ≤ most_files
-    → Takes o longest_text n nl (text_before_end files) → (is_some n ≡ true → (entry_at files (ahead_of n nl) ≡ Ok (x, ahead_of m ml)) × (is_some m ≡ true))
+pub front_ends : (o n m : Option (List ℕ)) (nl ml : ℕ) (files : List File) (x : Option File) → x ≡ None → length files ≤ max_files
+    → Takes o max_text_bytes n nl (text_before_end files) → (is_some n ≡ true → (entry_at files (ahead_of n nl) ≡ Ok (x, ahead_of m ml)) × (is_some m ≡ true))
     → ReadsFront o m files
 front_ends o n m nl ml files x none small t h =
     let step = takes_known n m nl ml (last_line files ++ feed ∷ []) (λ k. (subst (λ (e : Option File). TakesAhead (ahead_of n nl) (entry_text files e) (ahead_of m ml)) none (entry_takes files (ahead_of n nl) (ahead_of m ml) x small (h k).0), (h k).1)) in
-    let both = takes_more o n m longest_text nl ml (text_before_end files) (last_line files ++ feed ∷ []) t step in
+    let both = takes_more o n m max_text_bytes nl ml (text_before_end files) (last_line files ++ feed ∷ []) t step in
     record { text = both.bytes; known = both.known; size = λ k. omega (arith, both.count k) }
 
 -- an entry at fault
 pub front_faults : (o n : Option (List ℕ)) (nl entry : ℕ) (files : List File) (kind : SnapshotFaultKind) → IsSnapshot files → entry ≡ length files + 1
-    → Takes o longest_text n nl (text_before_end files) → (is_some n ≡ true → is_unforeseen_kind kind ≡ false → entry_at files (ahead_of n nl) ≡ Err kind)
+    → Takes o max_text_bytes n nl (text_before_end files) → (is_some n ≡ true → is_unforeseen_kind kind ≡ false → entry_at files (ahead_of n nl) ≡ Err kind)
     → IsForeseen IsFrontFault o (record { entry = entry; kind = kind })
 front_faults o n nl entry files kind rules is t h = λ k foreseen.
-    let left : nl ≡ longest_text - length (text_before_end files) = omega (arith, t.count k) in
+    let left : nl ≡ max_text_bytes - length (text_before_end files) = omega (arith, t.count k) in
     inr (
       files,
       unwrap_or n [],

@@ -15,7 +15,7 @@ use Rattle.paths.specs.declared.file.Heading.TheVariants as headings
 use Rattle.paths.specs.declared.snapshot_fault.SnapshotFault.{SnapshotFault}
 use Rattle.paths.specs.declared.snapshot_fault.SnapshotFaultKind.{SnapshotFaultKind}
 use Rattle.paths.specs.declared.snapshot_fault.SnapshotFaultKind.TheVariants.{Name, Order, Conflict, Number, TooLarge, Count, Trailing}
-use Rattle.paths.specs.Snapshots.{feed, file_text, first_line, last_line, text_before_end, snapshot_text, latest_time, longest_name, most_bytes, most_files, longest_text, is_name, comes_before, lies_in, IsFile, IsSnapshot, IsSnapshotText, BeginsWithSnapshot, Follows}
+use Rattle.paths.specs.Snapshots.{feed, file_text, first_line, last_line, text_before_end, snapshot_text, max_time, max_name_bytes, max_file_bytes, max_files, max_text_bytes, is_name, comes_before, lies_in, IsFile, IsSnapshot, IsSnapshotText, BeginsWithSnapshot, Follows}
 use Rattle.paths.specs.SnapshotFaults.{kind_of, named, header_at, heading_of, name_at, body_at, file_at, announced, entry_at, IsFrontFault, IsFirstFault}
 use Rattle.paths.proofs.Inverse.{bind_ok, unless_ok, when_ok, ok_is, name_inverse, body_inverse, header_inverse}
 use Rattle.paths.proofs.Entries.{entry_takes}
@@ -46,9 +46,9 @@ name_fits files n a b name h =
 
 file_follows : (files : List File) (l : FileLine) (a b : Ahead) (f : File) → file_at files l a ≡ Ok (f, b) → Follows files f
 file_follows files l a b f h =
-    let time = unless_ok (nat_lt latest_time l.mtime) Number _ _ h in
-    let room = unless_ok (nat_lt most_bytes l.len || nat_le most_files (length files)) TooLarge _ _ time.1 in
-    let named_len = unless_ok (l.name_len == 0 || nat_lt longest_name l.name_len) Name _ _ room.1 in
+    let time = unless_ok (nat_lt max_time l.mtime) Number _ _ h in
+    let room = unless_ok (nat_lt max_file_bytes l.len || nat_le max_files (length files)) TooLarge _ _ time.1 in
+    let named_len = unless_ok (l.name_len == 0 || nat_lt max_name_bytes l.name_len) Name _ _ room.1 in
     let name = bind_ok (name_at files l.name_len a) _ _ named_len.1 in
     let long = (name_inverse files l.name_len a name.0.1 name.0.0 name.1).1 in
     let fits = name_fits files l.name_len a name.0.1 name.0.0 name.1 in
@@ -56,11 +56,11 @@ file_follows files l a b f h =
     let sized = (body_inverse l.len name.0.1 body.0.1 body.0.0 body.1).1 in
     let made : File = record { name = name.0.0; mtime = l.mtime; bytes = body.0.0 } in
     let pair : (made, body.0.1) ≡ (f, b) = ok_is {A = File × Ahead} {E = SnapshotFaultKind} _ _ _ _ refl refl body.2 in
-    let in_time : l.mtime ≤ latest_time = let t = time.0 in grind (arith, nat_tests) in
+    let in_time : l.mtime ≤ max_time = let t = time.0 in grind (arith, nat_tests) in
     let some : 0 < l.name_len = let t = named_len.0 in grind (arith, nat_tests) in
-    let short : l.name_len ≤ longest_name = let t = named_len.0 in grind (arith, nat_tests) in
-    let small : l.len ≤ most_bytes = let t = room.0 in grind (arith, nat_tests) in
-    let few : length files < most_files = let t = room.0 in grind (arith, nat_tests) in
+    let short : l.name_len ≤ max_name_bytes = let t = named_len.0 in grind (arith, nat_tests) in
+    let small : l.len ≤ max_file_bytes = let t = room.0 in grind (arith, nat_tests) in
+    let few : length files < max_files = let t = room.0 in grind (arith, nat_tests) in
     let is : IsFile made = record { mtime = in_time; some = omega arith; short = omega arith; name = fits.0; bytes = omega arith } in
     let good : Follows files made = record { room = few; file = is; order = fits.1; apart = fits.2 } in
     subst (λ (v : File). Follows files v) (ap (λ (p : File × Ahead). p.0) pair) good
@@ -121,7 +121,7 @@ abbrev pub Either : List ℕ → Type 0
 Either bytes = ((files : List File) × IsSnapshotText bytes files) ⊎ ((f : SnapshotFault) × IsFirstFault bytes f)
 
 -- the last line was read
-ends : (bytes : List ℕ) (fs : List File) (rest : List ℕ) → IsSnapshot fs → bytes ≡ snapshot_text fs ++ rest → length (snapshot_text fs) ≤ longest_text → Either bytes
+ends : (bytes : List ℕ) (fs : List File) (rest : List ℕ) → IsSnapshot fs → bytes ≡ snapshot_text fs ++ rest → length (snapshot_text fs) ≤ max_text_bytes → Either bytes
 ends bytes fs [] rules is size =
     let text : bytes ≡ snapshot_text fs = is ∙ append-nil (snapshot_text fs) in
     inl (fs, record { text = text; rules = rules; size = omega (arith, ap length text) })
@@ -130,14 +130,14 @@ ends bytes fs (b ∷ rest) rules is size =
 
 -- from n files on, with what is left of the text; there is room for n more
 reads_on : (bytes : List ℕ) (fuel : ℕ) (fs : List File) (rest : List ℕ) (l : ℕ) → IsSnapshot fs
-    → bytes ≡ text_before_end fs ++ rest → longest_text ≡ length (text_before_end fs) + l → most_files < fuel + length fs → Either bytes
+    → bytes ≡ text_before_end fs ++ rest → max_text_bytes ≡ length (text_before_end fs) + l → max_files < fuel + length fs → Either bytes
 reads_on bytes zero fs rest l c whole left more = let few = c.count in absurd (omega arith)
 reads_on bytes (suc fuel) fs rest l c whole left more = step (reads_on bytes fuel) (entry_at fs (record { bytes = rest; left = l })) refl
   where
-    step : ((fs : List File) (rest : List ℕ) (l : ℕ) → IsSnapshot fs → bytes ≡ text_before_end fs ++ rest → longest_text ≡ length (text_before_end fs) + l → most_files < fuel + length fs → Either bytes)
+    step : ((fs : List File) (rest : List ℕ) (l : ℕ) → IsSnapshot fs → bytes ≡ text_before_end fs ++ rest → max_text_bytes ≡ length (text_before_end fs) + l → max_files < fuel + length fs → Either bytes)
         → (r : Result (Option File × Ahead) SnapshotFaultKind) → entry_at fs (record { bytes = rest; left = l }) ≡ r → Either bytes
     step again (Err k) e =
-        let same : l ≡ longest_text - length (text_before_end fs) = omega (arith, left) in
+        let same : l ≡ max_text_bytes - length (text_before_end fs) = omega (arith, left) in
         inr (
           record { entry = length fs + 1; kind = k },
           inl (inr (
@@ -169,13 +169,13 @@ reads_on bytes (suc fuel) fs rest l c whole left more = step (reads_on bytes fue
         (omega (arith, left, length-append (text_before_end fs) (file_text f))) (omega (arith, length-append fs (f ∷ [])))
 
 pub reads : (bytes : List ℕ) → Either bytes
-reads bytes = step (header_at (record { bytes = bytes; left = longest_text })) refl
+reads bytes = step (header_at (record { bytes = bytes; left = max_text_bytes })) refl
   where
-    step : (r : Result (Unit {0} × Ahead) SnapshotFaultKind) → header_at (record { bytes = bytes; left = longest_text }) ≡ r → Either bytes
+    step : (r : Result (Unit {0} × Ahead) SnapshotFaultKind) → header_at (record { bytes = bytes; left = max_text_bytes }) ≡ r → Either bytes
     step (Err k) e = inr (record { entry = 0; kind = k }, inl (inl (refl, e)))
     step (Ok (u, b)) e =
-        let took = header_inverse (record { bytes = bytes; left = longest_text }) b u e in
-        reads_on bytes (most_files + 1) [] b.bytes b.left rules_none took.bytes took.left (omega arith)
+        let took = header_inverse (record { bytes = bytes; left = max_text_bytes }) b u e in
+        reads_on bytes (max_files + 1) [] b.bytes b.left rules_none took.bytes took.left (omega arith)
 
 -- the same of a prefix
 pub reads_prefix : (bytes : List ℕ) → Either bytes → ((files : List File) × (rest : List ℕ) × BeginsWithSnapshot bytes files rest) ⊎ ((f : SnapshotFault) × IsFrontFault bytes f)

@@ -23,7 +23,7 @@ use Rattle.paths.specs.declared.snapshot_fault.SnapshotFaultKind.TheVariants.{Na
 use Rattle.paths.specs.Numbers.{is_decimal, number_of, number_and_rest, three_numbers}
 use Rattle.paths.specs.Numbers.{◌>>=◌ as ◌>?=◌}
 use Rattle.paths.specs.Texts.{Ahead, byte_at, line_at, run_at, line_front, front, past}
-use Rattle.paths.specs.Snapshots.{feed, first_line, latest_time, most_bytes, longest_name, most_files, is_name, comes_before, lies_in}
+use Rattle.paths.specs.Snapshots.{feed, first_line, max_time, max_file_bytes, max_name_bytes, max_files, is_name, comes_before, lies_in}
 use Rattle.paths.specs.SnapshotFaults.{kind_of, header_kind_of, named, ◌>>=◌, header_at, file_heading, end_heading, heading_of, name_at, body_at, file_at}
 
 -- these bytes were taken from what was ahead
@@ -274,15 +274,15 @@ pub record TakesFile (a : Ahead) (l : FileLine) (f : File) (b : Ahead) : Type 0 
   pub mtime : f.mtime ≡ l.mtime
   pub name : length f.name ≡ l.name_len
   pub len : length f.bytes ≡ l.len
-  pub in_time : l.mtime ≤ latest_time
-  pub in_name : l.name_len ≤ longest_name
-  pub in_bytes : l.len ≤ most_bytes
+  pub in_time : l.mtime ≤ max_time
+  pub in_name : l.name_len ≤ max_name_bytes
+  pub in_bytes : l.len ≤ max_file_bytes
 
 pub file_inverse : (files : List File) (l : FileLine) (a b : Ahead) (f : File) → file_at files l a ≡ Ok (f, b) → TakesFile a l f b
 file_inverse files l a b f h =
-    let time = unless_ok (nat_lt latest_time l.mtime) Number _ _ h in
-    let room = unless_ok (nat_lt most_bytes l.len || nat_le most_files (length files)) TooLarge _ _ time.1 in
-    let named_len = unless_ok (l.name_len == 0 || nat_lt longest_name l.name_len) Name _ _ room.1 in
+    let time = unless_ok (nat_lt max_time l.mtime) Number _ _ h in
+    let room = unless_ok (nat_lt max_file_bytes l.len || nat_le max_files (length files)) TooLarge _ _ time.1 in
+    let named_len = unless_ok (l.name_len == 0 || nat_lt max_name_bytes l.name_len) Name _ _ room.1 in
     let name = bind_ok (name_at files l.name_len a) _ _ named_len.1 in
     let name_read = name_inverse files l.name_len a name.0.1 name.0.0 name.1 in
     let body = bind_ok (body_at l.len name.0.1) _ _ name.2 in

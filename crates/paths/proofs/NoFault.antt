@@ -14,7 +14,7 @@ use Rattle.paths.specs.declared.file.File.{File}
 use Rattle.paths.specs.declared.file.Heading.TheVariants as headings
 use Rattle.paths.specs.declared.snapshot_fault.SnapshotFault.{SnapshotFault}
 use Rattle.paths.specs.declared.snapshot_fault.SnapshotFaultKind.{SnapshotFaultKind}
-use Rattle.paths.specs.Snapshots.{feed, file_line, file_text, first_line, last_line, text_before_end, snapshot_text, latest_time, longest_name, most_bytes, most_files, longest_text, is_name, comes_before, lies_in, IsFile, IsSnapshot, IsSnapshotText, Follows}
+use Rattle.paths.specs.Snapshots.{feed, file_line, file_text, first_line, last_line, text_before_end, snapshot_text, max_time, max_name_bytes, max_file_bytes, max_files, max_text_bytes, is_name, comes_before, lies_in, IsFile, IsSnapshot, IsSnapshotText, Follows}
 use Rattle.paths.specs.SnapshotFaults.{kind_of, header_kind_of, named, ◌>>=◌, header_at, end_heading, heading_of, name_at, body_at, file_at, entry_at, FaultsAfter, IsFrontFault, IsFirstFault}
 use Rattle.paths.proofs.Taking.{line_whole}
 use Rattle.paths.proofs.OneList.{meet, number_again, decimal_passes, passes_append, file_is_line, digits_short, announces, heading_again, following, file_then, split, same_file, end_text, end_apart, header, parts, one_list}
@@ -75,14 +75,14 @@ file_again files f t l nl h left =
     let mid : Ahead = record { bytes = f.bytes ++ feed ∷ t; left = length f.bytes + (1 + nl) } in
     let last : Ahead = record { bytes = t; left = nl } in
     let in_time = h.file.mtime in let some = h.file.some in let short = h.file.short in let size = h.file.bytes in let room = h.room in
-    let a : nat_lt latest_time f.mtime ≡ false = grind (arith, nat_tests) in
-    let b : nat_lt most_bytes (length f.bytes) ≡ false = grind (arith, nat_tests) in
-    let c : nat_le most_files (length files) ≡ false = grind (arith, nat_tests) in
-    let d : nat_lt longest_name (length f.name) ≡ false = grind (arith, nat_tests) in
+    let a : nat_lt max_time f.mtime ≡ false = grind (arith, nat_tests) in
+    let b : nat_lt max_file_bytes (length f.bytes) ≡ false = grind (arith, nat_tests) in
+    let c : nat_le max_files (length files) ≡ false = grind (arith, nat_tests) in
+    let d : nat_lt max_name_bytes (length f.name) ≡ false = grind (arith, nat_tests) in
     let e : (length f.name == 0) ≡ false = ne_eqb (length f.name) 0 (λ same. omega arith) in
-    pass (nat_lt latest_time f.mtime) _ _ a
-    ∙ (pass (nat_lt most_bytes (length f.bytes) || nat_le most_files (length files)) _ _ (neither _ _ b c)
-    ∙ (pass (length f.name == 0 || nat_lt longest_name (length f.name)) _ _ (neither _ _ e d)
+    pass (nat_lt max_time f.mtime) _ _ a
+    ∙ (pass (nat_lt max_file_bytes (length f.bytes) || nat_le max_files (length files)) _ _ (neither _ _ b c)
+    ∙ (pass (length f.name == 0 || nat_lt max_name_bytes (length f.name)) _ _ (neither _ _ e d)
     ∙ (bind_is (name_at files (length f.name) start) _ (f.name, mid) (name_again files f (f.bytes ++ feed ∷ t) l (length f.bytes + (1 + nl)) h left)
     ∙ bind_is (body_at (length f.bytes) mid) _ (f.bytes, last) (body_again (length f.bytes) f.bytes t (length f.bytes + (1 + nl)) nl refl refl))))
 
@@ -175,13 +175,13 @@ one_more_text ss more q =
     omega (arith, length-append header (flat_map file_text ss), length-append header (flat_map file_text (ss ++ q ∷ more)), length-append (flat_map file_text ss) (file_text q ++ flat_map file_text more), length-append (file_text q) (flat_map file_text more))
 
 -- where the text of a snapshot is a prefix, no entry is at fault
-pub prefix_good : (fs : List File) (x : List ℕ) (f : SnapshotFault) → IsSnapshot fs → length (snapshot_text fs) ≤ longest_text → IsFrontFault (snapshot_text fs ++ x) f → ⊥
+pub prefix_good : (fs : List File) (x : List ℕ) (f : SnapshotFault) → IsSnapshot fs → length (snapshot_text fs) ≤ max_text_bytes → IsFrontFault (snapshot_text fs ++ x) f → ⊥
 prefix_good fs x f rules size (inl first) =
     let long = length-append (text_before_end fs) (last_line fs ++ feed ∷ []) in
     let rest = flat_map file_text fs ++ (end_text (length fs) ++ x) in
-    let good = header_again rest longest_text (longest_text - length header) (omega (arith, length-append header (flat_map file_text fs))) in
-    not_both _ f.kind (header_at (record { bytes = header ++ rest; left = longest_text })) good
-    (sym (ap (λ w. header_at (record { bytes = w; left = longest_text })) (parts fs x)) ∙ first.1)
+    let good = header_again rest max_text_bytes (max_text_bytes - length header) (omega (arith, length-append header (flat_map file_text fs))) in
+    not_both _ f.kind (header_at (record { bytes = header ++ rest; left = max_text_bytes })) good
+    (sym (ap (λ w. header_at (record { bytes = w; left = max_text_bytes })) (parts fs x)) ∙ first.1)
 prefix_good fs x f rules size (inr (gs, rest, fault)) =
     let text = split (length header) header header _ _ refl refl (sym (parts fs x) ∙ (fault.whole ∙ append_assoc header (flat_map file_text gs) rest)) in
     elim (agree gs fs rest (end_text (length fs) ++ x) fault.rules.each rules.each (sym text.1)) [
@@ -189,24 +189,24 @@ prefix_good fs x f rules size (inr (gs, rest, fault)) =
       | inr b ↦ end_apart (length fs) b.0 x _ b.3
     ]
   where
-    all : length (text_before_end fs) + length (end_text (length fs)) ≤ longest_text
+    all : length (text_before_end fs) + length (end_text (length fs)) ≤ max_text_bytes
     all = omega (arith, size, length-append (text_before_end fs) (last_line fs ++ feed ∷ []))
 
     shorter : (more : List File) → fs ≡ gs ++ more → rest ≡ flat_map file_text more ++ (end_text (length fs) ++ x) → ⊥
     shorter [] e g =
         let is : fs ≡ gs = e ∙ append-nil gs in
-        let l = longest_text - length (text_before_end gs) in
+        let l = max_text_bytes - length (text_before_end gs) in
         let few = rules.count in
         let count = ap length is in
-        let whole = subst (λ (v : List File). length (text_before_end v) + length (end_text (length v)) ≤ longest_text) is all in
+        let whole = subst (λ (v : List File). length (text_before_end v) + length (end_text (length v)) ≤ max_text_bytes) is all in
         let here : rest ≡ end_text (length gs) ++ x = g ∙ ap (λ (v : List File). end_text (length v) ++ x) is in
         not_both _ f.kind (entry_at gs (record { bytes = end_text (length gs) ++ x; left = l })) (end_again gs x l (l - length (end_text (length gs))) (omega arith) (omega arith))
         (sym (ap (λ w. entry_at gs (record { bytes = w; left = l })) here) ∙ fault.kind)
     shorter (q ∷ more) e g =
-        let l = longest_text - length (text_before_end gs) in
+        let l = max_text_bytes - length (text_before_end gs) in
         let t = flat_map file_text more ++ (end_text (length fs) ++ x) in
         let follows = follows_prefix gs more q (subst (λ (v : List File). IsSnapshot v) e rules) in
-        let whole = subst (λ (v : List File). length (text_before_end v) ≤ longest_text) e (let a = all in omega arith) in
+        let whole = subst (λ (v : List File). length (text_before_end v) ≤ max_text_bytes) e (let a = all in omega arith) in
         let here : rest ≡ file_text q ++ t = g ∙ append_assoc (file_text q) (flat_map file_text more) (end_text (length fs) ++ x) in
         not_both _ f.kind (entry_at gs (record { bytes = file_text q ++ t; left = l })) (entry_again gs q t l (l - length (file_text q)) follows (omega (arith, one_more_text gs more q)))
         (sym (ap (λ w. entry_at gs (record { bytes = w; left = l })) here) ∙ fault.kind)
@@ -232,25 +232,25 @@ same_kind : {A : Type 0} (r : Result A SnapshotFaultKind) (j k : SnapshotFaultKi
 same_kind r j k a b = cc
 
 header_good : (bytes : List ℕ) (gs : List File) (rest : List ℕ) (k : SnapshotFaultKind) → bytes ≡ text_before_end gs ++ rest
-    → header_at (record { bytes = bytes; left = longest_text }) ≡ Err k → ⊥
+    → header_at (record { bytes = bytes; left = max_text_bytes }) ≡ Err k → ⊥
 header_good bytes gs rest k is fault =
     let t = flat_map file_text gs ++ rest in
     let here : bytes ≡ header ++ t = is ∙ append_assoc header (flat_map file_text gs) rest in
-    not_both _ k (header_at (record { bytes = header ++ t; left = longest_text })) (header_again t longest_text (longest_text - length header) (omega arith))
-    (sym (ap (λ w. header_at (record { bytes = w; left = longest_text })) here) ∙ fault)
+    not_both _ k (header_at (record { bytes = header ++ t; left = max_text_bytes })) (header_again t max_text_bytes (max_text_bytes - length header) (omega arith))
+    (sym (ap (λ w. header_at (record { bytes = w; left = max_text_bytes })) here) ∙ fault)
 
 -- of two faults one stands after fewer files: then another file stands there
 fewer : (bytes : List ℕ) (gs hs : List File) (f g : SnapshotFault) (x y : List ℕ) (more : List File) → FaultsAfter bytes f gs x → FaultsAfter bytes g hs y
     → hs ≡ gs ++ more → x ≡ flat_map file_text more ++ y → f ≡ g
 fewer bytes gs hs f g x y [] a b e h =
     let is : gs ≡ hs = sym (e ∙ append-nil gs) in
-    let kind = subst (λ (p : List File × List ℕ). entry_at p.0 (record { bytes = p.1; left = longest_text - length (text_before_end p.0) }) ≡ Err f.kind) (λ i. (is i, h i)) a.kind in
+    let kind = subst (λ (p : List File × List ℕ). entry_at p.0 (record { bytes = p.1; left = max_text_bytes - length (text_before_end p.0) }) ≡ Err f.kind) (λ i. (is i, h i)) a.kind in
     same_fault f g (a.entry ∙ (ap (λ (l : List File). length l + 1) is ∙ sym b.entry)) (same_kind _ f.kind g.kind kind b.kind)
 fewer bytes gs hs f g x y (q ∷ more) a b e h =
-    let l = longest_text - length (text_before_end gs) in
+    let l = max_text_bytes - length (text_before_end gs) in
     let t = flat_map file_text more ++ y in
     let follows = follows_prefix gs more q (subst (λ (v : List File). IsSnapshot v) e b.rules) in
-    let size = subst (λ (v : List File). length (text_before_end v) ≤ longest_text) e b.size in
+    let size = subst (λ (v : List File). length (text_before_end v) ≤ max_text_bytes) e b.size in
     let here : x ≡ file_text q ++ t = h ∙ append_assoc (file_text q) (flat_map file_text more) y in
     absurd (not_both _ f.kind (entry_at gs (record { bytes = file_text q ++ t; left = l })) (entry_again gs q t l (l - length (file_text q)) follows (omega (arith, one_more_text gs more q)))
     (sym (ap (λ w. entry_at gs (record { bytes = w; left = l })) here) ∙ a.kind))

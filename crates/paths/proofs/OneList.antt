@@ -21,7 +21,7 @@ use Rattle.paths.specs.declared.file.FileLine.{FileLine}
 use Rattle.paths.specs.declared.file.Heading.{Heading}
 use Rattle.paths.specs.declared.file.Heading.TheVariants as headings
 use Rattle.paths.specs.declared.snapshot_fault.SnapshotFaultKind.{SnapshotFaultKind}
-use Rattle.paths.specs.Snapshots.{feed, file_line, file_text, first_line, last_line, text_before_end, snapshot_text, latest_time, longest_name, most_bytes, IsFile, IsSnapshot}
+use Rattle.paths.specs.Snapshots.{feed, file_line, file_text, first_line, last_line, text_before_end, snapshot_text, max_time, max_name_bytes, max_file_bytes, IsFile, IsSnapshot}
 use Rattle.paths.specs.SnapshotFaults.{file_heading, heading_of}
 use Rattle.paths.proofs.Taking.{line_whole}
 use Rattle.paths.proofs.Inverse.{ok_is}
@@ -101,7 +101,7 @@ pub record IsLine (line : List ℕ) : Type 0 where
 pub digits_short : (k n : ℕ) → 0 < k → n < 10 ^ k → n < 2 ^ 64 - 1 → length (decimal n) ≤ k
 digits_short k n some small wide = length-decimal-le k n some small (omega arith)
 
-pub file_is_line : (t c l : ℕ) → t ≤ latest_time → c ≤ longest_name → l ≤ most_bytes → IsLine (codes "file " ++ decimal t ++ codes " " ++ decimal c ++ codes " " ++ decimal l)
+pub file_is_line : (t c l : ℕ) → t ≤ max_time → c ≤ max_name_bytes → l ≤ max_file_bytes → IsLine (codes "file " ++ decimal t ++ codes " " ++ decimal c ++ codes " " ++ decimal l)
 file_is_line t c l ht hc hl =
     let T = decimal t in let C = decimal c in let L = decimal l in
     let nl = λ (n : ℕ) (h : n < 2 ^ 64 - 1). decimal_passes 10 n (omega arith) h in

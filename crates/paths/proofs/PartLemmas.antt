@@ -14,7 +14,7 @@ use Rattle.paths.specs.declared.snapshot_fault.SnapshotFaultKind.{SnapshotFaultK
 use Rattle.paths.specs.declared.snapshot_fault.SnapshotFaultKind.TheVariants.{Cut, Read, Memory, Number, Kind}
 use Rattle.paths.specs.Numbers.{number_of, three_numbers}
 use Rattle.paths.specs.Texts.{Ahead, ahead_of, byte_at, run_at, line_at, line_front, front, ended}
-use Rattle.paths.specs.Snapshots.{feed, file_line, file_text, text_before_end, longest_text, Follows, latest_time, most_bytes, longest_name, most_files, is_name, comes_before, lies_in, IsSnapshot}
+use Rattle.paths.specs.Snapshots.{feed, file_line, file_text, text_before_end, max_text_bytes, Follows, max_time, max_file_bytes, max_name_bytes, max_files, is_name, comes_before, lies_in, IsSnapshot}
 use Rattle.paths.specs.SnapshotFaults.{kind_of, named, ◌>>=◌, file_heading, end_heading, heading_of, name_at, body_at, file_at, announced, entry_at}
 use Rattle.paths.specs.Parts.{TookPart, FailsInSnapshot, Reached, LacksInEntry}
 use Rattle.paths.proofs.Taking.{Takes, TakesLine, line_whole, line_ends, ended_past}
@@ -212,7 +212,7 @@ name_fails files n o m p l ml pl name is run h k =
 
 -- in the bytes of a file whose name was read
 pub file_fails : (files : List File) (line : FileLine) (o m p : Option (List ℕ)) (l ml pl : ℕ) (name : List ℕ)
-    → line.mtime ≤ latest_time → line.len ≤ most_bytes → length files < most_files → 0 < line.name_len → line.name_len ≤ longest_name
+    → line.mtime ≤ max_time → line.len ≤ max_file_bytes → length files < max_files → 0 < line.name_len → line.name_len ≤ max_name_bytes
     → (is_some o ≡ true → (name_at files line.name_len (ahead_of o l) ≡ Ok (name, ahead_of m ml)) × (is_some m ≡ true))
     → (is_some m ≡ true → TookPart (λ part. body_at line.len (record { bytes = part; left = ml }) ≡ Err Cut) m ml p pl) → is_some o ≡ true
     → TookPart (λ part. file_at files line (record { bytes = part; left = l }) ≡ Err Cut) o l p pl
@@ -222,37 +222,37 @@ file_fails files line o m p l ml pl name in_time size room some short read h k =
       count = λ known. (name_inverse files line.name_len (ahead_of o l) (ahead_of m ml) name (read known).0).0.left;
       known = λ known. (read known).1;
     } in
-    let a : nat_lt latest_time line.mtime ≡ false = grind (arith, nat_tests) in
-    let b : nat_lt most_bytes line.len ≡ false = grind (arith, nat_tests) in
-    let c : nat_le most_files (length files) ≡ false = grind (arith, nat_tests) in
-    let d : nat_lt longest_name line.name_len ≡ false = grind (arith, nat_tests) in
+    let a : nat_lt max_time line.mtime ≡ false = grind (arith, nat_tests) in
+    let b : nat_lt max_file_bytes line.len ≡ false = grind (arith, nat_tests) in
+    let c : nat_le max_files (length files) ≡ false = grind (arith, nat_tests) in
+    let d : nat_lt max_name_bytes line.name_len ≡ false = grind (arith, nat_tests) in
     let e : (line.name_len == 0) ≡ false = ne_eqb line.name_len 0 (λ same. omega arith) in
     part_after (λ part. body_at line.len (record { bytes = part; left = ml }) ≡ Err Cut) (λ part. file_at files line (record { bytes = part; left = l }) ≡ Err Cut) o m p l ml pl (name ++ feed ∷ []) t
     (λ part left cut.
     let all : Ahead = record { bytes = (name ++ feed ∷ []) ++ part; left = l } in
     let mid : Ahead = record { bytes = part; left = ml } in
-    pass (nat_lt latest_time line.mtime) _ _ a
-    ∙ (pass (nat_lt most_bytes line.len || nat_le most_files (length files)) _ _ (neither _ _ b c)
-    ∙ (pass (line.name_len == 0 || nat_lt longest_name line.name_len) _ _ (neither _ _ e d)
+    pass (nat_lt max_time line.mtime) _ _ a
+    ∙ (pass (nat_lt max_file_bytes line.len || nat_le max_files (length files)) _ _ (neither _ _ b c)
+    ∙ (pass (line.name_len == 0 || nat_lt max_name_bytes line.name_len) _ _ (neither _ _ e d)
     ∙ (bind_is (name_at files line.name_len all) _ (name, mid) (name_alone files line.name_len (ahead_of o l) (ahead_of m ml) name (read k).0 part)
     ∙ bind_err (body_at line.len mid) _ Cut cut)))) h k
 
 -- memory ran out for its name
 pub file_lacks : (files : List File) (line : FileLine) (o m : Option (List ℕ)) (l ml : ℕ)
-    → line.mtime ≤ latest_time → line.len ≤ most_bytes → length files < most_files → 0 < line.name_len → line.name_len ≤ longest_name
+    → line.mtime ≤ max_time → line.len ≤ max_file_bytes → length files < max_files → 0 < line.name_len → line.name_len ≤ max_name_bytes
     → TookPart (λ part. part ≡ []) o l m ml → TookPart (λ part. file_at files line (record { bytes = part; left = l }) ≡ Err Cut) o l m ml
 file_lacks files line o m l ml in_time size room some short h =
-    let a : nat_lt latest_time line.mtime ≡ false = grind (arith, nat_tests) in
-    let b : nat_lt most_bytes line.len ≡ false = grind (arith, nat_tests) in
-    let c : nat_le most_files (length files) ≡ false = grind (arith, nat_tests) in
-    let d : nat_lt longest_name line.name_len ≡ false = grind (arith, nat_tests) in
+    let a : nat_lt max_time line.mtime ≡ false = grind (arith, nat_tests) in
+    let b : nat_lt max_file_bytes line.len ≡ false = grind (arith, nat_tests) in
+    let c : nat_le max_files (length files) ≡ false = grind (arith, nat_tests) in
+    let d : nat_lt max_name_bytes line.name_len ≡ false = grind (arith, nat_tests) in
     let e : (line.name_len == 0) ≡ false = ne_eqb line.name_len 0 (λ same. omega arith) in
     let nothing : Ahead = record { bytes = []; left = l } in
     part_is (λ part. part ≡ []) (λ part. file_at files line (record { bytes = part; left = l }) ≡ Err Cut) o m l ml
     (λ t none. ap (λ v. file_at files line (record { bytes = v; left = l })) none
-    ∙ (pass (nat_lt latest_time line.mtime) _ _ a
-    ∙ (pass (nat_lt most_bytes line.len || nat_le most_files (length files)) _ _ (neither _ _ b c)
-    ∙ (pass (line.name_len == 0 || nat_lt longest_name line.name_len) _ _ (neither _ _ e d)
+    ∙ (pass (nat_lt max_time line.mtime) _ _ a
+    ∙ (pass (nat_lt max_file_bytes line.len || nat_le max_files (length files)) _ _ (neither _ _ b c)
+    ∙ (pass (line.name_len == 0 || nat_lt max_name_bytes line.name_len) _ _ (neither _ _ e d)
     ∙ bind_err (name_at files line.name_len nothing) _ Cut (name_none files line.name_len l))))) h
 
 -- ---- entries
@@ -304,7 +304,7 @@ entry_cut files o p l pl h = part_is _ (λ part. entry_at files (record { bytes 
 
 -- the entry after files that were taken whole
 reached : (P : List ℕ → Type 0) (o n m : Option (List ℕ)) (nl ml entry : ℕ) (files : List File) (kind : SnapshotFaultKind) → IsSnapshot files
-    → entry ≡ length files + 1 → (t : Takes o longest_text n nl (text_before_end files)) → (k : is_some o ≡ true) → (more : TookPart P n nl m ml)
+    → entry ≡ length files + 1 → (t : Takes o max_text_bytes n nl (text_before_end files)) → (k : is_some o ≡ true) → (more : TookPart P n nl m ml)
     → Reached (unwrap_or o []) (record { entry = entry; kind = kind }) files more.part (unwrap_or m [])
 reached P o n m nl ml entry files kind rules is t k more = record {
   taken = t.bytes k ∙ (ap (λ v. text_before_end files ++ v) more.bytes ∙ sym (append_assoc (text_before_end files) more.part (unwrap_or m [])));
@@ -313,12 +313,12 @@ reached P o n m nl ml entry files kind rules is t k more = record {
   entry = is;
 }
 
-left_is : (o n : Option (List ℕ)) (nl : ℕ) (files : List File) → Takes o longest_text n nl (text_before_end files) → is_some o ≡ true
-    → nl ≡ longest_text - length (text_before_end files)
+left_is : (o n : Option (List ℕ)) (nl : ℕ) (files : List File) → Takes o max_text_bytes n nl (text_before_end files) → is_some o ≡ true
+    → nl ≡ max_text_bytes - length (text_before_end files)
 left_is o n nl files t k = omega (arith, t.count k)
 
 pub front_fails : (o n m : Option (List ℕ)) (nl ml entry : ℕ) (files : List File) (kind : SnapshotFaultKind) → IsSnapshot files → entry ≡ length files + 1
-    → Takes o longest_text n nl (text_before_end files) → (is_some n ≡ true → TookPart (λ part. entry_at files (record { bytes = part; left = nl }) ≡ Err Cut) n nl m ml)
+    → Takes o max_text_bytes n nl (text_before_end files) → (is_some n ≡ true → TookPart (λ part. entry_at files (record { bytes = part; left = nl }) ≡ Err Cut) n nl m ml)
     → is_some o ≡ true → FailsInSnapshot (unwrap_or o []) (unwrap_or m []) (record { entry = entry; kind = kind })
 front_fails o n m nl ml entry files kind rules is t h k =
     let more = h (t.known k) in
@@ -333,7 +333,7 @@ front_fails o n m nl ml entry files kind rules is t h k =
 
 -- memory ran out in that entry
 pub front_lacks : (o n m : Option (List ℕ)) (nl ml entry : ℕ) (files : List File) (kind : SnapshotFaultKind) → IsSnapshot files → entry ≡ length files + 1
-    → Takes o longest_text n nl (text_before_end files)
+    → Takes o max_text_bytes n nl (text_before_end files)
     → (is_some n ≡ true → TookPart (λ part. (0 < length part) × (entry_at files (record { bytes = part; left = nl }) ≡ Err Cut)) n nl m ml)
     → is_some o ≡ true
     → (fs : List File) × (part : List ℕ) × LacksInEntry (unwrap_or o []) (record { entry = entry; kind = kind }) fs part (unwrap_or m [])
@@ -351,13 +351,13 @@ front_lacks o n m nl ml entry files kind rules is t h k =
 -- or for the place of a file that was read
 pub front_has_no_room : (o n m : Option (List ℕ)) (nl ml entry : ℕ) (files : List File) (f : File) (x : Option File) (kind : SnapshotFaultKind) → x ≡ Some f
     → IsSnapshot files → IfSome x (λ file. Follows files file) → entry ≡ length files + 1
-    → Takes o longest_text n nl (text_before_end files) → (is_some n ≡ true → (entry_at files (ahead_of n nl) ≡ Ok (x, ahead_of m ml)) × (is_some m ≡ true))
+    → Takes o max_text_bytes n nl (text_before_end files) → (is_some n ≡ true → (entry_at files (ahead_of n nl) ≡ Ok (x, ahead_of m ml)) × (is_some m ≡ true))
     → is_some o ≡ true
     → (fs : List File) × (part : List ℕ) × LacksInEntry (unwrap_or o []) (record { entry = entry; kind = kind }) fs part (unwrap_or m [])
 front_has_no_room o n m nl ml entry files f x kind some rules fits is t h k =
     let follows : Follows files f = subst (λ (e : Option File). IfSome e (λ file. Follows files file)) some fits in
     let known = t.known k in
-    let small : length files ≤ most_files = let few = rules.count in omega arith in
+    let small : length files ≤ max_files = let few = rules.count in omega arith in
     let step = subst (λ (e : Option File). TakesAhead (ahead_of n nl) (entry_text files e) (ahead_of m ml)) some (entry_takes files (ahead_of n nl) (ahead_of m ml) x small (h known).0) in
     let more : TookPart (λ part. part ≡ file_text f) n nl m ml = record {
       part = file_text f;

@@ -2,7 +2,7 @@
 use Rattle.std.specs.Prelude.{◌≡◌, ℕ, ◌+◌, ◌-◌, ◌<◌, ◌≤◌, ◌⊎◌, true, List, [], ◌++◌, length, Option, Result, Err, IfErr}
 use Rattle.std.specs.Prelude.{is_some, unwrap_or}
 use Rattle.paths.specs.Texts.{Ahead}
-use Rattle.paths.specs.Snapshots.{longest_text, file_text, text_before_end, snapshot_text, IsSnapshot, Follows}
+use Rattle.paths.specs.Snapshots.{max_text_bytes, file_text, text_before_end, snapshot_text, IsSnapshot, Follows}
 use Rattle.paths.specs.SnapshotFaults.{header_at, entry_at}
 use Rattle.paths.specs.declared.file.File.{File}
 use Rattle.paths.specs.declared.snapshot_fault.SnapshotFault.{SnapshotFault}
@@ -39,18 +39,18 @@ abbrev pub LacksWithin : {X Y E : Type 0} → E → E → (Ahead → Result (X �
 LacksWithin lacking cut f old left new left_new r = FailsAfter lacking
     (λ part. (0 < length part) × (f (record { bytes = part; left = left }) ≡ Err cut)) old left new left_new r
 
--- A call that failed had taken the texts of these files whole, and this part after them. The fault names the entry after
--- the files.
+-- A call that failed had taken the texts of these files whole, and this part after them. The fault names the entry
+-- after the files.
 pub record Reached (text : List ℕ) (f : SnapshotFault) (files : List File) (part rest : List ℕ) : Type 0 where
   pub taken : text ≡ (text_before_end files ++ part) ++ rest
   pub rules : IsSnapshot files
-  pub size : length (text_before_end files) + length part ≤ longest_text
+  pub size : length (text_before_end files) + length part ≤ max_text_bytes
   pub entry : f.entry ≡ length files + 1
 
 -- the part is one of the entry after these files, which is cut
 abbrev pub IsCutEntry : List File → List ℕ → Type 0
 IsCutEntry files part =
-    entry_at files (record { bytes = part; left = longest_text - length (text_before_end files) }) ≡ Err Cut
+    entry_at files (record { bytes = part; left = max_text_bytes - length (text_before_end files) }) ≡ Err Cut
 
 -- a read failed in the entry that the fault names
 abbrev pub FailsInEntry : List ℕ → SnapshotFault → List File → List ℕ → List ℕ → Type 0
@@ -64,9 +64,9 @@ LacksInEntry text f files part rest = Reached text f files part rest × (0 < len
 -- it failed in the first line, which is entry 0
 pub record FailsInHeader (text : List ℕ) (f : SnapshotFault) (part rest : List ℕ) : Type 0 where
   pub taken : text ≡ part ++ rest
-  pub size : length part ≤ longest_text
+  pub size : length part ≤ max_text_bytes
   pub entry : f.entry ≡ 0
-  pub cut : header_at (record { bytes = part; left = longest_text }) ≡ Err Cut
+  pub cut : header_at (record { bytes = part; left = max_text_bytes }) ≡ Err Cut
 
 -- a read of a snapshot failed with this rest ahead
 abbrev pub FailsInSnapshot : List ℕ → List ℕ → SnapshotFault → Type 0
@@ -77,7 +77,7 @@ FailsInSnapshot text rest f = ((part : List ℕ) × FailsInHeader text f part re
 pub record FailsAtEnd (text : List ℕ) (f : SnapshotFault) (files : List File) (rest : List ℕ) : Type 0 where
   pub taken : text ≡ snapshot_text files ++ rest
   pub rules : IsSnapshot files
-  pub size : length (snapshot_text files) ≤ longest_text
+  pub size : length (snapshot_text files) ≤ max_text_bytes
   pub entry : f.entry ≡ length files + 1
 
 -- where the bytes of the input are known and memory ran out

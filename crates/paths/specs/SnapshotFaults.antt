@@ -6,7 +6,7 @@ use Rattle.std.specs.List.{list_all, list_any, starts_with}
 use Rattle.paths.specs.Devices.{CountsBy}
 use Rattle.paths.specs.Numbers.{number_of, three_numbers}
 use Rattle.paths.specs.Texts.{Ahead, line_at, run_at, byte_at}
-use Rattle.paths.specs.Snapshots.{feed, most_files, most_bytes, longest_name, latest_time, longest_text, first_line}
+use Rattle.paths.specs.Snapshots.{feed, max_files, max_file_bytes, max_name_bytes, max_time, max_text_bytes, first_line}
 use Rattle.paths.specs.Snapshots.{text_before_end, snapshot_text, is_name, comes_before, lies_in, IsSnapshot}
 use Rattle.paths.specs.Snapshots.{IsSnapshotText}
 use Rattle.paths.specs.declared.stop.Stop.{Stop}
@@ -104,9 +104,9 @@ body_at n a = do
 -- the file that a line announces
 abbrev pub file_at : List File → FileLine → Ahead → Result (File × Ahead) SnapshotFaultKind
 file_at files line a =
-    if nat_lt latest_time line.mtime then Err Number
-    else if nat_lt most_bytes line.len || nat_le most_files (length files) then Err TooLarge
-    else if line.name_len == 0 || nat_lt longest_name line.name_len then Err Name
+    if nat_lt max_time line.mtime then Err Number
+    else if nat_lt max_file_bytes line.len || nat_le max_files (length files) then Err TooLarge
+    else if line.name_len == 0 || nat_lt max_name_bytes line.name_len then Err Name
     else (do
       name ← name_at files line.name_len a
       bytes ← body_at line.len name.1
@@ -146,19 +146,20 @@ CountsKind old new r = CountsBy failures_of old new r
 pub record FaultsAfter (text : List ℕ) (f : SnapshotFault) (files : List File) (rest : List ℕ) : Type 0 where
   pub whole : text ≡ text_before_end files ++ rest
   pub rules : IsSnapshot files
-  pub size : length (text_before_end files) ≤ longest_text
+  pub size : length (text_before_end files) ≤ max_text_bytes
   pub entry : f.entry ≡ length files + 1
-  pub kind : entry_at files (record { bytes = rest; left = longest_text - length (text_before_end files) }) ≡ Err f.kind
+  pub kind :
+      entry_at files (record { bytes = rest; left = max_text_bytes - length (text_before_end files) }) ≡ Err f.kind
 
 abbrev pub IsFrontFault : List ℕ → SnapshotFault → Type 0
-IsFrontFault text f = ((f.entry ≡ 0) × (header_at (record { bytes = text; left = longest_text }) ≡ Err f.kind))
+IsFrontFault text f = ((f.entry ≡ 0) × (header_at (record { bytes = text; left = max_text_bytes }) ≡ Err f.kind))
     ⊎ ((files : List File) × (rest : List ℕ) × FaultsAfter text f files rest)
 
 -- the same of bytes that are no snapshot text: a text with a byte after it has one more fault
 pub record HasTrailing (text : List ℕ) (f : SnapshotFault) (files : List File) (b : ℕ) (rest : List ℕ) : Type 0 where
   pub whole : text ≡ snapshot_text files ++ b ∷ rest
   pub rules : IsSnapshot files
-  pub size : length (snapshot_text files) ≤ longest_text
+  pub size : length (snapshot_text files) ≤ max_text_bytes
   pub entry : f.entry ≡ length files + 1
   pub kind : f.kind ≡ Trailing
 
@@ -174,7 +175,7 @@ IsForeseen IsFault old f = is_some old ≡ true → is_unforeseen_kind f.kind �
 pub record ReadsFront (old new : Option (List ℕ)) (files : List File) : Type 0 where
   pub text : is_some old ≡ true → unwrap_or old [] ≡ snapshot_text files ++ unwrap_or new []
   pub known : is_some old ≡ true → is_some new ≡ true
-  pub size : is_some old ≡ true → length (snapshot_text files) ≤ longest_text
+  pub size : is_some old ≡ true → length (snapshot_text files) ≤ max_text_bytes
 
 -- where they are known, they were the text of these files
 pub record ReadsWhole (old new : Option (List ℕ)) (files : List File) : Type 0 where

@@ -24,20 +24,20 @@ abbrev pub percent_sign : ℕ
 percent_sign = 37
 
 -- the greatest number of files, of bytes of a file, of bytes of a name and of bytes of a text, and the greatest time
-abbrev pub most_files : ℕ
-most_files = 65536
+abbrev pub max_files : ℕ
+max_files = 65536
 
-abbrev pub most_bytes : ℕ
-most_bytes = 16777216
+abbrev pub max_file_bytes : ℕ
+max_file_bytes = 16777216
 
-abbrev pub longest_name : ℕ
-longest_name = 1024
+abbrev pub max_name_bytes : ℕ
+max_name_bytes = 1024
 
-abbrev pub latest_time : ℕ
-latest_time = 253402300799
+abbrev pub max_time : ℕ
+max_time = 253402300799
 
-abbrev pub longest_text : ℕ
-longest_text = 1073741824
+abbrev pub max_text_bytes : ℕ
+max_text_bytes = 1073741824
 
 -- the line before a file
 abbrev pub file_line : File → List ℕ
@@ -82,16 +82,16 @@ lies_in folder name = starts_with nat_eq name (folder ++ slash ∷ [])
 
 -- a file within the limits
 pub record IsFile (f : File) : Type 0 where
-  pub mtime : f.mtime ≤ latest_time
+  pub mtime : f.mtime ≤ max_time
   pub some : 0 < length f.name
-  pub short : length f.name ≤ longest_name
+  pub short : length f.name ≤ max_name_bytes
   pub name : is_name f.name ≡ true
-  pub bytes : length f.bytes ≤ most_bytes
+  pub bytes : length f.bytes ≤ max_file_bytes
 
 -- The files of a snapshot: their names rise, and no file has the name of a folder. (A name that lies in a folder comes
 -- after the folder's own name, so it is enough to look at later files.)
 pub record IsSnapshot (files : List File) : Type 0 where
-  pub count : length files ≤ most_files
+  pub count : length files ≤ max_files
   pub each : All IsFile files
   pub rising : AllPairs (λ f g. comes_before f.name g.name ≡ true) files
   pub apart : AllPairs (λ f g. lies_in f.name g.name ≡ false) files
@@ -100,13 +100,13 @@ pub record IsSnapshot (files : List File) : Type 0 where
 pub record IsSnapshotText (bytes : List ℕ) (files : List File) : Type 0 where
   pub text : bytes ≡ snapshot_text files
   pub rules : IsSnapshot files
-  pub size : length bytes ≤ longest_text
+  pub size : length bytes ≤ max_text_bytes
 
 -- a prefix of the bytes is the text of a snapshot of these files, and this rest is after it
 pub record BeginsWithSnapshot (bytes : List ℕ) (files : List File) (rest : List ℕ) : Type 0 where
   pub text : bytes ≡ snapshot_text files ++ rest
   pub rules : IsSnapshot files
-  pub size : length (snapshot_text files) ≤ longest_text
+  pub size : length (snapshot_text files) ≤ max_text_bytes
 
 abbrev pub no_file : File
 no_file = record { name = []; mtime = 0; bytes = [] }
@@ -124,7 +124,7 @@ pub record FitsName (files : List File) (len : ℕ) (name : List ℕ) : Type 0 w
 
 -- the file may stand after these files
 pub record Follows (files : List File) (f : File) : Type 0 where
-  pub room : length files < most_files
+  pub room : length files < max_files
   pub file : IsFile f
   pub order : list_all (λ g. comes_before g.name f.name) files ≡ true
   pub apart : list_any (λ g. lies_in g.name f.name) files ≡ false

@@ -13,7 +13,7 @@ use crate::bytes::is_text;
 use crate::file::{FileLine, Heading};
 use crate::heading::{read_entry_line, read_heading};
 use crate::{
-    Bytes, File, Input, LATEST_TIME, LONGEST_NAME, MOST_BYTES, MOST_FILES, Snapshot,
+    Bytes, File, Input, MAX_FILE_BYTES, MAX_FILES, MAX_NAME_BYTES, MAX_TIME, Snapshot,
     SnapshotFaultKind, Stop, read_byte_of, read_line, read_run,
 };
 use std::alloc::Global;
@@ -152,13 +152,13 @@ fn read_file<R: Read>(
     ensures fits { IfOk result (λ file. Follows files.now file) }
     ensures count { CountsKind input.old.failures input.new.failures result }
 {
-    if line.mtime > LATEST_TIME {
+    if line.mtime > MAX_TIME {
         return Err(SnapshotFaultKind::Number);
     }
-    if line.len > MOST_BYTES || files.len() >= MOST_FILES {
+    if line.len > MAX_FILE_BYTES || files.len() >= MAX_FILES {
         return Err(SnapshotFaultKind::TooLarge);
     }
-    if line.name_len == 0 || line.name_len > LONGEST_NAME {
+    if line.name_len == 0 || line.name_len > MAX_NAME_BYTES {
         return Err(SnapshotFaultKind::Name);
     }
     let name = read_name(alloc, input, left, files, line.name_len as usize)?;

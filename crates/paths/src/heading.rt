@@ -14,7 +14,7 @@ use crate::{Input, Line, SnapshotFaultKind, Stop};
 use std::io::Read;
 
 /// The most bytes that a line owes at once.
-const MOST_OWED: usize = 8;
+const MAX_OWED: usize = 8;
 /// The fewest bytes of a line that announces something, as `end 0`, with its line feed.
 const SHORTEST_LINE: usize = 6;
 /// The fewest bytes of a file's line, as `file 0 1 0`, with its line feed.
@@ -23,11 +23,11 @@ const SHORTEST_FILE_LINE: usize = 11;
 /// How many bytes a line that begins so has ahead at least, its line feed among them, if it has `least` bytes, and
 /// `longer` where it begins with `kind`.
 fn owed(front: &[u8], least: usize, kind: &[u8], longer: usize) -> usize
-    requires least { (1 ≤ least) × (least ≤ MOST_OWED) }
-    requires longer { (least < longer) × (longer ≤ least + MOST_OWED) }
+    requires least { (1 ≤ least) × (least ≤ MAX_OWED) }
+    requires longer { (least < longer) × (longer ≤ least + MAX_OWED) }
     ensures owed { IsOwed least kind.now longer front.now result }
     ensures some { 0 < result }
-    ensures limit { result ≤ MOST_OWED }
+    ensures limit { result ≤ MAX_OWED }
     ensures room { length front.now < 65 → length front.now + result ≤ 65 }
 {
     if front.is_empty() {
@@ -61,7 +61,7 @@ pub fn read_long_line<R: Read>(
 {
     let mut line = Line::new();
     while line.as_slice().len() < 65 {
-        let mut room = [0; MOST_OWED];
+        let mut room = [0; MAX_OWED];
         let owed = owed(line.as_slice(), least, kind, longer);
         match read_some_of(input, left, &mut room[..owed]) {
             Ok(count) => {

@@ -32,7 +32,7 @@ pub use laws::{
     no_fault_of_a_prefix, no_fault_of_a_snapshot, one_first_fault, one_prefix, one_snapshot,
     prefix_or_fault, snapshot_or_fault,
 };
-pub use limits::{LATEST_TIME, LONGEST_NAME, LONGEST_TEXT, MOST_BYTES, MOST_FILES};
+pub use limits::{MAX_FILE_BYTES, MAX_FILES, MAX_NAME_BYTES, MAX_TEXT_BYTES, MAX_TIME};
 pub use numbers::{number, number_and_rest, three_numbers};
 pub use outcome::Outcome;
 pub use output::Output;

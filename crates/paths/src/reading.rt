@@ -8,7 +8,7 @@ ghost use Rattle.paths.specs.SnapshotFaults.{ReadsFront, IsFrontFault, IsFirstFa
 ghost use Rattle.paths.specs.SnapshotFaults.{CountsFault};
 
 use crate::entry::{read_entry, read_header};
-use crate::{Input, LONGEST_TEXT, Snapshot, SnapshotFault, SnapshotFaultKind};
+use crate::{Input, MAX_TEXT_BYTES, Snapshot, SnapshotFault, SnapshotFaultKind};
 use std::alloc::Global;
 use std::io::Read;
 
@@ -31,7 +31,7 @@ impl Snapshot {
         // The first line takes no memory.
         ensures memory { IfErr result (λ f. f.entry ≡ 0 → f.kind ≢ SnapshotFaultKind.Memory) }
     {
-        let mut left = LONGEST_TEXT;
+        let mut left = MAX_TEXT_BYTES;
         match read_header(input, &mut left) {
             Ok(()) => (),
             Err(kind) => return Err(SnapshotFault { entry: 0, kind }),

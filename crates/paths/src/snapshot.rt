@@ -2,7 +2,7 @@
 
 ghost use Rattle.std.specs.Prelude.{◌≡◌, ◌<◌, ◌≤◌, ◌++◌, [], ◌∷◌, length, OnOk, OnErr, Option, List, ℕ};
 ghost use Rattle.std.specs.List.{list_all, list_any};
-ghost use Rattle.paths.specs.Snapshots.{most_files, latest_time, most_bytes};
+ghost use Rattle.paths.specs.Snapshots.{max_files, max_time, max_file_bytes};
 ghost use Rattle.paths.specs.Snapshots.{file_of, Follows, position_of, has_folder, comes_before, lies_in, slash};
 ghost use Rattle.paths.specs.Snapshots.{IsPlace, IsSnapshot};
 ghost use Rattle.paths.specs.Above.{HasNoFileAbove};
@@ -66,7 +66,7 @@ impl Snapshot {
     /// How many files there are, at most 65,536.
     pub fn len(&self) -> usize
         ensures count { result ≡ length self.now }
-        ensures limit { result ≤ most_files }
+        ensures limit { result ≤ max_files }
         // The files of every snapshot keep the rules.
         ensures rules { IsSnapshot self.now }
     {
@@ -85,7 +85,7 @@ impl Snapshot {
     pub fn mtime(&self, file: usize) -> u64
         requires { file < length self.now }
         ensures value { result ≡ (file_of self.now file).mtime }
-        ensures limit { result ≤ latest_time }
+        ensures limit { result ≤ max_time }
     {
         self.files[file].mtime
     }
@@ -94,7 +94,7 @@ impl Snapshot {
     pub fn bytes(&self, file: usize) -> &[u8]
         requires { file < length self.now }
         ensures value { result.now ≡ (file_of self.now file).bytes }
-        ensures limit { length result.now ≤ most_bytes }
+        ensures limit { length result.now ≤ max_file_bytes }
     {
         self.files[file].bytes.as_slice()
     }

@@ -34,12 +34,13 @@ use Rattle.replay.specs.declared.summary.Counts.{Counts}
 use Rattle.replay.specs.declared.summary.Tally.{Tally}
 use Rattle.replay.specs.declared.summary.Summary.{Summary}
 use Rattle.arrivals.specs.Arrivals.{Arrival, text_of, messages_of, ArrivesWith, Precedes, AreArrivals}
+use Rattle.responses.specs.Statuses.{statuses}
 use Rattle.replay.specs.Choices.{Terms}
 use Rattle.replay.specs.Answers.{given}
 use Rattle.replay.specs.Offers.{Handled, offer_at, offers_of, rejects, is_turned_away, handled_next, handled_after, handled}
 use Rattle.replay.specs.Replies.{reply_of, replies_of, replies_text}
 use Rattle.replay.specs.Counting.{status_for, counts_of, bypassed_of, breaks_a_rule, rejected_of, samples_of, tally_of, tallies_of, summary_of}
-use Rattle.replay.specs.Outcomes.{Answers, most_messages}
+use Rattle.replay.specs.Outcomes.{Answers, max_messages}
 use Rattle.replay.specs.Former.{FormerTerms, ArrivedWith, WereArrivals, former_offer, former_offers, formerly_rejects, was_turned_away, handled_next_alone, handled_after_alone, former_handled, formerly_given, former_reply, former_replies, former_status, former_counts, former_samples, former_controls, FormerOutcome, former_outcome}
 use Rattle.replay.specs.Laws.{former_terms, no_requests, all_requests, in_tiers, SameInVersionOne, FormerAnswersHold, UpgradeKeepsAnswers}
 
@@ -143,8 +144,7 @@ count_same terms messages status = (λ i. count_by (λ h. status_same terms h i 
 counts_same : (terms : Terms) (messages : List Handled)
     → counts_of terms messages ≡ former_counts (former_terms terms) messages
 counts_same terms messages =
-    let same = count_same terms messages in
-    rw (same 200, same 301, same 304, same 400, same 404, same 405, same 413, same 501, same 503) refl
+    (λ i. record { by_status = map (λ status. count_same terms messages status i) statuses })
 
 -- ---- how many were turned away
 
@@ -536,7 +536,7 @@ lowered_counts terms messages =
     let same : (status : ℕ) → count_by (λ h. former_status terms h == status) (map with_lowered messages)
     ≡ count_by (λ h. former_status terms h == status) messages =
     λ status. counted_same with_lowered (λ h. former_status terms h == status) messages (λ h. refl) in
-    rw (same 200, same 301, same 304, same 400, same 404, same 405, same 413, same 501, same 503) refl
+    (λ i. record { by_status = map (λ status. same status i) statuses })
 
 outcome_with : List ℕ → Counts → ℕ → List ℕ → List Control → FormerOutcome
 outcome_with rejected counts bypassed samples controls =
@@ -577,7 +577,7 @@ former_answers_hold terms input old new former f =
         rules = f.rules;
         capture = f.capture;
         arrived = lowered_arrivals f.records f.arrivals f.rules.each f.arrived;
-        few = subst (λ n. n ≤ most_messages) (sym (length-map f.arrivals lowered)) f.few;
+        few = subst (λ n. n ≤ max_messages) (sym (length-map f.arrivals lowered)) f.few;
         written = subst (λ rs. Appends old new (replies_text rs)) text f.written;
         rejected = sym (ap (λ (o : FormerOutcome). o.rejected) told) ∙ sym (rejected_same terms arrivals lowest);
         summary =

@@ -3,7 +3,7 @@ use Rattle.std.proofs.Common.{◌≡◌, ℕ, zero, suc, List, [], ◌∷◌, �
 use Rattle.std.proofs.lemmas.List.{map-append}
 use Rattle.arrivals.proofs.ArrivalLaws.{arrivals_begin}
 use Rattle.replay.specs.Offers.{handled, handled_after}
-use Rattle.replay.specs.Outcomes.{most_messages}
+use Rattle.replay.specs.Outcomes.{max_messages}
 use Rattle.replay.specs.Replies.{reply_of, replies_of}
 use Rattle.replay.specs.Laws.{FloorsChangeNothing, HandledBegin, DueBegin}
 use Rattle.replay.proofs.Offering.{handled_more}
@@ -23,11 +23,11 @@ take_begins (suc n) (x ∷ xs) ys = let r = take_begins n xs ys in (r.0, ap (λ 
 pub due_begins : DueBegin
 due_begins terms start records more xs ys a b =
     let longer = arrivals_begin records more xs ys a b in
-    let within = take_begins most_messages xs longer.0 in
-    let both = handled_begin terms (take most_messages xs) within.0 in (
+    let within = take_begins max_messages xs longer.0 in
+    let both = handled_begin terms (take max_messages xs) within.0 in (
       map (reply_of terms start) both.0,
-      ap (λ l. replies_of terms start (handled terms (take most_messages l))) longer.1
+      ap (λ l. replies_of terms start (handled terms (take max_messages l))) longer.1
           ∙ ap (λ l. replies_of terms start (handled terms l)) within.1
           ∙ ap (λ l. replies_of terms start l) both.1
-          ∙ map-append (reply_of terms start) (handled terms (take most_messages xs)) both.0,
+          ∙ map-append (reply_of terms start) (handled terms (take max_messages xs)) both.0,
     )

@@ -4,7 +4,7 @@ use Rattle.std.proofs.lemmas.List.{append-nil, length-append, take-append-le, ni
 use Rattle.captures.specs.declared.record.Record.{Record}
 use Rattle.captures.specs.declared.version.Version.{Version}
 use Rattle.captures.specs.declared.capture_fault.CaptureFault.{CaptureFault}
-use Rattle.captures.specs.Captures.{record_text, longest_text, IsCapture, text_before_stop as records_text}
+use Rattle.captures.specs.Captures.{record_text, max_text_bytes, IsCapture, text_before_stop as records_text}
 use Rattle.captures.specs.CaptureFaults.{is_unforeseen_kind, IsFirstFault, FaultsAfter}
 use Rattle.captures.proofs.Records.{stop_text}
 use Rattle.captures.proofs.Agree.{Agrees, no_fault, few_records, one_fault as one_first_fault, agree_on, no_last_line, no_header_fault, no_fault_among}
@@ -12,7 +12,7 @@ use Rattle.arrivals.specs.Arrivals.{Arrival, AreArrivals}
 use Rattle.replay.specs.Choices.{Terms}
 use Rattle.replay.specs.Offers.{handled}
 use Rattle.replay.specs.Telling.{replies_told}
-use Rattle.replay.specs.Outcomes.{most_messages, StopsAfter, Stops, StopsFull}
+use Rattle.replay.specs.Outcomes.{max_messages, StopsAfter, Stops, StopsFull}
 use Rattle.replay.specs.Replies.{first_line, text_before_stop, replies_of}
 use Rattle.replay.specs.Laws.{AnsweredNotFaulty, AnsweredNotFull, FaultyNotFull, OneFault, OneLimit}
 use Rattle.arrivals.proofs.ArrivalLaws.{one_list_of_arrivals, arrivals_begin}
@@ -68,7 +68,7 @@ answered_not_full terms others input old new before after outcome number known a
 
 -- records that go on after a fault
 go_on : (v w : Version) (bytes : List ℕ) (s t : ℕ) (rs ss : List Record) (f : CaptureFault) (x y : List ℕ) (xs ys : List Arrival) (more : List Record) → FaultsAfter v bytes s rs f x
-    → AreArrivals rs xs → length xs ≤ most_messages → AreArrivals ss ys → most_messages < length ys → IsCapture w t ss → length (records_text w t ss) ≤ longest_text
+    → AreArrivals rs xs → length xs ≤ max_messages → AreArrivals ss ys → max_messages < length ys → IsCapture w t ss → length (records_text w t ss) ≤ max_text_bytes
     → v ≡ w → s ≡ t → ss ≡ rs ++ more → x ≡ flat_map record_text more ++ y → ⊥
 go_on v w bytes s t rs ss f x y xs ys [] fault a few b beyond rules size same start is rest =
     let one = one_list_of_arrivals rs xs ys a (subst (λ (l : List Record). AreArrivals l ys) (none_more rs ss is) b) in
@@ -130,7 +130,7 @@ one_limit terms input old new other number another known given a b =
     let r = a.taken in
     let t = b.taken in
     let both = agree_on (unwrap_or input []) r.version t.version r.start t.start r.records t.records r.rest t.rest r.rules t.rules (r.begins known) (t.begins known) in
-    let first : take most_messages r.arrivals ≡ take most_messages t.arrivals = same_limit most_messages r.records t.records r.rest t.rest r.arrivals t.arrivals r.arrived t.arrived a.beyond b.beyond both.2 in (
+    let first : take max_messages r.arrivals ≡ take max_messages t.arrivals = same_limit max_messages r.records t.records r.rest t.rest r.arrivals t.arrivals r.arrived t.arrived a.beyond b.beyond both.2 in (
       grows_once old new other _ _ given (same_text terms r.start t.start _ _ both.1 first) a.written b.written,
       a.is_number ∙ sym b.is_number,
     )

@@ -3,8 +3,8 @@ use Rattle.std.proofs.Common.{◌≡◌, ℕ, zero, suc, ◌+◌, List, [], ◌�
 use Rattle.std.specs.Prelude.{flat_map}
 use Rattle.std.specs.List.{range_with_len}
 use Rattle.replay.specs.declared.ticket.Ticket.{Ticket}
-use Rattle.replay.specs.declared.back_state.BackState.{BackState}
-use Rattle.replay.specs.declared.back_state.BackState.TheVariants.{Due as Waits, Fetched, Rendered}
+use Rattle.replay.specs.declared.back.BackState.{BackState}
+use Rattle.replay.specs.declared.back.BackState.TheVariants.{Due as Waits, Fetched, Rendered}
 use Rattle.std.specs.Prelude.{Bool, true, false, ◌&&◌}
 use Rattle.std.specs.List.{list_all}
 use Rattle.responses.specs.declared.slip.Link.{Link}

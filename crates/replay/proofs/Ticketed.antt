@@ -15,7 +15,7 @@ use Rattle.replay.specs.Ticketing.{incoming_of, AreSighted, InTime}
 use Rattle.arrivals.specs.declared.incoming.Incoming.{Incoming}
 use Rattle.replay.specs.declared.sight.Sighted.{Sighted}
 use Rattle.replay.specs.declared.ticket.Ticket.{Ticket}
-use Rattle.replay.specs.declared.back_state.BackState.TheVariants.{Due as Waits}
+use Rattle.replay.specs.declared.back.BackState.TheVariants.{Due as Waits}
 use Rattle.replay.specs.declared.desk.Desk.{Desk}
 use Rattle.replay.proofs.Offering.{handled_more, handled_one}
 use Rattle.replay.proofs.Judging.{answered_is}

@@ -27,23 +27,23 @@ front_steps = 3
 abbrev pub back_steps : ℕ
 back_steps = 2
 
-abbrev pub most_records : ℕ
-most_records = 65536
+abbrev pub max_batch : ℕ
+max_batch = 65536
 
-abbrev pub most_cache : ℕ
-most_cache = 1073741824
+abbrev pub max_cache : ℕ
+max_cache = 1073741824
 
-abbrev pub longest_retry : ℕ
-longest_retry = 86400
+abbrev pub max_retry_after : ℕ
+max_retry_after = 86400
 
 -- the first of the faults in their order
 abbrev pub settings_fault : Choice → Option SettingsFault
 settings_fault c =
     if nat_eq (last_cut c.front) front_steps then (
     if nat_eq (last_cut c.back) back_steps then (
-    if nat_le 1 c.batch && nat_le c.batch most_records then (
-    if nat_le c.cache most_cache then (
-    if nat_le c.retry_after longest_retry then None
+    if nat_le 1 c.batch && nat_le c.batch max_batch then (
+    if nat_le c.cache max_cache then (
+    if nat_le c.retry_after max_retry_after then None
     else Some Retry)
     else Some Cache)
     else Some Batch)
@@ -54,9 +54,9 @@ settings_fault c =
 pub record IsChoice (c : Choice) : Type 0 where
   pub front : last_cut c.front ≡ front_steps
   pub back : last_cut c.back ≡ back_steps
-  pub batch : (1 ≤ c.batch) × (c.batch ≤ most_records)
-  pub cache : c.cache ≤ most_cache
-  pub retry_after : c.retry_after ≤ longest_retry
+  pub batch : (1 ≤ c.batch) × (c.batch ≤ max_batch)
+  pub cache : c.cache ≤ max_cache
+  pub retry_after : c.retry_after ≤ max_retry_after
 
 -- What an answer depends on besides its capture. The graphs of the floors, the batch and the cache are none of it.
 pub record Terms : Type 0 where

@@ -1,9 +1,10 @@
 -- How many messages there were of each kind, and how long the admitted requests took.
 use Rattle.std.specs.Prelude.{ℕ, ◌+◌, ◌<◌, ◌==◌, Bool, true, false, List, [], ◌∷◌, map, filter, length, count_by}
-use Rattle.std.specs.Prelude.{if◌then◌else◌}
+use Rattle.std.specs.Prelude.{All, zip, if◌then◌else◌}
 use Rattle.http_requests.specs.declared.messages.Meaning.{Meaning}
 use Rattle.http_requests.specs.declared.messages.Meaning.TheVariants.{Request, Bad}
 use Rattle.responses.specs.Replies.{status_of}
+use Rattle.responses.specs.Statuses.{statuses}
 use Rattle.admission.specs.Rules.{Rules, rules_of}
 use Rattle.admission.specs.Requests.{Offer, Decided, served, samples, of_tier, is_rejected}
 use Rattle.admission.specs.Controls.{controls_until}
@@ -31,17 +32,7 @@ count_of terms messages status = count_by (λ h. status_for terms h == status) m
 
 -- how many messages were answered with each status
 abbrev pub counts_of : Terms → List Handled → Counts
-counts_of terms messages = record {
-  ok = count_of terms messages 200;
-  moved_permanently = count_of terms messages 301;
-  not_modified = count_of terms messages 304;
-  bad_request = count_of terms messages 400;
-  not_found = count_of terms messages 404;
-  method_not_allowed = count_of terms messages 405;
-  content_too_large = count_of terms messages 413;
-  not_implemented = count_of terms messages 501;
-  service_unavailable = count_of terms messages 503;
-}
+counts_of terms messages = record { by_status = map (count_of terms messages) statuses }
 
 abbrev pub bypassed_of : List Arrival → ℕ
 bypassed_of arrivals = count_by (λ a. breaks_a_rule a.message.what) arrivals
@@ -85,26 +76,9 @@ one_if status wanted = if status == wanted then 1 else 0
 
 -- the counts with one more reply of this status
 abbrev pub with_status : Counts → ℕ → Counts
-with_status c status = record {
-  ok = c.ok + one_if status 200;
-  moved_permanently = c.moved_permanently + one_if status 301;
-  not_modified = c.not_modified + one_if status 304;
-  bad_request = c.bad_request + one_if status 400;
-  not_found = c.not_found + one_if status 404;
-  method_not_allowed = c.method_not_allowed + one_if status 405;
-  content_too_large = c.content_too_large + one_if status 413;
-  not_implemented = c.not_implemented + one_if status 501;
-  service_unavailable = c.service_unavailable + one_if status 503;
-}
+with_status c status =
+    record { by_status = map (λ entry. entry.1 + one_if status entry.0) (zip statuses c.by_status) }
 
 -- each count is below n
-pub record AreBelow (n : ℕ) (c : Counts) : Type 0 where
-  pub ok : c.ok < n
-  pub moved_permanently : c.moved_permanently < n
-  pub not_modified : c.not_modified < n
-  pub bad_request : c.bad_request < n
-  pub not_found : c.not_found < n
-  pub method_not_allowed : c.method_not_allowed < n
-  pub content_too_large : c.content_too_large < n
-  pub not_implemented : c.not_implemented < n
-  pub service_unavailable : c.service_unavailable < n
+abbrev pub AreBelow : ℕ → Counts → Type 0
+AreBelow n c = All (λ count. count < n) c.by_status

@@ -17,7 +17,7 @@ use Rattle.replay.specs.Offers.{offer_at, offers_of, handled_next, handled}
 use Rattle.replay.specs.Counting.{status_for, rejected_of, summary_of}
 use Rattle.replay.specs.Telling.{Telling}
 use Rattle.paths.specs.KnownText.{WhereKnown}
-use Rattle.replay.specs.Outcomes.{most_messages}
+use Rattle.replay.specs.Outcomes.{max_messages}
 use Rattle.replay.specs.declared.outcome.Outcome.{Outcome}
 
 -- an offer after those of the earlier messages: what it finds, and the decision on it
@@ -85,7 +85,7 @@ pub record Explains (terms : Terms) (input old new : Option (List ℕ)) (outcome
   pub rules : IsCapture version start records
   pub capture : WhereKnown input (λ bytes. IsCaptureText version bytes start records)
   pub arrived : AreArrivals records arrivals
-  pub few : length arrivals ≤ most_messages
+  pub few : length arrivals ≤ max_messages
   pub written : Appends old new (table terms arrivals)
   pub rejected : outcome.rejected ≡ rejected_of (handled terms arrivals)
   pub summary : outcome.summary ≡ summary_of terms arrivals

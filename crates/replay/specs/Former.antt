@@ -21,6 +21,7 @@ use Rattle.responses.specs.declared.slip.Status.TheVariants.{ServiceUnavailable}
 use Rattle.responses.specs.declared.slip.Given.{Given}
 use Rattle.responses.specs.declared.slip.Given.TheVariants.{Plain}
 use Rattle.responses.specs.Replies.{reply_text, status_of}
+use Rattle.responses.specs.Statuses.{statuses}
 use Rattle.admission.specs.declared.control.Control.{Control}
 use Rattle.admission.specs.Rules.{Rules}
 use Rattle.admission.specs.Requests.{Offer, served, samples, is_rejected}
@@ -33,7 +34,7 @@ use Rattle.replay.specs.Answers.{is_head, answers_head, link_of, answer}
 use Rattle.replay.specs.Offers.{Handled, length_given, is_unmodified_file}
 use Rattle.replay.specs.Counting.{bypassed_of, rejected_of}
 use Rattle.paths.specs.KnownText.{WhereKnown}
-use Rattle.replay.specs.Outcomes.{most_messages}
+use Rattle.replay.specs.Outcomes.{max_messages}
 use Rattle.replay.specs.Replies.{replies_text}
 
 -- what an answer depended on besides its capture: the rules are those of the one policy
@@ -142,17 +143,7 @@ former_count terms messages status = count_by (λ h. former_status terms h == st
 
 -- how many messages were answered with each status
 abbrev pub former_counts : FormerTerms → List Handled → Counts
-former_counts terms messages = record {
-  ok = former_count terms messages 200;
-  moved_permanently = former_count terms messages 301;
-  not_modified = former_count terms messages 304;
-  bad_request = former_count terms messages 400;
-  not_found = former_count terms messages 404;
-  method_not_allowed = former_count terms messages 405;
-  content_too_large = former_count terms messages 413;
-  not_implemented = former_count terms messages 501;
-  service_unavailable = former_count terms messages 503;
-}
+former_counts terms messages = record { by_status = map (former_count terms messages) statuses }
 
 -- how long each admitted request took
 unfoldable pub former_samples : Rules → List Offer → List ℕ
@@ -188,6 +179,6 @@ pub record FormerAnswers (terms : FormerTerms) (input old new : Option (List ℕ
   pub rules : IsCapture One start records
   pub capture : WhereKnown input (λ bytes. IsCaptureText One bytes start records)
   pub arrived : WereArrivals records arrivals
-  pub few : length arrivals ≤ most_messages
+  pub few : length arrivals ≤ max_messages
   pub written : Appends old new (replies_text (former_replies terms start (former_handled terms arrivals)))
   pub outcome : result ≡ former_outcome terms arrivals

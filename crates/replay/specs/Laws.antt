@@ -17,7 +17,7 @@ use Rattle.arrivals.specs.Arrivals.{Arrival, AreArrivals}
 use Rattle.replay.specs.Choices.{Choice, Terms, terms_of}
 use Rattle.replay.specs.Offers.{Handled, handled, handled_next}
 use Rattle.replay.specs.Explaining.{offered_after, row_of}
-use Rattle.replay.specs.Outcomes.{Answers, Stops, StopsFull, most_messages}
+use Rattle.replay.specs.Outcomes.{Answers, Stops, StopsFull, max_messages}
 use Rattle.replay.specs.Replies.{replies_of}
 use Rattle.replay.specs.Former.{FormerTerms, FormerOutcome, FormerAnswers}
 
@@ -69,7 +69,7 @@ HandledBegin = (terms : Terms) (arrivals more : List Arrival) → (rest : List H
 
 -- the replies that are due for messages that arrived: to those within the limit
 abbrev pub due : Terms → ℕ → List Arrival → List (ℕ × ℕ × List ℕ)
-due terms start arrivals = replies_of terms start (handled terms (take most_messages arrivals))
+due terms start arrivals = replies_of terms start (handled terms (take max_messages arrivals))
 
 -- more records add replies that are due at the end: those due for the first records are the first of those due for all
 abbrev pub DueBegin : Type 0

@@ -9,7 +9,7 @@ use Rattle.captures.specs.declared.capture_fault.CaptureFault.{CaptureFault}
 use Rattle.captures.specs.declared.capture_fault.CaptureFaultKind.{CaptureFaultKind}
 use Rattle.captures.specs.declared.capture_fault.CaptureFaultKind.TheVariants as kinds
 use Rattle.captures.specs.declared.version.Version.{Version}
-use Rattle.captures.specs.Captures.{IsCapture, IsCaptureText, longest_text, text_before_stop as records_text}
+use Rattle.captures.specs.Captures.{IsCapture, IsCaptureText, max_text_bytes, text_before_stop as records_text}
 use Rattle.captures.specs.CaptureFaults.{is_unforeseen_kind, IsHeaderFault, IsFaultAfter, failures_of}
 use Rattle.captures.specs.Readers.{FailsFirst, FailsNext}
 use Rattle.replay.specs.declared.replay_fault.ReplayFault.{ReplayFault}
@@ -22,8 +22,8 @@ use Rattle.replay.specs.Counting.{rejected_of, summary_of}
 use Rattle.replay.specs.Replies.{replies_of, replies_text}
 use Rattle.replay.specs.Telling.{Telling, replies_told}
 
-abbrev pub most_messages : ℕ
-most_messages = 1048576
+abbrev pub max_messages : ℕ
+max_messages = 1048576
 
 -- where the reader is out of memory, the call is
 abbrev pub told_as : CaptureFaultKind → CaptureFault → ReplayFault
@@ -43,7 +43,7 @@ pub record Answers (terms : Terms) (input old new : Option (List ℕ)) (outcome 
   pub rules : IsCapture version start records
   pub capture : WhereKnown input (λ bytes. IsCaptureText version bytes start records)
   pub arrived : AreArrivals records arrivals
-  pub few : length arrivals ≤ most_messages
+  pub few : length arrivals ≤ max_messages
   pub written : Appends old new (replies_text (replies_of terms start (handled terms arrivals)))
   pub rejected : outcome.rejected ≡ rejected_of (handled terms arrivals)
   pub summary : outcome.summary ≡ summary_of terms arrivals
@@ -99,7 +99,7 @@ pub record Taken (input : Option (List ℕ)) : Type 0 where
   pub arrivals : List Arrival
   pub rules : IsCapture version start records
   pub begins : WhereKnown input (λ bytes. bytes ≡ records_text version start records ++ rest)
-  pub size : WhereKnown input (λ bytes. length (records_text version start records) ≤ longest_text)
+  pub size : WhereKnown input (λ bytes. length (records_text version start records) ≤ max_text_bytes)
   pub arrived : AreArrivals records arrivals
 
 -- The replay stopped at the record after these: it has written what is told of the messages that arrived with them, and
@@ -107,7 +107,7 @@ pub record Taken (input : Option (List ℕ)) : Type 0 where
 pub record StopsAfter (t : Telling) (input ahead old new : Option (List ℕ)) (f : CaptureFault) : Type 0 where
   pub taken : Taken input
   pub at : f.at ≡ length taken.records + 1
-  pub few : length taken.arrivals ≤ most_messages
+  pub few : length taken.arrivals ≤ max_messages
   pub written : Appends old new (t.so_far taken.start taken.arrivals)
   pub fault : is_unforeseen_kind f.kind ≡ false
       → WhereKnown input (λ bytes. IsFaultAfter taken.version bytes taken.start taken.records f)
@@ -125,9 +125,9 @@ Stops terms input ahead old new f = StopsTelling (replies_told terms) input ahea
 -- and no last line. The number is that of the first beyond it.
 pub record StopsBeyond (t : Telling) (input old new : Option (List ℕ)) (number : ℕ) : Type 0 where
   pub taken : Taken input
-  pub beyond : most_messages < length taken.arrivals
-  pub is_number : number ≡ most_messages
-  pub written : Appends old new (t.so_far taken.start (take most_messages taken.arrivals))
+  pub beyond : max_messages < length taken.arrivals
+  pub is_number : number ≡ max_messages
+  pub written : Appends old new (t.so_far taken.start (take max_messages taken.arrivals))
 
 abbrev pub StopsFull : Terms → Option (List ℕ) → Option (List ℕ) → Option (List ℕ) → ℕ → Type 0
 StopsFull terms input old new number = StopsBeyond (replies_told terms) input old new number
@@ -137,7 +137,7 @@ StopsFull terms input old new number = StopsBeyond (replies_told terms) input ol
 pub record StopsAmong (t : Telling) (input old new : Option (List ℕ)) : Type 0 where
   pub taken : Taken input
   pub within : ℕ
-  pub few : within ≤ most_messages
+  pub few : within ≤ max_messages
   pub written : AppendsPrefix old new (t.so_far taken.start (take within taken.arrivals))
 
 -- The input is a capture's text, and a prefix of all that is told of it was written.
@@ -149,7 +149,7 @@ pub record StopsAtEnd (t : Telling) (input old new : Option (List ℕ)) : Type 0
   pub rules : IsCapture version start records
   pub capture : WhereKnown input (λ bytes. IsCaptureText version bytes start records)
   pub arrived : AreArrivals records arrivals
-  pub few : length arrivals ≤ most_messages
+  pub few : length arrivals ≤ max_messages
   pub written : AppendsPrefix old new (t.whole start arrivals)
 
 -- a replay that was cut short has written a prefix of what was due

@@ -15,7 +15,7 @@ use Rattle.arrivals.specs.Connections.{HaveRead}
 use Rattle.replay.specs.Offers.{offers_of, handled, handled_after}
 use Rattle.replay.specs.Counting.{rejected_of, summary_of}
 use Rattle.paths.specs.KnownText.{WhereKnown}
-use Rattle.replay.specs.Outcomes.{most_messages}
+use Rattle.replay.specs.Outcomes.{max_messages}
 use Rattle.replay.specs.Replies.{replies_of}
 use Rattle.replay.specs.Telling.{Telling, Told, ToldInPart, replies_told}
 use Rattle.replay.specs.Totals.{totals_of}
@@ -28,7 +28,7 @@ pub record DeskAfter (terms : Terms) (arrivals : List Arrival) (desk : Desk) : T
   pub policies : policies_of desk.controller ≡ terms.policies
   pub fits : ControllerAfter (offers_of terms arrivals) desk.controller
   pub totals : desk.totals ≡ totals_of terms arrivals
-  pub few : length arrivals ≤ most_messages
+  pub few : length arrivals ≤ max_messages
 
 -- none of them came later than this tick
 abbrev pub AreBy : ℕ → List Arrival → Type 0
@@ -77,7 +77,7 @@ pub record TellsFull (t : Telling) (start : ℕ) (records : List Record) (arriva
   pub more : List Arrival
   pub arrived : ArriveNext records arrivals rs more
   pub within : ℕ
-  pub full : length arrivals + within ≡ most_messages
+  pub full : length arrivals + within ≡ max_messages
   pub beyond : within < length more
   pub written : Told t start arrivals (take within more) old new
 
@@ -87,7 +87,7 @@ pub record TellsInPart (t : Telling) (start : ℕ) (records : List Record) (arri
   pub more : List Arrival
   pub arrived : ArriveNext records arrivals rs more
   pub within : ℕ
-  pub few : length arrivals + within ≤ most_messages
+  pub few : length arrivals + within ≤ max_messages
   pub written : ToldInPart t start arrivals (take within more) old new
 
 -- the same, where each message is told by its reply
@@ -114,7 +114,7 @@ pub record HasTold (t : Telling) (terms : Terms) (input old new : Option (List �
   pub rules : IsCapture version start records
   pub capture : WhereKnown input (λ bytes. IsCaptureText version bytes start records)
   pub arrived : AreArrivals records arrivals
-  pub few : length arrivals ≤ most_messages
+  pub few : length arrivals ≤ max_messages
   pub written : Appends old new (t.whole start arrivals)
   pub rejected : outcome.rejected ≡ rejected_of (handled terms arrivals)
   pub summary : outcome.summary ≡ summary_of terms arrivals

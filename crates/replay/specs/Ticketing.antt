@@ -1,6 +1,6 @@
 -- The messages of a batch between the two floors.
 use Rattle.std.specs.Prelude.{◌≡◌, ◌<◌, ◌≤◌, List, [], ◌∷◌, ◌++◌, map}
-use Rattle.captures.specs.Captures.{latest_tick}
+use Rattle.captures.specs.Captures.{max_tick}
 use Rattle.paths.specs.declared.file.File.{File}
 use Rattle.cost_model.specs.Services.{CostTable}
 use Rattle.arrivals.specs.Arrivals.{Arrival}
@@ -24,5 +24,5 @@ AreSighted files costs arrivals sights = sights ≡ map (λ a. front_value files
 -- none of them comes before an earlier one, and each is of some tier
 abbrev pub InTime : List Arrival → List Arrival → Type 0
 InTime earlier [] = Unit {0}
-InTime earlier (a ∷ more) = AreBy a.origin.tick earlier × (a.origin.tick ≤ latest_tick) × (a.origin.tier < 4)
+InTime earlier (a ∷ more) = AreBy a.origin.tick earlier × (a.origin.tick ≤ max_tick) × (a.origin.tier < 4)
     × InTime (earlier ++ a ∷ []) more

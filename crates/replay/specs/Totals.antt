@@ -1,5 +1,6 @@
 -- What the engines count of the messages that they answered.
-use Rattle.std.specs.Prelude.{ℕ, ◌+◌, Bool, List, length, if◌then◌else◌}
+use Rattle.std.specs.Prelude.{ℕ, ◌+◌, Bool, List, length, map, if◌then◌else◌}
+use Rattle.responses.specs.Statuses.{statuses}
 use Rattle.replay.specs.Choices.{Terms}
 use Rattle.arrivals.specs.Arrivals.{Arrival}
 use Rattle.replay.specs.Offers.{offers_of, handled}
@@ -8,17 +9,7 @@ use Rattle.replay.specs.declared.summary.Counts.{Counts}
 use Rattle.replay.specs.declared.totals.Totals.{Totals}
 
 abbrev pub no_counts : Counts
-no_counts = record {
-  ok = 0;
-  moved_permanently = 0;
-  not_modified = 0;
-  bad_request = 0;
-  not_found = 0;
-  method_not_allowed = 0;
-  content_too_large = 0;
-  not_implemented = 0;
-  service_unavailable = 0;
-}
+no_counts = record { by_status = map (λ status. 0) statuses }
 
 -- what became of these arrivals
 abbrev pub totals_of : Terms → List Arrival → Totals

@@ -2,7 +2,7 @@
 use Rattle.std.specs.Prelude.{◌≡◌, ℕ, ◌≤◌, List, [], ◌++◌, map}
 use Rattle.captures.specs.declared.record.Record.{Record}
 use Rattle.captures.specs.declared.version.Version.{Version}
-use Rattle.captures.specs.Captures.{IsCapture, longest_text, sizes_of}
+use Rattle.captures.specs.Captures.{IsCapture, max_text_bytes, sizes_of}
 use Rattle.arrivals.specs.Arrivals.{Arrival}
 use Rattle.arrivals.specs.Batches.{pieces_to, origins_of, tiers_of}
 use Rattle.arrivals.specs.Places.{Place, place_at}
@@ -30,7 +30,7 @@ pub record ComeNext (terms : Terms) (records rs : List Record) (arrivals : List 
   pub origins_are : origins ≡ origins_of (tiers_of records) rs
   pub version : Version
   pub rules : IsCapture version desk.start (records ++ rs)
-  pub small : sizes_of (records ++ rs) ≤ longest_text
+  pub small : sizes_of (records ++ rs) ≤ max_text_bytes
 
 -- these messages come next, after those that were served: they are those of the arrivals, in time
 pub record Upcoming (terms : Terms) (arrivals more : List Arrival) (messages : List Incoming)

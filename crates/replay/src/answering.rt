@@ -4,9 +4,9 @@ ghost use Rattle.std.specs.Prelude.{◌≡◌, ◌<◌, ◌≤◌, ◌-◌, ◌+
 ghost use Rattle.std.specs.Prelude.{IfOk, IfErr, OnErr};
 ghost use Rattle.std.specs.Io.KnownBytes.{Appends};
 ghost use Rattle.paths.specs.Devices.{CanFail, CountsBy, AppendsPrefix};
-ghost use Rattle.paths.specs.Snapshots.{file_of, latest_time};
+ghost use Rattle.paths.specs.Snapshots.{file_of, max_time};
 ghost use Rattle.responses.specs.Records.{record_text};
-ghost use Rattle.captures.specs.Captures.{latest_start, latest_tick};
+ghost use Rattle.captures.specs.Captures.{max_start, max_tick};
 ghost use Rattle.replay.specs.Choices.{Terms, terms_of};
 ghost use Rattle.arrivals.specs.Arrivals.{Arrival};
 ghost use Rattle.replay.specs.Outcomes.{writer_failures, IsOwn, IfTooMany, IfCutShort};
@@ -17,7 +17,7 @@ ghost use Rattle.replay.specs.Steps.{DecidesNext, TellsNext, TellsNextInPart};
 ghost use Rattle.replay.specs.Steps.{DecidesPiece, TellsPiece, TellsPieceInPart};
 ghost use Rattle.replay.specs.Fronts.{sight_of};
 ghost use Rattle.replay.specs.Backs.{slip_of_ticket, reply_to, given_as, is_back};
-ghost use Rattle.replay.specs.declared.back_state.BackState.TheVariants.{Due as Waits};
+ghost use Rattle.replay.specs.declared.back.BackState.TheVariants.{Due as Waits};
 
 use crate::answers::{answers_head, known_file, service_of};
 use crate::desk::Desk;
@@ -26,7 +26,7 @@ use crate::service_time::ServiceTime;
 use crate::sight::Sight;
 use crate::telling::Tells;
 use crate::ticket::{Due, Ticket};
-use crate::{MOST_MESSAGES, ReplayFault};
+use crate::{MAX_MESSAGES, ReplayFault};
 use arrivals::Origin;
 use http_requests::{Meaning, Message};
 use paths::{Output, Tree, resolve};
@@ -78,7 +78,7 @@ fn give_file<F: Tree, W: Write>(
     writer: &mut Output<W>,
 ) -> Result<(), ReplayFault>
     requires file { file < length F.files }
-    requires date { slip.now.date ≤ latest_time }
+    requires date { slip.now.date ≤ max_time }
     requires failures { CanFail writer.old }
     ensures written { OnOk result (Appends writer.old.bytes writer.new.bytes
         (record_text (given_as F.files slip.now (file_of F.files file).bytes))) }
@@ -158,8 +158,8 @@ fn answer_message<T: Tells, F: Tree, W: Write>(
     desk: &mut Desk,
     writer: &mut Output<W>,
 ) -> Result<(), ReplayFault>
-    requires start { desk.old.start ≤ latest_start }
-    requires tick { origin.tick ≤ latest_tick }
+    requires start { desk.old.start ≤ max_start }
+    requires tick { origin.tick ≤ max_tick }
     requires tier { origin.tier < 4 }
     requires stands { (arrivals : List Arrival) × DeskAfter (terms_of F.files server.now) arrivals desk.old
         × AreBy origin.tick arrivals }
@@ -169,17 +169,17 @@ fn answer_message<T: Tells, F: Tree, W: Write>(
         origin what.now desk.old writer.old.bytes writer.new.bytes) }
     ensures start { OnOk result (desk.new.start ≡ desk.old.start) }
     ensures number { OnOk result (desk.new.totals.answered ≡ desk.old.totals.answered + 1) }
-    ensures many { IfErr result (λ f. IfTooMany f (λ n. (n ≡ MOST_MESSAGES)
-        × (desk.old.totals.answered ≡ MOST_MESSAGES) × (writer.new ≡ writer.old))) }
-    ensures part { IfErr result (λ f. IfCutShort f ((desk.old.totals.answered < MOST_MESSAGES)
+    ensures many { IfErr result (λ f. IfTooMany f (λ n. (n ≡ MAX_MESSAGES)
+        × (desk.old.totals.answered ≡ MAX_MESSAGES) × (writer.new ≡ writer.old))) }
+    ensures part { IfErr result (λ f. IfCutShort f ((desk.old.totals.answered < MAX_MESSAGES)
         × TellsNextInPart (T.telling (terms_of F.files server.now)) (terms_of F.files server.now)
         origin what.now desk.old writer.old.bytes writer.new.bytes)) }
     ensures failures { CountsBy writer_failures writer.old.failures writer.new.failures result }
     ensures own { IfErr result IsOwn }
 {
     let number = desk.totals.answered;
-    if number == MOST_MESSAGES {
-        return Err(ReplayFault::TooMany(MOST_MESSAGES));
+    if number == MAX_MESSAGES {
+        return Err(ReplayFault::TooMany(MAX_MESSAGES));
     }
     T::tell::<F, W>(server, heads, origin, what, desk, writer)
 }
@@ -194,8 +194,8 @@ pub(crate) fn answer_all<T: Tells, F: Tree, W: Write>(
     writer: &mut Output<W>,
 ) -> Result<(), ReplayFault>
     requires texts { (terms : Terms) → IsTelling (T.telling terms) }
-    requires start { desk.old.start ≤ latest_start }
-    requires tick { origin.tick ≤ latest_tick }
+    requires start { desk.old.start ≤ max_start }
+    requires tick { origin.tick ≤ max_tick }
     requires tier { origin.tier < 4 }
     requires stands { (arrivals : List Arrival) × DeskAfter (terms_of F.files server.now) arrivals desk.old
         × AreBy origin.tick arrivals }
@@ -204,12 +204,12 @@ pub(crate) fn answer_all<T: Tells, F: Tree, W: Write>(
     ensures written { OnOk result (TellsPiece (T.telling (terms_of F.files server.now)) (terms_of F.files server.now)
         origin messages.now desk.old writer.old.bytes writer.new.bytes) }
     ensures start { OnOk result (desk.new.start ≡ desk.old.start) }
-    ensures many { IfErr result (λ f. IfTooMany f (λ n. (n ≡ MOST_MESSAGES) × (i : ℕ) × (i < length messages.now)
-        × (desk.old.totals.answered + i ≡ MOST_MESSAGES)
+    ensures many { IfErr result (λ f. IfTooMany f (λ n. (n ≡ MAX_MESSAGES) × (i : ℕ) × (i < length messages.now)
+        × (desk.old.totals.answered + i ≡ MAX_MESSAGES)
         × TellsPiece (T.telling (terms_of F.files server.now)) (terms_of F.files server.now)
         origin (take i messages.now) desk.old writer.old.bytes writer.new.bytes)) }
     ensures part { IfErr result (λ f. IfCutShort f ((i : ℕ) × (i ≤ length messages.now)
-        × (desk.old.totals.answered + i ≤ MOST_MESSAGES)
+        × (desk.old.totals.answered + i ≤ MAX_MESSAGES)
         × TellsPieceInPart (T.telling (terms_of F.files server.now)) (terms_of F.files server.now)
         origin (take i messages.now) desk.old writer.old.bytes writer.new.bytes)) }
     ensures failures { CountsBy writer_failures writer.old.failures writer.new.failures result }

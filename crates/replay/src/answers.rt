@@ -107,13 +107,15 @@ pub(crate) fn answers_head(what: &Meaning) -> bool
 pub(crate) fn link_of(what: &Meaning) -> Link
     ensures { result ≡ link_of what.now }
 {
+    if what.closes() {
+        return Link::Close;
+    }
     match what {
-        Meaning::Request { closes: true, .. } | Meaning::Bad(_) => Link::Close,
         Meaning::Request {
             version: Version::Http10,
             ..
         } => Link::KeepAlive,
-        Meaning::Request { .. } => Link::Silent,
+        _ => Link::Silent,
     }
 }
 

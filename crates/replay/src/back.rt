@@ -3,16 +3,14 @@
 ghost use Rattle.std.specs.Prelude.{◌≡◌, ◌<◌, true, ℕ, List, length, map, flat_map, IfOk, IfErr};
 ghost use Rattle.std.specs.List.{list_all, range_with_len};
 ghost use Rattle.stage_graph.specs.After.{last_cut, with_steps};
-ghost use Rattle.replay.specs.declared.back_state.BackState.TheVariants.{Due as Waits};
+ghost use Rattle.replay.specs.declared.back.BackState.TheVariants.{Due as Waits};
 ghost use Rattle.std.specs.Arc.{arc_value};
 ghost use Rattle.stage_graph.specs.Steps.{value_of};
 ghost use Rattle.replay.specs.Backs.{slip_of_ticket, back_step, is_back, can_render, is_due, due_at, reply_in};
 ghost use Rattle.replay.specs.Backs.{reply_to, back_after, elsewhere, ticket_elsewhere};
 
-use crate::back_state::BackState;
 use crate::server::Server;
 use crate::ticket::{Due, Ticket};
-use crate::unnamed::Unnamed;
 use page_cache::{Page, PageCache};
 use paths::{Snapshot, Tree};
 use responses::{Given, Reply, SharedPage, Slip, try_render};
@@ -22,11 +20,31 @@ use std::marker::{Brand, PhantomData};
 use std::sync::{Arc, Mutex, Wait};
 use std::thread::Threads;
 
+/// Stands for a tree in a type where none is named.
+#[derive(Drop)]
+pub struct Unnamed;
+
+impl Tree for Unnamed {
+    ghost use Rattle.std.specs.Prelude.{[]};
+
+    ghost files = { [] };
+}
+
+/// How far a reply has come.
+#[derive(Drop)]
+pub enum BackState<F: Tree> {
+    /// What is told is known, the page isn't there.
+    Due(Ticket<F>),
+    /// The page is there.
+    Fetched(Slip<F>),
+    Rendered(Reply<F>),
+}
+
 /// Names the tickets of a back floor.
 pub trait Backs {
     ghost use Rattle.std.specs.Prelude.{List};
     ghost use Rattle.replay.specs.declared.ticket.Ticket.{Ticket};
-    ghost use Rattle.replay.specs.declared.unnamed.Unnamed.{Unnamed};
+    ghost use Rattle.replay.specs.declared.back.Unnamed.{Unnamed};
 
     ghost tickets: { List (Ticket Unnamed) };
 }

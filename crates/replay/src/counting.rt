@@ -1,53 +1,25 @@
 //! Counting replies by status, and messages that are no requests.
 
 ghost use Rattle.std.specs.Prelude.{◌≡◌, ◌-◌, ◌^◌};
-ghost use Rattle.responses.specs.Replies.{status_of, plain_status};
+ghost use Rattle.responses.specs.Replies.{status_of};
+ghost use Rattle.replay.specs.Backs.{told};
 ghost use Rattle.replay.specs.Counting.{AreBelow, with_status, breaks_a_rule};
 
 use crate::summary::Counts;
+use crate::ticket::Due;
 use http_requests::Meaning;
 use paths::Tree;
-use responses::{Given, Status};
 
 /// Nothing was answered yet.
-pub(crate) const NONE: Counts = Counts {
-    ok: 0,
-    moved_permanently: 0,
-    not_modified: 0,
-    bad_request: 0,
-    not_found: 0,
-    method_not_allowed: 0,
-    content_too_large: 0,
-    not_implemented: 0,
-    service_unavailable: 0,
-};
+pub(crate) const NONE: Counts = Counts { by_status: [0; 9] };
 
 impl Counts {
-    /// Counts one more reply.
-    pub(crate) fn note<F: Tree>(&mut self, what: &Given<F>)
+    /// Counts one more message, by the status that it is to be answered with.
+    pub(crate) fn note<F: Tree>(&mut self, due: &Due<F>)
         requires { AreBelow (2 ^ 64 - 1) self.old }
-        ensures { self.new ≡ with_status self.old (status_of what.now) }
+        ensures { self.new ≡ with_status self.old (status_of (told due.now)) }
     {
-        match what {
-            Given::Page { .. } | Given::Known { .. } => self.ok += 1,
-            Given::Moved { .. } => self.moved_permanently += 1,
-            Given::Unmodified { .. } => self.not_modified += 1,
-            Given::Plain { status } => self.note_status(*status),
-        }
-    }
-
-    fn note_status(&mut self, status: Status)
-        requires { AreBelow (2 ^ 64 - 1) self.old }
-        ensures { self.new ≡ with_status self.old (plain_status status) }
-    {
-        match status {
-            Status::BadRequest => self.bad_request += 1,
-            Status::NotFound => self.not_found += 1,
-            Status::MethodNotAllowed => self.method_not_allowed += 1,
-            Status::ContentTooLarge => self.content_too_large += 1,
-            Status::NotImplemented => self.not_implemented += 1,
-            Status::ServiceUnavailable { .. } => self.service_unavailable += 1,
-        }
+        self.by_status[due.status_place()] += 1;
     }
 }
 

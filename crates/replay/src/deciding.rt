@@ -2,20 +2,20 @@
 
 ghost use Rattle.std.specs.Prelude.{◌≡◌, ◌<◌, ◌≤◌, ◌+◌, ◌++◌, true, List, length, map, IfOk, OnOk};
 ghost use Rattle.std.specs.List.{list_all};
-ghost use Rattle.captures.specs.Captures.{latest_start, latest_tick};
+ghost use Rattle.captures.specs.Captures.{max_start, max_tick};
 ghost use Rattle.replay.specs.Choices.{terms_of};
 ghost use Rattle.arrivals.specs.Arrivals.{Arrival};
 ghost use Rattle.replay.specs.Offers.{handled_next, handled_after};
-ghost use Rattle.replay.specs.Outcomes.{most_messages};
+ghost use Rattle.replay.specs.Outcomes.{max_messages};
 ghost use Rattle.replay.specs.Replies.{slip_of};
 ghost use Rattle.replay.specs.Serving.{DeskAfter, AreBy};
 ghost use Rattle.replay.specs.Steps.{DecidesNext};
 ghost use Rattle.replay.specs.Fronts.{sight_of};
 ghost use Rattle.replay.specs.Ticketing.{AreSighted, InTime};
 ghost use Rattle.replay.specs.Backs.{is_back, slip_of_ticket};
-ghost use Rattle.replay.specs.declared.back_state.BackState.TheVariants.{Due as Waits};
+ghost use Rattle.replay.specs.declared.back.BackState.TheVariants.{Due as Waits};
 
-use crate::MOST_MESSAGES;
+use crate::MAX_MESSAGES;
 use crate::answers::{answers_head, link_of};
 use crate::desk::Desk;
 use crate::server::Server;
@@ -34,10 +34,10 @@ pub(crate) fn settle<F: Tree>(
     sight: Sight,
     desk: &mut Desk,
 ) -> Result<Ticket<F>, AllocError>
-    requires start { desk.old.start ≤ latest_start }
-    requires tick { origin.tick ≤ latest_tick }
+    requires start { desk.old.start ≤ max_start }
+    requires tick { origin.tick ≤ max_tick }
     requires tier { origin.tier < 4 }
-    requires few { desk.old.totals.answered < MOST_MESSAGES }
+    requires few { desk.old.totals.answered < MAX_MESSAGES }
     requires stands { (arrivals : List Arrival) × DeskAfter (terms_of F.files server.now) arrivals desk.old
         × AreBy origin.tick arrivals }
     requires sight { sight ≡ sight_of F.files server.now.costs what.now }
@@ -72,11 +72,11 @@ pub(crate) fn decide_all<F: Tree>(
     sights: Vec<Sighted>,
     desk: &mut Desk,
 ) -> Result<Vec<Ticket<F>>, AllocError>
-    requires start { desk.old.start ≤ latest_start }
+    requires start { desk.old.start ≤ max_start }
     requires arrived { (arrivals : List Arrival) × (more : List Arrival)
         × DeskAfter (terms_of F.files server.now) arrivals desk.old
         × AreSighted F.files server.now.costs more sights.items × InTime arrivals more
-        × (length arrivals + length more ≤ most_messages) }
+        × (length arrivals + length more ≤ max_messages) }
     ensures stands { OnOk result ((arrivals more : List Arrival)
         → DeskAfter (terms_of F.files server.now) arrivals desk.old
         → AreSighted F.files server.now.costs more sights.items

@@ -12,7 +12,7 @@ ghost use Rattle.replay.specs.Deciding.{Decides};
 ghost use Rattle.replay.specs.Fronts.{sight_of};
 ghost use Rattle.replay.specs.Backs.{told, only_head, has_location, is_due};
 
-use crate::MOST_MESSAGES;
+use crate::MAX_MESSAGES;
 use crate::answers::{answers_head, fault_status, outcome_answer};
 use crate::server::Server;
 use crate::sight::Sight;
@@ -39,7 +39,7 @@ impl Desk {
     fn offer(&mut self, tier: u8, tick: u64, service: u64) -> Result<bool, AllocError>
         requires offers { (offers : List Offer) × ControllerAfter offers self.old.controller
             × (tick_from 0 offers ≤ tick)
-            × (length offers < MOST_MESSAGES) }
+            × (length offers < MAX_MESSAGES) }
         requires tier { tier < 4 }
         requires tick { tick ≤ MAX_TICK }
         requires service { (1 ≤ service) × (service ≤ MAX_SERVICE) }
@@ -69,7 +69,7 @@ impl Desk {
     ) -> Result<Due<F>, AllocError>
         requires offers { (offers : List Offer) × ControllerAfter offers self.old.controller
             × (tick_from 0 offers ≤ origin.tick)
-            × (length offers < MOST_MESSAGES) }
+            × (length offers < MAX_MESSAGES) }
         requires tier { origin.tier < 4 }
         requires tick { origin.tick ≤ MAX_TICK }
         requires sight { sight ≡ sight_of F.files server.now.costs what.now }

@@ -11,7 +11,7 @@ use std::alloc::{AllocError, Global};
 use std::sync::Mutex;
 
 /// How many bytes of pages the replies of a group hold at most, where the cache can't hold the pages of all files.
-const MOST_HELD: usize = 33_554_432;
+const MAX_HELD: usize = 33_554_432;
 
 /// More bytes than a page has besides those of its file.
 const FIELDS: usize = 256;
@@ -32,7 +32,7 @@ pub(crate) fn room_for_pages(snapshot: &Snapshot, cache: usize) -> usize {
         let page = snapshot.bytes(file).len().saturating_add(FIELDS);
         all = all.saturating_add(page);
     }
-    if all <= cache { usize::MAX } else { MOST_HELD }
+    if all <= cache { usize::MAX } else { MAX_HELD }
 }
 
 /// How many bytes of a file the page of a ticket holds.

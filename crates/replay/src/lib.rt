@@ -4,7 +4,6 @@
 mod answering;
 mod answers;
 mod back;
-mod back_state;
 mod counting;
 mod deciding;
 mod desk;
@@ -28,7 +27,6 @@ mod summary;
 mod telling;
 mod ticket;
 mod totals;
-mod unnamed;
 
 pub use arrivals::Series;
 pub use explain::explain_replay;
@@ -40,4 +38,4 @@ pub use staged::staged_replay;
 pub use summary::{Counts, Summary, Tally};
 
 /// The most messages that a capture may have.
-pub const MOST_MESSAGES: usize = 1_048_576;
+pub const MAX_MESSAGES: usize = 1_048_576;

@@ -5,7 +5,7 @@ ghost use Rattle.std.specs.Prelude.{IfOk, IfErr, OnOk, OnErr};
 ghost use Rattle.std.specs.Io.KnownBytes.{Appends};
 ghost use Rattle.paths.specs.Devices.{CanFail, CountsBy, AppendsPrefix};
 ghost use Rattle.captures.specs.declared.version.Version.{Version as AVersion};
-ghost use Rattle.captures.specs.Captures.{IsRecord, size_of, sizes_of, latest_start, longest_text};
+ghost use Rattle.captures.specs.Captures.{IsRecord, size_of, sizes_of, max_start, max_text_bytes};
 ghost use Rattle.captures.specs.declared.record.Record.{Record as ARecord};
 ghost use Rattle.replay.specs.Choices.{Terms, terms_of};
 ghost use Rattle.arrivals.specs.Arrivals.{Arrival};
@@ -29,7 +29,7 @@ use crate::replies::Replies;
 use crate::server::Server;
 use crate::telling::Tells;
 use crate::totals::Totals;
-use crate::{MOST_MESSAGES, ReplayFault, Settings, Summary, Tally};
+use crate::{MAX_MESSAGES, ReplayFault, Settings, Summary, Tally};
 use admission::Controller;
 use arrivals::{Connections, Origin, Series, Tiers};
 use captures::{CaptureReader, Record};
@@ -119,18 +119,18 @@ fn answer_record<T: Tells, F: Tree, W: Write>(
     writer: &mut Output<W>,
 ) -> Result<(), ReplayFault>
     requires texts { (terms : Terms) → IsTelling (T.telling terms) }
-    requires start { desk.old.start ≤ latest_start }
+    requires start { desk.old.start ≤ max_start }
     requires record { (version : AVersion) × IsRecord version next.now }
     requires room { (records : List ARecord) × (arrivals : List Arrival)
         × Serves (terms_of F.files server.now) records arrivals connections.old desk.old
-        × (sizes_of records + size_of next.now ≤ longest_text) × IsLater next.now arrivals }
+        × (sizes_of records + size_of next.now ≤ max_text_bytes) × IsLater next.now arrivals }
     requires failures { CanFail writer.old }
     ensures tiers { OnOk result ((records : List ARecord) → AreTiers records tiers.old
         → AreTiers (records ++ next.now ∷ []) tiers.new) }
     ensures serves { OnOk result (AnswersRecord (T.telling (terms_of F.files server.now)) (terms_of F.files server.now)
         next.now tiers.old connections.old desk.old connections.new desk.new writer.old.bytes writer.new.bytes) }
     ensures start { OnOk result (desk.new.start ≡ desk.old.start) }
-    ensures many { IfErr result (λ f. IfTooMany f (λ n. (n ≡ MOST_MESSAGES)
+    ensures many { IfErr result (λ f. IfTooMany f (λ n. (n ≡ MAX_MESSAGES)
         × FillsWithRecord (T.telling (terms_of F.files server.now)) (terms_of F.files server.now)
         next.now tiers.old connections.old desk.old writer.old.bytes writer.new.bytes)) }
     ensures part { IfErr result (λ f. IfCutShort f ((writer.new.bytes ≡ writer.old.bytes)

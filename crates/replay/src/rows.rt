@@ -26,7 +26,7 @@ use arrivals::Origin;
 use explaining::{Offered, Row, write_heading, write_row};
 use http_requests::Meaning;
 use paths::{Output, Tree};
-use responses::{Given, HeadRenderer, Status};
+use responses::{Given, HeadRenderer, OK_PLACE, STATUS_CODES, Status};
 use std::alloc::Global;
 use std::io::Write;
 
@@ -46,10 +46,8 @@ fn status_of<F: Tree>(due: &Due<F>) -> u16
     ensures { result ≡ status_of (told due.now) }
 {
     match due {
-        Due::Page { .. } | Due::Told(Given::Page { .. } | Given::Known { .. }) => 200,
-        Due::Told(Given::Moved { .. }) => 301,
-        Due::Told(Given::Unmodified { .. }) => 304,
-        Due::Told(Given::Plain { status }) => status.code(),
+        Due::Page { .. } => STATUS_CODES[OK_PLACE],
+        Due::Told(given) => given.code(),
     }
 }
 

@@ -4,15 +4,15 @@ ghost use Rattle.std.specs.Prelude.{◌≡◌, ◌<◌, ◌≤◌, ◌-◌, ◌+
 ghost use Rattle.std.specs.Prelude.{OnErr, true};
 ghost use Rattle.std.specs.List.{list_all};
 ghost use Rattle.replay.specs.Backs.{is_back};
-ghost use Rattle.replay.specs.declared.back_state.BackState.TheVariants.{Due as Waits};
+ghost use Rattle.replay.specs.declared.back.BackState.TheVariants.{Due as Waits};
 ghost use Rattle.replay.specs.Groups.{records_of};
-ghost use Rattle.captures.specs.Captures.{latest_start};
+ghost use Rattle.captures.specs.Captures.{max_start};
 ghost use Rattle.responses.specs.Records.{record_text};
 ghost use Rattle.arrivals.specs.Arrivals.{Arrival};
 ghost use Rattle.arrivals.specs.Batches.{joined};
 ghost use Rattle.replay.specs.Choices.{terms_of};
 ghost use Rattle.replay.specs.Outcomes.{writer_failures, IsOwn, IsWriteOrMemory, IfTooMany};
-ghost use Rattle.replay.specs.Outcomes.{IfCutShort, most_messages};
+ghost use Rattle.replay.specs.Outcomes.{IfCutShort, max_messages};
 ghost use Rattle.replay.specs.Steps.{DecidesComing, WritesComing, WritesComingInPart};
 ghost use Rattle.replay.specs.Steps.{WritesFirst, WritesFirstInPart};
 ghost use Rattle.replay.specs.Waiting.{Upcoming};
@@ -27,7 +27,7 @@ use crate::groups::{Pages, groups_of};
 use crate::server::Server;
 use crate::shifted::Shifted;
 use crate::ticket::Ticket;
-use crate::{MOST_MESSAGES, ReplayFault};
+use crate::{MAX_MESSAGES, ReplayFault};
 use arrivals::{Incoming, Series};
 use paths::{Output, Tree};
 use responses::{Reply, write_reply};
@@ -119,10 +119,10 @@ fn serve_few<F: Tree + Send + Sync, G: Gate + Sync, T: Threads + Wait + Sync, W:
     desk: &mut Desk,
     writer: &mut Output<W>,
 ) -> Result<(), ReplayFault>
-    requires start { desk.old.start ≤ latest_start }
+    requires start { desk.old.start ≤ max_start }
     requires next { (arrivals : List Arrival) × (more : List Arrival)
         × Upcoming (terms_of F.files server.now) arrivals more messages.items desk.old
-        × (length arrivals + length more ≤ most_messages) }
+        × (length arrivals + length more ≤ max_messages) }
     requires failures { CanFail writer.old }
     ensures stands { OnOk result (DecidesComing (terms_of F.files server.now) messages.items desk.old desk.new) }
     ensures written { OnOk result
@@ -155,32 +155,32 @@ fn serve_part<F: Tree + Send + Sync, G: Gate + Sync, T: Threads + Wait + Sync, W
     desk: &mut Desk,
     writer: &mut Output<W>,
 ) -> Result<(), ReplayFault>
-    requires start { desk.old.start ≤ latest_start }
+    requires start { desk.old.start ≤ max_start }
     requires next { (arrivals : List Arrival) × (more : List Arrival)
         × Upcoming (terms_of F.files server.now) arrivals more messages.items desk.old }
     requires failures { CanFail writer.old }
     ensures stands { OnOk result (DecidesComing (terms_of F.files server.now) messages.items desk.old desk.new) }
     ensures written { OnOk result
         (WritesComing (terms_of F.files server.now) messages.items desk.old writer.old.bytes writer.new.bytes) }
-    ensures many { IfErr result (λ f. IfTooMany f (λ n. (n ≡ MOST_MESSAGES) × (i : ℕ) × (i < length messages.items)
-        × (desk.old.totals.answered + i ≡ MOST_MESSAGES)
+    ensures many { IfErr result (λ f. IfTooMany f (λ n. (n ≡ MAX_MESSAGES) × (i : ℕ) × (i < length messages.items)
+        × (desk.old.totals.answered + i ≡ MAX_MESSAGES)
         × WritesFirst i (terms_of F.files server.now) messages.items desk.old writer.old.bytes writer.new.bytes)) }
     ensures part { IfErr result (λ f. IfCutShort f ((i : ℕ) × (i ≤ length messages.items)
-        × (desk.old.totals.answered + i ≤ MOST_MESSAGES)
+        × (desk.old.totals.answered + i ≤ MAX_MESSAGES)
         × WritesFirstInPart i (terms_of F.files server.now) messages.items desk.old
         writer.old.bytes writer.new.bytes)) }
     ensures start { OnOk result (desk.new.start ≡ desk.old.start) }
     ensures failures { CountsBy writer_failures writer.old.failures writer.new.failures result }
     ensures own { IfErr result IsOwn }
 {
-    let room = MOST_MESSAGES - desk.totals.answered;
+    let room = MAX_MESSAGES - desk.totals.answered;
     if messages.len() <= room {
         return serve_few(server, floors, messages, desk, writer);
     }
     let mut within = messages;
     within.truncate(room);
     serve_few(server, floors, within, desk, writer)?;
-    Err(ReplayFault::TooMany(MOST_MESSAGES))
+    Err(ReplayFault::TooMany(MAX_MESSAGES))
 }
 
 /// Serves the messages of a batch, part after part.
@@ -196,19 +196,19 @@ pub(crate) fn serve_parts<
     desk: &mut Desk,
     writer: &mut Output<W>,
 ) -> Result<(), ReplayFault>
-    requires start { desk.old.start ≤ latest_start }
+    requires start { desk.old.start ≤ max_start }
     requires next { (arrivals : List Arrival) × (more : List Arrival)
         × Upcoming (terms_of F.files server.now) arrivals more (joined parts.items) desk.old }
     requires failures { CanFail writer.old }
     ensures stands { OnOk result (DecidesComing (terms_of F.files server.now) (joined parts.items) desk.old desk.new) }
     ensures written { OnOk result
         (WritesComing (terms_of F.files server.now) (joined parts.items) desk.old writer.old.bytes writer.new.bytes) }
-    ensures many { IfErr result (λ f. IfTooMany f (λ n. (n ≡ MOST_MESSAGES) × (i : ℕ)
-        × (i < length (joined parts.items)) × (desk.old.totals.answered + i ≡ MOST_MESSAGES)
+    ensures many { IfErr result (λ f. IfTooMany f (λ n. (n ≡ MAX_MESSAGES) × (i : ℕ)
+        × (i < length (joined parts.items)) × (desk.old.totals.answered + i ≡ MAX_MESSAGES)
         × WritesFirst i (terms_of F.files server.now) (joined parts.items) desk.old
         writer.old.bytes writer.new.bytes)) }
     ensures part { IfErr result (λ f. IfCutShort f ((i : ℕ) × (i ≤ length (joined parts.items))
-        × (desk.old.totals.answered + i ≤ MOST_MESSAGES)
+        × (desk.old.totals.answered + i ≤ MAX_MESSAGES)
         × WritesFirstInPart i (terms_of F.files server.now) (joined parts.items) desk.old
         writer.old.bytes writer.new.bytes)) }
     ensures start { OnOk result (desk.new.start ≡ desk.old.start) }

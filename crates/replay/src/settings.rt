@@ -17,13 +17,13 @@ pub const FRONT_STEPS: usize = 3;
 pub const BACK_STEPS: usize = 2;
 
 /// The most records of a batch.
-pub const MOST_RECORDS: usize = 65_536;
+pub const MAX_BATCH: usize = 65_536;
 
 /// The most bytes of the cache.
-pub const MOST_CACHE: usize = 1_073_741_824;
+pub const MAX_CACHE: usize = 1_073_741_824;
 
 /// The longest time after which a rejected request may be tried again, in seconds.
-pub const LONGEST_RETRY: u64 = 86_400;
+pub const MAX_RETRY_AFTER: u64 = 86_400;
 
 /// Which of the settings is outside its range.
 #[derive(Clone, Copy, Debug, PartialEq, Eq, Error)]
@@ -125,13 +125,13 @@ impl Settings {
         if back.steps() != BACK_STEPS {
             return Err(SettingsFault::Back);
         }
-        if batch == 0 || batch > MOST_RECORDS {
+        if batch == 0 || batch > MAX_BATCH {
             return Err(SettingsFault::Batch);
         }
-        if cache > MOST_CACHE {
+        if cache > MAX_CACHE {
             return Err(SettingsFault::Cache);
         }
-        if retry_after > LONGEST_RETRY {
+        if retry_after > MAX_RETRY_AFTER {
             return Err(SettingsFault::Retry);
         }
         Ok(Settings {

@@ -3,7 +3,7 @@
 ghost use Rattle.std.specs.Prelude.{◌≡◌, ◌<◌, ◌≤◌, ◌-◌, ◌+◌, ◌^◌, ◌⊎◌, [], List};
 ghost use Rattle.std.specs.Prelude.{IfOk, IfErr, OnOk};
 ghost use Rattle.paths.specs.Devices.{CanFail, BlamedOnce, CountsBy};
-ghost use Rattle.captures.specs.Captures.{latest_start};
+ghost use Rattle.captures.specs.Captures.{max_start};
 ghost use Rattle.captures.specs.declared.record.Record.{Record as ARecord};
 ghost use Rattle.arrivals.specs.Arrivals.{Arrival};
 ghost use Rattle.replay.specs.Choices.{terms_of};
@@ -19,7 +19,7 @@ use crate::plain::{outcome_of, write_first_line, write_last_line};
 use crate::server::Server;
 use crate::serving::{Floors, serve_parts};
 use crate::totals::Totals;
-use crate::{MOST_MESSAGES, ReplayFault, Settings};
+use crate::{MAX_MESSAGES, ReplayFault, Settings};
 use admission::Controller;
 use arrivals::{Ending, Origin, Seats, Tiers, parts_of, read_batch};
 use captures::CaptureReader;
@@ -42,7 +42,7 @@ fn serve_batch<F: Tree + Send + Sync, G: Gate + Sync, T: Threads + Wait + Sync, 
     desk: &mut Desk,
     writer: &mut Output<W>,
 ) -> Result<Seats, ReplayFault>
-    requires start { desk.old.start ≤ latest_start }
+    requires start { desk.old.start ≤ max_start }
     requires next { (records : List ARecord) × (rs : List ARecord) × (arrivals : List Arrival)
         × ComeNext (terms_of F.files server.now) records rs arrivals seats origins.now desk.old }
     requires failures { CanFail writer.old }
@@ -50,7 +50,7 @@ fn serve_batch<F: Tree + Send + Sync, G: Gate + Sync, T: Threads + Wait + Sync, 
         after desk.new writer.old.bytes writer.new.bytes) }
     ensures idle { IfOk result (Waiting []) }
     ensures start { OnOk result (desk.new.start ≡ desk.old.start) }
-    ensures many { IfErr result (λ f. IfTooMany f (λ n. (n ≡ MOST_MESSAGES)
+    ensures many { IfErr result (λ f. IfTooMany f (λ n. (n ≡ MAX_MESSAGES)
         × FillsWithBatch (terms_of F.files server.now) seats origins.now desk.old
         writer.old.bytes writer.new.bytes)) }
     ensures part { IfErr result (λ f. IfCutShort f ((writer.new.bytes ≡ writer.old.bytes)

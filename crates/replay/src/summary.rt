@@ -6,24 +6,8 @@ use arrivals::Series;
 /// How many messages were answered with each status.
 #[derive(Clone, Copy, Debug, PartialEq, Eq)]
 pub struct Counts {
-    /// 200.
-    pub ok: u64,
-    /// 301.
-    pub moved_permanently: u64,
-    /// 304.
-    pub not_modified: u64,
-    /// 400.
-    pub bad_request: u64,
-    /// 404.
-    pub not_found: u64,
-    /// 405.
-    pub method_not_allowed: u64,
-    /// 413.
-    pub content_too_large: u64,
-    /// 501.
-    pub not_implemented: u64,
-    /// 503.
-    pub service_unavailable: u64,
+    /// A count for each of `STATUS_CODES`, in their order.
+    pub by_status: [u64; 9],
 }
 
 /// What became of the requests of one tier.

@@ -3,7 +3,7 @@
 ghost use Rattle.std.specs.Prelude.{◌≡◌, ◌<◌, ◌≤◌, ◌-◌, ◌+◌, ◌^◌, List, OnOk, OnErr, IfErr};
 ghost use Rattle.std.specs.Io.KnownBytes.{Appends};
 ghost use Rattle.paths.specs.Devices.{CanFail, CountsBy, AppendsPrefix};
-ghost use Rattle.captures.specs.Captures.{latest_start, latest_tick};
+ghost use Rattle.captures.specs.Captures.{max_start, max_tick};
 ghost use Rattle.arrivals.specs.Arrivals.{Arrival};
 ghost use Rattle.replay.specs.Choices.{Terms, terms_of};
 ghost use Rattle.replay.specs.Outcomes.{writer_failures, IsWriteOrMemory};
@@ -13,7 +13,7 @@ ghost use Rattle.replay.specs.Steps.{DecidesNext, TellsNext, TellsNextInPart};
 
 use crate::desk::Desk;
 use crate::server::Server;
-use crate::{MOST_MESSAGES, ReplayFault};
+use crate::{MAX_MESSAGES, ReplayFault};
 use arrivals::Origin;
 use http_requests::Meaning;
 use paths::{Output, Tree};
@@ -50,10 +50,10 @@ pub(crate) trait Tells {
         desk: &mut Desk,
         writer: &mut Output<W>,
     ) -> Result<(), ReplayFault>
-        requires start { desk.old.start ≤ latest_start }
-        requires tick { origin.tick ≤ latest_tick }
+        requires start { desk.old.start ≤ max_start }
+        requires tick { origin.tick ≤ max_tick }
         requires tier { origin.tier < 4 }
-        requires few { desk.old.totals.answered < MOST_MESSAGES }
+        requires few { desk.old.totals.answered < MAX_MESSAGES }
         requires stands { (arrivals : List Arrival) × DeskAfter (terms_of F.files server.now) arrivals desk.old
             × AreBy origin.tick arrivals }
         requires failures { CanFail writer.old }

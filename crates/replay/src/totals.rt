@@ -12,7 +12,6 @@ use crate::ticket::Due;
 use arrivals::Series;
 use http_requests::Meaning;
 use paths::Tree;
-use responses::Given;
 use std::alloc::Global;
 
 /// The messages that were answered so far.
@@ -51,10 +50,7 @@ impl Totals {
         ensures { self.new ≡ noted self.old (status_of (told due.now)) (breaks_a_rule what.now) }
     {
         self.answered += 1;
-        match due {
-            Due::Page { .. } => self.counts.ok += 1,
-            Due::Told(given) => self.counts.note(given),
-        }
+        self.counts.note(due);
         if breaks_a_rule(what) {
             self.bypassed += 1;
         }

@@ -1,6 +1,7 @@
 -- One line more.
-use Rattle.std.proofs.Common.{◌≡◌, ℕ, ◌+◌, ◌<◌, List, [], ◌∷◌, ◌++◌, length, take, sym, arith, rules}
-use Rattle.std.specs.List.{flat_map}
+use Rattle.std.proofs.Common.{◌≡◌, ℕ, ◌+◌, ◌<◌, List, [], ◌∷◌, ◌++◌, length, take, sym, ap, ◌∙◌, refl, min, take_all, arith, rules}
+use Rattle.std.specs.List.{flat_map, zip}
+use Rattle.std.proofs.lemmas.Slice.Zip.{length-zip, get_or-zip}
 use Rattle.std.proofs.lemmas.List.{append_assoc, append-nil, flat_map_more, take_more}
 use lib.ListN.{get_or}
 use Rattle.report.specs.Reports.{status_line, numbered_from}
@@ -29,6 +30,23 @@ numbered-more lines_of start s s' xs i d h before now =
 abbrev pub line_of : ℕ × ℕ → List ℕ
 line_of entry = status_line entry.0 entry.1
 
-pub status_lines-more : (start s s' : List ℕ) (statuses : List (ℕ × ℕ)) (i : ℕ) (d : ℕ × ℕ) → i < length statuses → s ≡ start ++ flat_map line_of (take i statuses) → s' ≡ s ++ line_of (get_or statuses i d) → s' ≡ start ++ flat_map line_of (take (i + 1) statuses)
-status_lines-more start s s' statuses i d h before now =
-    rw (now, before, take_more statuses i d h) (flat_map_more line_of start (take i statuses) (get_or statuses i d))
+-- one pair more of those of a zip, of which n were told
+pub status_lines-more : (start s s' codes counts : List ℕ) (n m status count : ℕ)
+    → n < length codes → n < length counts → m ≡ n + 1 → status ≡ get_or codes n 0 → count ≡ get_or counts n 0
+    → s ≡ start ++ flat_map line_of (take n (zip codes counts)) → s' ≡ s ++ status_line status count
+    → s' ≡ start ++ flat_map line_of (take m (zip codes counts))
+status_lines-more start s s' codes counts n m status count first second next code-is count-is before now =
+    let pairs = zip codes counts in
+    let pair : get_or pairs n (0, 0) ≡ (get_or codes n 0, get_or counts n 0) =
+    get_or-zip codes counts n (0, 0) first second in
+    let own : status_line status count ≡ line_of (get_or pairs n (0, 0)) = rw (code-is, count-is, pair) refl in
+    let within : n < length pairs = let long = length-zip codes counts in omega (arith, long, first, second) in
+    rw (now, before, own, next, take_more pairs n (0, 0) within)
+    (flat_map_more line_of start (take n pairs) (get_or pairs n (0, 0)))
+
+-- all pairs were told
+pub status_lines-all : (start s codes counts : List ℕ) (n : ℕ) → n ≡ min (length codes) (length counts)
+    → s ≡ start ++ flat_map line_of (take n (zip codes counts)) → s ≡ start ++ flat_map line_of (zip codes counts)
+status_lines-all start s codes counts n end before =
+    let long : length (zip codes counts) ≡ n = length-zip codes counts ∙ sym end in
+    before ∙ ap (λ pairs. start ++ flat_map line_of pairs) (take_all n (zip codes counts) (omega (arith, long)))

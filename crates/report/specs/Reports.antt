@@ -1,8 +1,9 @@
 -- The text of a report (docs/FORMATS.md, "Report").
 use Rattle.std.specs.Prelude.{ℕ, ◌+◌, ◌-◌, ◌*◌, ◌/◌, List, [], ◌∷◌, ◌++◌, length, Option, Some, None, codes, decimal}
-use Rattle.std.specs.Prelude.{flat_map, slice_get, Bool, nat_lt, if◌then◌else◌}
+use Rattle.std.specs.Prelude.{flat_map, slice_get, zip, Bool, nat_lt, if◌then◌else◌}
 use Rattle.admission.specs.Percentile.{sorted}
 use Rattle.admission.specs.declared.control.Control.{Control}
+use Rattle.responses.specs.Statuses.{statuses}
 use Rattle.replay.specs.declared.outcome.Outcome.{Outcome}
 use Rattle.replay.specs.declared.summary.Counts.{Counts}
 use Rattle.replay.specs.declared.summary.Tally.{Tally}
@@ -24,17 +25,7 @@ total_lines outcome =
 
 -- the statuses, and how many messages were answered with each
 abbrev pub by_status : Counts → List (ℕ × ℕ)
-by_status counts =
-    (200, counts.ok)
-    ∷ (301, counts.moved_permanently)
-    ∷ (304, counts.not_modified)
-    ∷ (400, counts.bad_request)
-    ∷ (404, counts.not_found)
-    ∷ (405, counts.method_not_allowed)
-    ∷ (413, counts.content_too_large)
-    ∷ (501, counts.not_implemented)
-    ∷ (503, counts.service_unavailable)
-    ∷ []
+by_status counts = zip statuses counts.by_status
 
 abbrev pub status_line : ℕ → ℕ → List ℕ
 status_line status count = codes "status " ++ decimal status ++ codes " " ++ decimal count ++ codes "\n"

@@ -9,6 +9,7 @@ ghost use Rattle.report.specs.Reports.{all_tier_lines, reject_lines, report_text
 use crate::percentiles::{percentile, sorted};
 use admission::Control;
 use replay::{Counts, Outcome, Tally};
+use responses::STATUS_CODES;
 use std::alloc::{AllocError, Global};
 
 /// How many messages there were: 64 bits may not hold the sum.
@@ -43,18 +44,7 @@ fn write_status(text: &mut String, status: u16, count: u64) -> Result<(), AllocE
 fn write_statuses(text: &mut String, counts: Counts) -> Result<(), AllocError>
     ensures { OnOk result (string_bytes text.new ≡ string_bytes text.old ++ status_lines counts) }
 {
-    let statuses = [
-        (200, counts.ok),
-        (301, counts.moved_permanently),
-        (304, counts.not_modified),
-        (400, counts.bad_request),
-        (404, counts.not_found),
-        (405, counts.method_not_allowed),
-        (413, counts.content_too_large),
-        (501, counts.not_implemented),
-        (503, counts.service_unavailable),
-    ];
-    for (status, count) in &statuses {
+    for (status, count) in STATUS_CODES.iter().zip(&counts.by_status) {
         write_status(text, *status, *count)?;
     }
     Ok(())

@@ -1,6 +1,6 @@
 //! The texts of dates, each kept for the next head of the same second.
 ghost use Rattle.std.specs.Prelude.{◌≡◌, ◌≤◌};
-ghost use Rattle.paths.specs.Snapshots.{latest_time};
+ghost use Rattle.paths.specs.Snapshots.{max_time};
 ghost use Rattle.responses.specs.Dates.{imf_date};
 
 use httpdate::HttpDate;
@@ -16,7 +16,7 @@ pub(crate) struct DateText {
 impl DateText {
     /// The text of a second.
     pub(crate) fn of(second: u64) -> DateText
-        requires { second ≤ latest_time }
+        requires { second ≤ max_time }
         ensures { result.second ≡ second }
     {
         let date = HttpDate::from_unix_secs(second).unwrap();
@@ -28,7 +28,7 @@ impl DateText {
 
     /// Turns to a second, whose text is made where it is another one.
     pub(crate) fn turn_to(&mut self, second: u64)
-        requires { second ≤ latest_time }
+        requires { second ≤ max_time }
         ensures { self.new.second ≡ second }
     {
         if self.second != second {
@@ -49,7 +49,7 @@ pub(crate) struct Dates {
 impl Dates {
     /// Both of this second.
     pub(crate) fn of(second: u64) -> Dates
-        requires { second ≤ latest_time }
+        requires { second ≤ max_time }
     {
         let date = DateText::of(second);
         Dates {

@@ -2,7 +2,7 @@
 
 ghost use Rattle.std.specs.Prelude.{◌≡◌, ◌≤◌, ◌++◌, OnOk, decimal, codes, min};
 ghost use Rattle.std.specs.Option.{option_map};
-ghost use Rattle.paths.specs.Snapshots.{latest_time};
+ghost use Rattle.paths.specs.Snapshots.{max_time};
 ghost use Rattle.responses.specs.Dates.{imf_date};
 ghost use Rattle.responses.specs.Replies.{plain_words, status_words, content_type, content_length, last_modified};
 ghost use Rattle.responses.specs.Replies.{location_of, allow_of, retry_after_of, connection_of, field_line};
@@ -74,7 +74,7 @@ pub(crate) fn push_last_modified<F: Tree>(
     what: &Given<F>,
     date: u64,
 ) -> Result<(), AllocError>
-    requires { date ≤ latest_time }
+    requires { date ≤ max_time }
     ensures { OnOk result (head.new.items ≡ head.old.items
         ++ field_line (codes "Last-Modified")
         (option_map (λ mtime. imf_date (min mtime date)) (last_modified what.now))) }

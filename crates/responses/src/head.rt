@@ -1,7 +1,7 @@
 //! Pushing a field, a number or a date.
 
 ghost use Rattle.std.specs.Prelude.{◌≡◌, ◌≤◌, ◌++◌, OnOk, Some, codes, decimal};
-ghost use Rattle.paths.specs.Snapshots.{latest_time};
+ghost use Rattle.paths.specs.Snapshots.{max_time};
 ghost use Rattle.responses.specs.Dates.{imf_date};
 ghost use Rattle.responses.specs.Replies.{field_line};
 
@@ -36,7 +36,7 @@ pub(crate) fn push_date(
     name: &[u8],
     second: u64,
 ) -> Result<(), AllocError>
-    requires { second ≤ latest_time }
+    requires { second ≤ max_time }
     ensures { OnOk result (head.new.items ≡ head.old.items ++ field_line name.now (Some (imf_date second))) }
 {
     date.turn_to(second);

@@ -15,5 +15,5 @@ pub use record::{write_record, write_reply};
 pub use rendering::HeadRenderer;
 pub use reply::{Reply, render, try_render};
 pub use shared_page::SharedPage;
-pub use slip::{Given, Link, Slip, Status};
+pub use slip::{Given, Link, OK_PLACE, STATUS_CODES, Slip, Status};
 pub use write_fault::Write;

@@ -1,7 +1,7 @@
 //! The head of a reply, rendered in a room that is kept for the next.
 
 ghost use Rattle.std.specs.Prelude.{◌≡◌, ◌≤◌, [], OnOk};
-ghost use Rattle.paths.specs.Snapshots.{latest_time};
+ghost use Rattle.paths.specs.Snapshots.{max_time};
 ghost use Rattle.responses.specs.Replies.{head_text};
 
 use crate::Slip;
@@ -19,7 +19,7 @@ pub(crate) fn push_head<F: Tree>(
     slip: &Slip<F>,
 ) -> Result<(), AllocError>
     requires empty { head.old.items ≡ [] }
-    requires date { slip.now.date ≤ latest_time }
+    requires date { slip.now.date ≤ max_time }
     ensures { OnOk result (head.new.items ≡ head_text F.files slip.now) }
 {
     head.extend_from_slice(b"HTTP/1.1 ")?;
@@ -66,7 +66,7 @@ impl HeadRenderer {
     /// Renders the head of a reply, with the empty line that ends it, in the place of the last one. An `Err` is out of
     /// memory.
     pub fn render<F: Tree>(&mut self, slip: &Slip<F>) -> Result<(), AllocError>
-        requires { slip.now.date ≤ latest_time }
+        requires { slip.now.date ≤ max_time }
         ensures { OnOk result (self.new ≡ head_text F.files slip.now) }
     {
         self.head.clear();

@@ -1,7 +1,7 @@
 //! A reply, rendered from its slip.
 
 ghost use Rattle.std.specs.Prelude.{◌≡◌, ◌≤◌, ◌+◌, ◌<◌, ◌^◌, ◌++◌, length, IfOk, IfErr, OnOk};
-ghost use Rattle.paths.specs.Snapshots.{latest_time};
+ghost use Rattle.paths.specs.Snapshots.{max_time};
 ghost use Rattle.responses.specs.Replies.{reply_text, head_text, body_text, status_of, OnlyHead, HasLocation};
 ghost use Rattle.responses.specs.Replies.{held_body, content_of, note_of, front_text};
 ghost use Rattle.responses.specs.Messages.{IsReply};
@@ -67,7 +67,7 @@ impl<F: Tree> Reply<F> {
 
 /// The head of a reply, with the empty line that ends it. An `Err` is out of memory.
 fn render_head<F: Tree>(alloc: Global, slip: &Slip<F>) -> Result<Vec<u8>, AllocError>
-    requires { slip.now.date ≤ latest_time }
+    requires { slip.now.date ≤ max_time }
     ensures { IfOk result (λ head. head.items ≡ head_text F.files slip.now) }
 {
     let mut head = Vec::with_capacity(alloc, HEAD_ROOM)?;
@@ -113,7 +113,7 @@ fn shared_page<F: Tree>(what: Given<F>) -> Option<SharedPage<F>>
 ///
 /// A client that reads it from a connection finds this status and this body, whatever follows (RFC 9112, section 6.3).
 pub fn render<F: Tree>(alloc: Global, slip: Slip<F>) -> Result<Reply<F>, AllocError>
-    requires date { slip.date ≤ latest_time }
+    requires date { slip.date ≤ max_time }
     // The length alone is known only where HEAD is answered.
     requires known { OnlyHead slip.head slip.what }
     requires location { HasLocation slip.what }
@@ -141,7 +141,7 @@ pub fn render<F: Tree>(alloc: Global, slip: Slip<F>) -> Result<Reply<F>, AllocEr
 
 /// The head of a slip's reply, and the body where it is no file's.
 fn render_front<F: Tree>(alloc: Global, slip: &Slip<F>) -> Result<Vec<u8>, AllocError>
-    requires { slip.now.date ≤ latest_time }
+    requires { slip.now.date ≤ max_time }
     ensures { IfOk result (λ front. front.items ≡ front_text F.files slip.now) }
 {
     let mut front = render_head(alloc, slip)?;
@@ -177,7 +177,7 @@ fn with_page<F: Tree>(slip: Slip<F>, front: Vec<u8>) -> Reply<F>
 /// The reply of a slip, or the slip again where memory ran out. It asks less than [`render`], and promises the text
 /// alone.
 pub fn try_render<F: Tree>(alloc: Global, slip: Slip<F>) -> Result<Reply<F>, Slip<F>>
-    requires date { slip.date ≤ latest_time }
+    requires date { slip.date ≤ max_time }
     ensures text { IfOk result (λ r. r ≡ (slip.number, slip.conn, reply_text F.files slip)) }
     ensures err { IfErr result (λ s. s ≡ slip) }
 {

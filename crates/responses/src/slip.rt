@@ -1,7 +1,8 @@
 //! All that a reply is made of: the slip, and its parts.
 
-ghost use Rattle.std.specs.Prelude.{◌≡◌};
-ghost use Rattle.responses.specs.Replies.{plain_status};
+ghost use Rattle.std.specs.Prelude.{◌≡◌, slice_get};
+ghost use Rattle.responses.specs.Replies.{plain_status, status_of};
+ghost use Rattle.responses.specs.Statuses.{statuses};
 
 use crate::SharedPage;
 use page_cache::MediaType;
@@ -17,6 +18,12 @@ pub enum Link {
     /// It goes on, as HTTP/1.1 does without a word.
     Silent,
 }
+
+/// The code of each status that a reply may have, in the order of a report (RFC 9110, section 15).
+pub const STATUS_CODES: [u16; 9] = [200, 301, 304, 400, 404, 405, 413, 501, 503];
+
+/// The place of 200 in `STATUS_CODES`.
+pub const OK_PLACE: usize = 0;
 
 /// The status of a reply that says no more than its status (RFC 9110, section 15).
 #[derive(Clone, Copy, Debug, PartialEq, Eq)]
@@ -36,17 +43,17 @@ pub enum Status {
 }
 
 impl Status {
-    /// The status code (RFC 9110, section 15).
-    pub fn code(self) -> u16
-        ensures { result ≡ plain_status self }
+    /// The place of its code in `STATUS_CODES`.
+    pub fn place(self) -> usize
+        ensures { slice_get statuses result ≡ Some (plain_status self) }
     {
         match self {
-            Status::BadRequest => 400,
-            Status::NotFound => 404,
-            Status::MethodNotAllowed => 405,
-            Status::ContentTooLarge => 413,
-            Status::NotImplemented => 501,
-            Status::ServiceUnavailable { .. } => 503,
+            Status::BadRequest => 3,
+            Status::NotFound => 4,
+            Status::MethodNotAllowed => 5,
+            Status::ContentTooLarge => 6,
+            Status::NotImplemented => 7,
+            Status::ServiceUnavailable { .. } => 8,
         }
     }
 }
@@ -82,6 +89,27 @@ pub enum Given<F: Tree> {
     Plain {
         status: Status,
     },
+}
+
+impl<F: Tree> Given<F> {
+    /// The place of the code of its status in `STATUS_CODES`.
+    pub fn status_place(&self) -> usize
+        ensures { slice_get statuses result ≡ Some (status_of self.now) }
+    {
+        match self {
+            Given::Page { .. } | Given::Known { .. } => OK_PLACE,
+            Given::Moved { .. } => 1,
+            Given::Unmodified { .. } => 2,
+            Given::Plain { status } => status.place(),
+        }
+    }
+
+    /// The code of its status (RFC 9110, section 15).
+    pub fn code(&self) -> u16
+        ensures { result ≡ status_of self.now }
+    {
+        STATUS_CODES[self.status_place()]
+    }
 }
 
 /// All that a reply follows from.

@@ -6,7 +6,7 @@ use Rattle.std.proofs.lemmas.List.{append_assoc, length-append, map-append}
 use Rattle.std.proofs.lemmas.List.Elements.{filter-append}
 use Rattle.std.proofs.lemmas.Grind.{flat_map-append}
 use Rattle.paths.specs.declared.file.File.{File}
-use Rattle.paths.specs.Snapshots.{feed, no_file, file_of, file_text, last_line, text_before_end, snapshot_text, longest_text, IsSnapshot, Follows}
+use Rattle.paths.specs.Snapshots.{feed, no_file, file_of, file_text, last_line, text_before_end, snapshot_text, max_text_bytes, IsSnapshot, Follows}
 use Rattle.paths.proofs.OneList.{header}
 use Rattle.snapshots.specs.declared.so_far.SoFar.{SoFar}
 use Rattle.snapshots.specs.Keeping.{last_name, lengths_within, IsSoFar, Grown}
@@ -41,7 +41,7 @@ whole_size files f =
     ap (λ (n : ℕ). length ((codes "end " ++ decimal n) ++ feed ∷ [])) one_more ∙ omega (arith, length-append (decimal (length files + 1)) (feed ∷ [])) in
     length-append (text_before_end (files ++ f ∷ [])) (last_line (files ++ f ∷ []) ++ feed ∷ []) ∙ omega (arith, last, size_push files f)
 
-pub kept_more : (files : List File) (f : File) (s next : SoFar) (n : ℕ) → IsSnapshot files → Follows files f → length (snapshot_text (files ++ f ∷ [])) ≤ longest_text
+pub kept_more : (files : List File) (f : File) (s next : SoFar) (n : ℕ) → IsSnapshot files → Follows files f → length (snapshot_text (files ++ f ∷ [])) ≤ max_text_bytes
     → IsSoFar files s → n ≡ length (file_text f) → Grown s f.name n next → IsSoFar (files ++ f ∷ []) next
 kept_more files f s next n rules fits small kept is h = record {
   count = h.count ∙ (let few = rules.count in omega (arith, kept.count, length-append files (f ∷ [])));

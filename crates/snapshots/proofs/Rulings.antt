@@ -6,7 +6,7 @@ use Rattle.std.proofs.lemmas.Bool.{cases_lt, ne_eqb}
 use Rattle.std.proofs.lemmas.Bool.Decides.{nat_tests}
 use Rattle.std.proofs.lemmas.Fmt.{length-decimal-le}
 use Rattle.paths.specs.declared.file.File.{File}
-use Rattle.paths.specs.Snapshots.{latest_time, most_bytes, most_files, longest_name, longest_text, is_name, comes_before, lies_in, file_text, text_before_end, snapshot_text, IsFile, IsSnapshot, IsSnapshotText, Follows}
+use Rattle.paths.specs.Snapshots.{max_time, max_file_bytes, max_files, max_name_bytes, max_text_bytes, is_name, comes_before, lies_in, file_text, text_before_end, snapshot_text, IsFile, IsSnapshot, IsSnapshotText, Follows}
 use Rattle.paths.proofs.Names.{order_by_last}
 use Rattle.paths.proofs.NoFault.{pass, follows_prefix}
 use Rattle.paths.proofs.FilesOrFault.{rules_more}
@@ -33,10 +33,10 @@ all_three false true c h = (refl, refl, h)
 some_length : (n : ℕ) → (n == 0) ≡ false → 0 < n
 some_length n h = grind (arith, nat_tests)
 
-good : (name : List ℕ) → not (is_good_name name) ≡ false → (0 < length name) × (length name ≤ longest_name) × (is_name name ≡ true)
+good : (name : List ℕ) → not (is_good_name name) ≡ false → (0 < length name) × (length name ≤ max_name_bytes) × (is_name name ≡ true)
 good name h =
-    let is = all_three (length name == 0) (nat_le (length name) longest_name) (is_name name) (un_not _ h) in
-    let short : length name ≤ longest_name = let t = is.1 in grind (arith, nat_tests) in
+    let is = all_three (length name == 0) (nat_le (length name) max_name_bytes) (is_name name) (un_not _ h) in
+    let short : length name ≤ max_name_bytes = let t = is.1 in grind (arith, nat_tests) in
     (some_length (length name) is.0, short, is.2)
 
 order_is : (files : List File) (name : List ℕ) → IsSnapshot files → 0 < length name → comes_before (last_name files) name ≡ list_all (λ g. comes_before g.name name) files
@@ -51,42 +51,42 @@ above_is files f s rules kept order =
     ∙ (ap (list_any (λ len. lies_in (take len (last_name files)) f.name)) kept.lengths
     ∙ any_within (last_name files) f.name files (passes files f.name rules order))
 
-limit : (a b d n : ℕ) → d ≤ 5 → n ≡ (a + b) + (5 + d) → nat_lt (longest_text - (5 + d)) (min (a + b) (2 ^ 64 - 1)) ≡ nat_lt longest_text n
-limit a b d n short is = elim (cases_lt longest_text n) [
+limit : (a b d n : ℕ) → d ≤ 5 → n ≡ (a + b) + (5 + d) → nat_lt (max_text_bytes - (5 + d)) (min (a + b) (2 ^ 64 - 1)) ≡ nat_lt max_text_bytes n
+limit a b d n short is = elim (cases_lt max_text_bytes n) [
   | inl lt ↦
-      let over : nat_lt longest_text n ≡ true = grind (arith, nat_tests) in
-      let past : longest_text - (5 + d) < min (a + b) (2 ^ 64 - 1) = omega arith in
-      let tested : nat_lt (longest_text - (5 + d)) (min (a + b) (2 ^ 64 - 1)) ≡ true = grind (arith, nat_tests) in
+      let over : nat_lt max_text_bytes n ≡ true = grind (arith, nat_tests) in
+      let past : max_text_bytes - (5 + d) < min (a + b) (2 ^ 64 - 1) = omega arith in
+      let tested : nat_lt (max_text_bytes - (5 + d)) (min (a + b) (2 ^ 64 - 1)) ≡ true = grind (arith, nat_tests) in
       tested ∙ sym over
   | inr ge ↦
-      let over : nat_lt longest_text n ≡ false = grind (arith, nat_tests) in
-      let past : min (a + b) (2 ^ 64 - 1) ≤ longest_text - (5 + d) = omega arith in
-      let tested : nat_lt (longest_text - (5 + d)) (min (a + b) (2 ^ 64 - 1)) ≡ false = grind (arith, nat_tests) in
+      let over : nat_lt max_text_bytes n ≡ false = grind (arith, nat_tests) in
+      let past : min (a + b) (2 ^ 64 - 1) ≤ max_text_bytes - (5 + d) = omega arith in
+      let tested : nat_lt (max_text_bytes - (5 + d)) (min (a + b) (2 ^ 64 - 1)) ≡ false = grind (arith, nat_tests) in
       tested ∙ sym over
 ]
 
-size_is : (files : List File) (f : File) (s : SoFar) → IsSoFar files s → nat_le most_files (length files) ≡ false
-    → nat_lt (longest_text - (5 + length (decimal (s.count + 1)))) (more s.size (length (file_text f))) ≡ nat_lt longest_text (length (snapshot_text (files ++ f ∷ [])))
+size_is : (files : List File) (f : File) (s : SoFar) → IsSoFar files s → nat_le max_files (length files) ≡ false
+    → nat_lt (max_text_bytes - (5 + length (decimal (s.count + 1)))) (more s.size (length (file_text f))) ≡ nat_lt max_text_bytes (length (snapshot_text (files ++ f ∷ [])))
 size_is files f s kept few =
-    let room : length files < most_files = grind (arith, nat_tests) in
+    let room : length files < max_files = grind (arith, nat_tests) in
     let short : length (decimal (length files + 1)) ≤ 5 = length-decimal-le 5 (length files + 1) (omega arith) (omega arith) (omega arith) in
-    ap (λ (n : ℕ). nat_lt (longest_text - (5 + length (decimal (n + 1)))) (more s.size (length (file_text f)))) kept.count
-    ∙ (ap (λ (n : ℕ). nat_lt (longest_text - (5 + length (decimal (length files + 1)))) (more n (length (file_text f)))) kept.size
+    ap (λ (n : ℕ). nat_lt (max_text_bytes - (5 + length (decimal (n + 1)))) (more s.size (length (file_text f)))) kept.count
+    ∙ (ap (λ (n : ℕ). nat_lt (max_text_bytes - (5 + length (decimal (length files + 1)))) (more n (length (file_text f)))) kept.size
     ∙ limit (length (text_before_end files)) (length (file_text f)) (length (decimal (length files + 1))) (length (snapshot_text (files ++ f ∷ []))) short (whole_size files f))
 
 pub rule_is : (files : List File) (f : File) (s : SoFar) → IsSnapshot files → IsSoFar files s → broken_by s f ≡ broken_rule files f
 unfolding broken_by broken_rule
 rule_is files f s rules kept =
-    let time = nat_lt latest_time f.mtime in
-    let size = nat_lt most_bytes (length f.bytes) in
+    let time = nat_lt max_time f.mtime in
+    let size = nat_lt max_file_bytes (length f.bytes) in
     let named = not (is_good_name f.name) in
     choose time time _ _ _ refl (λ _. choose size size _ _ _ refl (λ _.
-    choose (nat_le most_files s.count) (nat_le most_files (length files)) _ _ _ (ap (nat_le most_files) kept.count) (λ few. choose named named _ _ _ refl (λ name.
+    choose (nat_le max_files s.count) (nat_le max_files (length files)) _ _ _ (ap (nat_le max_files) kept.count) (λ few. choose named named _ _ _ refl (λ name.
     choose (not (comes_before s.names.last.items f.name)) (not (list_all (λ g. comes_before g.name f.name) files)) _ _ _
     (ap not (ap (λ (v : List ℕ). comes_before v f.name) kept.last ∙ order_is files f.name rules (good f.name name).0)) (λ order.
     choose (list_any (λ len. lies_in (take len s.names.last.items) f.name) s.names.lengths.items) (list_any (λ g. lies_in g.name f.name) files) _ _ _
     (above_is files f s rules kept (un_not _ order)) (λ apart.
-    choose (nat_lt (longest_text - (5 + length (decimal (s.count + 1)))) (more s.size (length (file_text f)))) (nat_lt longest_text (length (snapshot_text (files ++ f ∷ [])))) _ _ _
+    choose (nat_lt (max_text_bytes - (5 + length (decimal (s.count + 1)))) (more s.size (length (file_text f)))) (nat_lt max_text_bytes (length (snapshot_text (files ++ f ∷ [])))) _ _ _
     (size_is files f s kept few) (λ _. refl)))))))
 
 -- ---- no rule is broken where the files keep the rules, and only there
@@ -97,23 +97,23 @@ past false x y h = (refl, h)
 
 pub record Fits (files : List File) (f : File) : Type 0 where
   pub follows : Follows files f
-  pub size : length (snapshot_text (files ++ f ∷ [])) ≤ longest_text
+  pub size : length (snapshot_text (files ++ f ∷ [])) ≤ max_text_bytes
 
 pub none_broken : (files : List File) (f : File) → broken_rule files f ≡ None → Fits files f
 unfolding broken_rule
 none_broken files f h =
-    let time = past (nat_lt latest_time f.mtime) _ _ h in
-    let bytes = past (nat_lt most_bytes (length f.bytes)) _ _ time.1 in
-    let few = past (nat_le most_files (length files)) _ _ bytes.1 in
+    let time = past (nat_lt max_time f.mtime) _ _ h in
+    let bytes = past (nat_lt max_file_bytes (length f.bytes)) _ _ time.1 in
+    let few = past (nat_le max_files (length files)) _ _ bytes.1 in
     let name = past (not (is_good_name f.name)) _ _ few.1 in
     let order = past (not (list_all (λ g. comes_before g.name f.name) files)) _ _ name.1 in
     let apart = past (list_any (λ g. lies_in g.name f.name) files) _ _ order.1 in
-    let text = past (nat_lt longest_text (length (snapshot_text (files ++ f ∷ [])))) _ _ apart.1 in
+    let text = past (nat_lt max_text_bytes (length (snapshot_text (files ++ f ∷ [])))) _ _ apart.1 in
     let named = good f.name name.0 in
-    let in_time : f.mtime ≤ latest_time = let t = time.0 in grind (arith, nat_tests) in
-    let small : length f.bytes ≤ most_bytes = let t = bytes.0 in grind (arith, nat_tests) in
-    let room : length files < most_files = let t = few.0 in grind (arith, nat_tests) in
-    let within : length (snapshot_text (files ++ f ∷ [])) ≤ longest_text = let t = text.0 in grind (arith, nat_tests) in
+    let in_time : f.mtime ≤ max_time = let t = time.0 in grind (arith, nat_tests) in
+    let small : length f.bytes ≤ max_file_bytes = let t = bytes.0 in grind (arith, nat_tests) in
+    let room : length files < max_files = let t = few.0 in grind (arith, nat_tests) in
+    let within : length (snapshot_text (files ++ f ∷ [])) ≤ max_text_bytes = let t = text.0 in grind (arith, nat_tests) in
     let is : IsFile f = record { mtime = in_time; some = named.0; short = named.1; name = named.2; bytes = small } in
     record { follows = record { room = room; file = is; order = un_not _ order.0; apart = apart.0 }; size = within }
 
@@ -121,20 +121,20 @@ negated : (b : Bool) → b ≡ true → not b ≡ false
 negated true h = refl
 negated false h = absurd (true≢false (sym h))
 
-good_again : (name : List ℕ) → 0 < length name → length name ≤ longest_name → is_name name ≡ true → not (is_good_name name) ≡ false
+good_again : (name : List ℕ) → 0 < length name → length name ≤ max_name_bytes → is_name name ≡ true → not (is_good_name name) ≡ false
 good_again name some short is =
     let there : (length name == 0) ≡ false = ne_eqb (length name) 0 (λ e. omega (arith, e)) in
-    let within : nat_le (length name) longest_name ≡ true = grind (arith, nat_tests) in
+    let within : nat_le (length name) max_name_bytes ≡ true = grind (arith, nat_tests) in
     rw (there, within, is) refl
 
 pub breaks_none : (files : List File) (f : File) → Fits files f → broken_rule files f ≡ None
 unfolding broken_rule
 breaks_none files f h =
     let is = h.follows.file in
-    let time : nat_lt latest_time f.mtime ≡ false = let t = is.mtime in grind (arith, nat_tests) in
-    let bytes : nat_lt most_bytes (length f.bytes) ≡ false = let t = is.bytes in grind (arith, nat_tests) in
-    let few : nat_le most_files (length files) ≡ false = let t = h.follows.room in grind (arith, nat_tests) in
-    let text : nat_lt longest_text (length (snapshot_text (files ++ f ∷ []))) ≡ false = let t = h.size in grind (arith, nat_tests) in
+    let time : nat_lt max_time f.mtime ≡ false = let t = is.mtime in grind (arith, nat_tests) in
+    let bytes : nat_lt max_file_bytes (length f.bytes) ≡ false = let t = is.bytes in grind (arith, nat_tests) in
+    let few : nat_le max_files (length files) ≡ false = let t = h.follows.room in grind (arith, nat_tests) in
+    let text : nat_lt max_text_bytes (length (snapshot_text (files ++ f ∷ []))) ≡ false = let t = h.size in grind (arith, nat_tests) in
     pass _ _ _ time ∙ (pass _ _ _ bytes ∙ (pass _ _ _ few ∙ (pass _ _ _ (good_again f.name is.some is.short is.name)
     ∙ (pass _ _ _ (negated _ h.follows.order) ∙ (pass _ _ _ h.follows.apart ∙ pass _ _ _ text)))))
 

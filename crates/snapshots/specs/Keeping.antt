@@ -3,7 +3,7 @@ use Rattle.std.specs.Prelude.{◌≡◌, ℕ, ◌+◌, ◌-◌, ◌^◌, not, Li
 use Rattle.std.specs.Prelude.{Some, None, nat_eq, nat_lt, nat_le, if◌then◌else◌}
 use Rattle.std.specs.List.{list_any, filter, starts_with}
 use Rattle.paths.specs.declared.file.File.{File}
-use Rattle.paths.specs.Snapshots.{latest_time, most_bytes, most_files, longest_text, comes_before, lies_in, file_of}
+use Rattle.paths.specs.Snapshots.{max_time, max_file_bytes, max_files, max_text_bytes, comes_before, lies_in, file_of}
 use Rattle.paths.specs.Snapshots.{file_text, text_before_end}
 use Rattle.snapshots.specs.Rules.{is_good_name}
 use Rattle.snapshots.specs.declared.write_fault.WriteFault.{WriteFault}
@@ -36,13 +36,13 @@ more size n = min (size + n) (2 ^ 64 - 1)
 -- the first rule that a file breaks, by what is kept of those before it
 unfoldable pub broken_by : SoFar → File → Option WriteFault
 broken_by s f =
-    if nat_lt latest_time f.mtime then Some Time
-    else if nat_lt most_bytes (length f.bytes) then Some Size
-    else if nat_le most_files s.count then Some Count
+    if nat_lt max_time f.mtime then Some Time
+    else if nat_lt max_file_bytes (length f.bytes) then Some Size
+    else if nat_le max_files s.count then Some Count
     else if not (is_good_name f.name) then Some Name
     else if not (comes_before s.names.last.items f.name) then Some Order
     else if list_any (λ len. lies_in (take len s.names.last.items) f.name) s.names.lengths.items then Some Conflict
-    else if nat_lt (longest_text - (5 + length (decimal (s.count + 1))))
+    else if nat_lt (max_text_bytes - (5 + length (decimal (s.count + 1))))
     (more s.size (length (file_text f))) then Some Text
     else None
 

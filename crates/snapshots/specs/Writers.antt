@@ -3,7 +3,7 @@ use Rattle.std.specs.Prelude.{◌≡◌, ℕ, ◌+◌, ◌≤◌, List, length, 
 use Rattle.std.specs.Io.KnownBytes.{Appends}
 use Rattle.paths.specs.Devices.{CountsBy}
 use Rattle.paths.specs.declared.file.File.{File}
-use Rattle.paths.specs.Snapshots.{longest_text, text_before_end, snapshot_text, IsSnapshot}
+use Rattle.paths.specs.Snapshots.{max_text_bytes, text_before_end, snapshot_text, IsSnapshot}
 use Rattle.snapshots.specs.declared.write_fault.WriteFault.{WriteFault}
 use Rattle.snapshots.specs.declared.write_fault.WriteFault.TheVariants.{Write as Unwritten, Memory}
 use Rattle.snapshots.specs.declared.so_far.SoFar.{SoFar}
@@ -13,7 +13,7 @@ use Rattle.snapshots.specs.Keeping.{IsSoFar}
 -- after what stood before.
 pub record Took (files : List File) (before now : Option (List ℕ)) (s : SoFar) : Type 0 where
   pub rules : IsSnapshot files
-  pub size : length (snapshot_text files) ≤ longest_text
+  pub size : length (snapshot_text files) ≤ max_text_bytes
   pub kept : IsSoFar files s
   pub text : Appends before now (text_before_end files)
 

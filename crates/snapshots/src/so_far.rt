@@ -3,7 +3,7 @@
 ghost use Rattle.std.specs.Prelude.{◌≡◌, ◌≢◌, ◌≤◌, ◌<◌, ◌-◌, ◌^◌, [], length, decimal};
 ghost use Rattle.std.specs.Prelude.{IfOk, IfErr, IfSome, Err, Some};
 ghost use Rattle.paths.specs.Devices.{CanFail, AppendsPrefix};
-ghost use Rattle.paths.specs.Snapshots.{file_text, text_before_end, longest_name, most_bytes};
+ghost use Rattle.paths.specs.Snapshots.{file_text, text_before_end, max_name_bytes, max_file_bytes};
 ghost use Rattle.snapshots.specs.Keeping.{a_file, broken_by, Grown};
 ghost use Rattle.snapshots.specs.Rules.{is_good_name};
 ghost use Rattle.snapshots.specs.Writers.{Took, refused_for, Counts};
@@ -11,7 +11,7 @@ ghost use Rattle.snapshots.specs.Writers.{Took, refused_for, Counts};
 use crate::WriteFault;
 use crate::names::Names;
 use itoa::Buffer;
-use paths::{LATEST_TIME, LONGEST_NAME, LONGEST_TEXT, MOST_BYTES, MOST_FILES, Output, is_name};
+use paths::{MAX_FILE_BYTES, MAX_FILES, MAX_NAME_BYTES, MAX_TEXT_BYTES, MAX_TIME, Output, is_name};
 use std::alloc::{AllocError, Global};
 use std::io::Write;
 
@@ -35,8 +35,8 @@ fn digits(number: u64) -> usize
 
 /// How many bytes the text of a file has.
 fn text_len(name: &[u8], mtime: u64, bytes: &[u8]) -> usize
-    requires name { length name.now ≤ longest_name }
-    requires bytes { length bytes.now ≤ most_bytes }
+    requires name { length name.now ≤ max_name_bytes }
+    requires bytes { length bytes.now ≤ max_file_bytes }
     ensures { result ≡ length (file_text (a_file name.now mtime bytes.now)) }
 {
     let numbers = digits(mtime) + digits(name.len() as u64) + digits(bytes.len() as u64);
@@ -48,7 +48,7 @@ fn text_len(name: &[u8], mtime: u64, bytes: &[u8]) -> usize
 fn is_good_name(name: &[u8]) -> bool
     ensures { result ≡ is_good_name name.now }
 {
-    !name.is_empty() && name.len() as u64 <= LONGEST_NAME && is_name(name)
+    !name.is_empty() && name.len() as u64 <= MAX_NAME_BYTES && is_name(name)
 }
 
 impl SoFar {
@@ -78,13 +78,13 @@ impl SoFar {
         ensures own { IfSome result (λ rule. refused_for (Err rule) ≡ Some rule) }
         ensures unwritten { IfSome result (λ rule. rule ≢ WriteFault.Write) }
     {
-        if mtime > LATEST_TIME {
+        if mtime > MAX_TIME {
             return Some(WriteFault::Time);
         }
-        if bytes.len() as u64 > MOST_BYTES {
+        if bytes.len() as u64 > MAX_FILE_BYTES {
             return Some(WriteFault::Size);
         }
-        if self.count >= MOST_FILES {
+        if self.count >= MAX_FILES {
             return Some(WriteFault::Count);
         }
         if !is_good_name(name) {
@@ -98,7 +98,7 @@ impl SoFar {
         }
         let size = self.size.saturating_add(text_len(name, mtime, bytes));
         // `end ` and a line feed.
-        if size > LONGEST_TEXT - (5 + digits(self.count as u64 + 1)) {
+        if size > MAX_TEXT_BYTES - (5 + digits(self.count as u64 + 1)) {
             return Some(WriteFault::Text);
         }
         None

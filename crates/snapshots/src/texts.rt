@@ -34,7 +34,8 @@ pub(crate) fn write_file<W: Write>(
     bytes: &[u8],
 ) -> Result<(), Failed>
     requires { CanFail output.old }
-    ensures prefix { WritesProperPrefix output.old.bytes output.new.bytes result (head.now ++ (bytes.now ++ feed ∷ [])) }
+    ensures prefix { WritesProperPrefix output.old.bytes output.new.bytes result
+        (head.now ++ (bytes.now ++ feed ∷ [])) }
     ensures count { CountsFailed output.old.failures output.new.failures result }
 {
     match output.write_all(head) {

@@ -42,7 +42,11 @@ fn first_run(rt: HostRuntime) -> Result<(), Fail> {
          stop 1\n";
     assert_eq!(rt; ran.text.as_slice(), want.as_bytes());
     let outcome = ran.answer?;
-    assert_eq!(rt; outcome.summary.counts.ok, 1);
+    // one with 200
+    assert_eq!(rt;
+        outcome.summary.counts.by_status,
+        [1, 0, 0, 0, 0, 0, 0, 0, 0]
+    );
     assert_eq!(rt; outcome.summary.bypassed, 0);
     assert_eq!(rt; outcome.summary.samples.as_slice(), [201].as_slice());
     assert_eq!(rt; outcome.rejected.as_slice().len(), 0);

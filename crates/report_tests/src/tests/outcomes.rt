@@ -4,17 +4,7 @@ use replay::{Counts, Outcome, Series, Summary, Tally};
 use std::alloc::{AllocError, Global};
 
 /// No message was answered.
-pub static NONE: Counts = Counts {
-    ok: 0,
-    moved_permanently: 0,
-    not_modified: 0,
-    bad_request: 0,
-    not_found: 0,
-    method_not_allowed: 0,
-    content_too_large: 0,
-    not_implemented: 0,
-    service_unavailable: 0,
-};
+pub static NONE: Counts = Counts { by_status: [0; 9] };
 
 /// What became of a tier's requests.
 pub fn tally(
@@ -66,10 +56,9 @@ pub fn outcome(
 
 /// A request at once, two that find no token, and one when a token is there again, each with a service of 201 ticks.
 pub fn tight_bucket(alloc: Global) -> Result<Outcome, AllocError> {
+    // two with 200, two with 503
     let counts = Counts {
-        ok: 2,
-        service_unavailable: 2,
-        ..NONE
+        by_status: [2, 0, 0, 0, 0, 0, 0, 0, 2],
     };
     let tiers = tier_0(alloc, tally(alloc, 2, 2, &[])?);
     outcome(alloc, counts, 0, &[201, 201], tiers, &[1, 2])
@@ -100,10 +89,9 @@ pub static TIGHT_BUCKET: &str = "haboob-report 1\n\
 
 /// Five requests at one tick, each with a service of 201 ticks: those of tier 0 find one token, those of tier 1 two.
 pub fn two_buckets(alloc: Global) -> Result<Outcome, AllocError> {
+    // three with 200, two with 503
     let counts = Counts {
-        ok: 3,
-        service_unavailable: 2,
-        ..NONE
+        by_status: [3, 0, 0, 0, 0, 0, 0, 0, 2],
     };
     let tiers = [
         tally(alloc, 1, 1, &[])?,
@@ -161,10 +149,9 @@ pub fn each_tier(alloc: Global) -> Result<Outcome, AllocError> {
         tally(alloc, 0, 0, &[FIRST])?,
         tally(alloc, 1, 0, &[FIRST])?,
     ];
+    // one with 301, two with 503
     let counts = Counts {
-        moved_permanently: 1,
-        service_unavailable: 2,
-        ..NONE
+        by_status: [0, 1, 0, 0, 0, 0, 0, 0, 2],
     };
     outcome(alloc, counts, 0, &[50], tiers, &[0, 2])
 }

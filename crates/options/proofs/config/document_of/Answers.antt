@@ -10,7 +10,7 @@ returns-in_default c = λ _. (not_text _ (not_true _ (λ text. c.in_default.ensu
 
 pub returns-in-Ok-table_from_str : goal.returns-in-Ok-table_from_str
 returns-in-Ok-table_from_str c =
-    let whole = text_read c.args.bytes.now c.if-bytes-gt-LONGEST_SETTINGS.false (is_utf8-from_IsUtf8 _ c.in-Ok.ensures.cases.1) in
+    let whole = text_read c.args.bytes.now c.if-bytes-gt-MAX_SETTINGS_BYTES.false (is_utf8-from_IsUtf8 _ c.in-Ok.ensures.cases.1) in
     let read : parse_document c.args.bytes.now ≡ Some (table_view c.in-Ok-table_from_str.document) =
     rw c.in-Ok.ensures.cases.0 at c.in-Ok-table_from_str.ensures.ok in
     rw (whole, read) refl

@@ -1,6 +1,6 @@
 use Rattle.std.proofs.Common.{◌∙◌, refl, rules}
 use Rattle.replay.specs.Backs.{is_back}
-use Rattle.replay.specs.declared.back_state.BackState.TheVariants.{Due as Waits}
+use Rattle.replay.specs.declared.back.BackState.TheVariants.{Due as Waits}
 use Rattle.arrivals.proofs.Laid.{none_left}
 use Rattle.replay.proofs.Grouping.{answered_none, answered_more, answered_part, answered_all, group_ready}
 use Rattle.replay.proofs.Judging.{on_err}

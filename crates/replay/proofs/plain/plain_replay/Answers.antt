@@ -1,0 +1,30 @@
+use Rattle.std.proofs.Common.{ℕ, List, Option}
+use Rattle.replay.specs.Choices.{Terms, terms_of}
+use Rattle.replay.specs.Telling.{replies_told}
+use Rattle.replay.specs.Serving.{HasTold}
+use Rattle.replay.specs.Outcomes.{Answers}
+use Rattle.replay.specs.declared.outcome.Outcome.{Outcome}
+use Rattle.replay.proofs.Judging.{if_ok}
+use Rattle.replay.proofs.plain.plain_replay.Goals as goal
+
+-- what was told are the replies
+answers_told : (terms : Terms) (input old new : Option (List ℕ)) (outcome : Outcome)
+    → HasTold (replies_told terms) terms input old new outcome → Answers terms input old new outcome
+answers_told terms input old new outcome h = record {
+  version = h.version;
+  start = h.start;
+  records = h.records;
+  arrivals = h.arrivals;
+  rules = h.rules;
+  capture = h.capture;
+  arrived = h.arrived;
+  few = h.few;
+  written = h.written;
+  rejected = h.rejected;
+  summary = h.summary;
+}
+
+pub returns-clause-ok : goal.returns-clause-ok
+returns-clause-ok g c =
+    if_ok c.replay_telling.result _ _ (answers_told (terms_of g.F.Tree.files c.args.settings.now) _ _ _)
+    c.replay_telling.ensures.ok
