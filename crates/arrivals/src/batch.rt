@@ -8,7 +8,7 @@ ghost use Rattle.captures.specs.Captures.{IsRecord};
 ghost use Rattle.captures.specs.Readers.{ReaderAfter};
 ghost use Rattle.captures.specs.Shown.{progress_of, device_of, loan_of};
 ghost use Rattle.captures.specs.declared.record.Record.{Record as ARecord};
-ghost use Rattle.captures.specs.declared.stage.Stage.TheVariants.{Reading};
+ghost use Rattle.captures.specs.declared.progress.Stage.TheVariants.{Reading};
 ghost use Rattle.arrivals.specs.Batches.{origins_of, tiers_of};
 ghost use Rattle.arrivals.specs.Tiers.{AreTiers};
 ghost use Rattle.arrivals.specs.Gathering.{AddsOne, Adds, ReadOn, CountsEnding, IfMore};

@@ -13,12 +13,13 @@ use Rattle.std.proofs.lemmas.List.{append_assoc, length-append, length-take, tak
 use Rattle.std.proofs.lemmas.List.Folds.{prefix_len-append}
 use Rattle.std.specs.Cmp.Lexicographic.{pointwise}
 use Rattle.std.proofs.lemmas.Slice.Eq.{slice_eq-Decides}
+use Rattle.paths.specs.Ascii.{line_feed}
 use Rattle.paths.specs.Numbers.{is_decimal, number_of, number_and_rest, three_numbers}
 use Rattle.paths.specs.Numbers.{◌>>=◌ as ◌>?=◌}
-use Rattle.paths.specs.Texts.{Ahead, byte_at, run_at, line_at, front, past as beyond, ended}
-use Rattle.paths.specs.declared.stop.Stop.{Stop}
+use Rattle.paths.specs.Texts.{Ahead, byte_at, run_at, line_at, available, past as beyond, ended}
+use Rattle.paths.specs.declared.text.Stop.{Stop}
 use Rattle.paths.proofs.Taking.{line_whole}
-use Rattle.captures.specs.Captures.{front as front_of, last_connection, has_tiers, Past, feed, first_line, piece_line, end_line, tier_line, record_text, max_start, max_tick, max_piece_bytes, max_tier, Follows}
+use Rattle.captures.specs.Captures.{opening, last_connection, has_tiers, Past, first_line, piece_line, end_line, tier_line, record_text, max_start, max_tick, max_piece_bytes, max_tier, Follows}
 use Rattle.captures.specs.declared.version.Version.{Version}
 use Rattle.captures.specs.declared.version.Version.TheVariants.{One, Two}
 use Rattle.captures.specs.CaptureFaults.{named, ◌>>=◌, kind_of, header_kind_of, start_heading, start_of, header_at, two_numbers, piece_heading, end_heading, tier_heading, stop_heading, heading_of, open_connection, allowed, body_at, piece_at, tier_record, record_at}
@@ -192,19 +193,19 @@ stop_heading_again v n small = ap stop_heading (number_again n small)
 byte_again : (c : ℕ) (t : List ℕ) (l nl : ℕ) → l ≡ 1 + nl → byte_at (record { bytes = c ∷ t; left = l }) ≡ Ok (c, record { bytes = t; left = nl })
 byte_again c t l nl h =
     let a : Ahead = record { bytes = c ∷ t; left = l } in
-    let there : nat_lt 0 (length (front a)) ≡ true = let s = length-take l (c ∷ t) in grind (arith, nat_tests) in
+    let there : nat_lt 0 (length (available a)) ≡ true = let s = length-take l (c ∷ t) in grind (arith, nat_tests) in
     let less : l - 1 ≡ nl = omega arith in
-    meet (nat_lt 0 (length (front a))) (Ok (c, beyond 1 a)) (Err (ended a)) there
+    meet (nat_lt 0 (length (available a))) (Ok (c, beyond 1 a)) (Err (ended a)) there
     ∙ ap (λ (k : ℕ). let r : Result (ℕ × Ahead) Stop = Ok (c, record { bytes = t; left = k }) in r) less
 
 run_again : (n : ℕ) (run t : List ℕ) (l nl : ℕ) → length run ≡ n → l ≡ n + nl → run_at n (record { bytes = run ++ t; left = l }) ≡ Ok (run, record { bytes = t; left = nl })
 run_again n run t l nl is left =
     let a : Ahead = record { bytes = run ++ t; left = l } in
-    let there : nat_le n (length (front a)) ≡ true = let s = length-take l (run ++ t) in let m = length-append run t in grind (arith, nat_tests) in
+    let there : nat_le n (length (available a)) ≡ true = let s = length-take l (run ++ t) in let m = length-append run t in grind (arith, nat_tests) in
     let bytes : take n (run ++ t) ≡ run = take_at run t n is in
     let rest : drop n (run ++ t) ≡ t = drop_at run t n is in
     let less : l - n ≡ nl = omega arith in
-    meet (nat_le n (length (front a))) (Ok (take n (run ++ t), beyond n a)) (Err (ended a)) there
+    meet (nat_le n (length (available a))) (Ok (take n (run ++ t), beyond n a)) (Err (ended a)) there
     ∙ ap (λ (v : List ℕ × Ahead). let r : Result (List ℕ × Ahead) Stop = Ok v in r) (λ i. (bytes i, record { bytes = rest i; left = less i }))
 
 open_again : (v : Version) (past : Past) (conn : ℕ) → conn ≤ last_connection v → past.ended conn ≡ false → open_connection v past conn ≡ Ok conn
@@ -225,55 +226,55 @@ tier_again v past conn tier few live unused low =
     bind_is (open_connection v past conn) _ conn (open_again v past conn few live)
     ∙ pass (nat_lt max_tier tier || past.used conn) _ _ (neither _ _ a unused)
 
-body_again : (n : ℕ) (bytes t : List ℕ) (l nl : ℕ) → length bytes ≡ n → l ≡ n + (1 + nl) → body_at n (record { bytes = bytes ++ feed ∷ t; left = l }) ≡ Ok (bytes, record { bytes = t; left = nl })
+body_again : (n : ℕ) (bytes t : List ℕ) (l nl : ℕ) → length bytes ≡ n → l ≡ n + (1 + nl) → body_at n (record { bytes = bytes ++ line_feed ∷ t; left = l }) ≡ Ok (bytes, record { bytes = t; left = nl })
 body_again n bytes t l nl is left =
-    let mid : Ahead = record { bytes = feed ∷ t; left = 1 + nl } in
+    let mid : Ahead = record { bytes = line_feed ∷ t; left = 1 + nl } in
     let last : Ahead = record { bytes = t; left = nl } in
-    bind_is (named kind_of (run_at n (record { bytes = bytes ++ feed ∷ t; left = l }))) _ (bytes, mid) (named_is kind_of _ (bytes, mid) (run_again n bytes (feed ∷ t) l (1 + nl) is left))
-    ∙ bind_is (named kind_of (byte_at mid)) _ (feed, last) (named_is kind_of _ (feed, last) (byte_again feed t (1 + nl) nl refl))
+    bind_is (named kind_of (run_at n (record { bytes = bytes ++ line_feed ∷ t; left = l }))) _ (bytes, mid) (named_is kind_of _ (bytes, mid) (run_again n bytes (line_feed ∷ t) l (1 + nl) is left))
+    ∙ bind_is (named kind_of (byte_at mid)) _ (line_feed, last) (named_is kind_of _ (line_feed, last) (byte_again line_feed t (1 + nl) nl refl))
 
-line_then : (line rest t : List ℕ) → (line ++ feed ∷ rest) ++ t ≡ line ++ feed ∷ (rest ++ t)
-line_then line rest t = append_assoc line (feed ∷ rest) t
+line_then : (line rest t : List ℕ) → (line ++ line_feed ∷ rest) ++ t ≡ line ++ line_feed ∷ (rest ++ t)
+line_then line rest t = append_assoc line (line_feed ∷ rest) t
 
 -- a record's text is read as the record
 pub record_again : (v : Version) (past : Past) (r : Record) (t : List ℕ) (l nl : ℕ) → Follows v past r → l ≡ length (record_text r) + nl
     → record_at v past (record { bytes = record_text r ++ t; left = l }) ≡ Ok (Some r, record { bytes = t; left = nl })
 record_again v past (Piece tick conn bytes) t l nl (rising, live, (in_time, few, some, short)) left =
     let line = piece_line tick conn (length bytes) in
-    let body = bytes ++ feed ∷ [] in
+    let body = bytes ++ line_feed ∷ [] in
     let few_enough = few_connections v in
     let is = piece_is_line tick conn (length bytes) in_time (omega arith) short in
-    let whole : record_text (Piece tick conn bytes) ++ t ≡ line ++ feed ∷ (bytes ++ feed ∷ t) = line_then line body t ∙ ap (λ w. line ++ feed ∷ w) (append_assoc bytes (feed ∷ []) t) in
-    let mid : Ahead = record { bytes = bytes ++ feed ∷ t; left = length bytes + (1 + nl) } in
+    let whole : record_text (Piece tick conn bytes) ++ t ≡ line ++ line_feed ∷ (bytes ++ line_feed ∷ t) = line_then line body t ∙ ap (λ w. line ++ line_feed ∷ w) (append_assoc bytes (line_feed ∷ []) t) in
+    let mid : Ahead = record { bytes = bytes ++ line_feed ∷ t; left = length bytes + (1 + nl) } in
     let last : Ahead = record { bytes = t; left = nl } in
-    let read : line_at (record { bytes = line ++ feed ∷ (bytes ++ feed ∷ t); left = l }) ≡ Ok (line, mid) = line_again line (bytes ++ feed ∷ t) l (length bytes + (1 + nl)) is (omega (arith, length-append line (feed ∷ body), length-append bytes (feed ∷ []))) in
+    let read : line_at (record { bytes = line ++ line_feed ∷ (bytes ++ line_feed ∷ t); left = l }) ≡ Ok (line, mid) = line_again line (bytes ++ line_feed ∷ t) l (length bytes + (1 + nl)) is (omega (arith, length-append line (line_feed ∷ body), length-append bytes (line_feed ∷ []))) in
     let heading : heading_of v line ≡ Ok (headings.Piece (record { tick = tick; conn = conn; len = length bytes })) = piece_heading_again v tick conn (length bytes) (omega arith) (omega arith) (omega arith) in
     let allow = allowed_again v past tick conn in_time rising few live in
     let sized : (length bytes == 0 || nat_lt max_piece_bytes (length bytes)) ≡ false = neither _ _ (ne_eqb (length bytes) 0 (λ e. omega arith)) (grind (arith, nat_tests)) in
     let piece : piece_at v past (record { tick = tick; conn = conn; len = length bytes }) mid ≡ Ok (Piece tick conn bytes, last) =
     bind_is (allowed v past tick conn) _ conn allow ∙ (pass (length bytes == 0 || nat_lt max_piece_bytes (length bytes)) _ _ sized ∙ bind_is (body_at (length bytes) mid) _ (bytes, last) (body_again (length bytes) bytes t (length bytes + (1 + nl)) nl refl refl)) in
     ap (λ w. record_at v past (record { bytes = w; left = l })) whole
-    ∙ (bind_is (named kind_of (line_at (record { bytes = line ++ feed ∷ (bytes ++ feed ∷ t); left = l }))) _ (line, mid) (named_is kind_of _ (line, mid) read)
+    ∙ (bind_is (named kind_of (line_at (record { bytes = line ++ line_feed ∷ (bytes ++ line_feed ∷ t); left = l }))) _ (line, mid) (named_is kind_of _ (line, mid) read)
     ∙ (bind_is (heading_of v line) _ _ heading ∙ bind_is (piece_at v past (record { tick = tick; conn = conn; len = length bytes }) mid) _ (Piece tick conn bytes, last) piece))
 record_again v past (End tick conn) t l nl (rising, live, (in_time, few)) left =
     let line = end_line tick conn in
     let few_enough = few_connections v in
     let is = end_is_line tick conn in_time (omega arith) in
     let last : Ahead = record { bytes = t; left = nl } in
-    let read : line_at (record { bytes = line ++ feed ∷ t; left = l }) ≡ Ok (line, last) = line_again line t l nl is (omega (arith, length-append line (feed ∷ []))) in
+    let read : line_at (record { bytes = line ++ line_feed ∷ t; left = l }) ≡ Ok (line, last) = line_again line t l nl is (omega (arith, length-append line (line_feed ∷ []))) in
     let heading = end_heading_again v tick conn (omega arith) (omega arith) in
     ap (λ w. record_at v past (record { bytes = w; left = l })) (line_then line [] t)
-    ∙ (bind_is (named kind_of (line_at (record { bytes = line ++ feed ∷ t; left = l }))) _ (line, last) (named_is kind_of _ (line, last) read)
+    ∙ (bind_is (named kind_of (line_at (record { bytes = line ++ line_feed ∷ t; left = l }))) _ (line, last) (named_is kind_of _ (line, last) read)
     ∙ (bind_is (heading_of v line) _ _ heading ∙ bind_is (allowed v past tick conn) _ conn (allowed_again v past tick conn in_time rising few live)))
 record_again v past (Tier conn tier) t l nl (live, unused, (has, few, low)) left =
     let line = tier_line conn tier in
     let few_enough = few_connections v in
     let is = tier_is_line conn tier (omega arith) low in
     let last : Ahead = record { bytes = t; left = nl } in
-    let read : line_at (record { bytes = line ++ feed ∷ t; left = l }) ≡ Ok (line, last) = line_again line t l nl is (omega (arith, length-append line (feed ∷ []))) in
+    let read : line_at (record { bytes = line ++ line_feed ∷ t; left = l }) ≡ Ok (line, last) = line_again line t l nl is (omega (arith, length-append line (line_feed ∷ []))) in
     let heading = tier_heading_again v conn tier has (omega arith) (omega arith) in
     ap (λ w. record_at v past (record { bytes = w; left = l })) (line_then line [] t)
-    ∙ (bind_is (named kind_of (line_at (record { bytes = line ++ feed ∷ t; left = l }))) _ (line, last) (named_is kind_of _ (line, last) read)
+    ∙ (bind_is (named kind_of (line_at (record { bytes = line ++ line_feed ∷ t; left = l }))) _ (line, last) (named_is kind_of _ (line, last) read)
     ∙ (bind_is (heading_of v line) _ _ heading ∙ bind_is (tier_record v past (record { conn = conn; tier = tier })) _ (Tier conn tier) (tier_again v past conn tier few live unused low)))
 
 -- the last line, after which the input ends, is read as the end
@@ -282,19 +283,19 @@ pub stop_again : (v : Version) (past : Past) (l nl : ℕ) → past.count < 2 ^ 6
 stop_again v past l nl small left =
     let line = codes "stop " ++ decimal past.count in
     let last : Ahead = record { bytes = []; left = nl } in
-    let read : line_at (record { bytes = line ++ feed ∷ []; left = l }) ≡ Ok (line, last) = line_again line [] l nl (stop_is_line past.count small) (omega (arith, length-append line (feed ∷ []))) in
-    bind_is (named kind_of (line_at (record { bytes = line ++ feed ∷ []; left = l }))) _ (line, last) (named_is kind_of _ (line, last) read)
+    let read : line_at (record { bytes = line ++ line_feed ∷ []; left = l }) ≡ Ok (line, last) = line_again line [] l nl (stop_is_line past.count small) (omega (arith, length-append line (line_feed ∷ []))) in
+    bind_is (named kind_of (line_at (record { bytes = line ++ line_feed ∷ []; left = l }))) _ (line, last) (named_is kind_of _ (line, last) read)
     ∙ (bind_is (heading_of v line) _ _ (stop_heading_again v past.count small) ∙ meet (past.count == past.count) _ _ (eq-eqb past.count past.count refl))
 
 -- the first line is a line, and tells its version
 first_is_line : (v : Version) (start : ℕ) → start < 2 ^ 64 - 1 → IsLine (first_line v start)
 first_is_line One start small = record {
-  feeds = passes_append _ (front_of One) (decimal start) refl (decimal_passes 10 start (omega arith) small);
-  short = omega (arith, digits_short 20 start (omega arith) (omega arith) small, length-append (front_of One) (decimal start));
+  feeds = passes_append _ (opening One) (decimal start) refl (decimal_passes 10 start (omega arith) small);
+  short = omega (arith, digits_short 20 start (omega arith) (omega arith) small, length-append (opening One) (decimal start));
 }
 first_is_line Two start small = record {
-  feeds = passes_append _ (front_of Two) (decimal start) refl (decimal_passes 10 start (omega arith) small);
-  short = omega (arith, digits_short 20 start (omega arith) (omega arith) small, length-append (front_of Two) (decimal start));
+  feeds = passes_append _ (opening Two) (decimal start) refl (decimal_passes 10 start (omega arith) small);
+  short = omega (arith, digits_short 20 start (omega arith) (omega arith) small, length-append (opening Two) (decimal start));
 }
 
 start_again : (v : Version) (start : ℕ) → start ≤ max_start → start_heading v (number_of (decimal start)) ≡ Ok (v, start)
@@ -307,15 +308,15 @@ first_again One start in_time = start_again One start in_time
 first_again Two start in_time = start_again Two start in_time
 
 -- the first line is read as its version and its start
-pub header_again : (v : Version) (start : ℕ) (t : List ℕ) (l nl : ℕ) → start ≤ max_start → l ≡ length (first_line v start ++ feed ∷ []) + nl
-    → header_at (record { bytes = (first_line v start ++ feed ∷ []) ++ t; left = l }) ≡ Ok ((v, start), record { bytes = t; left = nl })
+pub header_again : (v : Version) (start : ℕ) (t : List ℕ) (l nl : ℕ) → start ≤ max_start → l ≡ length (first_line v start ++ line_feed ∷ []) + nl
+    → header_at (record { bytes = (first_line v start ++ line_feed ∷ []) ++ t; left = l }) ≡ Ok ((v, start), record { bytes = t; left = nl })
 header_again v start t l nl in_time left =
     let line = first_line v start in
     let last : Ahead = record { bytes = t; left = nl } in
     let is = first_is_line v start (omega arith) in
-    let read : line_at (record { bytes = line ++ feed ∷ t; left = l }) ≡ Ok (line, last) = line_again line t l nl is (omega (arith, length-append line (feed ∷ []))) in
+    let read : line_at (record { bytes = line ++ line_feed ∷ t; left = l }) ≡ Ok (line, last) = line_again line t l nl is (omega (arith, length-append line (line_feed ∷ []))) in
     ap (λ w. header_at (record { bytes = w; left = l })) (line_then line [] t)
-    ∙ (bind_is (named header_kind_of (line_at (record { bytes = line ++ feed ∷ t; left = l }))) _ (line, last) (named_is header_kind_of _ (line, last) read)
+    ∙ (bind_is (named header_kind_of (line_at (record { bytes = line ++ line_feed ∷ t; left = l }))) _ (line, last) (named_is header_kind_of _ (line, last) read)
     ∙ bind_is (start_of line) _ (v, start) (first_again v start in_time))
 
 -- a test of two lists, the other way round
@@ -330,6 +331,6 @@ turned xs ys h = go (pointwise nat_eq ys xs) refl
         absurd (let t = h in cc)
 
 -- a line that begins as neither version's is no first line
-pub no_header : (line : List ℕ) → pointwise nat_eq (take (length (front_of One)) line) (front_of One) ≡ false → pointwise nat_eq (take (length (front_of Two)) line) (front_of Two) ≡ false
+pub no_header : (line : List ℕ) → pointwise nat_eq (take (length (opening One)) line) (opening One) ≡ false → pointwise nat_eq (take (length (opening Two)) line) (opening Two) ≡ false
     → start_of line ≡ Err Header
-no_header line a b = pass (starts_with nat_eq line (front_of One)) _ _ (turned (take (length (front_of One)) line) (front_of One) a) ∙ pass (starts_with nat_eq line (front_of Two)) _ _ (turned (take (length (front_of Two)) line) (front_of Two) b)
+no_header line a b = pass (starts_with nat_eq line (opening One)) _ _ (turned (take (length (opening One)) line) (opening One) a) ∙ pass (starts_with nat_eq line (opening Two)) _ _ (turned (take (length (opening Two)) line) (opening Two) b)

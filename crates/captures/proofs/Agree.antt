@@ -6,9 +6,10 @@ use Rattle.std.proofs.lemmas.List.{append_assoc, append-nil, length-append, get_
 use Rattle.std.proofs.lemmas.List.Elements.{All-head, All-tail, All-from_get_or}
 use Rattle.std.proofs.lemmas.List.Folds.{list_any_none}
 use Rattle.std.proofs.lemmas.Grind.{flat_map-append}
+use Rattle.paths.specs.Ascii.{line_feed}
 use Rattle.paths.specs.Texts.{Ahead}
 use Rattle.paths.proofs.Inverse.{ok_is}
-use Rattle.captures.specs.Captures.{Past, feed, first_line, record_text, text_before_stop, max_text_bytes, max_start, is_end_of, is_use_of, connection_of, LetsFollow, tick_of, ticks_of, IsRecord, IsCapture, IsCaptureText, past_of, Follows}
+use Rattle.captures.specs.Captures.{Past, first_line, record_text, text_before_stop, max_text_bytes, max_start, is_end_of, is_use_of, connection_of, LetsFollow, tick_of, ticks_of, IsRecord, IsCapture, IsCaptureText, past_of, Follows}
 use Rattle.captures.specs.declared.version.Version.{Version}
 use Rattle.captures.specs.CaptureFaults.{header_at, record_at, FaultsAfter, IsHeaderFault, IsFirstFault}
 use Rattle.captures.specs.declared.record.Record.{Record}
@@ -114,7 +115,7 @@ follows_front v start ss more r c = go r c
 -- ---- whole texts
 
 abbrev pub header_text : Version → ℕ → List ℕ
-header_text v start = first_line v start ++ feed ∷ []
+header_text v start = first_line v start ++ line_feed ∷ []
 
 same_start : (v w : Version) (s t : ℕ) (x y : List ℕ) → s ≤ max_start → t ≤ max_start → header_text v s ++ x ≡ header_text w t ++ y → (v ≡ w) × (s ≡ t) × (x ≡ y)
 same_start v w s t x y hs ht h =

@@ -1,8 +1,9 @@
 -- Each text is a capture's, or has a first fault.
 use Rattle.std.proofs.Common.{◌≡◌, ℕ, suc, zero, ◌+◌, ◌-◌, ◌^◌, ◌<◌, ◌⊎◌, inl, inr, List, [], ◌∷◌, ◌++◌, length, Option, Some, None, Result, Ok, Err, refl, sym, ap, ◌∙◌, subst, arith, flat_map}
 use Rattle.std.proofs.lemmas.List.{append_assoc, append-nil, length-append, flat_map_more}
+use Rattle.paths.specs.Ascii.{line_feed}
 use Rattle.paths.specs.Texts.{Ahead}
-use Rattle.captures.specs.Captures.{feed, first_line, record_text, text_before_stop, max_text_bytes, IsCapture, IsCaptureText, past_of}
+use Rattle.captures.specs.Captures.{first_line, record_text, text_before_stop, max_text_bytes, IsCapture, IsCaptureText, past_of}
 use Rattle.captures.specs.declared.version.Version.{Version}
 use Rattle.captures.specs.CaptureFaults.{header_at, record_at, IsFirstFault}
 use Rattle.captures.specs.declared.record.Record.{Record}
@@ -22,7 +23,7 @@ reads_on v bytes zero start rs rest l rules whole left more = absurd (omega arit
 reads_on v bytes (suc fuel) start rs rest l rules whole left more = step (reads_on v bytes fuel start) (record_at v (past_of rs) (record { bytes = rest; left = l })) refl
   where
     count : length rs < 2 ^ 64 - 1
-    count = omega (arith, left, sizes_below rs, length-append (first_line v start ++ feed ∷ []) (flat_map record_text rs))
+    count = omega (arith, left, sizes_below rs, length-append (first_line v start ++ line_feed ∷ []) (flat_map record_text rs))
 
     step : ((rs : List Record) (rest : List ℕ) (l : ℕ) → IsCapture v start rs → bytes ≡ text_before_stop v start rs ++ rest → max_text_bytes ≡ length (text_before_stop v start rs) + l → l < fuel → Read bytes)
         → (r : Result (Option Record × Ahead) CaptureFaultKind) → record_at v (past_of rs) (record { bytes = rest; left = l }) ≡ r → Read bytes
@@ -56,7 +57,7 @@ reads_on v bytes (suc fuel) start rs rest l rules whole left more = step (reads_
     step again (Ok (Some r, b)) e =
         let took = (record_takes v (past_of rs) (record { bytes = rest; left = l }) b (Some r) count e).0 in
         let follows = record_follows v (past_of rs) (record { bytes = rest; left = l }) b (Some r) e in
-        let longer : text_before_stop v start rs ++ record_text r ≡ text_before_stop v start (rs ++ r ∷ []) = flat_map_more record_text (first_line v start ++ feed ∷ []) rs r in
+        let longer : text_before_stop v start rs ++ record_text r ≡ text_before_stop v start (rs ++ r ∷ []) = flat_map_more record_text (first_line v start ++ line_feed ∷ []) rs r in
         let long = ap length longer in
         let took_left = took.left in
         again (rs ++ r ∷ []) b.bytes b.left (rules_more v start rs r rules follows)
@@ -70,6 +71,6 @@ reads bytes = step (header_at (record { bytes = bytes; left = max_text_bytes }))
     step (Err k) e = inr (record { at = 0; kind = k }, inl (refl, e))
     step (Ok ((v, start), b)) e =
         let took = header_inverse v (record { bytes = bytes; left = max_text_bytes }) b start e in
-        let all : text_before_stop v start [] ≡ first_line v start ++ feed ∷ [] = append-nil (first_line v start ++ feed ∷ []) in
+        let all : text_before_stop v start [] ≡ first_line v start ++ line_feed ∷ [] = append-nil (first_line v start ++ line_feed ∷ []) in
         reads_on v bytes (b.left + 1) start [] b.bytes b.left (rules_none v start took.1)
         (took.0.bytes ∙ ap (λ w. w ++ b.bytes) (sym all)) (took.0.left ∙ ap (λ w. length w + b.left) (sym all)) (omega arith)

@@ -8,16 +8,17 @@ use Rattle.std.proofs.lemmas.List.Quantifiers.{all_pairs_push}
 use Rattle.std.proofs.lemmas.List.Folds.{list_any_at}
 use Rattle.std.proofs.lemmas.List.Sums.{sum_by_push, sum_by-cons}
 use Rattle.std.proofs.lemmas.Grind.{flat_map-append}
+use Rattle.paths.specs.Ascii.{line_feed}
 use Rattle.paths.specs.Texts.{ahead_of}
 use Rattle.paths.proofs.Inverse.{TakesAhead}
-use Rattle.captures.specs.Captures.{Past, feed, first_line, record_text, text_before_stop, max_text_bytes, max_start, is_end_of, is_use_of, connection_of, LetsFollow, tick_of, ticks_of, IsRecord, IsCapture, IsCaptureText, past_of, Follows, size_of, sizes_of}
+use Rattle.captures.specs.Captures.{Past, first_line, record_text, text_before_stop, max_text_bytes, max_start, is_end_of, is_use_of, connection_of, LetsFollow, tick_of, ticks_of, IsRecord, IsCapture, IsCaptureText, past_of, Follows, size_of, sizes_of}
 use Rattle.captures.specs.declared.version.Version.{Version}
 use Rattle.captures.specs.CaptureFaults.{header_at, record_at, is_unforeseen_kind, IsForeseen, IsFaultAfter}
 use Rattle.captures.specs.Readers.{seen, after, ReaderAfter}
 use Rattle.captures.specs.declared.record.Record.{Record}
 use Rattle.captures.specs.declared.record.Record.TheVariants.{Piece, End, Tier}
 use Rattle.captures.specs.declared.so_far.SoFar.{SoFar}
-use Rattle.captures.specs.declared.stage.Stage.TheVariants.{Reading}
+use Rattle.captures.specs.declared.progress.Stage.TheVariants.{Reading}
 use Rattle.captures.specs.declared.progress.Progress.{Progress}
 use Rattle.captures.specs.declared.capture_fault.CaptureFaultKind.{CaptureFaultKind}
 use Rattle.captures.proofs.Lines.{header_inverse}
@@ -96,7 +97,7 @@ pub fits_begins : (v : Version) (text now : Option (List ℕ)) (start left : ℕ
     → (is_some text ≡ true → (header_at (ahead_of text max_text_bytes) ≡ Ok ((v, start), ahead_of now left)) × (is_some now ≡ true))
     → ReaderAfter v text start [] (record { version = v; start = start; left = left; room = max_text_bytes; so_far = s; stage = Reading }) now
 fits_begins v text now start left s none in_time h =
-    let all : text_before_stop v start [] ≡ first_line v start ++ feed ∷ [] = append-nil (first_line v start ++ feed ∷ []) in
+    let all : text_before_stop v start [] ≡ first_line v start ++ line_feed ∷ [] = append-nil (first_line v start ++ line_feed ∷ []) in
     let took = λ (k : is_some text ≡ true). (header_inverse v (ahead_of text max_text_bytes) (ahead_of now left) start (h k).0).0 in
     record {
       stage = refl;
@@ -105,7 +106,7 @@ fits_begins v text now start left s none in_time h =
       rules = rules_none v start in_time;
       past = none;
       room = refl;
-      front = λ k. (took k).bytes ∙ ap (λ w. w ++ unwrap_or now []) (sym all);
+      taken = λ k. (took k).bytes ∙ ap (λ w. w ++ unwrap_or now []) (sym all);
       left = λ k. (took k).left ∙ ap (λ w. length w + left) (sym all);
       known = λ k. (h k).1;
     }
@@ -132,7 +133,7 @@ pub fits_goes_on : (v : Version) (text now new : Option (List ℕ)) (start : ℕ
 fits_goes_on v text now new start records p q x r some f follows room more same_version same_start same_stage h =
     let count : p.so_far.count ≡ length records = ap (λ (s : Past). s.count) f.past in
     let took = λ (k : is_some text ≡ true). subst (λ (o : Option Record). TakesAhead (ahead_of now p.left) (next_text (past_of records) o) (ahead_of new q.left)) some (next_takes v text now new start q.left records p x f h k).0 in
-    let longer : text_before_stop v start records ++ record_text r ≡ text_before_stop v start (records ++ r ∷ []) = flat_map_more record_text (first_line v start ++ feed ∷ []) records r in
+    let longer : text_before_stop v start records ++ record_text r ≡ text_before_stop v start (records ++ r ∷ []) = flat_map_more record_text (first_line v start ++ line_feed ∷ []) records r in
     record {
       stage = same_stage ∙ f.stage;
       version = same_version ∙ f.version;
@@ -140,7 +141,7 @@ fits_goes_on v text now new start records p q x r some f follows room more same_
       rules = rules_more v start records r f.rules (subst (λ (s : Past). Follows v s r) f.past (subst (λ (w : Version). Follows w (seen p.so_far) r) f.version follows));
       past = more (let r = f.room in omega arith) ∙ (ap (λ s. after s r) f.past ∙ sym (past_more records r));
       room = let before = f.room in omega (arith, length_push records r, sum_by_push size_of records r);
-      front = λ k. front_then (unwrap_or text []) (text_before_stop v start records) (record_text r) (unwrap_or now []) (unwrap_or new []) (f.front k) (took k).bytes ∙ ap (λ w. w ++ unwrap_or new []) longer;
+      taken = λ k. front_then (unwrap_or text []) (text_before_stop v start records) (record_text r) (unwrap_or now []) (unwrap_or new []) (f.taken k) (took k).bytes ∙ ap (λ w. w ++ unwrap_or new []) longer;
       left = λ k. let before = f.left k in let now_left = (took k).left in let e = ap length longer in omega (arith, length-append (text_before_stop v start records) (record_text r));
       known = λ k. (h (f.known k)).1;
     }
@@ -154,7 +155,7 @@ fits_ends v text now new start new_left records p x none f h k =
     let end : unwrap_or new [] ≡ [] = both.1 in
     let last = next_text (past_of records) None in
     let text_is : unwrap_or text [] ≡ text_before_stop v start records ++ last =
-    front_then (unwrap_or text []) (text_before_stop v start records) last (unwrap_or now []) (unwrap_or new []) (f.front k) both.0.bytes
+    front_then (unwrap_or text []) (text_before_stop v start records) last (unwrap_or now []) (unwrap_or new []) (f.taken k) both.0.bytes
     ∙ (ap (λ w. (text_before_stop v start records ++ last) ++ w) end ∙ append-nil (text_before_stop v start records ++ last)) in
     record {
       text = text_is;
@@ -169,7 +170,7 @@ fits_faults v text now start at records p kind is f h = λ k foreseen.
     let left : p.left ≡ max_text_bytes - length (text_before_stop v start records) = let all = f.left k in omega arith in (
       unwrap_or now [],
       record {
-        whole = f.front k;
+        whole = f.taken k;
         rules = f.rules;
         size = let all = f.left k in omega arith;
         at = is;
@@ -189,7 +190,7 @@ fits_has_room v text now new start new_left records p x r some f full h k =
     let all = f.left k in
     let room = f.room in
     let now_left = took.left in
-    omega (arith, sizes_below records, size_below r, length-append (first_line v start ++ feed ∷ []) (flat_map record_text records))
+    omega (arith, sizes_below records, size_below r, length-append (first_line v start ++ line_feed ∷ []) (flat_map record_text records))
 
 -- the number of the record that is next
 pub fits_at : (v : Version) (text now : Option (List ℕ)) (start : ℕ) (records : List Record) (p : Progress) → ReaderAfter v text start records p now → (p.so_far.count ≡ length records) × (p.so_far.count ≤ max_text_bytes)

@@ -3,12 +3,13 @@ use Rattle.std.proofs.Common.{◌≡◌, ℕ, ◌-◌, ◌^◌, ◌<◌, ◌≤�
 use Rattle.std.specs.List.{starts_with}
 use Rattle.std.proofs.lemmas.Bool.Decides.{nat_tests, Decides-eqb}
 use Rattle.std.proofs.lemmas.Slice.Eq.{starts_is}
+use Rattle.paths.specs.Ascii.{line_feed}
 use Rattle.paths.specs.Numbers.{number_of, number_and_rest, three_numbers}
 use Rattle.paths.specs.Numbers.{◌>>=◌ as ◌>?=◌}
 use Rattle.paths.specs.Texts.{Ahead, line_at}
-use Rattle.paths.specs.declared.stop.Stop.{Stop}
+use Rattle.paths.specs.declared.text.Stop.{Stop}
 use Rattle.paths.proofs.Inverse.{TakesAhead, unless_ok, when_ok, ok_is, line_inverse, number_inverse, rest_inverse, three_inverse}
-use Rattle.captures.specs.Captures.{front, last_connection, has_tiers, feed, first_line, max_start}
+use Rattle.captures.specs.Captures.{opening, last_connection, has_tiers, first_line, max_start}
 use Rattle.captures.specs.CaptureFaults.{named, ◌>>=◌, header_kind_of, start_heading, start_of, header_at, two_numbers, piece_heading, end_heading, tier_heading, stop_heading, heading_of, IsHeadingOf}
 use Rattle.captures.specs.declared.version.Version.{Version}
 use Rattle.captures.specs.declared.version.Version.TheVariants.{One, Two}
@@ -58,28 +59,28 @@ start_heading_is v w (Some m) n h =
     (ap (λ (p : Version × ℕ). p.0) same, ap (λ k. Some k) number, omega (arith, number, small))
 
 -- a line of this version
-start_at : (v w : Version) (line : List ℕ) (n : ℕ) → starts_with nat_eq line (front w) ≡ true → start_heading w (number_of (drop (length (front w)) line)) ≡ Ok (v, n)
+start_at : (v w : Version) (line : List ℕ) (n : ℕ) → starts_with nat_eq line (opening w) ≡ true → start_heading w (number_of (drop (length (opening w)) line)) ≡ Ok (v, n)
     → (line ≡ first_line v n) × (n ≤ max_start)
 start_at v w line n h e =
-    let is = start_heading_is v w (number_of (drop (length (front w)) line)) n e in
-    let whole : line ≡ first_line w n = begins line (front w) h ∙ ap (λ t. front w ++ t) (number_inverse (drop (length (front w)) line) n is.1 (let x = is.2 in omega arith)) in
+    let is = start_heading_is v w (number_of (drop (length (opening w)) line)) n e in
+    let whole : line ≡ first_line w n = begins line (opening w) h ∙ ap (λ t. opening w ++ t) (number_inverse (drop (length (opening w)) line) n is.1 (let x = is.2 in omega arith)) in
     (whole ∙ ap (λ (x : Version). first_line x n) is.0, is.2)
 
 start_inverse : (v : Version) (line : List ℕ) (n : ℕ) → start_of line ≡ Ok (v, n) → (line ≡ first_line v n) × (n ≤ max_start)
-start_inverse v line n h = elim (chosen (starts_with nat_eq line (front One)) _ _ _ h) [
+start_inverse v line n h = elim (chosen (starts_with nat_eq line (opening One)) _ _ _ h) [
   | inl a ↦ start_at v One line n a.0 a.1
-  | inr b ↦ let two = when_ok (starts_with nat_eq line (front Two)) Header (start_heading Two (number_of (drop (length (front Two)) line))) (v, n) b.1 in start_at v Two line n two.0 two.1
+  | inr b ↦ let two = when_ok (starts_with nat_eq line (opening Two)) Header (start_heading Two (number_of (drop (length (opening Two)) line))) (v, n) b.1 in start_at v Two line n two.0 two.1
 ]
 
-pub header_inverse : (v : Version) (a b : Ahead) (n : ℕ) → header_at a ≡ Ok ((v, n), b) → TakesAhead a (first_line v n ++ feed ∷ []) b × (n ≤ max_start)
+pub header_inverse : (v : Version) (a b : Ahead) (n : ℕ) → header_at a ≡ Ok ((v, n), b) → TakesAhead a (first_line v n ++ line_feed ∷ []) b × (n ≤ max_start)
 header_inverse v a b n h =
     let line = bind_ok (named header_kind_of (line_at a)) _ _ h in
     let read = named_ok header_kind_of (line_at a) line.0 line.1 in
     let start = bind_ok (start_of line.0.0) _ _ line.2 in
     let pair : (start.0, line.0.1) ≡ ((v, n), b) = ok_is {A = (Version × ℕ) × Ahead} {E = CaptureFaultKind} _ _ _ _ refl refl start.2 in
     let is = start_inverse start.0.0 line.0.0 start.0.1 start.1 in
-    let took : TakesAhead a (first_line start.0.0 start.0.1 ++ feed ∷ []) line.0.1 = subst (λ (w : List ℕ). TakesAhead a (w ++ feed ∷ []) line.0.1) is.0 (line_inverse a line.0.1 line.0.0 read) in
-    subst (λ (p : (Version × ℕ) × Ahead). TakesAhead a (first_line p.0.0 p.0.1 ++ feed ∷ []) p.1 × (p.0.1 ≤ max_start)) pair (took, is.1)
+    let took : TakesAhead a (first_line start.0.0 start.0.1 ++ line_feed ∷ []) line.0.1 = subst (λ (w : List ℕ). TakesAhead a (w ++ line_feed ∷ []) line.0.1) is.0 (line_inverse a line.0.1 line.0.0 read) in
+    subst (λ (p : (Version × ℕ) × Ahead). TakesAhead a (first_line p.0.0 p.0.1 ++ line_feed ∷ []) p.1 × (p.0.1 ≤ max_start)) pair (took, is.1)
 
 -- each version has few connections
 pub few_connections : (v : Version) → last_connection v ≤ 65535

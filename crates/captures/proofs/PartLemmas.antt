@@ -2,15 +2,16 @@
 use Rattle.std.proofs.Common.{◌≡◌, ℕ, ◌+◌, ◌-◌, ◌||◌, ◌&&◌, ◌⊎◌, inl, inr, cond, nat_lt, Bool, true, false, List, [], ◌∷◌, ◌++◌, length, drop, Option, Some, None, Result, Ok, Err, refl, sym, ap, ◌∙◌, subst, arith, codes, nat_eq, is_some, unwrap_or}
 use Rattle.std.specs.List.{starts_with}
 use Rattle.std.proofs.lemmas.List.{append_assoc}
+use Rattle.paths.specs.Ascii.{line_feed}
 use Rattle.paths.specs.Numbers.{number_of, three_numbers}
 use Rattle.paths.specs.Texts.{Ahead, ahead_of, byte_at, run_at, line_at}
 use Rattle.paths.specs.Parts.{TookPart}
-use Rattle.paths.specs.declared.stop.Stop.{Stop}
-use Rattle.paths.specs.declared.stop.Stop.TheVariants as stops
+use Rattle.paths.specs.declared.text.Stop.{Stop}
+use Rattle.paths.specs.declared.text.Stop.TheVariants as stops
 use Rattle.paths.proofs.Taking.{Takes}
 use Rattle.paths.proofs.Inverse.{line_inverse}
 use Rattle.paths.proofs.PartLemmas.{none_after, part_after, no_byte, run_alone, run_takes, line_alone}
-use Rattle.captures.specs.Captures.{last_connection, has_tiers, Past, feed, max_text_bytes, max_tick, max_tier, text_before_stop, past_of}
+use Rattle.captures.specs.Captures.{last_connection, has_tiers, Past, max_text_bytes, max_tick, max_tier, text_before_stop, past_of}
 use Rattle.captures.specs.declared.version.Version.{Version}
 use Rattle.captures.specs.CaptureFaults.{kind_of, named, ◌>>=◌, two_numbers, piece_heading, end_heading, tier_heading, stop_heading, heading_of, open_connection, allowed, tier_record, body_at, announced, record_at, IsUnfinished, failures_of}
 use Rattle.captures.specs.Readers.{seen, ReaderAfter, FailsInRecord}
@@ -125,14 +126,14 @@ pub record_fails : (v : Version) (past : Past) (o m p : Option (List ℕ)) (l ml
     → TookPart (λ part. IsUnfinished (record_at v past (record { bytes = part; left = l }))) o l p pl
 record_fails v past o m p l ml pl line heading is read h k =
     let got = λ (known : is_some o ≡ true). let r = read known in subst (λ (b : Ahead). line_at (ahead_of o l) ≡ Ok (line, b)) (r.3 heading is) r.1 in
-    let t : Takes o l m ml (line ++ feed ∷ []) = record {
+    let t : Takes o l m ml (line ++ line_feed ∷ []) = record {
       bytes = λ known. (line_inverse (ahead_of o l) (ahead_of m ml) line (got known)).bytes;
       count = λ known. (line_inverse (ahead_of o l) (ahead_of m ml) line (got known)).left;
       known = λ known. (read known).2;
     } in
-    part_after (λ part. IsUnfinished (announced v past heading (record { bytes = part; left = ml }))) (λ part. IsUnfinished (record_at v past (record { bytes = part; left = l }))) o m p l ml pl (line ++ feed ∷ []) t
+    part_after (λ part. IsUnfinished (announced v past heading (record { bytes = part; left = ml }))) (λ part. IsUnfinished (record_at v past (record { bytes = part; left = l }))) o m p l ml pl (line ++ line_feed ∷ []) t
     (λ part left unfinished.
-    let all : Ahead = record { bytes = (line ++ feed ∷ []) ++ part; left = l } in
+    let all : Ahead = record { bytes = (line ++ line_feed ∷ []) ++ part; left = l } in
     let mid : Ahead = record { bytes = part; left = ml } in
     let same : record_at v past all ≡ announced v past heading mid =
     bind_is (named kind_of (line_at all)) _ (line, mid) (named_is kind_of _ (line, mid) (line_alone (ahead_of o l) (ahead_of m ml) line (got k) part))
@@ -149,7 +150,7 @@ fits_fails v text now new start new_left records p f h k =
     let left : p.left ≡ max_text_bytes - length (text_before_stop v start records) = let all = f.left k in omega arith in (
       more.part,
       record {
-        taken = f.front k ∙ (ap (λ w. text_before_stop v start records ++ w) more.bytes ∙ sym (append_assoc (text_before_stop v start records) more.part (unwrap_or new [])));
+        taken = f.taken k ∙ (ap (λ w. text_before_stop v start records ++ w) more.bytes ∙ sym (append_assoc (text_before_stop v start records) more.part (unwrap_or new [])));
         size = let all = f.left k in let part = more.count in omega arith;
         unfinished = subst (λ (q : ℕ). IsUnfinished (record_at v (past_of records) (record { bytes = more.part; left = q }))) left
             (subst (λ (q : Past). IsUnfinished (record_at v q (record { bytes = more.part; left = p.left }))) f.past

@@ -2,9 +2,10 @@
 use Rattle.std.proofs.Common.{◌≡◌, ℕ, ◌-◌, ◌^◌, ◌<◌, ◌≤◌, ◌==◌, ◌||◌, nat_lt, Bool, true, false, List, [], ◌∷◌, ◌++◌, length, Option, Some, None, Ok, refl, sym, ap, ◌∙◌, subst, arith, codes, decimal}
 use Rattle.std.proofs.lemmas.Bool.Decides.{nat_tests, Decides-eqb}
 use Rattle.std.proofs.lemmas.List.{append_assoc, append-nil, length-append}
+use Rattle.paths.specs.Ascii.{line_feed}
 use Rattle.paths.specs.Texts.{Ahead, line_at, run_at, byte_at}
 use Rattle.paths.proofs.Inverse.{TakesAhead, ahead_then, unless_ok, when_ok, ok_is, line_inverse, run_inverse, byte_takes}
-use Rattle.captures.specs.Captures.{last_connection, has_tiers, Past, feed, piece_line, record_text, max_tick, max_piece_bytes, max_tier, size_of, Follows}
+use Rattle.captures.specs.Captures.{last_connection, has_tiers, Past, piece_line, record_text, max_tick, max_piece_bytes, max_tier, size_of, Follows}
 use Rattle.captures.specs.declared.version.Version.{Version}
 use Rattle.captures.specs.CaptureFaults.{kind_of, named, heading_of, IsHeadingOf, open_connection, allowed, body_at, piece_at, tier_record, close_at, announced, record_at}
 use Rattle.captures.specs.declared.record.Record.{Record}
@@ -19,7 +20,7 @@ use Rattle.captures.proofs.Lines.{bind_ok, named_ok, piece_line_inverse, end_lin
 
 -- the last line after n records
 abbrev pub stop_text : ℕ → List ℕ
-stop_text count = (codes "stop " ++ decimal count) ++ feed ∷ []
+stop_text count = (codes "stop " ++ decimal count) ++ line_feed ∷ []
 
 -- what was read after a past: a record, or the last line, after which the input ends
 abbrev pub next_text : Past → Option Record → List ℕ
@@ -77,17 +78,17 @@ tier_inverse v past l r h =
       follows = λ has. subst (λ (q : Record). Follows v past q) (sym is) (names.2, unused, (has, names.1, in_tier));
     }
 
-body_inverse : (n : ℕ) (a b : Ahead) (bytes : List ℕ) → body_at n a ≡ Ok (bytes, b) → TakesAhead a (bytes ++ feed ∷ []) b × (length bytes ≡ n)
+body_inverse : (n : ℕ) (a b : Ahead) (bytes : List ℕ) → body_at n a ≡ Ok (bytes, b) → TakesAhead a (bytes ++ line_feed ∷ []) b × (length bytes ≡ n)
 body_inverse n a b bytes h =
     let run = bind_ok (named kind_of (run_at n a)) _ _ h in
     let run_read = run_inverse n a run.0.1 run.0.0 (named_ok kind_of (run_at n a) run.0 run.1) in
     let end = bind_ok (named kind_of (byte_at run.0.1)) _ _ run.2 in
     let end_read = byte_takes run.0.1 end.0.1 end.0.0 (named_ok kind_of (byte_at run.0.1) end.0 end.1) in
-    let good = when_ok (end.0.0 == feed) Length _ _ end.2 in
+    let good = when_ok (end.0.0 == line_feed) Length _ _ end.2 in
     let pair : (run.0.0, end.0.1) ≡ (bytes, b) = ok_is {A = List ℕ × Ahead} {E = CaptureFaultKind} _ _ _ _ refl refl good.1 in
-    let is_feed : end.0.0 ≡ feed = (Decides-eqb end.0.0 feed).0 good.0 in
+    let is_feed : end.0.0 ≡ line_feed = (Decides-eqb end.0.0 line_feed).0 good.0 in
     let took = ahead_then a run.0.1 end.0.1 run.0.0 (end.0.0 ∷ []) run_read.0 end_read in (
-      subst (λ (v : List ℕ × Ahead). TakesAhead a (v.0 ++ feed ∷ []) v.1) pair (subst (λ (c : ℕ). TakesAhead a (run.0.0 ++ c ∷ []) end.0.1) is_feed took),
+      subst (λ (v : List ℕ × Ahead). TakesAhead a (v.0 ++ line_feed ∷ []) v.1) pair (subst (λ (c : ℕ). TakesAhead a (run.0.0 ++ c ∷ []) end.0.1) is_feed took),
       sym (ap (λ (p : List ℕ × Ahead). length p.0) pair) ∙ run_read.1,
     )
 
@@ -95,7 +96,7 @@ body_inverse n a b bytes h =
 record TakesPiece (v : Version) (past : Past) (a : Ahead) (l : PieceLine) (r : Record) (b : Ahead) : Type 0 where
   bytes : List ℕ
   is : r ≡ Piece l.tick l.conn bytes
-  took : TakesAhead a (bytes ++ feed ∷ []) b
+  took : TakesAhead a (bytes ++ line_feed ∷ []) b
   len : length bytes ≡ l.len
   in_tick : l.tick ≤ max_tick
   in_conn : l.conn ≤ last_connection v
@@ -117,7 +118,7 @@ piece_inverse v past l a b r h =
     record {
       bytes = body.0.0;
       is = is;
-      took = subst (λ (x : Ahead). TakesAhead a (body.0.0 ++ feed ∷ []) x) (ap (λ (p : Record × Ahead). p.1) pair) read.0;
+      took = subst (λ (x : Ahead). TakesAhead a (body.0.0 ++ line_feed ∷ []) x) (ap (λ (p : Record × Ahead). p.1) pair) read.0;
       len = read.1;
       in_tick = within.1;
       in_conn = within.2;
@@ -136,7 +137,7 @@ tier_parts w a b = end_parts w a b
 
 -- what a heading announced takes, after its line
 Takes : List ℕ → Past → Option Record → Ahead → Ahead → Type 0
-Takes line past o a b = (rest : List ℕ) × TakesAhead a rest b × ((line ++ feed ∷ []) ++ rest ≡ next_text past o) × EndsIfNone o b
+Takes line past o a b = (rest : List ℕ) × TakesAhead a rest b × ((line ++ line_feed ∷ []) ++ rest ≡ next_text past o) × EndsIfNone o b
 
 announced_takes : (v : Version) (past : Past) (line : List ℕ) (heading : Heading) (a b : Ahead) (o : Option Record) → past.count < 2 ^ 64 - 1
     → heading_of v line ≡ Ok heading → announced v past heading a ≡ Ok (o, b) → Takes line past o a b
@@ -146,28 +147,28 @@ announced_takes v past line (headings.Piece l) a b o small is h =
     let t = piece_inverse v past l a piece.0.1 piece.0.0 piece.1 in
     let pair : (Some piece.0.0, piece.0.1) ≡ (o, b) = ok_is {A = Option Record × Ahead} {E = CaptureFaultKind} _ _ _ _ refl refl piece.2 in
     let text = piece_line_inverse v line l is (let x = t.in_tick in omega arith) (let x = t.in_conn in omega (arith, few_connections v)) (let x = t.in_len in omega arith) in
-    let whole : (line ++ feed ∷ []) ++ (t.bytes ++ feed ∷ []) ≡ record_text (Piece l.tick l.conn t.bytes) =
-    ap (λ w. (w ++ feed ∷ []) ++ (t.bytes ++ feed ∷ [])) text ∙ (ap (λ n. ((codes "piece " ++ (decimal l.tick ++ 32 ∷ (decimal l.conn ++ 32 ∷ decimal n))) ++ feed ∷ []) ++ (t.bytes ++ feed ∷ [])) (sym t.len)
+    let whole : (line ++ line_feed ∷ []) ++ (t.bytes ++ line_feed ∷ []) ≡ record_text (Piece l.tick l.conn t.bytes) =
+    ap (λ w. (w ++ line_feed ∷ []) ++ (t.bytes ++ line_feed ∷ [])) text ∙ (ap (λ n. ((codes "piece " ++ (decimal l.tick ++ 32 ∷ (decimal l.conn ++ 32 ∷ decimal n))) ++ line_feed ∷ []) ++ (t.bytes ++ line_feed ∷ [])) (sym t.len)
     ∙ piece_parts (codes "piece ") (decimal l.tick) (decimal l.conn) (decimal (length t.bytes)) t.bytes) in
-    subst (λ (p : Option Record × Ahead). (rest : List ℕ) × TakesAhead a rest p.1 × ((line ++ feed ∷ []) ++ rest ≡ next_text past p.0) × EndsIfNone p.0 p.1) pair
-    (t.bytes ++ feed ∷ [], t.took, whole ∙ ap record_text (sym t.is), tt)
+    subst (λ (p : Option Record × Ahead). (rest : List ℕ) × TakesAhead a rest p.1 × ((line ++ line_feed ∷ []) ++ rest ≡ next_text past p.0) × EndsIfNone p.0 p.1) pair
+    (t.bytes ++ line_feed ∷ [], t.took, whole ∙ ap record_text (sym t.is), tt)
 announced_takes v past line (headings.End l) a b o small is h =
     let conn = bind_ok (allowed v past l.tick l.conn) _ _ h in
     let within = allowed_inverse v past l.tick l.conn conn.0 conn.1 in
     let pair : (Some (End l.tick conn.0), a) ≡ (o, b) = ok_is {A = Option Record × Ahead} {E = CaptureFaultKind} _ _ _ _ refl refl conn.2 in
     let text = end_line_inverse v line l is (let x = within.1 in omega arith) (let x = within.2 in omega (arith, few_connections v)) in
-    let whole : (line ++ feed ∷ []) ++ [] ≡ record_text (End l.tick l.conn) =
-    ap (λ w. (w ++ feed ∷ []) ++ []) text ∙ end_parts (codes "end ") (decimal l.tick) (decimal l.conn) in
-    subst (λ (p : Option Record × Ahead). (rest : List ℕ) × TakesAhead a rest p.1 × ((line ++ feed ∷ []) ++ rest ≡ next_text past p.0) × EndsIfNone p.0 p.1) pair
+    let whole : (line ++ line_feed ∷ []) ++ [] ≡ record_text (End l.tick l.conn) =
+    ap (λ w. (w ++ line_feed ∷ []) ++ []) text ∙ end_parts (codes "end ") (decimal l.tick) (decimal l.conn) in
+    subst (λ (p : Option Record × Ahead). (rest : List ℕ) × TakesAhead a rest p.1 × ((line ++ line_feed ∷ []) ++ rest ≡ next_text past p.0) × EndsIfNone p.0 p.1) pair
     ([], record { bytes = refl; left = omega arith }, whole ∙ ap (λ c. record_text (End l.tick c)) (sym within.0), tt)
 announced_takes v past line (headings.Tier l) a b o small is h =
     let tier = bind_ok (tier_record v past l) _ _ h in
     let t = tier_inverse v past l tier.0 tier.1 in
     let pair : (Some tier.0, a) ≡ (o, b) = ok_is {A = Option Record × Ahead} {E = CaptureFaultKind} _ _ _ _ refl refl tier.2 in
     let text = tier_line_inverse v line l is (let x = t.in_conn in omega (arith, few_connections v)) (let x = t.in_tier in omega arith) in
-    let whole : (line ++ feed ∷ []) ++ [] ≡ record_text (Tier l.conn l.tier) =
-    ap (λ w. (w ++ feed ∷ []) ++ []) text ∙ tier_parts (codes "tier ") (decimal l.conn) (decimal l.tier) in
-    subst (λ (p : Option Record × Ahead). (rest : List ℕ) × TakesAhead a rest p.1 × ((line ++ feed ∷ []) ++ rest ≡ next_text past p.0) × EndsIfNone p.0 p.1) pair
+    let whole : (line ++ line_feed ∷ []) ++ [] ≡ record_text (Tier l.conn l.tier) =
+    ap (λ w. (w ++ line_feed ∷ []) ++ []) text ∙ tier_parts (codes "tier ") (decimal l.conn) (decimal l.tier) in
+    subst (λ (p : Option Record × Ahead). (rest : List ℕ) × TakesAhead a rest p.1 × ((line ++ line_feed ∷ []) ++ rest ≡ next_text past p.0) × EndsIfNone p.0 p.1) pair
     ([], record { bytes = refl; left = omega arith }, whole ∙ ap record_text (sym t.is), tt)
 announced_takes v past line (headings.Stop count) a b o small is h =
     let good = when_ok (count == past.count) Count _ _ h in
@@ -179,8 +180,8 @@ announced_takes v past line (headings.Stop count) a b o small is h =
     let same : count ≡ past.count = (Decides-eqb count past.count).0 good.0 in
     let text = stop_line_inverse v line count is (omega arith) in
     let none : a.bytes ≡ [] = is_nil a.bytes ((Decides-eqb (length a.bytes) 0).0 empty.0) in
-    subst (λ (p : Option Record × Ahead). (rest : List ℕ) × TakesAhead a rest p.1 × ((line ++ feed ∷ []) ++ rest ≡ next_text past p.0) × EndsIfNone p.0 p.1) here
-    ([], record { bytes = refl; left = omega arith }, append-nil (line ++ feed ∷ []) ∙ ap (λ w. w ++ feed ∷ []) (text ∙ ap (λ n. codes "stop " ++ decimal n) same), none)
+    subst (λ (p : Option Record × Ahead). (rest : List ℕ) × TakesAhead a rest p.1 × ((line ++ line_feed ∷ []) ++ rest ≡ next_text past p.0) × EndsIfNone p.0 p.1) here
+    ([], record { bytes = refl; left = omega arith }, append-nil (line ++ line_feed ∷ []) ∙ ap (λ w. w ++ line_feed ∷ []) (text ∙ ap (λ n. codes "stop " ++ decimal n) same), none)
   where
     is_nil : (xs : List ℕ) → length xs ≡ 0 → xs ≡ []
     is_nil [] e = refl
@@ -194,11 +195,11 @@ record_takes v past a b o small h =
     let read = line_inverse a line.0.1 line.0.0 (named_ok kind_of (line_at a) line.0 line.1) in
     let heading = bind_ok (heading_of v line.0.0) _ _ line.2 in
     let t = announced_takes v past line.0.0 heading.0 line.0.1 b o small heading.1 heading.2 in
-    (subst (λ (w : List ℕ). TakesAhead a w b) t.2 (ahead_then a line.0.1 b (line.0.0 ++ feed ∷ []) t.0 read t.1), t.3)
+    (subst (λ (w : List ℕ). TakesAhead a w b) t.2 (ahead_then a line.0.1 b (line.0.0 ++ line_feed ∷ []) t.0 read t.1), t.3)
 
 -- a record's text is longer than what it brings
 pub size_below : (r : Record) → size_of r < length (record_text r)
-size_below (Piece tick conn bytes) = omega (arith, length-append (piece_line tick conn (length bytes)) (feed ∷ (bytes ++ feed ∷ [])), length-append bytes (feed ∷ []))
+size_below (Piece tick conn bytes) = omega (arith, length-append (piece_line tick conn (length bytes)) (line_feed ∷ (bytes ++ line_feed ∷ [])), length-append bytes (line_feed ∷ []))
 size_below (End tick conn) = omega arith
 size_below (Tier conn tier) = omega arith
 

@@ -1,11 +1,12 @@
 -- What an upgraded text is.
 use Rattle.std.proofs.Common.{◌≡◌, ℕ, List, [], ◌∷◌, ◌++◌, length, get_or, refl, sym, ap, ◌∙◌, subst, arith, decimal, flat_map}
 use Rattle.std.proofs.lemmas.List.{length-append}
+use Rattle.paths.specs.Ascii.{line_feed}
 use Rattle.captures.specs.declared.version.Version.{Version}
 use Rattle.captures.specs.declared.version.Version.TheVariants.{One, Two}
 use Rattle.captures.specs.declared.record.Record.{Record}
 use Rattle.captures.specs.declared.record.Record.TheVariants.{Piece, End, Tier}
-use Rattle.captures.specs.Captures.{front, feed, first_line, last_line, record_text, text_before_stop, capture_text, IsRecord, IsCapture, IsCaptureText}
+use Rattle.captures.specs.Captures.{opening, first_line, last_line, record_text, text_before_stop, capture_text, IsRecord, IsCapture, IsCaptureText}
 use Rattle.captures.specs.Upgrades.{upgraded, IsUpgrade}
 use Rattle.captures.proofs.Lines.{few_connections}
 use Rattle.captures.proofs.Agree.{one_list}
@@ -25,25 +26,25 @@ rules_widen v start records c = record {
 }
 
 -- the versions' first lines are of one length
-as_long : (v : Version) → length (front v) ≡ length (front Two)
+as_long : (v : Version) → length (opening v) ≡ length (opening Two)
 as_long One = refl
 as_long Two = refl
 
 same_length : (v : Version) (start : ℕ) (records : List Record) → length (capture_text v start records) ≡ length (capture_text Two start records)
 same_length v start records =
     let texts = flat_map record_text records in
-    let last = last_line records ++ feed ∷ [] in
+    let last = last_line records ++ line_feed ∷ [] in
     omega (
       arith,
       as_long v,
       length-append (text_before_stop v start records) last,
       length-append (text_before_stop Two start records) last,
-      length-append (first_line v start ++ feed ∷ []) texts,
-      length-append (first_line Two start ++ feed ∷ []) texts,
-      length-append (first_line v start) (feed ∷ []),
-      length-append (first_line Two start) (feed ∷ []),
-      length-append (front v) (decimal start),
-      length-append (front Two) (decimal start),
+      length-append (first_line v start ++ line_feed ∷ []) texts,
+      length-append (first_line Two start ++ line_feed ∷ []) texts,
+      length-append (first_line v start) (line_feed ∷ []),
+      length-append (first_line Two start) (line_feed ∷ []),
+      length-append (opening v) (decimal start),
+      length-append (opening Two) (decimal start),
     )
 
 pub upgrade_is : (v : Version) (bytes : List ℕ) (start : ℕ) (records : List Record) → IsCaptureText v bytes start records → IsCaptureText Two (upgraded start records) start records

@@ -4,6 +4,7 @@ use Rattle.std.specs.Result.{IsErrAnd}
 use Rattle.std.specs.Io.KnownBytes.{Appends}
 use Rattle.std.proofs.lemmas.List.{flat_map_more}
 use Rattle.paths.proofs.Appending.{appends_then, prefix_then}
+use Rattle.paths.specs.Ascii.{line_feed}
 use Rattle.paths.specs.Devices.{AppendsPrefix, WritesPrefix}
 use Rattle.captures.specs.declared.version.Version.{Version}
 use Rattle.captures.specs.declared.version.Version.TheVariants.{Two}
@@ -15,7 +16,7 @@ use Rattle.captures.specs.declared.capture_fault.CaptureFaultKind.TheVariants as
 use Rattle.captures.specs.declared.upgrade_fault.UpgradeFault.{UpgradeFault}
 use Rattle.captures.specs.declared.upgrade_fault.UpgradeFault.TheVariants.{Capture, Memory, Write as Unwritten}
 use Rattle.paths.specs.KnownText.{WhereKnown}
-use Rattle.captures.specs.Captures.{feed, first_line, last_line, record_text, text_before_stop, max_text_bytes, IsCapture, IsCaptureText}
+use Rattle.captures.specs.Captures.{first_line, last_line, record_text, text_before_stop, max_text_bytes, IsCapture, IsCaptureText}
 use Rattle.captures.specs.CaptureFaults.{IsForeseen, IsHeaderFault, failures_of}
 use Rattle.captures.specs.Readers.{ReaderAfter, Gave, FailsFirst, FailsNext}
 use Rattle.captures.specs.Upgrades.{Upgrades, Reads, Stops, IsCutShort, told_as, upgrade_fault, IfCapture, IfCutShort, IsWriteOrMemory, reader_failures, writer_failures}
@@ -114,14 +115,14 @@ fits_few v text now start records p f = let r = f.room in omega arith
 
 -- ---- what stands
 
-pub first_written : (start : ℕ) (old new : Option (List ℕ)) → Appends old new (first_line Two start ++ feed ∷ []) → Appends old new (text_before_stop Two start [])
-first_written start old new h = subst (λ (w : List ℕ). Appends old new w) (sym (append-nil (first_line Two start ++ feed ∷ []))) h
+pub first_written : (start : ℕ) (old new : Option (List ℕ)) → Appends old new (first_line Two start ++ line_feed ∷ []) → Appends old new (text_before_stop Two start [])
+first_written start old new h = subst (λ (w : List ℕ). Appends old new w) (sym (append-nil (first_line Two start ++ line_feed ∷ []))) h
 
-pub first_prefix : (start : ℕ) (old new : Option (List ℕ)) → AppendsPrefix old new (first_line Two start ++ feed ∷ []) → AppendsPrefix old new (text_before_stop Two start [])
-first_prefix start old new h = subst (λ (w : List ℕ). AppendsPrefix old new w) (sym (append-nil (first_line Two start ++ feed ∷ []))) h
+pub first_prefix : (start : ℕ) (old new : Option (List ℕ)) → AppendsPrefix old new (first_line Two start ++ line_feed ∷ []) → AppendsPrefix old new (text_before_stop Two start [])
+first_prefix start old new h = subst (λ (w : List ℕ). AppendsPrefix old new w) (sym (append-nil (first_line Two start ++ line_feed ∷ []))) h
 
 longer : (start : ℕ) (records : List Record) (r : Record) → text_before_stop Two start records ++ record_text r ≡ text_before_stop Two start (records ++ r ∷ [])
-longer start records r = flat_map_more record_text (first_line Two start ++ feed ∷ []) records r
+longer start records r = flat_map_more record_text (first_line Two start ++ line_feed ∷ []) records r
 
 pub more_written : (start : ℕ) (records : List Record) (r : Record) (old mid new : Option (List ℕ)) → Appends old mid (text_before_stop Two start records) → Appends mid new (record_text r)
     → Appends old new (text_before_stop Two start (records ++ r ∷ []))
@@ -145,7 +146,7 @@ reads_of v text now start records p fits = record {
   records = records;
   rest = unwrap_or now [];
   rules = fits.rules;
-  begins = fits.front;
+  begins = fits.taken;
   size = λ known. let l = fits.left known in omega arith;
 }
 
@@ -171,31 +172,31 @@ pub all_read : (v : Version) (text now : Option (List ℕ)) (start : ℕ) (recor
     → WhereKnown text (λ bytes. IsCaptureText v bytes start records)
 all_read v text now start records p x is h = subst (λ (o : Option Record). Gave v text start records (Ok o) p now) is h
 
-counted : (n : ℕ) (records : List Record) → n ≡ length records → (codes "stop " ++ decimal n) ++ feed ∷ [] ≡ last_line records ++ feed ∷ []
-counted n records e = ap (λ m. (codes "stop " ++ decimal m) ++ feed ∷ []) e
+counted : (n : ℕ) (records : List Record) → n ≡ length records → (codes "stop " ++ decimal n) ++ line_feed ∷ [] ≡ last_line records ++ line_feed ∷ []
+counted n records e = ap (λ m. (codes "stop " ++ decimal m) ++ line_feed ∷ []) e
 
 short_end : (v : Version) (text old mid new : Option (List ℕ)) (start n : ℕ) (records : List Record) → n ≡ length records → IsCapture v start records
     → WhereKnown text (λ bytes. IsCaptureText v bytes start records)
-    → Appends old mid (text_before_stop Two start records) → AppendsPrefix mid new ((codes "stop " ++ decimal n) ++ feed ∷ []) → IsCutShort text old new
+    → Appends old mid (text_before_stop Two start records) → AppendsPrefix mid new ((codes "stop " ++ decimal n) ++ line_feed ∷ []) → IsCutShort text old new
 short_end v text old mid new start n records is rules c before h = inr (record {
   version = v;
   start = start;
   records = records;
   rules = rules;
   capture = c;
-  written = prefix_then old mid new (text_before_stop Two start records) (last_line records ++ feed ∷ []) before (subst (λ (w : List ℕ). AppendsPrefix mid new w) (counted n records is) h);
+  written = prefix_then old mid new (text_before_stop Two start records) (last_line records ++ line_feed ∷ []) before (subst (λ (w : List ℕ). AppendsPrefix mid new w) (counted n records is) h);
 })
 
 whole : (v : Version) (text old mid new : Option (List ℕ)) (start n : ℕ) (records : List Record) → n ≡ length records → IsCapture v start records
     → WhereKnown text (λ bytes. IsCaptureText v bytes start records)
-    → Appends old mid (text_before_stop Two start records) → Appends mid new ((codes "stop " ++ decimal n) ++ feed ∷ []) → Upgrades text old new
+    → Appends old mid (text_before_stop Two start records) → Appends mid new ((codes "stop " ++ decimal n) ++ line_feed ∷ []) → Upgrades text old new
 whole v text old mid new start n records is rules c before h = record {
   version = v;
   start = start;
   records = records;
   rules = rules;
   capture = c;
-  written = appends_then old mid new (text_before_stop Two start records) (last_line records ++ feed ∷ []) before (subst (λ (w : List ℕ). Appends mid new w) (counted n records is) h);
+  written = appends_then old mid new (text_before_stop Two start records) (last_line records ++ line_feed ∷ []) before (subst (λ (w : List ℕ). Appends mid new w) (counted n records is) h);
 }
 
 -- the same of what another name has
@@ -213,13 +214,13 @@ short_errs (Err f) P h = short f P h
 
 -- the last line was written, or a prefix of it
 pub part_end : (r : Result Unit UpgradeFault) (v : Version) (text old mid new : Option (List ℕ)) (start n : ℕ) (records : List Record) → n ≡ length records → IsCapture v start records
-    → Appends old mid (text_before_stop Two start records) → WhereKnown text (λ bytes. IsCaptureText v bytes start records) → WritesPrefix mid new r ((codes "stop " ++ decimal n) ++ feed ∷ [])
+    → Appends old mid (text_before_stop Two start records) → WhereKnown text (λ bytes. IsCaptureText v bytes start records) → WritesPrefix mid new r ((codes "stop " ++ decimal n) ++ line_feed ∷ [])
     → IfErr r (λ f. IfCutShort f (IsCutShort text old new))
 part_end (Ok x) v text old mid new start n records is rules before c h = tt
 part_end (Err f) v text old mid new start n records is rules before c h = short f _ (short_end v text old mid new start n records is rules c before h)
 
 pub ok_end : (r : Result Unit UpgradeFault) (v : Version) (text old mid new : Option (List ℕ)) (start n : ℕ) (records : List Record) → n ≡ length records → IsCapture v start records
-    → Appends old mid (text_before_stop Two start records) → WhereKnown text (λ bytes. IsCaptureText v bytes start records) → WritesPrefix mid new r ((codes "stop " ++ decimal n) ++ feed ∷ [])
+    → Appends old mid (text_before_stop Two start records) → WhereKnown text (λ bytes. IsCaptureText v bytes start records) → WritesPrefix mid new r ((codes "stop " ++ decimal n) ++ line_feed ∷ [])
     → OnOk r (Upgrades text old new)
 ok_end (Ok x) v text old mid new start n records is rules before c h = whole v text old mid new start n records is rules c before h
 ok_end (Err f) v text old mid new start n records is rules before c h = tt

@@ -3,13 +3,14 @@ use Rattle.std.specs.Prelude.{◌≡◌, ℕ, ◌+◌, ◌-◌, ◌≤◌, ◌==
 use Rattle.std.specs.Prelude.{length, Option, Some, None, Result, Ok, Err, codes, nat_eq, nat_lt}
 use Rattle.std.specs.Prelude.{if◌then◌else◌, is_some, unwrap_or}
 use Rattle.std.specs.List.{starts_with}
+use Rattle.paths.specs.Ascii.{line_feed}
 use Rattle.paths.specs.Devices.{CountsBy}
 use Rattle.paths.specs.Numbers.{number_of, number_and_rest, three_numbers}
 use Rattle.paths.specs.Numbers.{◌>>=◌ as ◌>?=◌}
 use Rattle.paths.specs.Texts.{Ahead, line_at, run_at, byte_at}
-use Rattle.paths.specs.declared.stop.Stop.{Stop}
-use Rattle.paths.specs.declared.stop.Stop.TheVariants as stops
-use Rattle.captures.specs.Captures.{front, last_connection, has_tiers, feed, max_start, max_tick, max_piece_bytes}
+use Rattle.paths.specs.declared.text.Stop.{Stop}
+use Rattle.paths.specs.declared.text.Stop.TheVariants as stops
+use Rattle.captures.specs.Captures.{opening, last_connection, has_tiers, max_start, max_tick, max_piece_bytes}
 use Rattle.captures.specs.Captures.{max_text_bytes, max_tier, Past, past_of, text_before_stop, IsCapture}
 use Rattle.captures.specs.declared.version.Version.{Version}
 use Rattle.captures.specs.declared.version.Version.TheVariants.{One, Two}
@@ -76,8 +77,8 @@ start_heading v None = Err Number
 
 abbrev pub start_of : List ℕ → Result (Version × ℕ) CaptureFaultKind
 start_of line =
-    if starts_with nat_eq line (front One) then start_heading One (number_of (drop (length (front One)) line))
-    else if starts_with nat_eq line (front Two) then start_heading Two (number_of (drop (length (front Two)) line))
+    if starts_with nat_eq line (opening One) then start_heading One (number_of (drop (length (opening One)) line))
+    else if starts_with nat_eq line (opening Two) then start_heading Two (number_of (drop (length (opening Two)) line))
     else Err Header
 
 -- the first line: its version and its start, after it the records
@@ -142,7 +143,7 @@ abbrev pub body_at : ℕ → Ahead → Result (List ℕ × Ahead) CaptureFaultKi
 body_at n a = do
   bytes ← named kind_of (run_at n a)
   end ← named kind_of (byte_at bytes.1)
-  if end.0 == feed then Ok (bytes.0, end.1) else Err Length
+  if end.0 == line_feed then Ok (bytes.0, end.1) else Err Length
 
 -- the piece that a line announces
 abbrev pub piece_at : Version → Past → PieceLine → Ahead → Result (Record × Ahead) CaptureFaultKind

@@ -2,6 +2,7 @@
 use Rattle.std.specs.Prelude.{◌≡◌, ℕ, ◌-◌, ◌<◌, ◌≤◌, ◌==◌, Bool, true, false, List, [], ◌∷◌, ◌++◌, length, All, codes}
 use Rattle.std.specs.Prelude.{decimal, slice_index, flat_map, sum_by, if◌then◌else◌}
 use Rattle.std.specs.List.{list_any, AllPairs}
+use Rattle.paths.specs.Ascii.{line_feed}
 use Rattle.captures.specs.declared.version.Version.{Version}
 use Rattle.captures.specs.declared.version.Version.TheVariants.{One, Two}
 use Rattle.captures.specs.declared.record.Record.{Record}
@@ -9,9 +10,9 @@ use Rattle.captures.specs.declared.record.Record.TheVariants.{Piece, End, Tier}
 
 -- What a version sets: the first line up to the start, the greatest number of a connection, and whether there are
 -- tiers.
-abbrev pub front : Version → List ℕ
-front One = codes "haboob-capture 1 "
-front Two = codes "haboob-capture 2 "
+abbrev pub opening : Version → List ℕ
+opening One = codes "haboob-capture 1 "
+opening Two = codes "haboob-capture 2 "
 
 abbrev pub last_connection : Version → ℕ
 last_connection One = 4095
@@ -20,10 +21,6 @@ last_connection Two = 65535
 abbrev pub has_tiers : Version → Bool
 has_tiers One = false
 has_tiers Two = true
-
--- a line feed
-abbrev pub feed : ℕ
-feed = 10
 
 -- the latest start (seconds since 1970-01-01), the latest tick, the most bytes of a piece and of a text, the last tier
 abbrev pub max_start : ℕ
@@ -52,23 +49,23 @@ abbrev pub tier_line : ℕ → ℕ → List ℕ
 tier_line conn tier = codes "tier " ++ decimal conn ++ codes " " ++ decimal tier
 
 abbrev pub first_line : Version → ℕ → List ℕ
-first_line v start = front v ++ decimal start
+first_line v start = opening v ++ decimal start
 
 abbrev pub last_line : List Record → List ℕ
 last_line records = codes "stop " ++ decimal (length records)
 
 -- a piece: its line and its bytes, each with a line feed; an end and a tier: the line
 abbrev pub record_text : Record → List ℕ
-record_text (Piece tick conn bytes) = piece_line tick conn (length bytes) ++ feed ∷ (bytes ++ feed ∷ [])
-record_text (End tick conn) = end_line tick conn ++ feed ∷ []
-record_text (Tier conn tier) = tier_line conn tier ++ feed ∷ []
+record_text (Piece tick conn bytes) = piece_line tick conn (length bytes) ++ line_feed ∷ (bytes ++ line_feed ∷ [])
+record_text (End tick conn) = end_line tick conn ++ line_feed ∷ []
+record_text (Tier conn tier) = tier_line conn tier ++ line_feed ∷ []
 
 -- the text up to the last line, and the whole text
 abbrev pub text_before_stop : Version → ℕ → List Record → List ℕ
-text_before_stop v start records = (first_line v start ++ feed ∷ []) ++ flat_map record_text records
+text_before_stop v start records = (first_line v start ++ line_feed ∷ []) ++ flat_map record_text records
 
 abbrev pub capture_text : Version → ℕ → List Record → List ℕ
-capture_text v start records = text_before_stop v start records ++ (last_line records ++ feed ∷ [])
+capture_text v start records = text_before_stop v start records ++ (last_line records ++ line_feed ∷ [])
 
 -- the connection of a record
 abbrev pub connection_of : Record → ℕ

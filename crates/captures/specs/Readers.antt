@@ -14,8 +14,8 @@ use Rattle.captures.specs.declared.capture_fault.CaptureFaultKind.{CaptureFaultK
 use Rattle.captures.specs.declared.capture_fault.CaptureFaultKind.TheVariants.{Cut, Read}
 use Rattle.captures.specs.declared.connection_set.ConnectionSet.{ConnectionSet}
 use Rattle.captures.specs.declared.so_far.SoFar.{SoFar}
-use Rattle.captures.specs.declared.stage.Stage.{Stage}
-use Rattle.captures.specs.declared.stage.Stage.TheVariants.{Reading, Ended, Failed}
+use Rattle.captures.specs.declared.progress.Stage.{Stage}
+use Rattle.captures.specs.declared.progress.Stage.TheVariants.{Reading, Ended, Failed}
 use Rattle.captures.specs.declared.progress.Progress.{Progress}
 
 -- whether a connection is in a set: its bit is 1
@@ -36,7 +36,7 @@ after past (Tier conn tier) =
     record { count = past.count + 1; tick = past.tick; ended = past.ended; used = λ c. past.used c || conn == c }
 
 -- A reader has given these records of a text, and no others: they keep the rules, and where the bytes of the input are
--- known, the first line and the texts of the records were taken from their front, and the rest is ahead.
+-- known, the first line and the texts of the records were taken from them, and the rest is ahead.
 pub record ReaderAfter (v : Version) (text : Option (List ℕ)) (start : ℕ) (records : List Record) (p : Progress)
     (now : Option (List ℕ)) : Type 0 where
   pub stage : p.stage ≡ Reading
@@ -45,7 +45,7 @@ pub record ReaderAfter (v : Version) (text : Option (List ℕ)) (start : ℕ) (r
   pub rules : IsCapture v start records
   pub past : seen p.so_far ≡ past_of records
   pub room : length records + sizes_of records + p.room ≡ max_text_bytes
-  pub front : is_some text ≡ true → unwrap_or text [] ≡ text_before_stop v start records ++ unwrap_or now []
+  pub taken : is_some text ≡ true → unwrap_or text [] ≡ text_before_stop v start records ++ unwrap_or now []
   pub left : is_some text ≡ true → max_text_bytes ≡ length (text_before_stop v start records) + p.left
   pub known : is_some text ≡ true → is_some now ≡ true
 

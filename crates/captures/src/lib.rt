@@ -12,7 +12,6 @@ mod reading;
 mod record;
 mod record_writer;
 mod so_far;
-mod stage;
 mod upgrade_fault;
 mod upgrading;
 mod version;

@@ -12,11 +12,21 @@ ghost use Rattle.captures.specs.declared.version.Version.{Version as AVersion};
 
 use crate::reading::{read_header, read_record};
 use crate::so_far::SoFar;
-use crate::stage::Stage;
 use crate::{CaptureFault, CaptureFaultKind, Record, Version};
 use paths::Input;
 use std::alloc::Global;
 use std::io::Read;
+
+/// How far a reader of a capture has come.
+#[derive(Clone, Copy, Debug, PartialEq, Eq)]
+pub enum Stage {
+    /// A record or the last line is next.
+    Reading,
+    /// The last line was read, and the input ended after it.
+    Ended,
+    /// A fault was met: it stays.
+    Failed(CaptureFault),
+}
 
 /// The most bytes of a capture text.
 const MAX_TEXT_BYTES: usize = 1_073_741_824;

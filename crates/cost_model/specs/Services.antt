@@ -1,7 +1,7 @@
 -- How long the virtual server works on a request, in ticks of one microsecond.
 use Rattle.std.specs.Prelude.{ℕ, ◌+◌, ◌*◌, ◌/◌, ◌||◌, ◌&&◌, Bool, nat_le, if◌then◌else◌}
-use Rattle.paths.specs.declared.outcome.Outcome.{Outcome}
-use Rattle.paths.specs.declared.outcome.Outcome.TheVariants.{File}
+use Rattle.paths.specs.declared.resolution.Outcome.{Outcome}
+use Rattle.paths.specs.declared.resolution.Outcome.TheVariants.{File}
 
 -- the greatest of the three costs; the code has a constant of this name
 abbrev pub MAX_COST : ℕ

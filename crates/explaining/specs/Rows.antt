@@ -2,8 +2,9 @@
 -- quote or the end of a line (RFC 4180, 2).
 use Rattle.std.specs.Prelude.{ℕ, ◌-◌, ◌==◌, ◌&&◌, ◌||◌, not, Bool, List, [], ◌∷◌, ◌++◌, Option, Some, None, codes}
 use Rattle.std.specs.Prelude.{decimal, flat_map, if◌then◌else◌}
+use Rattle.std.specs.Char.{is_ascii_graphic}
 use Rattle.percent_encoding.specs.Percent.{percent_encode_byte}
-use Rattle.paths.specs.Resolution.{is_visible}
+use Rattle.paths.specs.Ascii.{quote, percent_sign, comma}
 use Rattle.admission.specs.declared.control.Decision.{Decision}
 use Rattle.admission.specs.declared.control.Decision.TheVariants.{Admitted, Rejected}
 use Rattle.explaining.specs.declared.row.Offered.{Offered}
@@ -41,7 +42,7 @@ row_line row = number_field row.number ++ number_field row.conn ++ number_field 
 
 -- visible ASCII but the quote, the percent sign and the comma
 abbrev pub stands_as_it_is : ℕ → Bool
-stands_as_it_is b = is_visible b && not (b == 34 || b == 37 || b == 44)
+stands_as_it_is b = is_ascii_graphic b && not (b == quote || b == percent_sign || b == comma)
 
 -- bytes as a field: each other byte is `%` and two hexadecimal digits, those above 9 in capitals (RFC 3986, 2.1)
 abbrev pub text_byte : ℕ → List ℕ

@@ -83,7 +83,7 @@ took_waits before after text n old e so w stage read =
       within = w.within;
       live = live_seeking after stage;
       read = read;
-      sound = record { stage = rw stage (w.front, (omega (arith, held, kept, read))) };
+      sound = record { stage = rw stage (w.unfinished, (omega (arith, held, kept, read))) };
       cuts = record {
         more = [];
         appended = sym (append-nil old);

@@ -139,7 +139,7 @@ waits_found held text b after n q within some bis f is =
     record {
       some = some;
       within = within;
-      front = rw is2 (fixed, f2.2, (let i = f2.3 in omega (arith, i, l, d)));
+      unfinished = rw is2 (fixed, f2.2, (let i = f2.3 in omega (arith, i, l, d)));
       kept = rw is2 (omega (arith, d));
       yields = λ p y ms h.
           let q_is : length held + n - length after ≡ q = rw is2 (let i = f2.1 in omega (arith, d, l, i)) in

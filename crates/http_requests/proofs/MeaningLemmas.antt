@@ -66,8 +66,8 @@ bad_means fault block body v not says is len =
     let w = ap (λ x. x.what) is in
     rw w (fault_means fault block body not (rw is at says) (nothing body (len ∙ n)))
 
-head_means : (fault : Option Fault) (head : RequestHead) (block body : List ℕ) (v : Verdict) → head_fault head.minor (lines_of head) ≡ fault → IsVerdict block v → IsHead block head
-    → MatchOption fault (IsRequest head.method head.target head.minor (lines_of head) v) (λ f. v ≡ bad f) → length body ≡ v.length → Means v.what block body
+head_means : (fault : Option Fault) (head : RequestHead) (block body : List ℕ) (v : Verdict) → head_fault head.minor (lines_of head.fields) ≡ fault → IsVerdict block v → IsHead block head
+    → MatchOption fault (IsRequest head.method head.target head.minor (lines_of head.fields) v) (λ f. v ≡ bad f) → length body ≡ v.length → Means v.what block body
 head_means None head block body v e says reads is len = rw is.what_is (record {
   head = head;
   reads = reads.0;
@@ -85,7 +85,7 @@ head_means (Some fault) head block body v e says reads is len = bad_means fault 
 -- what a verdict means
 verdict_means : (block body : List ℕ) (v : Verdict) → IsVerdict block v → length body ≡ v.length → Means v.what block body
 unfolding IsVerdict
-verdict_means block body v (inl h) len = head_means (head_fault h.0.minor (lines_of h.0)) h.0 block body v refl (inl h) h.1 h.2 len
+verdict_means block body v (inl h) len = head_means (head_fault h.0.minor (lines_of h.0.fields)) h.0 block body v refl (inl h) h.1 h.2 len
 verdict_means block body v (inr h) len = bad_means Block block body v (λ e. cc) (inr h) h.1 len
 
 taken_len : (n : ℕ) (s : List ℕ) → n ≤ length s → length (take n s) ≡ n

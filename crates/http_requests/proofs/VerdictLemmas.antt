@@ -49,7 +49,7 @@ says_unique (Some f) m t minor lines v w g h = g ∙ sym h
 
 head_says_unique : (head other : RequestHead) → head ≡ other → (v w : Verdict) → HeadSays head v → HeadSays other w → v ≡ w
 head_says_unique head other same v w g h =
-    says_unique (head_fault head.minor (lines_of head)) head.method head.target head.minor (lines_of head) v w g (rw same h)
+    says_unique (head_fault head.minor (lines_of head.fields)) head.method head.target head.minor (lines_of head.fields) v w g (rw same h)
 
 -- a block has one verdict
 pub verdict_unique : (block : List ℕ) (v w : Verdict) → IsVerdict block v → IsVerdict block w → v ≡ w

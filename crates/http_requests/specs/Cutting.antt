@@ -86,7 +86,7 @@ pub record Begins (held text : List ℕ) (n : ℕ) (verdict : Verdict) : Type 0 
 pub record Waits (held text : List ℕ) (n : ℕ) (after : List ℕ) : Type 0 where
   pub some : 0 < n
   pub within : n ≤ length text
-  pub front : IsUnfinished after
+  pub unfinished : IsUnfinished after
   pub kept : length after ≤ length held + n
   pub yields :
       (p : ℕ) (y : List ℕ) (ms : List Message)

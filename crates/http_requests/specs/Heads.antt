@@ -6,7 +6,7 @@ use Rattle.std.specs.List.{flat_map, list_all, list_any, slice_split}
 use Rattle.std.specs.Char.{is_ascii_alphanumeric, is_ascii_digit, to_ascii_lowercase}
 use Rattle.std.specs.Str.Parse.{digits_value}
 use Rattle.http_requests.specs.Limits.{comma, max_fields, max_body_bytes}
-use Rattle.httparse.specs.Grammar.{RequestHead, ReadsRequest, trim_ows}
+use Rattle.httparse.specs.Grammar.{Field, RequestHead, ReadsRequest, trim_ows}
 use Rattle.httparse.specs.Spans.{name_and_value}
 use Rattle.httpdate.specs.declared.date.HttpDate.{HttpDate}
 use Rattle.httpdate.specs.Date.{IsDateText, unix_secs}
@@ -21,9 +21,9 @@ use Rattle.http_requests.specs.declared.heads.Verdict.{Verdict}
 abbrev pub FieldLine : Type 0
 FieldLine = List ℕ × List ℕ
 
--- the field lines of a head, in order
-abbrev pub lines_of : RequestHead → List FieldLine
-lines_of head = map name_and_value head.fields
+-- the lines of fields, in order
+abbrev pub lines_of : List Field → List FieldLine
+lines_of fields = map name_and_value fields
 
 -- the texts are equal but for the case of ASCII letters
 abbrev pub same_text : List ℕ → List ℕ → Bool
@@ -143,7 +143,7 @@ PartsSay method target minor lines verdict =
 
 -- what a head says
 abbrev pub HeadSays : RequestHead → Verdict → Type 0
-HeadSays head verdict = PartsSay head.method head.target head.minor (lines_of head) verdict
+HeadSays head verdict = PartsSay head.method head.target head.minor (lines_of head.fields) verdict
 
 -- the whole block is this head, with at most 64 fields
 abbrev pub IsHead : List ℕ → RequestHead → Type 0

@@ -18,13 +18,13 @@ pub record IsReadFrom
   pub head : RequestHead
   pub reads : ReadsRequest block head []
   pub fields : length head.fields ≤ max_fields
-  pub no_fault : head_fault head.minor (lines_of head) ≡ None
+  pub no_fault : head_fault head.minor (lines_of head.fields) ≡ None
   pub method_is : method ≡ head.method
   pub target_is : target ≡ head.target
   pub version_is : version ≡ version_of head.minor
-  pub closes_is : closing ≡ is_closing head.minor (lines_of head)
-  pub since_is : IsModifiedSince head.method (lines_of head) since
-  pub body_is : length body ≡ body_length (values_of (codes "content-length") (lines_of head))
+  pub closes_is : closing ≡ is_closing head.minor (lines_of head.fields)
+  pub since_is : IsModifiedSince head.method (lines_of head.fields) since
+  pub body_is : length body ≡ body_length (values_of (codes "content-length") (lines_of head.fields))
 
 -- what a block and the body after it make: a request, a block that is cut at the limit, or a block
 -- with a fault; only a request has a body

@@ -65,7 +65,7 @@ fn take_joined(
     held: &mut Vec<u8>,
     text: &[u8],
 ) -> Result<(usize, Option<Verdict>), AllocError>
-    requires front { IsUnfinished held.old.items }
+    requires unfinished { IsUnfinished held.old.items }
     requires some { 0 < length text.now }
     ensures begins { IfOk result (λ took. IfSome took.1 (Begins held.old.items text.now took.0)) }
     ensures small { IfOk result (λ took. IfSome took.1 (λ verdict. verdict.length ≤ max_body_bytes)) }
@@ -98,7 +98,7 @@ fn take_block(
     held: &mut Vec<u8>,
     text: &[u8],
 ) -> Result<(usize, Option<Verdict>), AllocError>
-    requires front { IsUnfinished held.old.items }
+    requires unfinished { IsUnfinished held.old.items }
     requires some { 0 < length text.now }
     ensures begins { IfOk result (λ took. IfSome took.1 (Begins held.old.items text.now took.0)) }
     ensures small { IfOk result (λ took. IfSome took.1 (λ verdict. verdict.length ≤ max_body_bytes)) }
@@ -230,7 +230,7 @@ impl State {
     }
 }
 
-/// Cuts the text of one connection into its messages, while it comes in pieces. It holds the front
+/// Cuts the text of one connection into its messages, while it comes in pieces. It holds the prefix
 /// of at most one block, 8,191 bytes, and never the text.
 #[derive(Drop)]
 pub struct Cutter {

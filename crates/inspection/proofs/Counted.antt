@@ -14,10 +14,10 @@ use Rattle.http_requests.specs.declared.messages.Version.{Version}
 use Rattle.http_requests.specs.declared.messages.Version.TheVariants.{Http10, Http11}
 use Rattle.http_requests.specs.declared.messages.Fault.{Fault}
 use Rattle.http_requests.specs.declared.messages.Fault.TheVariants.{TooLong, Block, Host, Coding, Length, BodySize}
-use Rattle.inspection.specs.declared.record_counts.RecordCounts.{RecordCounts}
-use Rattle.inspection.specs.declared.message_counts.MethodCounts.{MethodCounts}
-use Rattle.inspection.specs.declared.message_counts.FaultCounts.{FaultCounts}
-use Rattle.inspection.specs.declared.message_counts.MessageCounts.{MessageCounts}
+use Rattle.inspection.specs.declared.counts.RecordCounts.{RecordCounts}
+use Rattle.inspection.specs.declared.counts.MethodCounts.{MethodCounts}
+use Rattle.inspection.specs.declared.counts.FaultCounts.{FaultCounts}
+use Rattle.inspection.specs.declared.counts.MessageCounts.{MessageCounts}
 use Rattle.inspection.specs.Figures.{is_piece, is_end, is_tier, records_by_kind, is_request, has_method, has_other_method, is_http10, is_http11}
 use Rattle.inspection.specs.Figures.{is_too_long, is_bad_block, is_bad_host, is_bad_coding, is_bad_length, is_bad_body_size}
 use Rattle.inspection.specs.Figures.{methods_by_kind, versions_by_kind, faults_by_kind, messages_by_kind}

@@ -57,7 +57,7 @@ holds_before v text now start records arrivals connections f p q ahead fault i f
   arrivals = arrivals;
   rest = unwrap_or now [];
   rules = rw (version, begun) fits.rules;
-  begins = rw (version, begun) fits.front;
+  begins = rw (version, begun) fits.taken;
   size = rw (version, begun) (λ known. (let e = fits.left known in omega (arith, e)));
   arrived = holds.arrived;
   figures = figures;

@@ -15,11 +15,11 @@ use Rattle.http_requests.specs.declared.messages.Fault.TheVariants.{TooLong, Blo
 use Rattle.arrivals.specs.Arrivals.{Arrival, AreArrivals, text_of, messages_of}
 use Rattle.arrivals.specs.Connections.{HaveRead, some_closes}
 use Rattle.arrivals.specs.declared.connections.Connection.{Connection}
-use Rattle.inspection.specs.declared.record_counts.RecordCounts.{RecordCounts}
-use Rattle.inspection.specs.declared.message_counts.MethodCounts.{MethodCounts}
-use Rattle.inspection.specs.declared.message_counts.VersionCounts.{VersionCounts}
-use Rattle.inspection.specs.declared.message_counts.FaultCounts.{FaultCounts}
-use Rattle.inspection.specs.declared.message_counts.MessageCounts.{MessageCounts}
+use Rattle.inspection.specs.declared.counts.RecordCounts.{RecordCounts}
+use Rattle.inspection.specs.declared.counts.MethodCounts.{MethodCounts}
+use Rattle.inspection.specs.declared.counts.VersionCounts.{VersionCounts}
+use Rattle.inspection.specs.declared.counts.FaultCounts.{FaultCounts}
+use Rattle.inspection.specs.declared.counts.MessageCounts.{MessageCounts}
 use Rattle.inspection.specs.declared.inspection.Share.{Share}
 use Rattle.inspection.specs.declared.busy.Busy.{Busy}
 use Rattle.inspection.specs.declared.tails.Tail.{Tail}

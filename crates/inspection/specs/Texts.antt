@@ -2,10 +2,10 @@
 use Rattle.std.specs.Prelude.{ℕ, List, ◌++◌, Option, Some, None, codes, decimal}
 use Rattle.captures.specs.declared.version.Version.{Version}
 use Rattle.captures.specs.declared.version.Version.TheVariants.{One, Two}
-use Rattle.inspection.specs.declared.record_counts.RecordCounts.{RecordCounts}
-use Rattle.inspection.specs.declared.message_counts.MethodCounts.{MethodCounts}
-use Rattle.inspection.specs.declared.message_counts.VersionCounts.{VersionCounts}
-use Rattle.inspection.specs.declared.message_counts.FaultCounts.{FaultCounts}
+use Rattle.inspection.specs.declared.counts.RecordCounts.{RecordCounts}
+use Rattle.inspection.specs.declared.counts.MethodCounts.{MethodCounts}
+use Rattle.inspection.specs.declared.counts.VersionCounts.{VersionCounts}
+use Rattle.inspection.specs.declared.counts.FaultCounts.{FaultCounts}
 use Rattle.inspection.specs.declared.inspection.Share.{Share}
 use Rattle.inspection.specs.declared.inspection.Inspection.{Inspection}
 

@@ -7,8 +7,7 @@ ghost use Rattle.inspection.specs.Running.{FewRecords, FewMethods, FewVersions, 
 ghost use Rattle.inspection.specs.Running.{with_piece, with_end, with_tier, with_method, with_version, with_fault};
 ghost use Rattle.inspection.specs.Running.{with_message};
 
-use crate::message_counts::{FaultCounts, MessageCounts, MethodCounts, VersionCounts};
-use crate::record_counts::RecordCounts;
+use crate::counts::{FaultCounts, MessageCounts, MethodCounts, RecordCounts, VersionCounts};
 use http_requests::{Fault, Meaning, Message, Version};
 
 impl RecordCounts {

@@ -11,8 +11,7 @@ ghost use Rattle.inspection.specs.Running.{with_end, with_tier};
 
 use crate::busy::Busy;
 use crate::inspection::{Inspection, Second};
-use crate::message_counts::{FaultCounts, MessageCounts, MethodCounts, VersionCounts};
-use crate::record_counts::RecordCounts;
+use crate::counts::{FaultCounts, MessageCounts, MethodCounts, RecordCounts, VersionCounts};
 use crate::shares::shares_of;
 use crate::tails::Tails;
 use captures::Version;

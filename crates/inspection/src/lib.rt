@@ -2,22 +2,20 @@
 #![tactic(auto)]
 
 mod busy;
+mod counts;
 mod counting;
 mod found;
 mod inspect_fault;
 mod inspecting;
 mod inspection;
 mod laws;
-mod message_counts;
-mod record_counts;
 mod shares;
 mod tails;
 mod texts;
 
+pub use counts::{FaultCounts, MessageCounts, MethodCounts, RecordCounts, VersionCounts};
 pub use inspect_fault::InspectFault;
 pub use inspecting::inspect;
 pub use inspection::{Inspection, Second, Share};
 pub use laws::{bytes_of_all_pieces, messages_of_one_kind, one_inspection, requests_by_kind};
-pub use message_counts::{FaultCounts, MessageCounts, MethodCounts, VersionCounts};
-pub use record_counts::RecordCounts;
 pub use texts::inspection_text;

@@ -1,4 +1,4 @@
--- What fits of a list is its longest front that does.
+-- What fits of a list is its longest prefix that does.
 use Rattle.std.proofs.Common.{◌≡◌, ℕ, ◌-◌, ◌≤◌, nat_le, true, false, zero, suc, List, [], ◌∷◌, length, take, refl, ap, arith, rules, if◌then◌else◌}
 use Rattle.std.proofs.lemmas.List.Sums.{sum_by-cons}
 use Rattle.paths.specs.declared.file.File.{File}
@@ -6,15 +6,15 @@ use Rattle.page_cache.specs.Pages.{page_size}
 use Rattle.page_cache.specs.CacheLists.{sizes, fitting}
 use Rattle.page_cache.specs.Laws.{IsLongest}
 
--- one more in front that fits
-longer : (files : List File) (room x : ℕ) (list front : List ℕ) → page_size files x ≤ room → IsLongest files (room - page_size files x) list front → IsLongest files room (x ∷ list) (x ∷ front)
-longer files room x list front inside is = record {
+-- one more in kept that fits
+longer : (files : List File) (room x : ℕ) (list kept : List ℕ) → page_size files x ≤ room → IsLongest files (room - page_size files x) list kept → IsLongest files room (x ∷ list) (x ∷ kept)
+longer files room x list kept inside is = record {
   begins = ap (λ l. x ∷ l) is.begins;
-  fits = omega (arith, inside, is.fits, sum_by-cons (page_size files) x front);
+  fits = omega (arith, inside, is.fits, sum_by-cons (page_size files) x kept);
   longest = at;
 }
   where
-    at : (n : ℕ) → n ≤ length (x ∷ list) → sizes files (take n (x ∷ list)) ≤ room → n ≤ length (x ∷ front)
+    at : (n : ℕ) → n ≤ length (x ∷ list) → sizes files (take n (x ∷ list)) ≤ room → n ≤ length (x ∷ kept)
     at zero within fit = omega arith
     at (suc n) within fit =
         let rest = is.longest n (omega (arith, within)) (omega (arith, fit, sum_by-cons (page_size files) x (take n list))) in

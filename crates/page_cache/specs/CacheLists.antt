@@ -4,8 +4,8 @@ use Rattle.std.specs.Prelude.{if◌then◌else◌, false}
 use Rattle.std.specs.List.{list_any, sum_by}
 use Rattle.paths.specs.declared.file.File.{File}
 use Rattle.page_cache.specs.Pages.{page_size}
-use Rattle.page_cache.specs.declared.keeping.Keeping.{Keeping}
-use Rattle.page_cache.specs.declared.keeping.Keeping.TheVariants.{TooBig, Kept, NoMemory}
+use Rattle.page_cache.specs.declared.cache.Keeping.{Keeping}
+use Rattle.page_cache.specs.declared.cache.Keeping.TheVariants.{TooBig, Kept, NoMemory}
 
 -- the pages that are there, by the numbers of their files and the most recently used first, and how many bytes they may
 -- have together
@@ -43,7 +43,7 @@ found file list = if has file list then Some file else None
 abbrev pub looked : ℕ → CacheList → CacheList
 looked file old = record { pages = to_front file old.pages; limit = old.limit }
 
--- A page that is there comes to the front. A new one goes in front, and of the others stays the longest front that fits
+-- A page that is there becomes the first. A new one is put first, and of the others stays the longest prefix that fits
 -- beside it: the least recently used go.
 abbrev pub kept : List File → ℕ → CacheList → CacheList
 kept files file old = record {

@@ -3,13 +3,10 @@ use Rattle.std.specs.Prelude.{ℕ, ◌==◌, ◌||◌, List, [], ◌∷◌, ◌+
 use Rattle.std.specs.Prelude.{bytes_eq, if◌then◌else◌}
 use Rattle.std.specs.Option.{option_or, option_map_or}
 use Rattle.std.specs.Char.{to_ascii_lowercase}
-use Rattle.paths.specs.Snapshots.{slash}
+use Rattle.paths.specs.Ascii.{dot, slash}
 use Rattle.page_cache.specs.declared.media.MediaType.{MediaType}
 use Rattle.page_cache.specs.declared.media.MediaType.TheVariants.{Html, Css, JavaScript, Json, Plain, Svg, Png, Jpeg}
 use Rattle.page_cache.specs.declared.media.MediaType.TheVariants.{Gif, OctetStream}
-
-abbrev pub dot : ℕ
-dot = 46
 
 -- what stands after the last such byte of a text, where it has one
 unfoldable pub after_last : ℕ → List ℕ → Option (List ℕ)

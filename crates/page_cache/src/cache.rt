@@ -14,6 +14,17 @@ use std::marker::Model;
 use std::num::NonZeroUsize;
 use std::sync::Arc;
 
+/// What became of a page that was to be kept.
+#[derive(Clone, Copy, Debug, PartialEq, Eq)]
+pub enum Keeping {
+    /// It has more bytes than all pages together may have.
+    TooBig,
+    /// It is the most recently used.
+    Kept,
+    /// There was no memory for it.
+    NoMemory,
+}
+
 /// Pages of the snapshot that the type names, within a number of bytes. Contracts see the list of the pages, by the
 /// numbers of their files and the most recently used first, and the limit.
 #[derive(Drop)]

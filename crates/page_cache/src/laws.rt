@@ -1,7 +1,7 @@
 //! What the definitions mean that the contracts cite. Each function is there for its clause alone.
 ghost use Rattle.page_cache.specs.Laws.{FittingIsLongest};
 
-/// What fits of a list is its longest front whose pages have no more bytes than there is room for.
+/// What fits of a list is its longest prefix whose pages have no more bytes than there is room for.
 pub fn fitting_is_longest()
     ensures { FittingIsLongest }
 {}

@@ -2,13 +2,11 @@
 #![tactic(auto)]
 
 mod cache;
-mod keeping;
 mod laws;
 mod media;
 mod page;
 
-pub use cache::PageCache;
-pub use keeping::Keeping;
+pub use cache::{Keeping, PageCache};
 pub use laws::fitting_is_longest;
 pub use media::{MediaType, entity_fields};
 pub use page::Page;

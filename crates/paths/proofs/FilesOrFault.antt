@@ -7,6 +7,7 @@ use Rattle.std.proofs.lemmas.List.{append_assoc, append-nil, length-append, flat
 use Rattle.std.proofs.lemmas.List.Elements.{All-push}
 use Rattle.std.proofs.lemmas.List.Quantifiers.{all_pairs_push}
 use Rattle.std.proofs.lemmas.List.Folds.{list_any_at, list_all_at}
+use Rattle.paths.specs.Ascii.{line_feed}
 use Rattle.paths.specs.Texts.{Ahead, byte_at, run_at, line_at}
 use Rattle.paths.specs.declared.file.File.{File}
 use Rattle.paths.specs.declared.file.FileLine.{FileLine}
@@ -15,7 +16,7 @@ use Rattle.paths.specs.declared.file.Heading.TheVariants as headings
 use Rattle.paths.specs.declared.snapshot_fault.SnapshotFault.{SnapshotFault}
 use Rattle.paths.specs.declared.snapshot_fault.SnapshotFaultKind.{SnapshotFaultKind}
 use Rattle.paths.specs.declared.snapshot_fault.SnapshotFaultKind.TheVariants.{Name, Order, Conflict, Number, TooLarge, Count, Trailing}
-use Rattle.paths.specs.Snapshots.{feed, file_text, first_line, last_line, text_before_end, snapshot_text, max_time, max_name_bytes, max_file_bytes, max_files, max_text_bytes, is_name, comes_before, lies_in, IsFile, IsSnapshot, IsSnapshotText, BeginsWithSnapshot, Follows}
+use Rattle.paths.specs.Snapshots.{file_text, first_line, last_line, text_before_end, snapshot_text, max_time, max_name_bytes, max_file_bytes, max_files, max_text_bytes, is_name, comes_before, lies_in, IsFile, IsSnapshot, IsSnapshotText, BeginsWithSnapshot, Follows}
 use Rattle.paths.specs.SnapshotFaults.{kind_of, named, header_at, heading_of, name_at, body_at, file_at, announced, entry_at, IsFrontFault, IsFirstFault}
 use Rattle.paths.proofs.Inverse.{bind_ok, unless_ok, when_ok, ok_is, name_inverse, body_inverse, header_inverse}
 use Rattle.paths.proofs.Entries.{entry_takes}
@@ -37,12 +38,12 @@ pub name_fits : (files : List File) (n : ℕ) (a b : Ahead) (name : List ℕ) �
 name_fits files n a b name h =
     let run = bind_ok (named kind_of (run_at n a)) _ _ h in
     let end = bind_ok (named kind_of (byte_at run.0.1)) _ _ run.2 in
-    let good = unless_ok (not (end.0.0 == feed) || not (is_name run.0.0)) Name _ _ end.2 in
+    let good = unless_ok (not (end.0.0 == line_feed) || not (is_name run.0.0)) Name _ _ end.2 in
     let order = unless_ok (not (list_all (λ f. comes_before f.name run.0.0) files)) Order _ _ good.1 in
     let apart = unless_ok (list_any (λ f. lies_in f.name run.0.0) files) Conflict _ _ order.1 in
     let pair : (run.0.0, end.0.1) ≡ (name, b) = ok_is {A = List ℕ × Ahead} {E = SnapshotFaultKind} _ _ _ _ refl refl apart.1 in
     subst (λ (v : List ℕ). Fits files v) (ap (λ (p : List ℕ × Ahead). p.0) pair)
-    (un_not (is_name run.0.0) (second (not (end.0.0 == feed)) (not (is_name run.0.0)) good.0), un_not _ order.0, apart.0)
+    (un_not (is_name run.0.0) (second (not (end.0.0 == line_feed)) (not (is_name run.0.0)) good.0), un_not _ order.0, apart.0)
 
 file_follows : (files : List File) (l : FileLine) (a b : Ahead) (f : File) → file_at files l a ≡ Ok (f, b) → Follows files f
 file_follows files l a b f h =
@@ -155,13 +156,13 @@ reads_on bytes (suc fuel) fs rest l c whole left more = step (reads_on bytes fue
     step again (Ok (None, b)) e =
         let took = entry_takes fs (record { bytes = rest; left = l }) b None c.count e in
         let text : bytes ≡ snapshot_text fs ++ b.bytes =
-        whole ∙ (ap (λ w. text_before_end fs ++ w) took.bytes ∙ sym (append_assoc (text_before_end fs) (last_line fs ++ feed ∷ []) b.bytes)) in
+        whole ∙ (ap (λ w. text_before_end fs ++ w) took.bytes ∙ sym (append_assoc (text_before_end fs) (last_line fs ++ line_feed ∷ []) b.bytes)) in
         let took_left = took.left in
-        ends bytes fs b.bytes c text (omega (arith, left, length-append (text_before_end fs) (last_line fs ++ feed ∷ [])))
+        ends bytes fs b.bytes c text (omega (arith, left, length-append (text_before_end fs) (last_line fs ++ line_feed ∷ [])))
     step again (Ok (Some f, b)) e =
         let took = entry_takes fs (record { bytes = rest; left = l }) b (Some f) c.count e in
         let follows = entry_follows fs (record { bytes = rest; left = l }) b f e in
-        let longer : text_before_end fs ++ file_text f ≡ text_before_end (fs ++ f ∷ []) = flat_map_more file_text (first_line ++ feed ∷ []) fs f in
+        let longer : text_before_end fs ++ file_text f ≡ text_before_end (fs ++ f ∷ []) = flat_map_more file_text (first_line ++ line_feed ∷ []) fs f in
         let long = ap length longer in
         let took_left = took.left in
         again (fs ++ f ∷ []) b.bytes b.left (rules_more fs f c follows)

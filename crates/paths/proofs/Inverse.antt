@@ -14,7 +14,8 @@ use Rattle.std.proofs.lemmas.Str.Parse.{IsNumeralModel, numerals_by_value, tells
 use Rattle.std.proofs.lemmas.List.{append_assoc, length-take, length-append, take-take, take-append-drop, drop_more, get_or-take}
 use Rattle.std.proofs.lemmas.List.Sums.{passes_at_first, prefix_len-le-length}
 use Rattle.std.proofs.lemmas.Slice.Eq.{starts_is}
-use Rattle.paths.specs.declared.stop.Stop.{Stop}
+use Rattle.paths.specs.Ascii.{line_feed}
+use Rattle.paths.specs.declared.text.Stop.{Stop}
 use Rattle.paths.specs.declared.file.File.{File}
 use Rattle.paths.specs.declared.file.FileLine.{FileLine}
 use Rattle.paths.specs.declared.file.Heading.TheVariants as headings
@@ -22,8 +23,8 @@ use Rattle.paths.specs.declared.snapshot_fault.SnapshotFaultKind.{SnapshotFaultK
 use Rattle.paths.specs.declared.snapshot_fault.SnapshotFaultKind.TheVariants.{Name, Order, Conflict, Number, TooLarge}
 use Rattle.paths.specs.Numbers.{is_decimal, number_of, number_and_rest, three_numbers}
 use Rattle.paths.specs.Numbers.{◌>>=◌ as ◌>?=◌}
-use Rattle.paths.specs.Texts.{Ahead, byte_at, line_at, run_at, line_front, front, past}
-use Rattle.paths.specs.Snapshots.{feed, first_line, max_time, max_file_bytes, max_name_bytes, max_files, is_name, comes_before, lies_in}
+use Rattle.paths.specs.Texts.{Ahead, byte_at, line_at, run_at, line_start, available, past}
+use Rattle.paths.specs.Snapshots.{first_line, max_time, max_file_bytes, max_name_bytes, max_files, is_name, comes_before, lies_in}
 use Rattle.paths.specs.SnapshotFaults.{kind_of, header_kind_of, named, ◌>>=◌, header_at, file_heading, end_heading, heading_of, name_at, body_at, file_at}
 
 -- these bytes were taken from what was ahead
@@ -64,43 +65,43 @@ some_is x y o a b = cc
 
 -- ---- parts of a text
 
-pub line_inverse : (a b : Ahead) (line : List ℕ) → line_at a ≡ Ok (line, b) → TakesAhead a (line ++ feed ∷ []) b
+pub line_inverse : (a b : Ahead) (line : List ℕ) → line_at a ≡ Ok (line, b) → TakesAhead a (line ++ line_feed ∷ []) b
 line_inverse a b line h =
-    let full = unless_ok (length (line_front a) == 65) _ _ _ h in
-    let all = unless_ok (length (line_front a) == length (front a)) _ _ _ full.1 in
-    let pair : (line_front a, past (length (line_front a) + 1) a) ≡ (line, b) = ok_is {A = List ℕ × Ahead} {E = Stop} _ _ _ _ refl refl all.1 in
-    let F = take 65 (front a) in
+    let full = unless_ok (length (line_start a) == 65) _ _ _ h in
+    let all = unless_ok (length (line_start a) == length (available a)) _ _ _ full.1 in
+    let pair : (line_start a, past (length (line_start a) + 1) a) ≡ (line, b) = ok_is {A = List ℕ × Ahead} {E = Stop} _ _ _ _ refl refl all.1 in
+    let F = take 65 (available a) in
     let k = position_or_len (λ c. c == 10) F in
     let within : k ≤ length F = prefix_len-le-length _ F in
-    let long : length (line_front a) ≡ k = omega (arith, length-take k F) in
-    let size : length F ≡ min 65 (length (front a)) = length-take 65 (front a) in
-    let size_front : length (front a) ≡ min a.left (length a.bytes) = length-take a.left a.bytes in
-    let not_full : k ≢ 65 = λ e. eqb-false (length (line_front a)) 65 full.0 (long ∙ e) in
-    let not_all : k ≢ length (front a) = λ e. eqb-false (length (line_front a)) (length (front a)) all.0 (long ∙ e) in
+    let long : length (line_start a) ≡ k = omega (arith, length-take k F) in
+    let size : length F ≡ min 65 (length (available a)) = length-take 65 (available a) in
+    let size_front : length (available a) ≡ min a.left (length a.bytes) = length-take a.left a.bytes in
+    let not_full : k ≢ 65 = λ e. eqb-false (length (line_start a)) 65 full.0 (long ∙ e) in
+    let not_all : k ≢ length (available a) = λ e. eqb-false (length (line_start a)) (length (available a)) all.0 (long ∙ e) in
     let found : k < length F = omega (arith, not_full, not_all) in
     let is : get_or F k 0 ≡ 10 = (Decides-eqb (get_or F k 0) 10).0 (passes_at_first (λ c. c == 10) F 0 found) in
     let same : get_or a.bytes k 0 ≡ 10 =
-    sym (get_or-take a.left a.bytes k 0 (omega arith)) ∙ sym (get_or-take 65 (front a) k 0 (omega arith)) ∙ is in
-    let cut : line_front a ≡ take k a.bytes = take-take k 65 (front a) (omega arith) ∙ take-take k a.left a.bytes (omega arith) in
+    sym (get_or-take a.left a.bytes k 0 (omega arith)) ∙ sym (get_or-take 65 (available a) k 0 (omega arith)) ∙ is in
+    let cut : line_start a ≡ take k a.bytes = take-take k 65 (available a) (omega arith) ∙ take-take k a.left a.bytes (omega arith) in
     let line_is : line ≡ take k a.bytes = sym (ap (λ (p : List ℕ × Ahead). p.0) pair) ∙ cut in
     let rest_is : drop (k + 1) a.bytes ≡ b.bytes = ap (λ n. drop (n + 1) a.bytes) (sym long) ∙ ap (λ (p : List ℕ × Ahead). p.1.bytes) pair in
-    let left_is : a.left - (length (line_front a) + 1) ≡ b.left = ap (λ (p : List ℕ × Ahead). p.1.left) pair in
+    let left_is : a.left - (length (line_start a) + 1) ≡ b.left = ap (λ (p : List ℕ × Ahead). p.1.left) pair in
     let here : a.bytes ≡ take k a.bytes ++ (10 ∷ drop (k + 1) a.bytes) =
     sym (take-append-drop k a.bytes) ∙ ap (λ v. take k a.bytes ++ v) (drop_more a.bytes k 0 (omega arith) ∙ ap (λ c. c ∷ drop (k + 1) a.bytes) same) in
     record {
       bytes = here ∙ ap (λ v. take k a.bytes ++ (10 ∷ v)) rest_is ∙ ap (λ v. v ++ (10 ∷ b.bytes)) (sym line_is) ∙ sym (append_assoc line (10 ∷ []) b.bytes);
-      left = omega (arith, length-append line (feed ∷ []), ap length line_is, length-take k a.bytes);
+      left = omega (arith, length-append line (line_feed ∷ []), ap length line_is, length-take k a.bytes);
     }
 
 pub run_inverse : (n : ℕ) (a b : Ahead) (run : List ℕ) → run_at n a ≡ Ok (run, b) → TakesAhead a run b × (length run ≡ n)
 run_inverse n a b run h =
-    let there = when_ok (nat_le n (length (front a))) _ _ _ h in
+    let there = when_ok (nat_le n (length (available a))) _ _ _ h in
     let pair : (take n a.bytes, past n a) ≡ (run, b) = ok_is {A = List ℕ × Ahead} {E = Stop} _ _ _ _ refl refl there.1 in
     let run_is : take n a.bytes ≡ run = ap (λ (p : List ℕ × Ahead). p.0) pair in
     let rest_is : drop n a.bytes ≡ b.bytes = ap (λ (p : List ℕ × Ahead). p.1.bytes) pair in
     let left_is : a.left - n ≡ b.left = ap (λ (p : List ℕ × Ahead). p.1.left) pair in
-    let enough : n ≤ length (front a) = let t = there.0 in grind (arith, nat_tests) in
-    let size_front : length (front a) ≡ min a.left (length a.bytes) = length-take a.left a.bytes in
+    let enough : n ≤ length (available a) = let t = there.0 in grind (arith, nat_tests) in
+    let size_front : length (available a) ≡ min a.left (length a.bytes) = length-take a.left a.bytes in
     let size : length run ≡ n = omega (arith, ap length run_is, length-take n a.bytes) in (
       record {
         bytes = sym (take-append-drop n a.bytes) ∙ ap (λ v. v ++ drop n a.bytes) run_is ∙ ap (λ v. run ++ v) rest_is;
@@ -218,7 +219,7 @@ end_line_inverse line n h small = elim (chosen (starts_with nat_eq line (codes "
   ]
 ]
 
-pub header_inverse : (a b : Ahead) (u : Unit {0}) → header_at a ≡ Ok (u, b) → TakesAhead a (first_line ++ feed ∷ []) b
+pub header_inverse : (a b : Ahead) (u : Unit {0}) → header_at a ≡ Ok (u, b) → TakesAhead a (first_line ++ line_feed ∷ []) b
 header_inverse a b u h =
     let line = bind_ok (named header_kind_of (line_at a)) _ _ h in
     let read = named_ok header_kind_of (line_at a) line.0 line.1 in
@@ -226,51 +227,51 @@ header_inverse a b u h =
     let pair : (tt, line.0.1) ≡ (u, b) = ok_is {A = Unit {0} × Ahead} {E = SnapshotFaultKind} _ _ _ _ refl refl is.1 in
     let rest_is : line.0.1 ≡ b = ap (λ (p : Unit {0} × Ahead). p.1) pair in
     let took = line_inverse a line.0.1 line.0.0 read in
-    subst (λ (v : List ℕ × Ahead). TakesAhead a (v.0 ++ feed ∷ []) v.1) (let first : line.0.0 ≡ first_line = same_text line.0.0 first_line (sym is.0) in λ i. (first i, rest_is i)) took
+    subst (λ (v : List ℕ × Ahead). TakesAhead a (v.0 ++ line_feed ∷ []) v.1) (let first : line.0.0 ≡ first_line = same_text line.0.0 first_line (sym is.0) in λ i. (first i, rest_is i)) took
 
 -- ---- a file
 
 -- neither test failed, of which the first asks for a line feed
-ends_by_feed : (c : ℕ) (good : Bool) → (not (c == feed) || not good) ≡ false → c ≡ feed
-ends_by_feed c good h = (Decides-eqb c feed).0 (go (c == feed) h)
+ends_by_feed : (c : ℕ) (good : Bool) → (not (c == line_feed) || not good) ≡ false → c ≡ line_feed
+ends_by_feed c good h = (Decides-eqb c line_feed).0 (go (c == line_feed) h)
   where
     go : (b : Bool) → (not b || not good) ≡ false → b ≡ true
     go true e = refl
     go false e = absurd (true≢false e)
 
-pub name_inverse : (files : List File) (n : ℕ) (a b : Ahead) (name : List ℕ) → name_at files n a ≡ Ok (name, b) → TakesAhead a (name ++ feed ∷ []) b × (length name ≡ n)
+pub name_inverse : (files : List File) (n : ℕ) (a b : Ahead) (name : List ℕ) → name_at files n a ≡ Ok (name, b) → TakesAhead a (name ++ line_feed ∷ []) b × (length name ≡ n)
 name_inverse files n a b name h =
     let run = bind_ok (named kind_of (run_at n a)) _ _ h in
     let run_read = run_inverse n a run.0.1 run.0.0 (named_ok kind_of (run_at n a) run.0 run.1) in
     let end = bind_ok (named kind_of (byte_at run.0.1)) _ _ run.2 in
     let end_read = byte_takes run.0.1 end.0.1 end.0.0 (named_ok kind_of (byte_at run.0.1) end.0 end.1) in
-    let good = unless_ok (not (end.0.0 == feed) || not (is_name run.0.0)) Name _ _ end.2 in
+    let good = unless_ok (not (end.0.0 == line_feed) || not (is_name run.0.0)) Name _ _ end.2 in
     let order = unless_ok (not (list_all (λ f. comes_before f.name run.0.0) files)) Order _ _ good.1 in
     let apart = unless_ok (list_any (λ f. lies_in f.name run.0.0) files) Conflict _ _ order.1 in
     let pair : (run.0.0, end.0.1) ≡ (name, b) = ok_is {A = List ℕ × Ahead} {E = SnapshotFaultKind} _ _ _ _ refl refl apart.1 in
-    let is_feed : end.0.0 ≡ feed = let g = good.0 in ends_by_feed end.0.0 (is_name run.0.0) g in
+    let is_feed : end.0.0 ≡ line_feed = let g = good.0 in ends_by_feed end.0.0 (is_name run.0.0) g in
     let took = ahead_then a run.0.1 end.0.1 run.0.0 (end.0.0 ∷ []) run_read.0 end_read in (
-      subst (λ (v : List ℕ × Ahead). TakesAhead a (v.0 ++ feed ∷ []) v.1) pair (subst (λ (c : ℕ). TakesAhead a (run.0.0 ++ c ∷ []) end.0.1) is_feed took),
+      subst (λ (v : List ℕ × Ahead). TakesAhead a (v.0 ++ line_feed ∷ []) v.1) pair (subst (λ (c : ℕ). TakesAhead a (run.0.0 ++ c ∷ []) end.0.1) is_feed took),
       sym (ap (λ (p : List ℕ × Ahead). length p.0) pair) ∙ run_read.1,
     )
 
-pub body_inverse : (n : ℕ) (a b : Ahead) (bytes : List ℕ) → body_at n a ≡ Ok (bytes, b) → TakesAhead a (bytes ++ feed ∷ []) b × (length bytes ≡ n)
+pub body_inverse : (n : ℕ) (a b : Ahead) (bytes : List ℕ) → body_at n a ≡ Ok (bytes, b) → TakesAhead a (bytes ++ line_feed ∷ []) b × (length bytes ≡ n)
 body_inverse n a b bytes h =
     let run = bind_ok (named kind_of (run_at n a)) _ _ h in
     let run_read = run_inverse n a run.0.1 run.0.0 (named_ok kind_of (run_at n a) run.0 run.1) in
     let end = bind_ok (named kind_of (byte_at run.0.1)) _ _ run.2 in
     let end_read = byte_takes run.0.1 end.0.1 end.0.0 (named_ok kind_of (byte_at run.0.1) end.0 end.1) in
-    let good = when_ok (end.0.0 == feed) _ _ _ end.2 in
+    let good = when_ok (end.0.0 == line_feed) _ _ _ end.2 in
     let pair : (run.0.0, end.0.1) ≡ (bytes, b) = ok_is {A = List ℕ × Ahead} {E = SnapshotFaultKind} _ _ _ _ refl refl good.1 in
-    let is_feed : end.0.0 ≡ feed = (Decides-eqb end.0.0 feed).0 good.0 in
+    let is_feed : end.0.0 ≡ line_feed = (Decides-eqb end.0.0 line_feed).0 good.0 in
     let took = ahead_then a run.0.1 end.0.1 run.0.0 (end.0.0 ∷ []) run_read.0 end_read in (
-      subst (λ (v : List ℕ × Ahead). TakesAhead a (v.0 ++ feed ∷ []) v.1) pair (subst (λ (c : ℕ). TakesAhead a (run.0.0 ++ c ∷ []) end.0.1) is_feed took),
+      subst (λ (v : List ℕ × Ahead). TakesAhead a (v.0 ++ line_feed ∷ []) v.1) pair (subst (λ (c : ℕ). TakesAhead a (run.0.0 ++ c ∷ []) end.0.1) is_feed took),
       sym (ap (λ (p : List ℕ × Ahead). length p.0) pair) ∙ run_read.1,
     )
 
 -- what a file's line, its name and its bytes take
 pub record TakesFile (a : Ahead) (l : FileLine) (f : File) (b : Ahead) : Type 0 where
-  pub parts : TakesAhead a ((f.name ++ feed ∷ []) ++ (f.bytes ++ feed ∷ [])) b
+  pub parts : TakesAhead a ((f.name ++ line_feed ∷ []) ++ (f.bytes ++ line_feed ∷ [])) b
   pub mtime : f.mtime ≡ l.mtime
   pub name : length f.name ≡ l.name_len
   pub len : length f.bytes ≡ l.len
@@ -290,7 +291,7 @@ file_inverse files l a b f h =
     let made : File = record { name = name.0.0; mtime = l.mtime; bytes = body.0.0 } in
     let pair : (made, body.0.1) ≡ (f, b) = ok_is {A = File × Ahead} {E = SnapshotFaultKind} _ _ _ _ refl refl body.2 in
     subst (λ (v : File × Ahead). TakesFile a l v.0 v.1) pair (record {
-      parts = ahead_then a name.0.1 body.0.1 (name.0.0 ++ feed ∷ []) (body.0.0 ++ feed ∷ []) name_read.0 body_read.0;
+      parts = ahead_then a name.0.1 body.0.1 (name.0.0 ++ line_feed ∷ []) (body.0.0 ++ line_feed ∷ []) name_read.0 body_read.0;
       mtime = refl;
       name = name_read.1;
       len = body_read.1;

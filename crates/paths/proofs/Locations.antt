@@ -2,54 +2,55 @@
 use Rattle.std.proofs.Common.{◌≡◌, ℕ, ◌<◌, ◌%◌, ◌/◌, ◌&&◌, Bool, true, false, List, [], ◌∷◌, ◌++◌, length, flat_map, Option, Some, None, refl, ◌∙◌, arith, nat_lt}
 use Rattle.std.proofs.lemmas.Grind.{common_steps}
 use Rattle.std.specs.Prelude.{codes, Result, Ok, Err, IfOk}
-use Rattle.paths.specs.declared.outcome.Outcome.{Outcome}
+use Rattle.paths.specs.Ascii.{slash}
+use Rattle.paths.specs.declared.resolution.Outcome.{Outcome}
 use Rattle.std.specs.List.{list_all, position, position_or_len}
 use Rattle.std.specs.Fmt.{digit_glyph}
 use Rattle.std.proofs.lemmas.List.Folds.{list_all-append}
 use Rattle.percent_encoding.specs.Percent.{percent_encode_byte}
-use Rattle.paths.specs.Resolution.{is_unreserved, location_byte, location, is_visible, joined, outcome, file_or_missing, file_or_folder, IsOutcome}
-use Rattle.paths.specs.Snapshots.{slash, position_of, has_folder}
+use Rattle.paths.specs.Resolution.{is_unreserved, location_byte, location, joined, outcome, file_or_missing, file_or_folder, IsOutcome}
+use Rattle.paths.specs.Snapshots.{position_of, has_folder}
 use Rattle.paths.specs.declared.file.File.{File}
-use Rattle.paths.specs.declared.asked.Asked.{Asked}
-use Rattle.paths.specs.declared.asked.Asked.TheVariants as askeds
+use Rattle.paths.specs.declared.target.Asked.{Asked}
+use Rattle.paths.specs.declared.target.Asked.TheVariants as askeds
 
 both : (a b : Bool) → a ≡ true → b ≡ true → (a && b) ≡ true
 both true b h k = k
 both false b h k = h
 
-all_append : (xs ys : List ℕ) → list_all is_visible xs ≡ true → list_all is_visible ys ≡ true → list_all is_visible (xs ++ ys) ≡ true
-all_append xs ys h k = list_all-append is_visible xs ys ∙ both (list_all is_visible xs) (list_all is_visible ys) h k
+all_append : (xs ys : List ℕ) → list_all is_ascii_graphic xs ≡ true → list_all is_ascii_graphic ys ≡ true → list_all is_ascii_graphic (xs ++ ys) ≡ true
+all_append xs ys h k = list_all-append is_ascii_graphic xs ys ∙ both (list_all is_ascii_graphic xs) (list_all is_ascii_graphic ys) h k
 
-glyph_visible : (n : ℕ) → n < 16 → is_visible (digit_glyph true n) ≡ true
+glyph_visible : (n : ℕ) → n < 16 → is_ascii_graphic (digit_glyph true n) ≡ true
 glyph_visible n h = grind (arith, common_steps, h)
 
-kept_visible : (b : ℕ) → is_unreserved b ≡ true → is_visible b ≡ true
+kept_visible : (b : ℕ) → is_unreserved b ≡ true → is_ascii_graphic b ≡ true
 kept_visible b h = grind (arith, common_steps, h)
 
-encoded_visible : (b : ℕ) → list_all is_visible (percent_encode_byte b) ≡ true
+encoded_visible : (b : ℕ) → list_all is_ascii_graphic (percent_encode_byte b) ≡ true
 unfolding percent_encode_byte
 encoded_visible b =
-    both (is_visible (digit_glyph true (b / 16 % 16))) (is_visible (digit_glyph true (b % 16)) && true)
+    both (is_ascii_graphic (digit_glyph true (b / 16 % 16))) (is_ascii_graphic (digit_glyph true (b % 16)) && true)
     (glyph_visible (b / 16 % 16) (omega arith))
-    (both (is_visible (digit_glyph true (b % 16))) true (glyph_visible (b % 16) (omega arith)) refl)
+    (both (is_ascii_graphic (digit_glyph true (b % 16))) true (glyph_visible (b % 16) (omega arith)) refl)
 
-byte_visible : (b : ℕ) → list_all is_visible (location_byte b) ≡ true
+byte_visible : (b : ℕ) → list_all is_ascii_graphic (location_byte b) ≡ true
 byte_visible b = go (is_unreserved b) refl
   where
-    go : (kept : Bool) → is_unreserved b ≡ kept → list_all is_visible (location_byte b) ≡ true
-    go true h = rw h (both (is_visible b) true (kept_visible b h) refl)
+    go : (kept : Bool) → is_unreserved b ≡ kept → list_all is_ascii_graphic (location_byte b) ≡ true
+    go true h = rw h (both (is_ascii_graphic b) true (kept_visible b h) refl)
     go false h = rw h (encoded_visible b)
 
-bytes_visible : (bytes : List ℕ) → list_all is_visible (flat_map location_byte bytes) ≡ true
+bytes_visible : (bytes : List ℕ) → list_all is_ascii_graphic (flat_map location_byte bytes) ≡ true
 bytes_visible [] = refl
 bytes_visible (b ∷ bytes) = all_append (location_byte b) (flat_map location_byte bytes) (byte_visible b) (bytes_visible bytes)
 
-segments_visible : (segments : List (List ℕ)) → list_all is_visible (flat_map (λ s. slash ∷ flat_map location_byte s) segments) ≡ true
+segments_visible : (segments : List (List ℕ)) → list_all is_ascii_graphic (flat_map (λ s. slash ∷ flat_map location_byte s) segments) ≡ true
 segments_visible [] = refl
 segments_visible (s ∷ segments) = all_append (slash ∷ flat_map location_byte s) (flat_map (λ s. slash ∷ flat_map location_byte s) segments) (bytes_visible s) (segments_visible segments)
 
 -- a location is visible characters alone
-pub location_visible : (segments : List (List ℕ)) → list_all is_visible (location segments) ≡ true
+pub location_visible : (segments : List (List ℕ)) → list_all is_ascii_graphic (location segments) ≡ true
 location_visible segments = all_append (flat_map (λ s. slash ∷ flat_map location_byte s) segments) (slash ∷ []) (segments_visible segments) refl
 
 file_there : {X : Type 0} (p : X → Bool) (xs : List X) (i : ℕ) → position p xs ≡ Some i → i < length xs

@@ -8,13 +8,14 @@ use Rattle.std.proofs.lemmas.List.{append_assoc, append-nil, length-append, leng
 use Rattle.std.proofs.lemmas.List.Elements.{All-head, All-tail, All-from_get_or}
 use Rattle.std.proofs.lemmas.List.Folds.{list_any_none}
 use Rattle.std.proofs.lemmas.Grind.{flat_map-append}
-use Rattle.paths.specs.Texts.{Ahead, byte_at, run_at, line_at, front, past as beyond, ended}
-use Rattle.paths.specs.declared.stop.Stop.{Stop}
+use Rattle.paths.specs.Ascii.{line_feed}
+use Rattle.paths.specs.Texts.{Ahead, byte_at, run_at, line_at, available, past as beyond, ended}
+use Rattle.paths.specs.declared.text.Stop.{Stop}
 use Rattle.paths.specs.declared.file.File.{File}
 use Rattle.paths.specs.declared.file.Heading.TheVariants as headings
 use Rattle.paths.specs.declared.snapshot_fault.SnapshotFault.{SnapshotFault}
 use Rattle.paths.specs.declared.snapshot_fault.SnapshotFaultKind.{SnapshotFaultKind}
-use Rattle.paths.specs.Snapshots.{feed, file_line, file_text, first_line, last_line, text_before_end, snapshot_text, max_time, max_name_bytes, max_file_bytes, max_files, max_text_bytes, is_name, comes_before, lies_in, IsFile, IsSnapshot, IsSnapshotText, Follows}
+use Rattle.paths.specs.Snapshots.{file_line, file_text, first_line, last_line, text_before_end, snapshot_text, max_time, max_name_bytes, max_file_bytes, max_files, max_text_bytes, is_name, comes_before, lies_in, IsFile, IsSnapshot, IsSnapshotText, Follows}
 use Rattle.paths.specs.SnapshotFaults.{kind_of, header_kind_of, named, ◌>>=◌, header_at, end_heading, heading_of, name_at, body_at, file_at, entry_at, FaultsAfter, IsFrontFault, IsFirstFault}
 use Rattle.paths.proofs.Taking.{line_whole}
 use Rattle.paths.proofs.OneList.{meet, number_again, decimal_passes, passes_append, file_is_line, digits_short, announces, heading_again, following, file_then, split, same_file, end_text, end_apart, header, parts, one_list}
@@ -36,43 +37,43 @@ neither false c h k = k
 pub byte_again : (c : ℕ) (t : List ℕ) (l nl : ℕ) → l ≡ 1 + nl → byte_at (record { bytes = c ∷ t; left = l }) ≡ Ok (c, record { bytes = t; left = nl })
 byte_again c t l nl h =
     let a : Ahead = record { bytes = c ∷ t; left = l } in
-    let there : nat_lt 0 (length (front a)) ≡ true = let s = length-take l (c ∷ t) in grind (arith, nat_tests) in
+    let there : nat_lt 0 (length (available a)) ≡ true = let s = length-take l (c ∷ t) in grind (arith, nat_tests) in
     let less : l - 1 ≡ nl = omega arith in
-    meet (nat_lt 0 (length (front a))) (Ok (c, beyond 1 a)) (Err (ended a)) there
+    meet (nat_lt 0 (length (available a))) (Ok (c, beyond 1 a)) (Err (ended a)) there
     ∙ ap (λ (k : ℕ). let r : Result (ℕ × Ahead) Stop = Ok (c, record { bytes = t; left = k }) in r) less
 
 pub run_again : (n : ℕ) (run t : List ℕ) (l nl : ℕ) → length run ≡ n → l ≡ n + nl → run_at n (record { bytes = run ++ t; left = l }) ≡ Ok (run, record { bytes = t; left = nl })
 run_again n run t l nl is left =
     let a : Ahead = record { bytes = run ++ t; left = l } in
-    let there : nat_le n (length (front a)) ≡ true = let s = length-take l (run ++ t) in let m = length-append run t in grind (arith, nat_tests) in
+    let there : nat_le n (length (available a)) ≡ true = let s = length-take l (run ++ t) in let m = length-append run t in grind (arith, nat_tests) in
     let bytes : take n (run ++ t) ≡ run = take_at run t n is in
     let rest : drop n (run ++ t) ≡ t = drop_at run t n is in
     let less : l - n ≡ nl = omega arith in
-    meet (nat_le n (length (front a))) (Ok (take n (run ++ t), beyond n a)) (Err (ended a)) there
+    meet (nat_le n (length (available a))) (Ok (take n (run ++ t), beyond n a)) (Err (ended a)) there
     ∙ ap (λ (v : List ℕ × Ahead). let r : Result (List ℕ × Ahead) Stop = Ok v in r) (λ i. (bytes i, record { bytes = rest i; left = less i }))
 
-body_again : (n : ℕ) (bytes t : List ℕ) (l nl : ℕ) → length bytes ≡ n → l ≡ n + (1 + nl) → body_at n (record { bytes = bytes ++ feed ∷ t; left = l }) ≡ Ok (bytes, record { bytes = t; left = nl })
+body_again : (n : ℕ) (bytes t : List ℕ) (l nl : ℕ) → length bytes ≡ n → l ≡ n + (1 + nl) → body_at n (record { bytes = bytes ++ line_feed ∷ t; left = l }) ≡ Ok (bytes, record { bytes = t; left = nl })
 body_again n bytes t l nl is left =
-    let mid : Ahead = record { bytes = feed ∷ t; left = 1 + nl } in
+    let mid : Ahead = record { bytes = line_feed ∷ t; left = 1 + nl } in
     let last : Ahead = record { bytes = t; left = nl } in
-    bind_is (named kind_of (run_at n (record { bytes = bytes ++ feed ∷ t; left = l }))) _ (bytes, mid) (named_is kind_of _ (bytes, mid) (run_again n bytes (feed ∷ t) l (1 + nl) is left))
-    ∙ bind_is (named kind_of (byte_at mid)) _ (feed, last) (named_is kind_of _ (feed, last) (byte_again feed t (1 + nl) nl refl))
+    bind_is (named kind_of (run_at n (record { bytes = bytes ++ line_feed ∷ t; left = l }))) _ (bytes, mid) (named_is kind_of _ (bytes, mid) (run_again n bytes (line_feed ∷ t) l (1 + nl) is left))
+    ∙ bind_is (named kind_of (byte_at mid)) _ (line_feed, last) (named_is kind_of _ (line_feed, last) (byte_again line_feed t (1 + nl) nl refl))
 
 name_again : (files : List File) (f : File) (t : List ℕ) (l nl : ℕ) → Follows files f → l ≡ length f.name + (1 + nl)
-    → name_at files (length f.name) (record { bytes = f.name ++ feed ∷ t; left = l }) ≡ Ok (f.name, record { bytes = t; left = nl })
+    → name_at files (length f.name) (record { bytes = f.name ++ line_feed ∷ t; left = l }) ≡ Ok (f.name, record { bytes = t; left = nl })
 name_again files f t l nl h left =
-    let mid : Ahead = record { bytes = feed ∷ t; left = 1 + nl } in
+    let mid : Ahead = record { bytes = line_feed ∷ t; left = 1 + nl } in
     let last : Ahead = record { bytes = t; left = nl } in
-    bind_is (named kind_of (run_at (length f.name) (record { bytes = f.name ++ feed ∷ t; left = l }))) _ (f.name, mid) (named_is kind_of _ (f.name, mid) (run_again (length f.name) f.name (feed ∷ t) l (1 + nl) refl left))
-    ∙ (bind_is (named kind_of (byte_at mid)) _ (feed, last) (named_is kind_of _ (feed, last) (byte_again feed t (1 + nl) nl refl))
-    ∙ (pass (not (feed == feed) || not (is_name f.name)) _ _ (neither _ _ refl (ap not h.file.name))
+    bind_is (named kind_of (run_at (length f.name) (record { bytes = f.name ++ line_feed ∷ t; left = l }))) _ (f.name, mid) (named_is kind_of _ (f.name, mid) (run_again (length f.name) f.name (line_feed ∷ t) l (1 + nl) refl left))
+    ∙ (bind_is (named kind_of (byte_at mid)) _ (line_feed, last) (named_is kind_of _ (line_feed, last) (byte_again line_feed t (1 + nl) nl refl))
+    ∙ (pass (not (line_feed == line_feed) || not (is_name f.name)) _ _ (neither _ _ refl (ap not h.file.name))
     ∙ (pass (not (list_all (λ g. comes_before g.name f.name) files)) _ _ (ap not h.order) ∙ pass (list_any (λ g. lies_in g.name f.name) files) _ _ h.apart)))
 
 file_again : (files : List File) (f : File) (t : List ℕ) (l nl : ℕ) → Follows files f → l ≡ length f.name + (1 + (length f.bytes + (1 + nl)))
     → file_at files (announces f) (record { bytes = following f t; left = l }) ≡ Ok (f, record { bytes = t; left = nl })
 file_again files f t l nl h left =
-    let start : Ahead = record { bytes = f.name ++ feed ∷ (f.bytes ++ feed ∷ t); left = l } in
-    let mid : Ahead = record { bytes = f.bytes ++ feed ∷ t; left = length f.bytes + (1 + nl) } in
+    let start : Ahead = record { bytes = f.name ++ line_feed ∷ (f.bytes ++ line_feed ∷ t); left = l } in
+    let mid : Ahead = record { bytes = f.bytes ++ line_feed ∷ t; left = length f.bytes + (1 + nl) } in
     let last : Ahead = record { bytes = t; left = nl } in
     let in_time = h.file.mtime in let some = h.file.some in let short = h.file.short in let size = h.file.bytes in let room = h.room in
     let a : nat_lt max_time f.mtime ≡ false = grind (arith, nat_tests) in
@@ -83,7 +84,7 @@ file_again files f t l nl h left =
     pass (nat_lt max_time f.mtime) _ _ a
     ∙ (pass (nat_lt max_file_bytes (length f.bytes) || nat_le max_files (length files)) _ _ (neither _ _ b c)
     ∙ (pass (length f.name == 0 || nat_lt max_name_bytes (length f.name)) _ _ (neither _ _ e d)
-    ∙ (bind_is (name_at files (length f.name) start) _ (f.name, mid) (name_again files f (f.bytes ++ feed ∷ t) l (length f.bytes + (1 + nl)) h left)
+    ∙ (bind_is (name_at files (length f.name) start) _ (f.name, mid) (name_again files f (f.bytes ++ line_feed ∷ t) l (length f.bytes + (1 + nl)) h left)
     ∙ bind_is (body_at (length f.bytes) mid) _ (f.bytes, last) (body_again (length f.bytes) f.bytes t (length f.bytes + (1 + nl)) nl refl refl))))
 
 -- a file's text is read as the file
@@ -95,10 +96,10 @@ entry_again files f t l nl h left =
     let ml = length f.name + (1 + (length f.bytes + (1 + nl))) in
     let mid : Ahead = record { bytes = following f t; left = ml } in
     let sizes : l ≡ length (file_line f) + (1 + ml) =
-    omega (arith, length-append (file_line f) (feed ∷ (f.name ++ feed ∷ (f.bytes ++ feed ∷ []))), length-append f.name (feed ∷ (f.bytes ++ feed ∷ [])), length-append f.bytes (feed ∷ [])) in
-    let read : line_at (record { bytes = file_line f ++ feed ∷ following f t; left = l }) ≡ Ok (file_line f, mid) = line_whole (file_line f) (following f t) l ml is.feeds is.short sizes in
+    omega (arith, length-append (file_line f) (line_feed ∷ (f.name ++ line_feed ∷ (f.bytes ++ line_feed ∷ []))), length-append f.name (line_feed ∷ (f.bytes ++ line_feed ∷ [])), length-append f.bytes (line_feed ∷ [])) in
+    let read : line_at (record { bytes = file_line f ++ line_feed ∷ following f t; left = l }) ≡ Ok (file_line f, mid) = line_whole (file_line f) (following f t) l ml is.feeds is.short sizes in
     ap (λ w. entry_at files (record { bytes = w; left = l })) (file_then f t)
-    ∙ (bind_is (named kind_of (line_at (record { bytes = file_line f ++ feed ∷ following f t; left = l }))) _ (file_line f, mid) (named_is kind_of _ (file_line f, mid) read)
+    ∙ (bind_is (named kind_of (line_at (record { bytes = file_line f ++ line_feed ∷ following f t; left = l }))) _ (file_line f, mid) (named_is kind_of _ (file_line f, mid) read)
     ∙ (bind_is (heading_of (file_line f)) _ _ (heading_again f h.file) ∙ bind_is (file_at files (announces f) mid) _ (f, last) (file_again files f t ml nl h refl)))
 
 -- the last line is read as the end
@@ -110,18 +111,18 @@ end_again files t l nl small left =
     let last : Ahead = record { bytes = t; left = nl } in
     let feeds = passes_append (λ b. not (b == 10)) (codes "end ") (decimal n) refl (decimal_passes 10 n (omega arith) small) in
     let short : length line ≤ 64 = omega (arith, digits_short 20 n (omega arith) (omega arith) small) in
-    let read : line_at (record { bytes = line ++ feed ∷ t; left = l }) ≡ Ok (line, last) = line_whole line t l nl feeds short (omega (arith, length-append line (feed ∷ []))) in
+    let read : line_at (record { bytes = line ++ line_feed ∷ t; left = l }) ≡ Ok (line, last) = line_whole line t l nl feeds short (omega (arith, length-append line (line_feed ∷ []))) in
     let heading : heading_of line ≡ Ok (headings.End n) = ap end_heading (number_again n small) in
-    ap (λ w. entry_at files (record { bytes = w; left = l })) (append_assoc line (feed ∷ []) t)
-    ∙ (bind_is (named kind_of (line_at (record { bytes = line ++ feed ∷ t; left = l }))) _ (line, last) (named_is kind_of _ (line, last) read)
+    ap (λ w. entry_at files (record { bytes = w; left = l })) (append_assoc line (line_feed ∷ []) t)
+    ∙ (bind_is (named kind_of (line_at (record { bytes = line ++ line_feed ∷ t; left = l }))) _ (line, last) (named_is kind_of _ (line, last) read)
     ∙ (bind_is (heading_of line) _ _ heading ∙ meet (n == n) _ _ (eq-eqb n n refl)))
 
 header_again : (t : List ℕ) (l nl : ℕ) → l ≡ length header + nl → header_at (record { bytes = header ++ t; left = l }) ≡ Ok (tt, record { bytes = t; left = nl })
 header_again t l nl left =
     let last : Ahead = record { bytes = t; left = nl } in
-    let read : line_at (record { bytes = first_line ++ feed ∷ t; left = l }) ≡ Ok (first_line, last) = line_whole first_line t l nl refl (omega arith) (omega arith) in
-    ap (λ w. header_at (record { bytes = w; left = l })) (append_assoc first_line (feed ∷ []) t)
-    ∙ bind_is (named header_kind_of (line_at (record { bytes = first_line ++ feed ∷ t; left = l }))) _ (first_line, last) (named_is header_kind_of _ (first_line, last) read)
+    let read : line_at (record { bytes = first_line ++ line_feed ∷ t; left = l }) ≡ Ok (first_line, last) = line_whole first_line t l nl refl (omega arith) (omega arith) in
+    ap (λ w. header_at (record { bytes = w; left = l })) (append_assoc first_line (line_feed ∷ []) t)
+    ∙ bind_is (named header_kind_of (line_at (record { bytes = first_line ++ line_feed ∷ t; left = l }))) _ (first_line, last) (named_is header_kind_of _ (first_line, last) read)
 
 -- ---- lists of files
 
@@ -177,7 +178,7 @@ one_more_text ss more q =
 -- where the text of a snapshot is a prefix, no entry is at fault
 pub prefix_good : (fs : List File) (x : List ℕ) (f : SnapshotFault) → IsSnapshot fs → length (snapshot_text fs) ≤ max_text_bytes → IsFrontFault (snapshot_text fs ++ x) f → ⊥
 prefix_good fs x f rules size (inl first) =
-    let long = length-append (text_before_end fs) (last_line fs ++ feed ∷ []) in
+    let long = length-append (text_before_end fs) (last_line fs ++ line_feed ∷ []) in
     let rest = flat_map file_text fs ++ (end_text (length fs) ++ x) in
     let good = header_again rest max_text_bytes (max_text_bytes - length header) (omega (arith, length-append header (flat_map file_text fs))) in
     not_both _ f.kind (header_at (record { bytes = header ++ rest; left = max_text_bytes })) good
@@ -190,7 +191,7 @@ prefix_good fs x f rules size (inr (gs, rest, fault)) =
     ]
   where
     all : length (text_before_end fs) + length (end_text (length fs)) ≤ max_text_bytes
-    all = omega (arith, size, length-append (text_before_end fs) (last_line fs ++ feed ∷ []))
+    all = omega (arith, size, length-append (text_before_end fs) (last_line fs ++ line_feed ∷ []))
 
     shorter : (more : List File) → fs ≡ gs ++ more → rest ≡ flat_map file_text more ++ (end_text (length fs) ++ x) → ⊥
     shorter [] e g =

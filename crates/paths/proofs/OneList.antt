@@ -12,16 +12,17 @@ use Rattle.std.proofs.lemmas.Str.Parse.{IsNumeralModel, numerals_by_value, tells
 use Rattle.std.proofs.lemmas.List.{append_assoc, length-append, take_at, drop_at}
 use Rattle.std.proofs.lemmas.List.Elements.{All-head, All-tail}
 use Rattle.std.proofs.lemmas.List.Folds.{prefix_len-append}
+use Rattle.paths.specs.Ascii.{line_feed}
 use Rattle.paths.specs.Numbers.{is_decimal, number_of, number_and_rest, three_numbers}
 use Rattle.paths.specs.Numbers.{◌>>=◌ as ◌>?=◌}
 use Rattle.paths.specs.Texts.{Ahead, line_at}
-use Rattle.paths.specs.declared.stop.Stop.{Stop}
+use Rattle.paths.specs.declared.text.Stop.{Stop}
 use Rattle.paths.specs.declared.file.File.{File}
 use Rattle.paths.specs.declared.file.FileLine.{FileLine}
 use Rattle.paths.specs.declared.file.Heading.{Heading}
 use Rattle.paths.specs.declared.file.Heading.TheVariants as headings
 use Rattle.paths.specs.declared.snapshot_fault.SnapshotFaultKind.{SnapshotFaultKind}
-use Rattle.paths.specs.Snapshots.{feed, file_line, file_text, first_line, last_line, text_before_end, snapshot_text, max_time, max_name_bytes, max_file_bytes, IsFile, IsSnapshot}
+use Rattle.paths.specs.Snapshots.{file_line, file_text, first_line, last_line, text_before_end, snapshot_text, max_time, max_name_bytes, max_file_bytes, IsFile, IsSnapshot}
 use Rattle.paths.specs.SnapshotFaults.{file_heading, heading_of}
 use Rattle.paths.proofs.Taking.{line_whole}
 use Rattle.paths.proofs.Inverse.{ok_is}
@@ -125,12 +126,12 @@ heading_again f h =
 
 -- what stands after a file's line
 abbrev pub following : File → List ℕ → List ℕ
-following f x = f.name ++ feed ∷ (f.bytes ++ feed ∷ x)
+following f x = f.name ++ line_feed ∷ (f.bytes ++ line_feed ∷ x)
 
-pub file_then : (f : File) (x : List ℕ) → file_text f ++ x ≡ file_line f ++ feed ∷ following f x
+pub file_then : (f : File) (x : List ℕ) → file_text f ++ x ≡ file_line f ++ line_feed ∷ following f x
 file_then f x =
-    append_assoc (file_line f) (feed ∷ (f.name ++ feed ∷ (f.bytes ++ feed ∷ []))) x
-    ∙ ap (λ w. file_line f ++ feed ∷ w) (append_assoc f.name (feed ∷ (f.bytes ++ feed ∷ [])) x ∙ ap (λ w. f.name ++ feed ∷ w) (append_assoc f.bytes (feed ∷ []) x))
+    append_assoc (file_line f) (line_feed ∷ (f.name ++ line_feed ∷ (f.bytes ++ line_feed ∷ []))) x
+    ∙ ap (λ w. file_line f ++ line_feed ∷ w) (append_assoc f.name (line_feed ∷ (f.bytes ++ line_feed ∷ [])) x ∙ ap (λ w. f.name ++ line_feed ∷ w) (append_assoc f.bytes (line_feed ∷ []) x))
 
 pub split : (n : ℕ) (a b c d : List ℕ) → length a ≡ n → length b ≡ n → a ++ c ≡ b ++ d → (a ≡ b) × (c ≡ d)
 split n a b c d p q h = (sym (take_at a c n p) ∙ (ap (take n) h ∙ take_at b d n q), sym (drop_at a c n p) ∙ (ap (drop n) h ∙ drop_at b d n q))
@@ -145,7 +146,7 @@ same_line f g x y hf hg h =
     let lg = file_is_line g.mtime (length g.name) (length g.bytes) hg.mtime hg.short hg.bytes in
     let a = line_whole (file_line f) (following f x) l (length (file_line g) + 1) lf.feeds lf.short refl in
     let b = line_whole (file_line g) (following g y) l (length (file_line f) + 1) lg.feeds lg.short (omega arith) in
-    let text : file_line f ++ feed ∷ following f x ≡ file_line g ++ feed ∷ following g y = sym (file_then f x) ∙ (h ∙ file_then g y) in
+    let text : file_line f ++ line_feed ∷ following f x ≡ file_line g ++ line_feed ∷ following g y = sym (file_then f x) ∙ (h ∙ file_then g y) in
     let e : (file_line f, record { bytes = following f x; left = length (file_line g) + 1 }) ≡ (file_line g, record { bytes = following g y; left = length (file_line f) + 1 }) =
     ok_is {A = List ℕ × Ahead} {E = Stop} _ _ _ _ a b (ap (λ w. line_at (record { bytes = w; left = l })) text) in
     (ap (λ (p : List ℕ × Ahead). p.0) e, ap (λ (p : List ℕ × Ahead). p.1.bytes) e)
@@ -157,14 +158,14 @@ same_file f g x y hf hg h =
     let time : f.mtime ≡ g.mtime = ap (λ (k : FileLine). k.mtime) s in
     let names : length f.name ≡ length g.name = ap (λ (k : FileLine). k.name_len) s in
     let sizes : length f.bytes ≡ length g.bytes = ap (λ (k : FileLine). k.len) s in
-    let first = split (length g.name) f.name g.name (feed ∷ (f.bytes ++ feed ∷ x)) (feed ∷ (g.bytes ++ feed ∷ y)) names refl line.1 in
-    let second = split (length g.bytes) f.bytes g.bytes (feed ∷ x) (feed ∷ y) sizes refl (ap (drop 1) first.1) in
+    let first = split (length g.name) f.name g.name (line_feed ∷ (f.bytes ++ line_feed ∷ x)) (line_feed ∷ (g.bytes ++ line_feed ∷ y)) names refl line.1 in
+    let second = split (length g.bytes) f.bytes g.bytes (line_feed ∷ x) (line_feed ∷ y) sizes refl (ap (drop 1) first.1) in
     (λ i. record { name = first.0 i; mtime = time i; bytes = second.0 i }, ap (drop 1) second.1)
 
 -- ---- whole texts
 
 abbrev pub end_text : ℕ → List ℕ
-end_text n = (codes "end " ++ decimal n) ++ feed ∷ []
+end_text n = (codes "end " ++ decimal n) ++ line_feed ∷ []
 
 pub end_apart : (n : ℕ) (f : File) (x y : List ℕ) → end_text n ++ x ≡ file_text f ++ y → ⊥
 end_apart n f x y h = let first : ◌≡◌ {A = ℕ} 101 102 = ap (λ (l : List ℕ). get_or l 0 0) h in omega arith
@@ -181,10 +182,10 @@ same_files (f ∷ fs) (g ∷ gs) n m x y hf hg h =
     (λ i. one.0 i ∷ more.0 i, more.1)
 
 abbrev pub header : List ℕ
-header = first_line ++ feed ∷ []
+header = first_line ++ line_feed ∷ []
 
 pub parts : (fs : List File) (x : List ℕ) → snapshot_text fs ++ x ≡ header ++ (flat_map file_text fs ++ (end_text (length fs) ++ x))
-parts fs x = append_assoc (text_before_end fs) (last_line fs ++ feed ∷ []) x ∙ append_assoc header (flat_map file_text fs) (end_text (length fs) ++ x)
+parts fs x = append_assoc (text_before_end fs) (last_line fs ++ line_feed ∷ []) x ∙ append_assoc header (flat_map file_text fs) (end_text (length fs) ++ x)
 
 pub one_list : (fs gs : List File) (x y : List ℕ) → IsSnapshot fs → IsSnapshot gs → snapshot_text fs ++ x ≡ snapshot_text gs ++ y → (fs ≡ gs) × (x ≡ y)
 one_list fs gs x y hf hg h =

@@ -5,16 +5,17 @@ use Rattle.std.proofs.lemmas.Bool.{eqb-false, ne_eqb}
 use Rattle.std.proofs.lemmas.Bool.Decides.{nat_tests}
 use Rattle.std.proofs.lemmas.List.{append_assoc, append-nil, length-append, length-take, get_or-take}
 use Rattle.std.proofs.lemmas.List.Sums.{prefix_len-le-length, prefix_len_passes, prefix_len_is}
-use Rattle.paths.specs.declared.stop.Stop.{Stop}
-use Rattle.paths.specs.declared.stop.Stop.TheVariants as stops
+use Rattle.paths.specs.Ascii.{line_feed}
+use Rattle.paths.specs.declared.text.Stop.{Stop}
+use Rattle.paths.specs.declared.text.Stop.TheVariants as stops
 use Rattle.paths.specs.declared.file.File.{File}
 use Rattle.paths.specs.declared.file.FileLine.{FileLine}
 use Rattle.paths.specs.declared.file.Heading.{Heading}
 use Rattle.paths.specs.declared.snapshot_fault.SnapshotFaultKind.{SnapshotFaultKind}
 use Rattle.paths.specs.declared.snapshot_fault.SnapshotFaultKind.TheVariants.{Cut, Read, Memory, Number, Kind}
 use Rattle.paths.specs.Numbers.{number_of, three_numbers}
-use Rattle.paths.specs.Texts.{Ahead, ahead_of, byte_at, run_at, line_at, line_front, front, ended}
-use Rattle.paths.specs.Snapshots.{feed, file_line, file_text, text_before_end, max_text_bytes, Follows, max_time, max_file_bytes, max_name_bytes, max_files, is_name, comes_before, lies_in, IsSnapshot}
+use Rattle.paths.specs.Texts.{Ahead, ahead_of, byte_at, run_at, line_at, line_start, available, ended}
+use Rattle.paths.specs.Snapshots.{file_line, file_text, text_before_end, max_text_bytes, Follows, max_time, max_file_bytes, max_name_bytes, max_files, is_name, comes_before, lies_in, IsSnapshot}
 use Rattle.paths.specs.SnapshotFaults.{kind_of, named, ◌>>=◌, file_heading, end_heading, heading_of, name_at, body_at, file_at, announced, entry_at}
 use Rattle.paths.specs.Parts.{TookPart, FailsInSnapshot, Reached, LacksInEntry}
 use Rattle.paths.proofs.Taking.{Takes, TakesLine, line_whole, line_ends, ended_past}
@@ -91,9 +92,9 @@ line_fails o n m l nl ml line t short h k =
 
 line_good : (a b : Ahead) (line : List ℕ) → line_at a ≡ Ok (line, b) → (prefix_len (λ c. not (c == 10)) line ≡ length line) × (length line ≤ 64)
 line_good a b line h =
-    let full = unless_ok (length (line_front a) == 65) _ _ _ h in
-    let all = unless_ok (length (line_front a) == length (front a)) _ _ _ full.1 in
-    let F = take 65 (front a) in
+    let full = unless_ok (length (line_start a) == 65) _ _ _ h in
+    let all = unless_ok (length (line_start a) == length (available a)) _ _ _ full.1 in
+    let F = take 65 (available a) in
     let p = prefix_len (λ c. not (c == 10)) F in
     let below : p ≤ length F = prefix_len-le-length (λ c. not (c == 10)) F in
     let size : length (take p F) ≡ p = omega (arith, length-take p F) in
@@ -101,34 +102,34 @@ line_good a b line h =
     prefix_len_is (λ c. not (c == 10)) (take p F) (length (take p F)) 0 (omega arith)
     (λ i under. ap (λ c. not (c == 10)) (get_or-take p F i 0 (omega arith)) ∙ prefix_len_passes (λ c. not (c == 10)) F i 0 (omega arith))
     (λ past_end. absurd (omega arith)) in
-    let most : length F ≤ 65 = omega (arith, length-take 65 (front a)) in
-    let not_full : length (line_front a) ≡ 65 → ⊥ = λ e. eqb-false (length (line_front a)) 65 full.0 e in
+    let most : length F ≤ 65 = omega (arith, length-take 65 (available a)) in
+    let not_full : length (line_start a) ≡ 65 → ⊥ = λ e. eqb-false (length (line_start a)) 65 full.0 e in
     let short : length (take p F) ≤ 64 = omega (arith, not_full) in
     subst (λ (v : List ℕ). (prefix_len (λ c. not (c == 10)) v ≡ length v) × (length v ≤ 64)) (ap (λ (q : List ℕ × Ahead). q.0) (ok_is {A = List ℕ × Ahead} {E = Stop} _ _ _ _ refl refl all.1)) (feeds, short)
 
 pub line_alone : (a b : Ahead) (line : List ℕ) → line_at a ≡ Ok (line, b) → (t : List ℕ)
-    → line_at (record { bytes = (line ++ feed ∷ []) ++ t; left = a.left }) ≡ Ok (line, record { bytes = t; left = b.left })
+    → line_at (record { bytes = (line ++ line_feed ∷ []) ++ t; left = a.left }) ≡ Ok (line, record { bytes = t; left = b.left })
 line_alone a b line h t =
     let took = line_inverse a b line h in
     let good = line_good a b line h in
-    ap (λ w. line_at (record { bytes = w; left = a.left })) (append_assoc line (feed ∷ []) t)
-    ∙ line_whole line t a.left b.left good.0 good.1 (let e = took.left in omega (arith, e, length-append line (feed ∷ [])))
+    ap (λ w. line_at (record { bytes = w; left = a.left })) (append_assoc line (line_feed ∷ []) t)
+    ∙ line_whole line t a.left b.left good.0 good.1 (let e = took.left in omega (arith, e, length-append line (line_feed ∷ [])))
 
 pub run_alone : (n l nl : ℕ) (run : List ℕ) → length run ≡ n → l ≡ n + nl → run_at n (record { bytes = run; left = l }) ≡ Ok (run, record { bytes = []; left = nl })
 run_alone n l nl run is left = ap (λ w. run_at n (record { bytes = w; left = l })) (sym (append-nil run)) ∙ run_again n run [] l nl is left
 
 name_alone : (files : List File) (n : ℕ) (a b : Ahead) (name : List ℕ) → name_at files n a ≡ Ok (name, b) → (t : List ℕ)
-    → name_at files n (record { bytes = (name ++ feed ∷ []) ++ t; left = a.left }) ≡ Ok (name, record { bytes = t; left = b.left })
+    → name_at files n (record { bytes = (name ++ line_feed ∷ []) ++ t; left = a.left }) ≡ Ok (name, record { bytes = t; left = b.left })
 name_alone files n a b name h t =
     let took = name_inverse files n a b name h in
     let fits = name_fits files n a b name h in
-    let mid : Ahead = record { bytes = feed ∷ t; left = 1 + b.left } in
+    let mid : Ahead = record { bytes = line_feed ∷ t; left = 1 + b.left } in
     let last : Ahead = record { bytes = t; left = b.left } in
-    let left : a.left ≡ n + (1 + b.left) = let e = took.0.left in let s = took.1 in omega (arith, e, s, length-append name (feed ∷ [])) in
-    ap (λ w. name_at files n (record { bytes = w; left = a.left })) (append_assoc name (feed ∷ []) t)
-    ∙ (bind_is (named kind_of (run_at n (record { bytes = name ++ feed ∷ t; left = a.left }))) _ (name, mid) (named_is kind_of _ (name, mid) (run_again n name (feed ∷ t) a.left (1 + b.left) took.1 left))
-    ∙ (bind_is (named kind_of (byte_at mid)) _ (feed, last) (named_is kind_of _ (feed, last) (byte_again feed t (1 + b.left) b.left refl))
-    ∙ (pass (not (feed == feed) || not (is_name name)) _ _ (neither _ _ refl (ap not fits.0))
+    let left : a.left ≡ n + (1 + b.left) = let e = took.0.left in let s = took.1 in omega (arith, e, s, length-append name (line_feed ∷ [])) in
+    ap (λ w. name_at files n (record { bytes = w; left = a.left })) (append_assoc name (line_feed ∷ []) t)
+    ∙ (bind_is (named kind_of (run_at n (record { bytes = name ++ line_feed ∷ t; left = a.left }))) _ (name, mid) (named_is kind_of _ (name, mid) (run_again n name (line_feed ∷ t) a.left (1 + b.left) took.1 left))
+    ∙ (bind_is (named kind_of (byte_at mid)) _ (line_feed, last) (named_is kind_of _ (line_feed, last) (byte_again line_feed t (1 + b.left) b.left refl))
+    ∙ (pass (not (line_feed == line_feed) || not (is_name name)) _ _ (neither _ _ refl (ap not fits.0))
     ∙ (pass (not (list_all (λ g. comes_before g.name name) files)) _ _ (ap not fits.1) ∙ pass (list_any (λ g. lies_in g.name name) files) _ _ fits.2))))
 
 -- ---- the steps of a definition
@@ -217,7 +218,7 @@ pub file_fails : (files : List File) (line : FileLine) (o m p : Option (List ℕ
     → (is_some m ≡ true → TookPart (λ part. body_at line.len (record { bytes = part; left = ml }) ≡ Err Cut) m ml p pl) → is_some o ≡ true
     → TookPart (λ part. file_at files line (record { bytes = part; left = l }) ≡ Err Cut) o l p pl
 file_fails files line o m p l ml pl name in_time size room some short read h k =
-    let t : Takes o l m ml (name ++ feed ∷ []) = record {
+    let t : Takes o l m ml (name ++ line_feed ∷ []) = record {
       bytes = λ known. (name_inverse files line.name_len (ahead_of o l) (ahead_of m ml) name (read known).0).0.bytes;
       count = λ known. (name_inverse files line.name_len (ahead_of o l) (ahead_of m ml) name (read known).0).0.left;
       known = λ known. (read known).1;
@@ -227,9 +228,9 @@ file_fails files line o m p l ml pl name in_time size room some short read h k =
     let c : nat_le max_files (length files) ≡ false = grind (arith, nat_tests) in
     let d : nat_lt max_name_bytes line.name_len ≡ false = grind (arith, nat_tests) in
     let e : (line.name_len == 0) ≡ false = ne_eqb line.name_len 0 (λ same. omega arith) in
-    part_after (λ part. body_at line.len (record { bytes = part; left = ml }) ≡ Err Cut) (λ part. file_at files line (record { bytes = part; left = l }) ≡ Err Cut) o m p l ml pl (name ++ feed ∷ []) t
+    part_after (λ part. body_at line.len (record { bytes = part; left = ml }) ≡ Err Cut) (λ part. file_at files line (record { bytes = part; left = l }) ≡ Err Cut) o m p l ml pl (name ++ line_feed ∷ []) t
     (λ part left cut.
-    let all : Ahead = record { bytes = (name ++ feed ∷ []) ++ part; left = l } in
+    let all : Ahead = record { bytes = (name ++ line_feed ∷ []) ++ part; left = l } in
     let mid : Ahead = record { bytes = part; left = ml } in
     pass (nat_lt max_time line.mtime) _ _ a
     ∙ (pass (nat_lt max_file_bytes line.len || nat_le max_files (length files)) _ _ (neither _ _ b c)
@@ -282,16 +283,16 @@ pub entry_fails : (files : List File) (o m p : Option (List ℕ)) (l ml pl : ℕ
     → TookPart (λ part. (0 < length part) × (entry_at files (record { bytes = part; left = l }) ≡ Err Cut)) o l p pl
 entry_fails files o m p l ml pl line heading is read h k =
     let got = λ (known : is_some o ≡ true). let r = read known in subst (λ (v : Ahead). line_at (ahead_of o l) ≡ Ok (line, v)) (r.3 heading is) r.1 in
-    let t : Takes o l m ml (line ++ feed ∷ []) = record {
+    let t : Takes o l m ml (line ++ line_feed ∷ []) = record {
       bytes = λ known. (line_inverse (ahead_of o l) (ahead_of m ml) line (got known)).bytes;
       count = λ known. (line_inverse (ahead_of o l) (ahead_of m ml) line (got known)).left;
       known = λ known. (read known).2;
     } in
-    part_after (λ part. announced files heading (record { bytes = part; left = ml }) ≡ Err Cut) (λ part. (0 < length part) × (entry_at files (record { bytes = part; left = l }) ≡ Err Cut)) o m p l ml pl (line ++ feed ∷ []) t
+    part_after (λ part. announced files heading (record { bytes = part; left = ml }) ≡ Err Cut) (λ part. (0 < length part) × (entry_at files (record { bytes = part; left = l }) ≡ Err Cut)) o m p l ml pl (line ++ line_feed ∷ []) t
     (λ part left cut.
-    let all : Ahead = record { bytes = (line ++ feed ∷ []) ++ part; left = l } in
+    let all : Ahead = record { bytes = (line ++ line_feed ∷ []) ++ part; left = l } in
     let mid : Ahead = record { bytes = part; left = ml } in (
-      omega (arith, length-append (line ++ feed ∷ []) part, length-append line (feed ∷ [])),
+      omega (arith, length-append (line ++ line_feed ∷ []) part, length-append line (line_feed ∷ [])),
       bind_is (named kind_of (line_at all)) _ (line, mid) (named_is kind_of _ (line, mid) (line_alone (ahead_of o l) (ahead_of m ml) line (got k) part))
           ∙ (bind_is (heading_of line) _ heading is ∙ cut),
     )) h k
@@ -370,7 +371,7 @@ front_has_no_room o n m nl ml entry files f x kind some rules fits is t h k =
       file_text f,
       (
         reached _ o n m nl ml entry files kind rules is t k more,
-        omega (arith, length-append (file_line f) (feed ∷ (f.name ++ feed ∷ (f.bytes ++ feed ∷ [])))),
+        omega (arith, length-append (file_line f) (line_feed ∷ (f.name ++ line_feed ∷ (f.bytes ++ line_feed ∷ [])))),
         inr (f, follows, refl),
       ),
     )

@@ -12,8 +12,8 @@ use Rattle.paths.specs.Numbers.{number_of, number_and_rest, three_numbers}
 use Rattle.paths.specs.Numbers.{◌>>=◌ as ◌>?=◌}
 use Rattle.paths.specs.SnapshotFaults.{heading_of, file_heading, end_heading}
 use Rattle.paths.specs.declared.snapshot_fault.SnapshotFaultKind.TheVariants.{Kind}
-use Rattle.paths.specs.declared.stop.Stop.{Stop}
-use Rattle.paths.specs.Texts.{Ahead, ahead_of, byte_at, line_at, front, ended}
+use Rattle.paths.specs.declared.text.Stop.{Stop}
+use Rattle.paths.specs.Texts.{Ahead, ahead_of, byte_at, line_at, available, ended}
 use Rattle.paths.specs.Owed.{IsLong, IsOwed, GivesLine, GivesLongLine}
 use Rattle.paths.proofs.Taking.{Takes, TakesLine, takes_more, line_whole}
 
@@ -77,13 +77,13 @@ announced_line old left new left_new (Ok line) gives = λ k. let g = gives k in 
 announced_line old left new left_new (Err e) gives = gives
 
 -- a line goes on that begins with its kind, in its first bytes
-pub owes_rest : (least longer : ℕ) (kind front : List ℕ) → length front ≡ least → starts_with nat_eq front kind ≡ true
-    → IsOwed least kind longer front (longer - least)
-owes_rest least longer kind front size begins rest long =
-    let cut : front ≡ kind ++ drop (length kind) front = (starts_is Decides-eqb front kind (starts_with nat_eq front kind) refl).0 begins in
-    let whole : front ++ rest ≡ kind ++ (drop (length kind) front ++ rest) = ap (λ v. v ++ rest) cut ∙ append_assoc kind (drop (length kind) front) rest in
-    let yes : starts_with nat_eq (front ++ rest) kind ≡ true = (starts_is Decides-eqb (front ++ rest) kind (starts_with nat_eq (front ++ rest) kind) refl).1 _ whole in
-    omega (arith, long.1 yes, length-append front rest)
+pub owes_rest : (least longer : ℕ) (kind prefix : List ℕ) → length prefix ≡ least → starts_with nat_eq prefix kind ≡ true
+    → IsOwed least kind longer prefix (longer - least)
+owes_rest least longer kind prefix size begins rest long =
+    let cut : prefix ≡ kind ++ drop (length kind) prefix = (starts_is Decides-eqb prefix kind (starts_with nat_eq prefix kind) refl).0 begins in
+    let whole : prefix ++ rest ≡ kind ++ (drop (length kind) prefix ++ rest) = ap (λ v. v ++ rest) cut ∙ append_assoc kind (drop (length kind) prefix) rest in
+    let yes : starts_with nat_eq (prefix ++ rest) kind ≡ true = (starts_is Decides-eqb (prefix ++ rest) kind (starts_with nat_eq (prefix ++ rest) kind) refl).1 _ whole in
+    omega (arith, long.1 yes, length-append prefix rest)
 
 -- ---- one read of a piece
 
@@ -159,8 +159,8 @@ piece_ends least longer kind o n m l nl ml count owed line came after room r t c
     )
 
 -- no byte came
-pub piece_none : (a : Ahead) (e : Stop) → length (front a) ≡ 0 → e ≡ ended a → byte_at a ≡ Err e
-piece_none a e none is = let test : nat_lt 0 (length (front a)) ≡ false = grind (arith, nat_tests) in rw (test, is) refl
+pub piece_none : (a : Ahead) (e : Stop) → length (available a) ≡ 0 → e ≡ ended a → byte_at a ≡ Err e
+piece_none a e none is = let test : nat_lt 0 (length (available a)) ≡ false = grind (arith, nat_tests) in rw (test, is) refl
 
 -- a read into a room gives no more than the room holds
 pub no_more : (count owed : ℕ) (room before : List ℕ) → count ≤ length room → length room ≡ length (take owed before) → count ≤ owed

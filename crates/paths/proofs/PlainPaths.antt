@@ -10,15 +10,16 @@ use Rattle.std.proofs.lemmas.Option.{cond_some}
 use Rattle.std.proofs.lemmas.Slice.Eq.{bytes_eq-Decides}
 use Rattle.std.proofs.lemmas.List.Splits.{join_with_byte-slice_split}
 use Rattle.percent_encoding.specs.Percent.{percent_decode}
-use Rattle.paths.specs.Snapshots.{slash, no_file, is_part, is_name, position_of, IsFile, IsSnapshot}
+use Rattle.paths.specs.Ascii.{slash}
+use Rattle.paths.specs.Snapshots.{no_file, is_part, is_name, position_of, IsFile, IsSnapshot}
 use Rattle.paths.specs.Targets.{is_served, path_of, has_good_escapes, segments_of, is_nameless, is_here, is_up, walked, asked}
 use Rattle.paths.specs.PlainPaths.{is_plain}
 use Rattle.paths.specs.Resolution.{joined, outcome, IsOutcome}
 use Rattle.paths.proofs.Locations.{outcome_is}
-use Rattle.paths.specs.declared.outcome.Outcome.TheVariants as outcomes
-use Rattle.paths.specs.declared.outcome.Outcome.{Outcome}
+use Rattle.paths.specs.declared.resolution.Outcome.TheVariants as outcomes
+use Rattle.paths.specs.declared.resolution.Outcome.{Outcome}
 use Rattle.paths.specs.declared.file.File.{File}
-use Rattle.paths.specs.declared.asked.Asked.TheVariants.{Path}
+use Rattle.paths.specs.declared.target.Asked.TheVariants.{Path}
 use Rattle.paths.proofs.Plain.{plain_decode}
 
 pub both : (b c : Bool) → (b && c) ≡ true → (b ≡ true) × (c ≡ true)

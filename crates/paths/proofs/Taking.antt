@@ -5,10 +5,10 @@ use Rattle.std.proofs.Math.Seq.{take-append-add}
 use Rattle.std.proofs.lemmas.Bool.Decides.{nat_tests}
 use Rattle.std.specs.List.{prefix_len, before_first}
 use Rattle.std.proofs.lemmas.List.Folds.{prefix_len-append}
-use Rattle.paths.specs.declared.stop.Stop.{Stop}
-use Rattle.paths.specs.declared.stop.Stop.TheVariants.{TooLong, Cut, TooLarge}
+use Rattle.paths.specs.declared.text.Stop.{Stop}
+use Rattle.paths.specs.declared.text.Stop.TheVariants.{TooLong, Cut, TooLarge}
 use borrow.Rule.Slice.PartMut.{put_mid, post_of}
-use Rattle.paths.specs.Texts.{is_unforeseen, Ahead, ahead_of, byte_at, line_at, line_front, front, past, ended}
+use Rattle.paths.specs.Texts.{is_unforeseen, Ahead, ahead_of, byte_at, line_at, line_start, available, past, ended}
 
 -- n bytes of the text were taken, and where the bytes of the input are known, just these
 pub record Takes (old : Option (List ℕ)) (left : ℕ) (new : Option (List ℕ)) (new_left : ℕ) (taken : List ℕ) : Type 0 where
@@ -60,7 +60,7 @@ takes_byte o n l nl b h = record {
 take_past : (n : ℕ) (xs ys : List ℕ) → length xs ≤ n → take n (xs ++ ys) ≡ xs ++ take (n - length xs) ys
 take_past n xs ys h = let e : n ≡ length xs + (n - length xs) = omega arith in ap (λ k. take k (xs ++ ys)) e ∙ take-append-add xs ys (n - length xs)
 
--- the front of 65 bytes of a line, a line feed and whatever follows
+-- the first 65 bytes of a line, a line feed and whatever follows
 front_whole : (line t : List ℕ) (l : ℕ) → length line ≤ 64 → length line < l → (r : List ℕ) × (take 65 (take l (line ++ 10 ∷ t)) ≡ line ++ 10 ∷ r)
 front_whole line t l a b =
     let e : 65 - length line ≡ suc (64 - length line) = omega arith in
@@ -88,10 +88,10 @@ choose_long n r e a = grind (arith, nat_tests)
 choose_end : (n m : ℕ) (x : List ℕ × Ahead) (e f : Stop) → n < 65 → n ≡ m → cond (n == 65) (Err e) (cond (n == m) (Err f) (Ok x)) ≡ Err f
 choose_end n m x e f a b = grind (arith, nat_tests)
 
-line_is : (a b : Ahead) (line : List ℕ) → line_front a ≡ line → length line < 65 → length line < length (front a) → past (length line + 1) a ≡ b → line_at a ≡ Ok (line, b)
+line_is : (a b : Ahead) (line : List ℕ) → line_start a ≡ line → length line < 65 → length line < length (available a) → past (length line + 1) a ≡ b → line_at a ≡ Ok (line, b)
 line_is a b line e short more p =
-    let same : length (line_front a) ≡ length line = ap length e in
-    choose_ok (length (line_front a)) (length (front a)) (line_front a, past (length (line_front a) + 1) a) TooLong (ended a) (omega arith) (omega arith)
+    let same : length (line_start a) ≡ length line = ap length e in
+    choose_ok (length (line_start a)) (length (available a)) (line_start a, past (length (line_start a) + 1) a) TooLong (ended a) (omega arith) (omega arith)
     ∙ ap (λ (l : List ℕ). let r : Result (List ℕ × Ahead) Stop = Ok (l, past (length l + 1) a) in r) e ∙ ap (λ (v : Ahead). let r : Result (List ℕ × Ahead) Stop = Ok (line, v) in r) p
 
 pub line_whole : (line t : List ℕ) (l nl : ℕ) → prefix_len (λ b. not (b == 10)) line ≡ length line → length line ≤ 64 → l ≡ length line + (1 + nl)
@@ -109,7 +109,7 @@ pub line_long : (line t : List ℕ) (l nl : ℕ) → prefix_len (λ b. not (b ==
     → line_at (record { bytes = line ++ t; left = l }) ≡ Err TooLong
 line_long line t l nl feeds long left =
     let cut : take 65 (take l (line ++ t)) ≡ line = take-take 65 l (line ++ t) (omega arith) ∙ take_at line t 65 long in
-    let e : line_front (record { bytes = line ++ t; left = l }) ≡ line = ap (before_first (λ b. b == 10)) cut ∙ feeds_none line feeds in
+    let e : line_start (record { bytes = line ++ t; left = l }) ≡ line = ap (before_first (λ b. b == 10)) cut ∙ feeds_none line feeds in
     choose_long _ _ TooLong (ap length e ∙ long)
 
 pub line_ends : (line t : List ℕ) (l nl : ℕ) → prefix_len (λ b. not (b == 10)) line ≡ length line → length line ≤ 64 → l ≡ length line + nl → length (take nl t) ≡ 0
@@ -118,7 +118,7 @@ line_ends line t l nl feeds short left none =
     let rest : take nl t ≡ [] = is_nil (take nl t) none in
     let all : take l (line ++ t) ≡ line = take_past l line t (omega arith) ∙ ap (λ k. line ++ take k t) (let n : l - length line ≡ nl = omega arith in n) ∙ ap (λ v. line ++ v) rest ∙ append-nil line in
     let cut : take 65 (take l (line ++ t)) ≡ line = ap (take 65) all ∙ take_all 65 line (omega arith) in
-    let e : line_front (record { bytes = line ++ t; left = l }) ≡ line = ap (before_first (λ b. b == 10)) cut ∙ feeds_none line feeds in
+    let e : line_start (record { bytes = line ++ t; left = l }) ≡ line = ap (before_first (λ b. b == 10)) cut ∙ feeds_none line feeds in
     choose_end _ _ _ TooLong _ (let same = ap length e in omega arith) (ap length e ∙ sym (ap length all))
 
 pub ended_past : (line t : List ℕ) (l nl : ℕ) → l ≡ length line + nl → ended (record { bytes = line ++ t; left = l }) ≡ ended (record { bytes = t; left = nl })
@@ -129,9 +129,9 @@ guard_err true x e f h = absurd cc
 guard_err false x e f h = (refl, cc)
 
 -- no byte came
-byte_none : (a : Ahead) (e : Stop) → byte_at a ≡ Err e → (length (front a) ≡ 0) × (ended a ≡ e)
+byte_none : (a : Ahead) (e : Stop) → byte_at a ≡ Err e → (length (available a) ≡ 0) × (ended a ≡ e)
 byte_none a e h =
-    let g = guard_err (nat_lt 0 (length (front a))) (slice_index a.bytes 0, past 1 a) (ended a) e h in
+    let g = guard_err (nat_lt 0 (length (available a))) (slice_index a.bytes 0, past 1 a) (ended a) e h in
     (let none = g.0 in grind (arith, nat_tests), g.1)
 
 pub line_ok : (o n m : Option (List ℕ)) (l nl ml b : ℕ) (line : List ℕ) → TakesLine o l n nl line → length line ≤ 64 → b ≡ 10

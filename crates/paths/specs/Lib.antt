@@ -1,4 +1,5 @@
 pub mod Above
+pub mod Ascii
 pub mod Devices
 pub mod KnownText
 pub mod Numbers

@@ -4,12 +4,13 @@ use Rattle.std.specs.Prelude.{Some, None, if◌then◌else◌}
 use Rattle.std.specs.List.{position}
 use Rattle.std.specs.Str.{all_ascii_digits}
 use Rattle.std.specs.Str.Parse.{digits_value}
+use Rattle.paths.specs.Ascii.{space, zero_digit}
 
 -- a decimal: `0`, or digits of which the first isn't 0
 abbrev pub is_decimal : List ℕ → Bool
 is_decimal [] = false
 is_decimal (d ∷ []) = all_ascii_digits (d ∷ [])
-is_decimal (d ∷ e ∷ ds) = not (d == 48) && all_ascii_digits (d ∷ e ∷ ds)
+is_decimal (d ∷ e ∷ ds) = not (d == zero_digit) && all_ascii_digits (d ∷ e ∷ ds)
 
 -- The number of a decimal. One of 2 ^ 64 or more counts as 2 ^ 64 - 1: that is past every limit too.
 abbrev pub number_of : List ℕ → Option ℕ
@@ -23,7 +24,7 @@ None >>= f = None
 -- the number before the first space, and what follows the space
 abbrev pub number_and_rest : List ℕ → Option (ℕ × List ℕ)
 number_and_rest text = do
-  space ← position (λ b. b == 32) text
+  space ← position (λ b. b == space) text
   n ← number_of (take space text)
   Some (n, drop (space + 1) text)
 

@@ -4,7 +4,7 @@ use Rattle.std.specs.Prelude.{MatchResult, is_some}
 use Rattle.std.specs.List.{starts_with}
 use Rattle.paths.specs.Texts.{Ahead, ahead_of, line_at, is_unforeseen}
 use Rattle.paths.specs.SnapshotFaults.{heading_of}
-use Rattle.paths.specs.declared.stop.Stop.{Stop}
+use Rattle.paths.specs.declared.text.Stop.{Stop}
 use Rattle.paths.specs.declared.file.Heading.{Heading}
 
 -- with its line feed, the line has `least` bytes at least, and `longer` bytes at least where it begins with `kind`
@@ -14,7 +14,7 @@ IsLong least kind longer line = (least ≤ length line + 1)
 
 -- a line that begins so and is that long has at least n bytes more, its line feed among them
 abbrev pub IsOwed : ℕ → List ℕ → ℕ → List ℕ → ℕ → Type 0
-IsOwed least kind longer front n = (rest : List ℕ) → IsLong least kind longer (front ++ rest) → n ≤ length rest + 1
+IsOwed least kind longer prefix n = (rest : List ℕ) → IsLong least kind longer (prefix ++ rest) → n ≤ length rest + 1
 
 -- The call gave the next line. Where that is so long, what follows the line is ahead now.
 abbrev pub GivesLongLine : ℕ → List ℕ → ℕ → Option (List ℕ) → ℕ → Option (List ℕ) → ℕ → Result (List ℕ) Stop → Type 0

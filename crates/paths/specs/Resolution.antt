@@ -1,19 +1,20 @@
 -- What a request is answered with, by what it asks for and the names of the files.
-use Rattle.std.specs.Prelude.{◌≡◌, ℕ, ◌<◌, ◌==◌, ◌&&◌, ◌||◌, nat_lt, length, Bool, true, false, List, [], ◌∷◌, ◌++◌}
+use Rattle.std.specs.Prelude.{◌≡◌, ℕ, ◌<◌, ◌==◌, ◌||◌, length, Bool, true, false, List, [], ◌∷◌, ◌++◌}
 use Rattle.std.specs.Prelude.{Option, Some, None, codes, flat_map, if◌then◌else◌}
 use Rattle.std.specs.List.{join_with_byte, list_all}
-use Rattle.std.specs.Char.{is_ascii_alphanumeric}
+use Rattle.std.specs.Char.{is_ascii_alphanumeric, is_ascii_graphic}
 use Rattle.percent_encoding.specs.Percent.{percent_encode_byte}
-use Rattle.paths.specs.Snapshots.{slash, position_of, has_folder}
+use Rattle.paths.specs.Ascii.{hyphen, dot, slash, underscore, tilde}
+use Rattle.paths.specs.Snapshots.{position_of, has_folder}
 use Rattle.paths.specs.declared.file.File.{File}
-use Rattle.paths.specs.declared.asked.Asked.{Asked}
-use Rattle.paths.specs.declared.asked.Asked.TheVariants as askeds
-use Rattle.paths.specs.declared.outcome.Outcome.{Outcome}
-use Rattle.paths.specs.declared.outcome.Outcome.TheVariants as outcomes
+use Rattle.paths.specs.declared.target.Asked.{Asked}
+use Rattle.paths.specs.declared.target.Asked.TheVariants as askeds
+use Rattle.paths.specs.declared.resolution.Outcome.{Outcome}
+use Rattle.paths.specs.declared.resolution.Outcome.TheVariants as outcomes
 
 -- letters, digits and `-._~` (RFC 3986, 2.3)
 abbrev pub is_unreserved : ℕ → Bool
-is_unreserved b = is_ascii_alphanumeric b || b == 45 || b == 46 || b == 95 || b == 126
+is_unreserved b = is_ascii_alphanumeric b || b == hyphen || b == dot || b == underscore || b == tilde
 
 -- a byte of a location: itself, or `%` and two hexadecimal digits, those above 9 in capitals (RFC 3986, 2.1)
 abbrev pub location_byte : ℕ → List ℕ
@@ -54,12 +55,8 @@ outcome files askeds.BadTarget = outcomes.BadTarget
 outcome files askeds.NotAllowed = outcomes.NotAllowed
 outcome files askeds.NotKnown = outcomes.NotKnown
 
--- a character of ASCII that can be seen
-abbrev pub is_visible : ℕ → Bool
-is_visible b = nat_lt 32 b && nat_lt b 127
-
 -- what each outcome keeps: a file is there, and a location is visible characters alone
 abbrev pub IsOutcome : List File → Outcome → Type 0
 IsOutcome files (outcomes.File file) = file < length files
-IsOutcome files (outcomes.Move to) = list_all is_visible to ≡ true
+IsOutcome files (outcomes.Move to) = list_all is_ascii_graphic to ≡ true
 IsOutcome files other = Unit {0}

@@ -3,14 +3,15 @@ use Rattle.std.specs.Prelude.{◌≡◌, ℕ, ◌+◌, ◌-◌, ◌≤◌, ◌==
 use Rattle.std.specs.Prelude.{length, Option, Some, None, Result, Ok, Err, codes, nat_eq, nat_lt, nat_le}
 use Rattle.std.specs.Prelude.{bytes_eq, if◌then◌else◌, is_some, unwrap_or}
 use Rattle.std.specs.List.{list_all, list_any, starts_with}
+use Rattle.paths.specs.Ascii.{line_feed}
 use Rattle.paths.specs.Devices.{CountsBy}
 use Rattle.paths.specs.Numbers.{number_of, three_numbers}
 use Rattle.paths.specs.Texts.{Ahead, line_at, run_at, byte_at}
-use Rattle.paths.specs.Snapshots.{feed, max_files, max_file_bytes, max_name_bytes, max_time, max_text_bytes, first_line}
+use Rattle.paths.specs.Snapshots.{max_files, max_file_bytes, max_name_bytes, max_time, max_text_bytes, first_line}
 use Rattle.paths.specs.Snapshots.{text_before_end, snapshot_text, is_name, comes_before, lies_in, IsSnapshot}
 use Rattle.paths.specs.Snapshots.{IsSnapshotText}
-use Rattle.paths.specs.declared.stop.Stop.{Stop}
-use Rattle.paths.specs.declared.stop.Stop.TheVariants as stops
+use Rattle.paths.specs.declared.text.Stop.{Stop}
+use Rattle.paths.specs.declared.text.Stop.TheVariants as stops
 use Rattle.paths.specs.declared.file.File.{File}
 use Rattle.paths.specs.declared.file.FileLine.{FileLine}
 use Rattle.paths.specs.declared.file.Heading.{Heading}
@@ -89,7 +90,7 @@ abbrev pub name_at : List File → ℕ → Ahead → Result (List ℕ × Ahead) 
 name_at files n a = do
   name ← named kind_of (run_at n a)
   end ← named kind_of (byte_at name.1)
-  if not (end.0 == feed) || not (is_name name.0) then Err Name
+  if not (end.0 == line_feed) || not (is_name name.0) then Err Name
       else if not (list_all (λ f. comes_before f.name name.0) files) then Err Order
       else if list_any (λ f. lies_in f.name name.0) files then Err Conflict
       else Ok (name.0, end.1)
@@ -99,7 +100,7 @@ abbrev pub body_at : ℕ → Ahead → Result (List ℕ × Ahead) SnapshotFaultK
 body_at n a = do
   bytes ← named kind_of (run_at n a)
   end ← named kind_of (byte_at bytes.1)
-  if end.0 == feed then Ok (bytes.0, end.1) else Err Length
+  if end.0 == line_feed then Ok (bytes.0, end.1) else Err Length
 
 -- the file that a line announces
 abbrev pub file_at : List File → FileLine → Ahead → Result (File × Ahead) SnapshotFaultKind
@@ -141,8 +142,8 @@ failures_of _ = 0
 abbrev pub CountsKind : {X : Type 0} → ℕ → ℕ → Result X SnapshotFaultKind → Type 0
 CountsKind old new r = CountsBy failures_of old new r
 
--- The first fault of bytes of which no front is a snapshot text: the first line's, or that of the entry after the files
--- whose texts stand whole before it. Entry 0 is the first line.
+-- The first fault of bytes of which no prefix is a snapshot text: that of the first line, or of the entry after the
+-- files whose texts stand whole before it. Entry 0 is the first line.
 pub record FaultsAfter (text : List ℕ) (f : SnapshotFault) (files : List File) (rest : List ℕ) : Type 0 where
   pub whole : text ≡ text_before_end files ++ rest
   pub rules : IsSnapshot files
@@ -171,7 +172,7 @@ IsFirstFault text f = IsFrontFault text f
 abbrev pub IsForeseen : (List ℕ → SnapshotFault → Type 0) → Option (List ℕ) → SnapshotFault → Type 0
 IsForeseen IsFault old f = is_some old ≡ true → is_unforeseen_kind f.kind ≡ false → IsFault (unwrap_or old []) f
 
--- Where the bytes of the input are known, the text of these files was taken from their front.
+-- Where the bytes of the input are known, the text of these files was taken from them, as a prefix.
 pub record ReadsFront (old new : Option (List ℕ)) (files : List File) : Type 0 where
   pub text : is_some old ≡ true → unwrap_or old [] ≡ snapshot_text files ++ unwrap_or new []
   pub known : is_some old ≡ true → is_some new ≡ true

@@ -5,23 +5,8 @@ use Rattle.std.specs.List.{list_all, list_any, starts_with, slice_split, AllPair
 use Rattle.std.specs.Str.{is_utf8}
 use Rattle.std.specs.Ordering.{is_lt, nat_cmp}
 use Rattle.std.specs.Cmp.Lexicographic.{slice_cmp}
+use Rattle.paths.specs.Ascii.{line_feed, slash}
 use Rattle.paths.specs.declared.file.File.{File}
-
--- a line feed, and bytes that mean something in a target: `/`, `?`, `#` and `%`
-abbrev pub feed : ℕ
-feed = 10
-
-abbrev pub slash : ℕ
-slash = 47
-
-abbrev pub question_mark : ℕ
-question_mark = 63
-
-abbrev pub number_sign : ℕ
-number_sign = 35
-
-abbrev pub percent_sign : ℕ
-percent_sign = 37
 
 -- the greatest number of files, of bytes of a file, of bytes of a name and of bytes of a text, and the greatest time
 abbrev pub max_files : ℕ
@@ -46,7 +31,7 @@ file_line f = codes "file " ++ decimal f.mtime ++ codes " " ++ decimal (length f
 
 -- a file: its line, its name and its bytes, each with a line feed
 abbrev pub file_text : File → List ℕ
-file_text f = file_line f ++ feed ∷ (f.name ++ feed ∷ (f.bytes ++ feed ∷ []))
+file_text f = file_line f ++ line_feed ∷ (f.name ++ line_feed ∷ (f.bytes ++ line_feed ∷ []))
 
 -- the first line, without its line feed
 abbrev pub first_line : List ℕ
@@ -58,10 +43,10 @@ last_line files = codes "end " ++ decimal (length files)
 
 -- the text up to the last line, and the whole text
 abbrev pub text_before_end : List File → List ℕ
-text_before_end files = (first_line ++ feed ∷ []) ++ flat_map file_text files
+text_before_end files = (first_line ++ line_feed ∷ []) ++ flat_map file_text files
 
 abbrev pub snapshot_text : List File → List ℕ
-snapshot_text files = text_before_end files ++ (last_line files ++ feed ∷ [])
+snapshot_text files = text_before_end files ++ (last_line files ++ line_feed ∷ [])
 
 -- a part of a name between slashes: not empty, `.` or `..`
 abbrev pub is_part : List ℕ → Bool

@@ -1,10 +1,10 @@
 -- One step of a walk over segments.
 use Rattle.std.specs.Prelude.{ℕ, Bool, List}
 use Rattle.paths.specs.Targets.{walked}
-use Rattle.paths.specs.declared.asked.Asked.{Asked}
-use Rattle.paths.specs.declared.asked.Asked.TheVariants as askeds
-use Rattle.paths.specs.declared.step.Step.{Step}
-use Rattle.paths.specs.declared.step.Step.TheVariants as steps
+use Rattle.paths.specs.declared.target.Asked.{Asked}
+use Rattle.paths.specs.declared.target.Asked.TheVariants as askeds
+use Rattle.paths.specs.declared.target.Step.{Step}
+use Rattle.paths.specs.declared.target.Step.TheVariants as steps
 
 -- what the walk asks for after the step, with these segments kept and these ahead
 abbrev pub after_step : Step → List (List ℕ) → Bool → List (List ℕ) → Asked

@@ -6,9 +6,9 @@ use Rattle.std.specs.Option.{option_map}
 use Rattle.std.specs.Char.{is_digit, to_ascii_lowercase}
 use Rattle.std.specs.Str.{is_utf8}
 use Rattle.percent_encoding.specs.Percent.{percent_decode}
-use Rattle.paths.specs.Snapshots.{slash, question_mark, number_sign, percent_sign}
-use Rattle.paths.specs.declared.asked.Asked.{Asked}
-use Rattle.paths.specs.declared.asked.Asked.TheVariants.{Path, Missing, BadTarget, NotAllowed, NotKnown}
+use Rattle.paths.specs.Ascii.{slash, question_mark, number_sign, percent_sign}
+use Rattle.paths.specs.declared.target.Asked.{Asked}
+use Rattle.paths.specs.declared.target.Asked.TheVariants.{Path, Missing, BadTarget, NotAllowed, NotKnown}
 
 -- GET and HEAD are served (RFC 9110, 9.3.1 and 9.3.2); the other methods of RFC 9110, 9.3 are known. Case matters.
 abbrev pub is_served : List ℕ → Bool
@@ -37,7 +37,7 @@ path_of target =
     then option_map (before_first (λ b. b == question_mark)) (after_authority (drop 7 target))
     else None
 
--- two hexadecimal digits stand in front
+-- two hexadecimal digits come first
 abbrev pub begins_hexadecimal : List ℕ → Bool
 begins_hexadecimal [] = false
 begins_hexadecimal (h ∷ []) = false

@@ -3,9 +3,10 @@ use Rattle.std.specs.Prelude.{◌≡◌, ℕ, ◌+◌, ◌-◌, ◌==◌, ◌<�
 use Rattle.std.specs.Prelude.{Option, Result, Ok, Err, MatchResult, nat_lt, nat_le, if◌then◌else◌, unwrap_or, is_some}
 use Rattle.std.specs.Prelude.{slice_index}
 use Rattle.std.specs.List.{before_first}
+use Rattle.paths.specs.Ascii.{line_feed}
 use Rattle.paths.specs.Devices.{CountsBy}
-use Rattle.paths.specs.declared.stop.Stop.{Stop}
-use Rattle.paths.specs.declared.stop.Stop.TheVariants.{TooLong, Cut, TooLarge, Read, Memory}
+use Rattle.paths.specs.declared.text.Stop.{Stop}
+use Rattle.paths.specs.declared.text.Stop.TheVariants.{TooLong, Cut, TooLarge, Read, Memory}
 
 -- what is ahead of a reader: the bytes that the input still has, and how many of them the text may take
 pub record Ahead : Type 0 where
@@ -13,8 +14,8 @@ pub record Ahead : Type 0 where
   pub left : ℕ
 
 -- the bytes that the text may take
-abbrev pub front : Ahead → List ℕ
-front a = take a.left a.bytes
+abbrev pub available : Ahead → List ℕ
+available a = take a.left a.bytes
 
 -- after the next n bytes
 abbrev pub past : ℕ → Ahead → Ahead
@@ -26,22 +27,22 @@ ended a = if nat_lt a.left (length a.bytes) then TooLarge else Cut
 
 -- the next byte
 abbrev pub byte_at : Ahead → Result (ℕ × Ahead) Stop
-byte_at a = if nat_lt 0 (length (front a)) then Ok (slice_index a.bytes 0, past 1 a) else Err (ended a)
+byte_at a = if nat_lt 0 (length (available a)) then Ok (slice_index a.bytes 0, past 1 a) else Err (ended a)
 
 -- the next n bytes
 abbrev pub run_at : ℕ → Ahead → Result (List ℕ × Ahead) Stop
-run_at n a = if nat_le n (length (front a)) then Ok (take n a.bytes, past n a) else Err (ended a)
+run_at n a = if nat_le n (length (available a)) then Ok (take n a.bytes, past n a) else Err (ended a)
 
 -- the first 65 bytes, as far as they are there, up to a line feed
-abbrev pub line_front : Ahead → List ℕ
-line_front a = before_first (λ b. b == 10) (take 65 (front a))
+abbrev pub line_start : Ahead → List ℕ
+line_start a = before_first (λ b. b == line_feed) (take 65 (available a))
 
 -- the next line, without its line feed: a line has at most 64 bytes
 abbrev pub line_at : Ahead → Result (List ℕ × Ahead) Stop
 line_at a =
-    if length (line_front a) == 65 then Err TooLong
-    else if length (line_front a) == length (front a) then Err (ended a)
-    else Ok (line_front a, past (length (line_front a) + 1) a)
+    if length (line_start a) == 65 then Err TooLong
+    else if length (line_start a) == length (available a) then Err (ended a)
+    else Ok (line_start a, past (length (line_start a) + 1) a)
 
 -- what is ahead of an input whose bytes are known
 abbrev pub ahead_of : Option (List ℕ) → ℕ → Ahead
@@ -66,7 +67,7 @@ abbrev pub TakesSome : Option (List ℕ) → ℕ → Option (List ℕ) → ℕ �
 TakesSome old left new left_new room r = MatchResult r
     (λ n. (0 < n) × (n ≤ length room) × (left ≡ n + left_new)
     × (is_some old ≡ true → (unwrap_or old [] ≡ take n room ++ unwrap_or new []) × (is_some new ≡ true)))
-    (λ e. is_some old ≡ true → is_unforeseen e ≡ false → (length (front (ahead_of old left)) ≡ 0)
+    (λ e. is_some old ≡ true → is_unforeseen e ≡ false → (length (available (ahead_of old left)) ≡ 0)
     × (e ≡ ended (ahead_of old left)))
 
 -- a room was filled with the next bytes

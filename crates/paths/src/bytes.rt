@@ -51,7 +51,7 @@ pub(crate) fn is_text(bytes: &[u8]) -> bool
     }
 }
 
-/// How many bytes of their fronts both share.
+/// How many of their first bytes are the same in both.
 pub(crate) fn shared_front(one: &[u8], other: &[u8]) -> usize
     ensures same { take result one.now ≡ take result other.now }
     ensures in_one { result ≤ length one.now }

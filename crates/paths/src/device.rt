@@ -49,7 +49,7 @@ impl<R: Read> Input<R> {
         self.failures
     }
 
-    /// Makes one read into the front of `room`, and answers how many bytes came. None come at the end of the input
+    /// Makes one read into the beginning of `room`, and answers how many bytes came. None come at the end of the input
     /// alone, or where there is no room. A read that was interrupted is a failure.
     pub fn read_some(&mut self, room: &mut [u8]) -> Result<usize, Failed>
         requires { CanFail self.old }

@@ -2,10 +2,11 @@
 
 ghost use Rattle.std.specs.Prelude.{◌≡◌, ◌<◌, ◌≤◌, ◌-◌, ◌^◌, ◌&&◌, ◌==◌, not, length, IfOk, IfErr, IfSome, ◌≢◌};
 ghost use Rattle.std.specs.List.{list_all, list_any, slice_split};
+ghost use Rattle.paths.specs.Ascii.{slash};
 ghost use Rattle.paths.specs.Devices.{CanFail};
 ghost use Rattle.paths.specs.Texts.{Gives};
 ghost use Rattle.paths.specs.Parts.{FailsAtOnce, FailsWithin, LacksWithin};
-ghost use Rattle.paths.specs.Snapshots.{slash, is_name, is_part, FitsName, Follows};
+ghost use Rattle.paths.specs.Snapshots.{is_name, is_part, FitsName, Follows};
 ghost use Rattle.paths.specs.SnapshotFaults.{CountsKind, is_unforeseen_kind, header_at, name_at, body_at, file_at};
 ghost use Rattle.paths.specs.SnapshotFaults.{announced, entry_at};
 

@@ -22,17 +22,17 @@ const SHORTEST_FILE_LINE: usize = 11;
 
 /// How many bytes a line that begins so has ahead at least, its line feed among them, if it has `least` bytes, and
 /// `longer` where it begins with `kind`.
-fn owed(front: &[u8], least: usize, kind: &[u8], longer: usize) -> usize
+fn owed(prefix: &[u8], least: usize, kind: &[u8], longer: usize) -> usize
     requires least { (1 ≤ least) × (least ≤ MAX_OWED) }
     requires longer { (least < longer) × (longer ≤ least + MAX_OWED) }
-    ensures owed { IsOwed least kind.now longer front.now result }
+    ensures owed { IsOwed least kind.now longer prefix.now result }
     ensures some { 0 < result }
     ensures limit { result ≤ MAX_OWED }
-    ensures room { length front.now < 65 → length front.now + result ≤ 65 }
+    ensures room { length prefix.now < 65 → length prefix.now + result ≤ 65 }
 {
-    if front.is_empty() {
+    if prefix.is_empty() {
         least
-    } else if front.len() == least && front.starts_with(kind) {
+    } else if prefix.len() == least && prefix.starts_with(kind) {
         longer - least
     } else {
         1

@@ -1,7 +1,6 @@
 //! Devices that count their failures, the snapshot of a file tree, and what a request's target names in it.
 #![tactic(auto)]
 
-mod asked;
 mod bytes;
 mod device;
 mod entry;
@@ -10,19 +9,15 @@ mod heading;
 mod laws;
 mod limits;
 mod numbers;
-mod outcome;
 mod output;
 mod reading;
 mod resolution;
 mod segments;
 mod snapshot;
 mod snapshot_fault;
-mod step;
-mod stop;
 mod target;
 mod text;
 
-pub use asked::Asked;
 pub use bytes::Bytes;
 pub use device::{Failed, Input};
 pub use entry::is_name;
@@ -34,12 +29,10 @@ pub use laws::{
 };
 pub use limits::{MAX_FILE_BYTES, MAX_FILES, MAX_NAME_BYTES, MAX_TEXT_BYTES, MAX_TIME};
 pub use numbers::{number, number_and_rest, three_numbers};
-pub use outcome::Outcome;
 pub use output::Output;
-pub use resolution::{locate, resolve};
+pub use resolution::{Outcome, locate, resolve};
 pub use segments::Segments;
 pub use snapshot::{Snapshot, Tree};
 pub use snapshot_fault::{SnapshotFault, SnapshotFaultKind};
-pub use stop::Stop;
-pub use target::inspect;
-pub use text::{Line, read_byte_of, read_line, read_run};
+pub use target::{Asked, inspect};
+pub use text::{Line, Stop, read_byte_of, read_line, read_run};

@@ -2,6 +2,7 @@
 
 ghost use Rattle.std.specs.Prelude.{◌≡◌, ◌==◌, ◌<◌, length, position, IfSome};
 ghost use Rattle.std.specs.Option.{option_map};
+ghost use Rattle.paths.specs.Ascii.{space};
 ghost use Rattle.paths.specs.Numbers.{number_of, number_and_rest, three_numbers};
 
 /// The number of a decimal: `0`, or digits of which the first isn't `0`. One past 64 bits stands as the greatest of 64
@@ -26,7 +27,7 @@ pub fn number(field: &[u8]) -> Option<u64>
 
 /// Where the first space is.
 fn first_space(text: &[u8]) -> Option<usize>
-    ensures place { result ≡ position (λ b. b == 32) text.now }
+    ensures place { result ≡ position (λ b. b == space) text.now }
     ensures bound { IfSome result (λ at. at < length text.now) }
 {
     text.iter().position(|byte| *byte == b' ')

@@ -49,7 +49,7 @@ impl<W: Write> Output<W> {
         self.failures
     }
 
-    /// Makes one write, and answers how many bytes of the front were taken. A writer that takes none of at least one
+    /// Makes one write, and answers how many of the first bytes were taken. A writer that takes none of at least one
     /// byte has failed, and so has one that was interrupted.
     pub fn write_some(&mut self, bytes: &[u8]) -> Result<usize, Failed>
         requires { CanFail self.old }

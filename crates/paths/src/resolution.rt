@@ -3,15 +3,32 @@
 ghost use Rattle.std.specs.Prelude.{◌≡◌, ◌++◌, [], ◌∷◌, true, false, IfOk, IfSome, OnOk, string_bytes, codes, flat_map};
 ghost use Rattle.std.specs.Prelude.{List, ℕ};
 ghost use Rattle.std.specs.List.{list_all};
-ghost use Rattle.paths.specs.Snapshots.{slash};
+ghost use Rattle.paths.specs.Ascii.{slash};
 ghost use Rattle.paths.specs.PlainPaths.{is_plain};
 ghost use Rattle.paths.specs.Targets.{asked};
 ghost use Rattle.paths.specs.Resolution.{IsOutcome, outcome, joined, location, location_byte, slash_before};
 
 use crate::target::is_served;
-use crate::{Asked, Bytes, Outcome, Segments, Snapshot, inspect};
+use crate::{Asked, Bytes, Segments, Snapshot, inspect};
 use percent_encoding::{AsciiSet, NON_ALPHANUMERIC, ascii_set, percent_encode};
 use std::alloc::{AllocError, Global};
+
+/// What a request is answered with.
+#[derive(Debug, Drop)]
+pub enum Outcome {
+    /// The file of this number.
+    File(usize),
+    /// A redirect to this location: the encoded path of a folder, with its last slash.
+    Move(Bytes),
+    /// No file has the name.
+    Missing,
+    /// The target is none.
+    BadTarget,
+    /// The method is known, and not served.
+    NotAllowed,
+    /// The method is not known.
+    NotKnown,
+}
 
 /// The bytes that a location escapes, beside those outside ASCII: all but letters, digits and `-._~` (RFC 3986, 2.3).
 const RESERVED: AsciiSet = ascii_set!(

@@ -2,8 +2,9 @@
 
 ghost use Rattle.std.specs.Prelude.{◌≡◌, ◌<◌, ◌≤◌, ◌++◌, [], ◌∷◌, length, OnOk, OnErr, Option, List, ℕ};
 ghost use Rattle.std.specs.List.{list_all, list_any};
+ghost use Rattle.paths.specs.Ascii.{slash};
 ghost use Rattle.paths.specs.Snapshots.{max_files, max_time, max_file_bytes};
-ghost use Rattle.paths.specs.Snapshots.{file_of, Follows, position_of, has_folder, comes_before, lies_in, slash};
+ghost use Rattle.paths.specs.Snapshots.{file_of, Follows, position_of, has_folder, comes_before, lies_in};
 ghost use Rattle.paths.specs.Snapshots.{IsPlace, IsSnapshot};
 ghost use Rattle.paths.specs.Above.{HasNoFileAbove};
 

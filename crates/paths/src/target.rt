@@ -5,16 +5,41 @@ ghost use Rattle.std.specs.Prelude.{map, List, ℕ, true, [], ◌∷◌};
 ghost use Rattle.std.specs.Option.{option_map};
 ghost use Rattle.std.specs.List.{list_any, before_first, slice_split};
 ghost use Rattle.percent_encoding.specs.Percent.{percent_decode};
-ghost use Rattle.paths.specs.Snapshots.{slash, question_mark, number_sign, percent_sign};
+ghost use Rattle.paths.specs.Ascii.{slash, question_mark, number_sign, percent_sign};
 ghost use Rattle.paths.specs.Steps.{after_step};
 ghost use Rattle.paths.specs.Targets.{is_served, is_known, path_of, begins_hexadecimal, has_good_escapes, is_nameless};
 ghost use Rattle.paths.specs.Targets.{is_here, is_up, walked, asked_by, asked, segments_of, is_authority_end};
 ghost use Rattle.paths.specs.Targets.{after_authority, parts_of};
 
 use crate::bytes::is_text;
-use crate::step::Step;
-use crate::{Asked, Bytes, Segments};
+use crate::{Bytes, Segments};
 use std::alloc::{AllocError, Global};
+
+/// What a request asks for, by its method and its target alone.
+#[derive(Debug, Drop)]
+pub enum Asked {
+    /// The file or folder at these segments; in folder form, what stands for the folder itself.
+    Path { segments: Segments, folder: bool },
+    /// Something that no file can be named as.
+    Missing,
+    /// A target that is none.
+    BadTarget,
+    /// A known method that is not served.
+    NotAllowed,
+    /// A method that is not known.
+    NotKnown,
+}
+
+/// What a segment did to a walk.
+#[derive(Clone, Copy)]
+pub enum Step {
+    /// The walk goes on.
+    On,
+    /// No file has a name with this segment.
+    Missing,
+    /// The segment leads above the root.
+    AboveRoot,
+}
 
 /// What a request asks for, by its method (RFC 9110, 9.1) and its target (RFC 9112, 3.2): first the method is looked
 /// at, then the target, then its segments from left to right.
@@ -132,7 +157,7 @@ fn has_good_escapes(path: &[u8]) -> bool
     true
 }
 
-/// Whether two hexadecimal digits stand in front.
+/// Whether two hexadecimal digits come first.
 fn begins_hexadecimal(text: &[u8]) -> bool
     ensures { result ≡ begins_hexadecimal text.now }
 {

@@ -3,14 +3,36 @@
 ghost use Rattle.std.specs.Prelude.{◌≡◌, ℕ, ◌+◌, ◌-◌, ◌<◌, ◌≤◌, ◌==◌, ◌^◌, ◌++◌, [], ◌∷◌, length, nat_lt, IfOk, IfErr};
 ghost use Rattle.std.specs.Prelude.{◌≢◌};
 ghost use Rattle.std.specs.List.{before_first};
+ghost use Rattle.paths.specs.Ascii.{line_feed};
 ghost use Rattle.paths.specs.Devices.{CanFail};
 ghost use Rattle.paths.specs.Parts.{FailsAtOnce, FailsWithin};
 ghost use Rattle.paths.specs.Texts.{Gives, Counts, TakesSome, Fills, is_unforeseen, byte_at, line_at, run_at};
 
-use crate::{Bytes, Failed, Input, Stop};
+use crate::{Bytes, Failed, Input};
 use std::alloc::Global;
 use std::io::Read;
 use std::marker::Model;
+use thiserror::Error;
+
+/// Why a part of a text could not be read.
+#[derive(Clone, Copy, Debug, PartialEq, Eq, Error)]
+pub enum Stop {
+    /// The first 65 bytes of a line hold no line feed.
+    #[error("a line is too long")]
+    TooLong,
+    /// The input ended before the part did.
+    #[error("the input ended too early")]
+    Cut,
+    /// The part goes on past the greatest size of a text.
+    #[error("the text is too large")]
+    TooLarge,
+    /// The device failed.
+    #[error("a read failed")]
+    Read,
+    /// There was no memory for the part.
+    #[error("out of memory")]
+    Memory,
+}
 
 /// The bytes of a line, at most 65, kept without memory of its own.
 #[derive(Drop)]
@@ -56,8 +78,8 @@ impl Line {
     /// Takes the bytes up to a line feed, and tells whether one was there.
     pub(crate) fn push_to_feed(&mut self, bytes: &[u8]) -> bool
         requires { length self.old + length bytes.now ≤ 65 }
-        ensures line { self.new ≡ self.old ++ before_first (λ b. b == 10) bytes.now }
-        ensures feed { result ≡ nat_lt (length (before_first (λ b. b == 10) bytes.now)) (length bytes.now) }
+        ensures line { self.new ≡ self.old ++ before_first (λ b. b == line_feed) bytes.now }
+        ensures feed { result ≡ nat_lt (length (before_first (λ b. b == line_feed) bytes.now)) (length bytes.now) }
     {
         for byte in bytes {
             if *byte == b'\n' {

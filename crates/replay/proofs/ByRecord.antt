@@ -28,7 +28,7 @@ use Rattle.arrivals.specs.Batches.{with_tier}
 use Rattle.http_requests.specs.declared.messages.Message.{Message}
 use Rattle.arrivals.specs.declared.incoming.Origin.{Origin}
 use Rattle.replay.specs.declared.desk.Desk.{Desk}
-use Rattle.replay.specs.declared.outcome.Outcome.{Outcome}
+use Rattle.replay.specs.declared.summary.Outcome.{Outcome}
 use Rattle.arrivals.specs.declared.connections.Connection.{Connection}
 use Rattle.arrivals.specs.declared.connections.Connection.TheVariants.{Silent, Open, Closed}
 use Rattle.replay.specs.declared.replay_fault.ReplayFault.{ReplayFault}
@@ -449,7 +449,7 @@ taken v input now start records arrivals p fits arrived = record {
   rest = unwrap_or now [];
   arrivals = arrivals;
   rules = fits.rules;
-  begins = fits.front;
+  begins = fits.taken;
   size = λ known. (let left = fits.left known in omega (arith, left));
   arrived = arrived;
 }

@@ -29,7 +29,7 @@ use Rattle.admission.specs.After.{tick_from}
 use Rattle.admission.proofs.RequestLemmas.{of_tier-other, of_tier-none}
 use Rattle.admission.proofs.OneTierLemmas.{one_tier_as_before}
 use Rattle.arrivals.specs.declared.incoming.Origin.{Origin}
-use Rattle.replay.specs.declared.outcome.Outcome.{Outcome}
+use Rattle.replay.specs.declared.summary.Outcome.{Outcome}
 use Rattle.replay.specs.declared.summary.Counts.{Counts}
 use Rattle.replay.specs.declared.summary.Tally.{Tally}
 use Rattle.replay.specs.declared.summary.Summary.{Summary}

@@ -19,7 +19,7 @@ use Rattle.arrivals.specs.Arrivals.{Arrival}
 use Rattle.paths.specs.Targets.{asked}
 use Rattle.paths.specs.Resolution.{outcome}
 use Rattle.paths.specs.declared.file.File.{File}
-use Rattle.paths.specs.declared.outcome.Outcome.{Outcome}
+use Rattle.paths.specs.declared.resolution.Outcome.{Outcome}
 use Rattle.http_requests.specs.declared.messages.Version.{Version}
 use Rattle.http_requests.specs.declared.messages.Meaning.TheVariants.{Request}
 use Rattle.cost_model.specs.Services.{CostTable, service}

@@ -6,7 +6,7 @@ use Rattle.replay.specs.Counting.{rejected_of, summary_of}
 use Rattle.replay.specs.Laws.{OneAnswer}
 use Rattle.replay.specs.Offers.{handled}
 use Rattle.replay.specs.Replies.{replies_of, replies_text}
-use Rattle.replay.specs.declared.outcome.Outcome.{Outcome}
+use Rattle.replay.specs.declared.summary.Outcome.{Outcome}
 use Rattle.arrivals.proofs.ArrivalLaws.{one_list_of_arrivals}
 
 -- known bytes grow by the same text in one way

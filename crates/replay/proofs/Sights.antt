@@ -29,7 +29,7 @@ use Rattle.replay.specs.declared.sight.Sighted.{Sighted}
 use Rattle.std.specs.Prelude.{Option}
 use Rattle.paths.specs.Targets.{asked}
 use Rattle.paths.specs.Resolution.{outcome}
-use Rattle.paths.specs.declared.outcome.Outcome.{Outcome}
+use Rattle.paths.specs.declared.resolution.Outcome.{Outcome}
 use Rattle.http_requests.specs.declared.messages.Version.{Version}
 use Rattle.cost_model.specs.Services.{service}
 use Rattle.replay.specs.Answers.{is_head, answers_head}

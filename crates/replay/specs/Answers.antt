@@ -6,8 +6,8 @@ use Rattle.paths.specs.Snapshots.{file_of}
 use Rattle.paths.specs.Targets.{asked}
 use Rattle.paths.specs.Resolution.{outcome}
 use Rattle.paths.specs.declared.file.File.{File}
-use Rattle.paths.specs.declared.outcome.Outcome.{Outcome}
-use Rattle.paths.specs.declared.outcome.Outcome.TheVariants as outcomes
+use Rattle.paths.specs.declared.resolution.Outcome.{Outcome}
+use Rattle.paths.specs.declared.resolution.Outcome.TheVariants as outcomes
 use Rattle.http_requests.specs.declared.messages.Version.{Version}
 use Rattle.http_requests.specs.declared.messages.Version.TheVariants.{Http10, Http11}
 use Rattle.http_requests.specs.declared.messages.Fault.{Fault}

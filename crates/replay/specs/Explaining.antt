@@ -18,7 +18,7 @@ use Rattle.replay.specs.Counting.{status_for, rejected_of, summary_of}
 use Rattle.replay.specs.Telling.{Telling}
 use Rattle.paths.specs.KnownText.{WhereKnown}
 use Rattle.replay.specs.Outcomes.{max_messages}
-use Rattle.replay.specs.declared.outcome.Outcome.{Outcome}
+use Rattle.replay.specs.declared.summary.Outcome.{Outcome}
 
 -- an offer after those of the earlier messages: what it finds, and the decision on it
 abbrev pub offered_after : Terms → List Arrival → Offer → Offered

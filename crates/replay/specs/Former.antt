@@ -11,7 +11,7 @@ use Rattle.captures.specs.Captures.{IsCapture, IsCaptureText}
 use Rattle.paths.specs.Targets.{asked}
 use Rattle.paths.specs.Resolution.{outcome}
 use Rattle.paths.specs.declared.file.File.{File}
-use Rattle.paths.specs.declared.outcome.Outcome.{Outcome as Resolved}
+use Rattle.paths.specs.declared.resolution.Outcome.{Outcome as Resolved}
 use Rattle.http_requests.specs.Framing.{MessagesOf}
 use Rattle.http_requests.specs.declared.messages.Meaning.{Meaning}
 use Rattle.http_requests.specs.declared.messages.Meaning.TheVariants.{Request, Bad}

@@ -11,7 +11,7 @@ use Rattle.admission.specs.Requests.{Offer, is_rejected}
 use Rattle.admission.specs.declared.control.Decision.TheVariants.{Admitted}
 use Rattle.explaining.specs.declared.row.Offered.{Offered}
 use Rattle.paths.specs.declared.file.File.{File}
-use Rattle.replay.specs.declared.outcome.Outcome.{Outcome}
+use Rattle.replay.specs.declared.summary.Outcome.{Outcome}
 use Rattle.replay.specs.declared.summary.Tally.{Tally}
 use Rattle.arrivals.specs.Arrivals.{Arrival, AreArrivals}
 use Rattle.replay.specs.Choices.{Choice, Terms, terms_of}

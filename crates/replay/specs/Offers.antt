@@ -5,8 +5,8 @@ use Rattle.paths.specs.Snapshots.{file_of}
 use Rattle.paths.specs.Targets.{asked}
 use Rattle.paths.specs.Resolution.{outcome}
 use Rattle.paths.specs.declared.file.File.{File}
-use Rattle.paths.specs.declared.outcome.Outcome.{Outcome}
-use Rattle.paths.specs.declared.outcome.Outcome.TheVariants as outcomes
+use Rattle.paths.specs.declared.resolution.Outcome.{Outcome}
+use Rattle.paths.specs.declared.resolution.Outcome.TheVariants as outcomes
 use Rattle.http_requests.specs.declared.messages.Meaning.{Meaning}
 use Rattle.http_requests.specs.declared.messages.Meaning.TheVariants.{Request, Bad}
 use Rattle.cost_model.specs.Services.{service}

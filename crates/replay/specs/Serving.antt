@@ -21,7 +21,7 @@ use Rattle.replay.specs.Telling.{Telling, Told, ToldInPart, replies_told}
 use Rattle.replay.specs.Totals.{totals_of}
 use Rattle.arrivals.specs.declared.connections.Connection.{Connection}
 use Rattle.replay.specs.declared.desk.Desk.{Desk}
-use Rattle.replay.specs.declared.outcome.Outcome.{Outcome}
+use Rattle.replay.specs.declared.summary.Outcome.{Outcome}
 
 -- these messages were decided on and counted
 pub record DeskAfter (terms : Terms) (arrivals : List Arrival) (desk : Desk) : Type 0 where

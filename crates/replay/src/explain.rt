@@ -7,9 +7,9 @@ ghost use Rattle.replay.specs.Explaining.{Explains, rows_told};
 ghost use Rattle.replay.specs.Outcomes.{IfCapture, IfTooMany, IfCutShort, StopsTelling, StopsBeyond, IsCutOff};
 ghost use Rattle.replay.specs.Outcomes.{reader_failures, writer_failures};
 
-use crate::outcome::Outcome;
 use crate::plain::replay_telling;
 use crate::rows::Rows;
+use crate::summary::Outcome;
 use crate::{ReplayFault, Settings};
 use paths::{Input, Output, Snapshot, Tree};
 use std::alloc::Global;

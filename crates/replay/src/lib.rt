@@ -11,7 +11,6 @@ mod explain;
 mod front;
 mod groups;
 pub mod laws;
-mod outcome;
 mod plain;
 mod replay_fault;
 mod replies;
@@ -30,12 +29,11 @@ mod totals;
 
 pub use arrivals::Series;
 pub use explain::explain_replay;
-pub use outcome::Outcome;
 pub use plain::plain_replay;
 pub use replay_fault::ReplayFault;
 pub use settings::{BACK_STEPS, FRONT_STEPS, Settings, SettingsFault};
 pub use staged::staged_replay;
-pub use summary::{Counts, Summary, Tally};
+pub use summary::{Counts, Outcome, Summary, Tally};
 
 /// The most messages that a capture may have.
 pub const MAX_MESSAGES: usize = 1_048_576;

@@ -24,9 +24,9 @@ ghost use Rattle.replay.specs.Outcomes.{IsWriteOrMemory, StopsTelling, StopsBeyo
 
 use crate::answering::answer_all;
 use crate::desk::Desk;
-use crate::outcome::Outcome;
 use crate::replies::Replies;
 use crate::server::Server;
+use crate::summary::Outcome;
 use crate::telling::Tells;
 use crate::totals::Totals;
 use crate::{MAX_MESSAGES, ReplayFault, Settings, Summary, Tally};

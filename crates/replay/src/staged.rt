@@ -14,10 +14,10 @@ ghost use Rattle.replay.specs.Waiting.{ComeNext, Waiting};
 
 use crate::desk::Desk;
 use crate::groups::{Pages, room_for_pages};
-use crate::outcome::Outcome;
 use crate::plain::{outcome_of, write_first_line, write_last_line};
 use crate::server::Server;
 use crate::serving::{Floors, serve_parts};
+use crate::summary::Outcome;
 use crate::totals::Totals;
 use crate::{MAX_MESSAGES, ReplayFault, Settings};
 use admission::Controller;

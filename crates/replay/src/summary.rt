@@ -1,4 +1,4 @@
-//! The figures of a replay.
+//! What a replay answers: its figures, and which requests were rejected.
 
 use admission::Control;
 use arrivals::Series;
@@ -31,4 +31,12 @@ pub struct Summary {
     pub samples: Series<u64>,
     /// What became of the requests of each tier.
     pub tiers: [Tally; 4],
+}
+
+/// What a replay has come to.
+#[derive(Debug, Drop)]
+pub struct Outcome {
+    /// The numbers of the requests that were turned away, rising.
+    pub rejected: Series<usize>,
+    pub summary: Summary,
 }

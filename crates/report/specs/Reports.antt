@@ -4,7 +4,7 @@ use Rattle.std.specs.Prelude.{flat_map, slice_get, zip, Bool, nat_lt, ifâ—Œthenâ
 use Rattle.admission.specs.Percentile.{sorted}
 use Rattle.admission.specs.declared.control.Control.{Control}
 use Rattle.responses.specs.Statuses.{statuses}
-use Rattle.replay.specs.declared.outcome.Outcome.{Outcome}
+use Rattle.replay.specs.declared.summary.Outcome.{Outcome}
 use Rattle.replay.specs.declared.summary.Counts.{Counts}
 use Rattle.replay.specs.declared.summary.Tally.{Tally}
 

@@ -9,7 +9,7 @@ use Rattle.httparse.specs.Grammar.{AllPass, is_value_byte, is_ows}
 use Rattle.page_cache.specs.declared.media.MediaType.{MediaType}
 use Rattle.page_cache.specs.declared.media.MediaType.TheVariants.{Html, Css, JavaScript, Json, Plain, Svg, Png, Jpeg, Gif, OctetStream}
 use Rattle.page_cache.specs.Media.{media_text}
-use Rattle.paths.specs.Resolution.{is_visible}
+use Rattle.std.specs.Char.{is_ascii_graphic}
 
 pub both : (a b : Bool) → a && b ≡ true → (a ≡ true) × (b ≡ true)
 both true true h = (refl, refl)
@@ -66,7 +66,7 @@ digit_is_value b h = grind (arith, nat_tests)
 digit_is_no_space : (b : ℕ) → is_ascii_digit b ≡ true → is_ows b ≡ false
 digit_is_no_space b h = grind (arith, nat_tests)
 
-visible_is_value : (b : ℕ) → is_visible b ≡ true → is_value_byte b ≡ true
+visible_is_value : (b : ℕ) → is_ascii_graphic b ≡ true → is_value_byte b ≡ true
 visible_is_value b h = grind (arith, nat_tests)
 
 pub decimal_value : (n : ℕ) → list_all is_value_byte (decimal n) ≡ true
@@ -75,8 +75,8 @@ decimal_value n = list_all-weaker is_ascii_digit is_value_byte digit_is_value (d
 pub decimal_no_space : (n : ℕ) → list_all (λ b. not (is_ows b)) (decimal n) ≡ true
 decimal_no_space n = list_all-weaker is_ascii_digit (λ b. not (is_ows b)) (λ b h. ap not (digit_is_no_space b h)) (decimal n) (decimal_digits n)
 
-pub location_value : (location : List ℕ) → list_all is_visible location ≡ true → list_all is_value_byte location ≡ true
-location_value location all = list_all-weaker is_visible is_value_byte visible_is_value location all
+pub location_value : (location : List ℕ) → list_all is_ascii_graphic location ≡ true → list_all is_value_byte location ≡ true
+location_value location all = list_all-weaker is_ascii_graphic is_value_byte visible_is_value location all
 
 pub media_value : (media : MediaType) → list_all is_value_byte (media_text media) ≡ true
 media_value Html = refl

@@ -10,6 +10,7 @@ use Rattle.std.proofs.lemmas.Fmt.{decimal_is_IsNumeral, decimal_nonempty}
 use Rattle.httparse.specs.Grammar.{Field, ResponseHead, status_code, is_ows, skip_ows, trim_ows}
 use Rattle.httparse.proofs.TrimLemmas.{trim_ows_space}
 use Rattle.httparse.proofs.GrammarLemmas.{response_unique}
+use Rattle.http_requests.specs.Heads.{is_given, lines_of, values_of}
 use Rattle.paths.specs.declared.file.File.{File}
 use Rattle.responses.specs.declared.slip.Given.{Given}
 use Rattle.responses.specs.declared.slip.Given.TheVariants.{Page, Known, Unmodified, Moved, Plain}
@@ -19,27 +20,27 @@ use Rattle.responses.specs.declared.slip.Status.{Status}
 use Rattle.responses.specs.declared.slip.Status.TheVariants.{BadRequest, NotFound, MethodNotAllowed, ContentTooLarge, NotImplemented, ServiceUnavailable}
 use Rattle.responses.specs.Dates.{imf_date}
 use Rattle.responses.specs.Replies.{content_type, last_modified, location_of, allow_of, retry_after_of, connection_of, plain_status, status_of, content_length, content_of, fields_of, head_text, body_text, reply_text, HasLocation, OnlyHead}
-use Rattle.responses.specs.Messages.{values_of, told_length, body_length, is_bodyless, is_given, Reads, IsHead, IsReply}
+use Rattle.responses.specs.Messages.{told_length, body_length, is_bodyless, Reads, IsHead, IsReply}
 use Rattle.responses.proofs.Bytes.{both, decimal_digits, decimal_no_space}
 use Rattle.responses.proofs.Heads.{add_field, parsed, in_words, head_of, head_printed, head_valid}
 
 -- a field of another name adds no value
-other : (name own : List ℕ) (value : Option (List ℕ)) (fields : List Field) → str_eq_ignore_ascii_case own name ≡ false → values_of name (add_field own value fields) ≡ values_of name fields
+other : (name own : List ℕ) (value : Option (List ℕ)) (fields : List Field) → str_eq_ignore_ascii_case own name ≡ false → values_of name (lines_of (add_field own value fields)) ≡ values_of name (lines_of fields)
 other name own None fields no_match = refl
-other name own (Some value) fields no_match = ap (λ t. cond t (trim_ows (32 ∷ value) ∷ values_of name fields) (values_of name fields)) no_match
+other name own (Some value) fields no_match = ap (λ t. cond t (trim_ows (32 ∷ value) ∷ values_of name (lines_of fields)) (values_of name (lines_of fields))) no_match
 
 turned : (t : Bool) → not t ≡ true → t ≡ false
 turned true h = absurd (cc)
 turned false h = refl
 
 others : (name : List ℕ) (front rest : List (List ℕ × Option (List ℕ))) → list_all (λ field. not (str_eq_ignore_ascii_case field.0 name)) front ≡ true
-    → values_of name (parsed (front ++ rest)) ≡ values_of name (parsed rest)
+    → values_of name (lines_of (parsed (front ++ rest))) ≡ values_of name (lines_of (parsed rest))
 others name [] rest none = refl
 others name (field ∷ front) rest none =
     let parts = both (not (str_eq_ignore_ascii_case field.0 name)) (list_all (λ f. not (str_eq_ignore_ascii_case f.0 name)) front) none in
     other name field.0 field.1 (parsed (front ++ rest)) (turned (str_eq_ignore_ascii_case field.0 name) parts.0) ∙ others name front rest parts.1
 
-no_coding : {X : Type 0} (files : List File) (slip : Slip X) → values_of (codes "transfer-encoding") (parsed (fields_of files slip)) ≡ []
+no_coding : {X : Type 0} (files : List File) (slip : Slip X) → values_of (codes "transfer-encoding") (lines_of (parsed (fields_of files slip))) ≡ []
 no_coding files slip = others (codes "transfer-encoding") (fields_of files slip) [] refl
 
 -- a text without white space is not trimmed
@@ -62,7 +63,7 @@ list_all-reverse test (x ∷ xs) all =
 trimmed : (n : ℕ) → trim_ows (32 ∷ decimal n) ≡ decimal n
 trimmed n = trim_ows_space (decimal n) (no_skip (decimal n) (decimal_no_space n)) (no_skip (reverse (decimal n)) (list_all-reverse (λ b. not (is_ows b)) (decimal n) (decimal_no_space n)))
 
-lone_length : {X : Type 0} (files : List File) (slip : Slip X) (n : ℕ) → content_length files slip.what ≡ Some n → values_of (codes "content-length") (parsed (fields_of files slip)) ≡ decimal n ∷ []
+lone_length : {X : Type 0} (files : List File) (slip : Slip X) (n : ℕ) → content_length files slip.what ≡ Some n → values_of (codes "content-length") (lines_of (parsed (fields_of files slip))) ≡ decimal n ∷ []
 lone_length files slip n is =
     let name = codes "content-length" in
     let front = (codes "Date", Some (imf_date slip.date)) ∷ (codes "Content-Type", content_type files slip.what) ∷ [] in
@@ -71,7 +72,7 @@ lone_length files slip n is =
     ∷ (codes "Location", location_of slip.what) ∷ (codes "Allow", allow_of slip.what)
     ∷ (codes "Retry-After", option_map decimal (retry_after_of slip.what)) ∷ (codes "Connection", connection_of slip.link) ∷ [] in
     others name front ((codes "Content-Length", option_map decimal (content_length files slip.what)) ∷ back) refl
-    ∙ ap (λ o. values_of name (add_field (codes "Content-Length") (option_map decimal o) (parsed back))) is
+    ∙ ap (λ o. values_of name (lines_of (add_field (codes "Content-Length") (option_map decimal o) (parsed back)))) is
     ∙ ap (λ v. trim_ows (32 ∷ decimal n) ∷ v) (others name back [] refl)
     ∙ ap (λ v. v ∷ []) (trimmed n)
 
@@ -83,24 +84,24 @@ told_number n lt =
     ∙ ap (λ t. cond t (Some (digits_value 10 (decimal n))) None) (decimal_digits n)
     ∙ ap Some (decimal_is_IsNumeral n lt).1
 
-told_by : (head : Bool) (h : ResponseHead) (status n : ℕ) → status_code h ≡ status → is_bodyless status ≡ false → head ≡ false → values_of (codes "transfer-encoding") h.fields ≡ []
-    → values_of (codes "content-length") h.fields ≡ decimal n ∷ [] → n < 2 ^ 64 → body_length head h ≡ Some n
+told_by : (head : Bool) (h : ResponseHead) (status n : ℕ) → status_code h ≡ status → is_bodyless status ≡ false → head ≡ false → values_of (codes "transfer-encoding") (lines_of h.fields) ≡ []
+    → values_of (codes "content-length") (lines_of h.fields) ≡ decimal n ∷ [] → n < 2 ^ 64 → body_length head h ≡ Some n
 told_by head h status n code body get coding value lt =
     let rest : List (List ℕ) → List (List ℕ) → Option ℕ = λ c v. cond (is_given c) None (told_length v) in
-    ap (λ t. cond (t || is_bodyless (status_code h)) (Some 0) (rest (values_of (codes "transfer-encoding") h.fields) (values_of (codes "content-length") h.fields))) get
-    ∙ ap (λ s. cond (is_bodyless s) (Some 0) (rest (values_of (codes "transfer-encoding") h.fields) (values_of (codes "content-length") h.fields))) code
-    ∙ ap (λ t. cond t (Some 0) (rest (values_of (codes "transfer-encoding") h.fields) (values_of (codes "content-length") h.fields))) body
-    ∙ ap (λ c. rest c (values_of (codes "content-length") h.fields)) coding
+    ap (λ t. cond (t || is_bodyless (status_code h)) (Some 0) (rest (values_of (codes "transfer-encoding") (lines_of h.fields)) (values_of (codes "content-length") (lines_of h.fields)))) get
+    ∙ ap (λ s. cond (is_bodyless s) (Some 0) (rest (values_of (codes "transfer-encoding") (lines_of h.fields)) (values_of (codes "content-length") (lines_of h.fields)))) code
+    ∙ ap (λ t. cond t (Some 0) (rest (values_of (codes "transfer-encoding") (lines_of h.fields)) (values_of (codes "content-length") (lines_of h.fields)))) body
+    ∙ ap (λ c. rest c (values_of (codes "content-length") (lines_of h.fields))) coding
     ∙ ap (λ v. rest [] v) value
     ∙ told_number n lt
 
 -- what stands in the place of a body where the answer isn't to HEAD
 get_told : {X : Type 0} (files : List File) (what : Given X) (h : ResponseHead) → OnlyHead false what → length (content_of files what) < 2 ^ 64 → status_code h ≡ status_of what
-    → values_of (codes "transfer-encoding") h.fields ≡ [] → ((n : ℕ) → content_length files what ≡ Some n → values_of (codes "content-length") h.fields ≡ decimal n ∷ [])
+    → values_of (codes "transfer-encoding") (lines_of h.fields) ≡ [] → ((n : ℕ) → content_length files what ≡ Some n → values_of (codes "content-length") (lines_of h.fields) ≡ decimal n ∷ [])
     → body_length false h ≡ Some (length (content_of files what))
 get_told files (Page file mtime) h only fits code coding value = told_by false h 200 _ code refl refl coding (value _ refl) fits
 get_told files (Known media len mtime) h only fits code coding value = absurd (cc)
-get_told files (Unmodified mtime) h only fits code coding value = ap (λ s. cond (is_bodyless s) (Some 0) (cond (is_given (values_of (codes "transfer-encoding") h.fields)) None (told_length (values_of (codes "content-length") h.fields)))) code
+get_told files (Unmodified mtime) h only fits code coding value = ap (λ s. cond (is_bodyless s) (Some 0) (cond (is_given (values_of (codes "transfer-encoding") (lines_of h.fields))) None (told_length (values_of (codes "content-length") (lines_of h.fields))))) code
 get_told files (Moved location) h only fits code coding value = told_by false h 301 _ code refl refl coding (value _ refl) fits
 get_told files (Plain status) h only fits code coding value = told_by false h (plain_status status) _ code (has_body status) refl coding (value _ refl) fits
   where
@@ -113,7 +114,7 @@ get_told files (Plain status) h only fits code coding value = told_by false h (p
     has_body (ServiceUnavailable seconds) = refl
 
 told : {X : Type 0} (files : List File) (what : Given X) (head : Bool) (h : ResponseHead) → OnlyHead head what → (head ≡ false → length (content_of files what) < 2 ^ 64) → status_code h ≡ status_of what
-    → values_of (codes "transfer-encoding") h.fields ≡ [] → ((n : ℕ) → content_length files what ≡ Some n → values_of (codes "content-length") h.fields ≡ decimal n ∷ [])
+    → values_of (codes "transfer-encoding") (lines_of h.fields) ≡ [] → ((n : ℕ) → content_length files what ≡ Some n → values_of (codes "content-length") (lines_of h.fields) ≡ decimal n ∷ [])
     → body_length head h ≡ Some (length (cond head [] (content_of files what)))
 told files what true h only fits code coding value = refl
 told files what false h only fits code coding value = get_told files what h only (fits refl) code coding value

@@ -1,29 +1,15 @@
 -- A reply as a client reads it from a connection (RFC 9112): a head by the grammar of `httparse`, and then as many
 -- bytes of body as the head tells.
-use Rattle.std.specs.Prelude.{◌≡◌, ℕ, ◌/◌, ◌==◌, ◌||◌, ◌&&◌, nat_lt, Bool, true, false, List, [], ◌∷◌, ◌++◌, length}
+use Rattle.std.specs.Prelude.{◌≡◌, ℕ, ◌/◌, ◌==◌, ◌||◌, Bool, true, false, List, [], ◌∷◌, ◌++◌, length}
 use Rattle.std.specs.Prelude.{Option, Some, None, codes, if◌then◌else◌}
-use Rattle.std.specs.List.{list_all}
-use Rattle.std.specs.Char.{is_ascii_digit}
-use Rattle.std.specs.Str.{str_eq_ignore_ascii_case}
 use Rattle.std.specs.Str.Parse.{digits_value}
-use Rattle.httparse.specs.Grammar.{Field, field_value, ResponseHead, ReadsResponse, status_code}
-
--- the values of the fields of this name, in order; a name's case doesn't matter (RFC 9110, 5.1)
-abbrev pub values_of : List ℕ → List Field → List (List ℕ)
-values_of name [] = []
-values_of name (field ∷ fields) =
-    if str_eq_ignore_ascii_case field.name name then field_value field
-    ∷ values_of name fields else values_of name fields
-
-abbrev pub is_given : List (List ℕ) → Bool
-is_given [] = false
-is_given (value ∷ values) = true
+use Rattle.httparse.specs.Grammar.{ResponseHead, ReadsResponse, status_code}
+use Rattle.http_requests.specs.Heads.{is_given, is_numeral, lines_of, values_of}
 
 -- the number of a lone Content-Length: one digit or more, and nothing else (RFC 9110, 8.6)
 abbrev pub told_length : List (List ℕ) → Option ℕ
 told_length [] = None
-told_length (value ∷ []) =
-    if nat_lt 0 (length value) && list_all is_ascii_digit value then Some (digits_value 10 value) else None
+told_length (value ∷ []) = if is_numeral value then Some (digits_value 10 value) else None
 told_length (value ∷ other ∷ values) = None
 
 -- a status whose message ends with its head: 1xx, 204 and 304
@@ -35,8 +21,8 @@ is_bodyless status = (status / 100 == 1) || (status == 204) || (status == 304)
 abbrev pub body_length : Bool → ResponseHead → Option ℕ
 body_length head h =
     if head || is_bodyless (status_code h) then Some 0
-    else if is_given (values_of (codes "transfer-encoding") h.fields) then None
-    else told_length (values_of (codes "content-length") h.fields)
+    else if is_given (values_of (codes "transfer-encoding") (lines_of h.fields)) then None
+    else told_length (values_of (codes "content-length") (lines_of h.fields))
 
 -- the bytes begin with this head and the body that it tells of, and the rest follows
 pub record Reads (head : Bool) (bytes : List ℕ) (h : ResponseHead) (body rest : List ℕ) : Type 0 where

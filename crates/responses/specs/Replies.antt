@@ -4,7 +4,7 @@ use Rattle.std.specs.Prelude.{flat_map, ⊤, if◌then◌else◌}
 use Rattle.std.specs.Option.{option_map}
 use Rattle.std.specs.List.{list_all}
 use Rattle.paths.specs.Snapshots.{file_of}
-use Rattle.paths.specs.Resolution.{is_visible}
+use Rattle.std.specs.Char.{is_ascii_graphic}
 use Rattle.paths.specs.declared.file.File.{File}
 use Rattle.page_cache.specs.Media.{media_of, media_text}
 use Rattle.responses.specs.Dates.{imf_date}
@@ -139,7 +139,7 @@ OnlyHead head what = ⊤
 -- .. and a location is of visible characters of ASCII, as all of a URI are (RFC 3986, 2); so is each that `locate` of
 -- `paths` answers
 abbrev pub HasLocation : {X : Type 0} → Given X → Type 0
-HasLocation (Moved location) = list_all is_visible location ≡ true
+HasLocation (Moved location) = list_all is_ascii_graphic location ≡ true
 HasLocation what = ⊤
 
 -- The body of a GET in the two parts in which a reply is held: the line, and the bytes of the page that is shared.

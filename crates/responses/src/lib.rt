@@ -9,11 +9,9 @@ mod rendering;
 mod reply;
 mod shared_page;
 mod slip;
-mod write_fault;
 
-pub use record::{write_record, write_reply};
+pub use record::{Write, write_record, write_reply};
 pub use rendering::HeadRenderer;
 pub use reply::{Reply, render, try_render};
 pub use shared_page::SharedPage;
 pub use slip::{Given, Link, OK_PLACE, STATUS_CODES, Slip, Status};
-pub use write_fault::Write;

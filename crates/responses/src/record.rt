@@ -5,11 +5,23 @@ ghost use Rattle.paths.specs.Devices.{CanFail, WritesProperPrefix, CountsFailed}
 ghost use Rattle.arrayvec.specs.ArrayVec.{array_vec_len};
 ghost use Rattle.responses.specs.Records.{record_line, record_text};
 
-use crate::{Reply, Write};
+use crate::Reply;
 use arrayvec::ArrayVec;
 use itoa::Buffer;
-use paths::{Output, Tree};
+use paths::{Failed, Output, Tree};
 use std::io;
+use thiserror::Error;
+
+/// A writer failed. A prefix of what was to be written stands there.
+#[derive(Clone, Copy, Debug, PartialEq, Eq, Error)]
+#[error("a write failed")]
+pub struct Write;
+
+impl From<Failed> for Write {
+    fn from(_failed: Failed) -> Write {
+        Write
+    }
+}
 
 /// Room for `reply ` and three numbers of 64 bits, each with a byte after it.
 type Line = ArrayVec<u8, 69>;

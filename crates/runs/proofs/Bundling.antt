@@ -4,14 +4,14 @@ use Rattle.paths.specs.declared.file.File.{File}
 use Rattle.paths.specs.Snapshots.{IsSnapshot}
 use Rattle.paths.specs.SnapshotFaults.{ReadsFront}
 use Rattle.replay.specs.declared.replay_fault.ReplayFault.{ReplayFault}
-use Rattle.replay.specs.declared.outcome.Outcome.{Outcome}
+use Rattle.replay.specs.declared.summary.Outcome.{Outcome}
 use Rattle.replay.specs.Choices.{Choice, terms_of}
 use Rattle.replay.specs.Outcomes.{Answers, IfCapture, IfTooMany, IfCutShort, Stops, StopsFull, IsCutShort}
 use Rattle.replay.specs.Telling.{replies_told}
 use Rattle.options.specs.SettingsTable.{default_choice}
 use Rattle.runs.specs.Bundles.{AfterSnapshot, WritesAnswer, default_terms, StopsAs}
 
--- a snapshot was read from the front of the input, and P holds of the rest
+-- a snapshot was read from the input, as a prefix, and P holds of the rest
 following : (old new : Option (List ℕ)) (files : List File) (P : List File → Option (List ℕ) → Type 0) → ReadsFront old new files → IsSnapshot files
     → P files new → AfterSnapshot old P
 following old new files P reads rules holds = record {

@@ -1,12 +1,13 @@
 -- From what becomes of each file to what the run that writes a snapshot says.
 use Rattle.paths.proofs.Appending.{prefix_all, prefix_first}
+use Rattle.paths.specs.Ascii.{line_feed}
 use Rattle.paths.specs.Devices.{Device, AppendsPrefix}
 use Rattle.std.proofs.Common.{◌≡◌, ◌≢◌, inl, inr, ℕ, ◌+◌, ◌<◌, ◌≤◌, Bool, true, false, List, [], ◌∷◌, ◌++◌, length, take, drop, get_or, is_some, Option, Some, None, Result, Ok, Err, IfOk, IfErr, refl, sym, ap, ◌∙◌, subst, arith, decimal, append-nil}
 use Rattle.std.proofs.lemmas.Fmt.{length-decimal-le}
 use Rattle.std.proofs.lemmas.List.{append_assoc, length-append, take_more, take_all, take-append-drop}
 use Rattle.std.specs.Io.KnownBytes.{Appends}
 use Rattle.paths.specs.declared.file.File.{File}
-use Rattle.paths.specs.Snapshots.{feed, last_line, text_before_end, snapshot_text, IsSnapshotText}
+use Rattle.paths.specs.Snapshots.{last_line, text_before_end, snapshot_text, IsSnapshotText}
 use Rattle.paths.proofs.FilesOrFault.{rules_none}
 use Rattle.snapshots.specs.declared.so_far.SoFar.{SoFar}
 use Rattle.snapshots.specs.declared.write_fault.WriteFault.{WriteFault}
@@ -41,7 +42,7 @@ no_files : IsSnapshotText (snapshot_text []) []
 no_files = record {
   text = refl;
   rules = rules_none;
-  size = (let digit = length-decimal-le 1 0 (omega arith) (omega arith) (omega arith) in omega (arith, digit, length-append (decimal 0) (feed ∷ [])));
+  size = (let digit = length-decimal-le 1 0 (omega arith) (omega arith) (omega arith) in omega (arith, digit, length-append (decimal 0) (line_feed ∷ [])));
 }
 
 -- ---- one file
@@ -169,7 +170,7 @@ parted found at item lt is =
 
 pub none_begun : (answers : Answering) (found : List Found) (skip : Bool) (old new : Option (List ℕ)) (f : Fault) → Cuts (text_before_end []) old new f → IsSnapshotRunFault answers found skip old new f
 none_begun answers found skip old new f h =
-    inl (h.0, ([], found, [], 0, refl, (refl, refl), no_files, prefix_first old new (text_before_end []) (last_line [] ++ feed ∷ []) h.1))
+    inl (h.0, ([], found, [], 0, refl, (refl, refl), no_files, prefix_first old new (text_before_end []) (last_line [] ++ line_feed ∷ []) h.1))
 
 -- out of memory between two files
 kept_prefix : (answers : Answering) (found : List Found) (at : ℕ) (skipped : ℕ) (old new : Option (List ℕ)) (files : List File) (s : SoFar) (was : Option (List ℕ)) → Takes answers [] (take at found) files skipped → Took files old was s
@@ -182,7 +183,7 @@ kept_prefix answers found at skipped old new files s was takes took h = (
   sym (take-append-drop at found),
   takes,
   whole files old was s took,
-  prefix_first old new (text_before_end files) (last_line files ++ feed ∷ []) (prefix_all old new (text_before_end files) h),
+  prefix_first old new (text_before_end files) (last_line files ++ line_feed ∷ []) (prefix_all old new (text_before_end files) h),
 )
 
 cut_prefix : (answers : Answering) (found : List Found) (at : ℕ) (skip : Bool) (skipped : ℕ) (old now new : Option (List ℕ)) (s : SoFar) (item : Found) (f : File) → at < length found → item ≡ get_or found at item
@@ -195,7 +196,7 @@ cut_prefix answers found at skip skipped old now new s item f lt is stands taken
   parted found at item lt is ∙ sym (append_assoc (take at found) (item ∷ []) (drop (at + 1) found)),
   takes_one answers [] (take at found) item stands.files skipped f stands.takes taken,
   keeps stands.files f (whole stands.files old now s stands.took) taken.1,
-  prefix_first old new (text_before_end (stands.files ++ f ∷ [])) (last_line (stands.files ++ f ∷ []) ++ feed ∷ []) h,
+  prefix_first old new (text_before_end (stands.files ++ f ∷ [])) (last_line (stands.files ++ f ∷ []) ++ line_feed ∷ []) h,
 )
 
 pub stopped : (answers : Answering) (found : List Found) (at : ℕ) (skip : Bool) (skipped : ℕ) (old now new : Option (List ℕ)) (s : SoFar) (item : Found) (told : Fault) → at < length found → item ≡ get_or found at item

@@ -4,7 +4,7 @@ use Rattle.std.proofs.Common.{◌≡◌, ◌⊎◌, inl, inr, ℕ, List, Option,
 use Rattle.paths.specs.declared.file.File.{File}
 use Rattle.paths.specs.SnapshotFaults.{ReadsWhole}
 use Rattle.paths.specs.Snapshots.{IsSnapshot}
-use Rattle.replay.specs.declared.outcome.Outcome.{Outcome}
+use Rattle.replay.specs.declared.summary.Outcome.{Outcome}
 use Rattle.replay.specs.declared.replay_fault.ReplayFault.{ReplayFault}
 use Rattle.replay.specs.Choices.{Choice, Terms, terms_of}
 use Rattle.replay.specs.Outcomes.{IfCapture, IfTooMany, IfCutShort, StopsTelling, StopsBeyond, IsCutOff}
@@ -14,8 +14,8 @@ use Rattle.runs.specs.declared.place.Place.{Place}
 use Rattle.runs.specs.declared.place.Place.TheVariants as places
 use Rattle.runs.specs.Bundles.{StopsAs, HoldsCapture}
 use Rattle.runs.specs.Wanted.{HasWritten, wanted_of}
-use Rattle.runs.specs.declared.wanted.Wanted.{Wanted}
-use Rattle.runs.specs.declared.wanted.Wanted.TheVariants as wants
+use Rattle.runs.specs.declared.replaying.Wanted.{Wanted}
+use Rattle.runs.specs.declared.replaying.Wanted.TheVariants as wants
 use Rattle.runs.specs.Replays.{OfSnapshot, AnswersAnd, IsReplayFault, IsFilesFault}
 use Rattle.runs.proofs.Programs.{first_of_replay}
 

@@ -4,7 +4,7 @@ use Rattle.std.proofs.Common.{◌≡◌, ◌⊎◌, inl, inr, ℕ, Bool, true, L
 use Rattle.std.specs.Io.KnownBytes.{Appends, append_known}
 use Rattle.captures.specs.Upgrades.{Upgrades}
 use Rattle.replay.specs.Choices.{Choice, terms_of}
-use Rattle.runs.specs.declared.wanted.Wanted.{Wanted}
+use Rattle.runs.specs.declared.replaying.Wanted.{Wanted}
 use Rattle.paths.specs.KnownText.{WhereKnown}
 use Rattle.report.specs.Reports.{report_text}
 use Rattle.runs.specs.declared.fault.Fault.{Fault}

@@ -6,7 +6,7 @@ use Rattle.paths.specs.declared.file.File.{File}
 use Rattle.paths.specs.Snapshots.{IsSnapshot, BeginsWithSnapshot}
 use Rattle.paths.specs.SnapshotFaults.{IsFrontFault, IsForeseen, failures_of}
 use Rattle.captures.specs.CaptureFaults.{is_unforeseen_kind, IsFirstFault}
-use Rattle.replay.specs.declared.outcome.Outcome.{Outcome}
+use Rattle.replay.specs.declared.summary.Outcome.{Outcome}
 use Rattle.replay.specs.declared.replay_fault.ReplayFault.{ReplayFault}
 use Rattle.replay.specs.Choices.{Terms, terms_of}
 use Rattle.replay.specs.Outcomes.{Answers, IfCapture, IfTooMany, IfCutShort, StopsTelling, StopsBeyond, IsCutOff}

@@ -1,7 +1,7 @@
 -- How a fault is reported: the status that the program ends with, and the line on standard error.
 use Rattle.std.specs.Prelude.{ℕ, ◌==◌, ◌||◌, List, ◌++◌, codes, decimal, nat_lt, string_bytes, Option, Some, None}
 use Rattle.std.specs.Prelude.{unwrap_or, if◌then◌else◌}
-use Rattle.paths.specs.Snapshots.{question_mark}
+use Rattle.paths.specs.Ascii.{question_mark}
 use Rattle.paths.specs.declared.snapshot_fault.SnapshotFault.{SnapshotFault}
 use Rattle.paths.specs.declared.snapshot_fault.SnapshotFaultKind.{SnapshotFaultKind}
 use Rattle.paths.specs.declared.snapshot_fault.SnapshotFaultKind.TheVariants as entries

@@ -7,7 +7,7 @@ use Rattle.paths.specs.Snapshots.{IsSnapshot, IsSnapshotText}
 use Rattle.paths.specs.SnapshotFaults.{IsFirstFault, IsForeseen, failures_of}
 use Rattle.captures.specs.CaptureFaults.{is_unforeseen_kind}
 use Rattle.captures.specs.CaptureFaults as captures
-use Rattle.replay.specs.declared.outcome.Outcome.{Outcome}
+use Rattle.replay.specs.declared.summary.Outcome.{Outcome}
 use Rattle.replay.specs.Choices.{Choice, Terms, terms_of}
 use Rattle.paths.specs.KnownText.{WhereKnown}
 use Rattle.replay.specs.Outcomes.{IfCapture}
@@ -15,7 +15,7 @@ use Rattle.replay.specs.Outcomes as replays
 use Rattle.report.specs.Reports.{report_text}
 use Rattle.runs.specs.Bundles.{StopsAs}
 use Rattle.runs.specs.Wanted.{HasWritten, wanted_of}
-use Rattle.runs.specs.declared.wanted.Wanted.{Wanted}
+use Rattle.runs.specs.declared.replaying.Wanted.{Wanted}
 use Rattle.runs.specs.declared.fault.Fault.{Fault}
 use Rattle.runs.specs.declared.fault.Fault.TheVariants.{Snapshot, Replay, Write, Memory}
 use Rattle.runs.specs.declared.place.Place.TheVariants.{Replies, Report}

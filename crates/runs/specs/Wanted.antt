@@ -1,12 +1,12 @@
 -- What a run writes of the messages of a capture.
 use Rattle.std.specs.Prelude.{ℕ, List, Option}
-use Rattle.replay.specs.declared.outcome.Outcome.{Outcome}
+use Rattle.replay.specs.declared.summary.Outcome.{Outcome}
 use Rattle.replay.specs.Choices.{Terms}
 use Rattle.replay.specs.Outcomes.{Answers}
 use Rattle.replay.specs.Explaining.{Explains, rows_told}
 use Rattle.replay.specs.Telling.{Telling, replies_told}
-use Rattle.runs.specs.declared.wanted.Wanted.{Wanted}
-use Rattle.runs.specs.declared.wanted.Wanted.TheVariants.{Replies, Rows}
+use Rattle.runs.specs.declared.replaying.Wanted.{Wanted}
+use Rattle.runs.specs.declared.replaying.Wanted.TheVariants.{Replies, Rows}
 
 -- the texts that are wanted
 abbrev pub wanted_of : Wanted → Terms → Telling

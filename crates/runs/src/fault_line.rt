@@ -22,30 +22,30 @@ use std::io;
 /// Room for the longest line: `haboob: `, 17 bytes, a number of 64 bits, `: `, 12 bytes and a line feed.
 type Line = ArrayVec<u8, 60>;
 
-/// The line of a front and a name, or with another end what stands before that.
-fn plain_line(front: &str, name: &str, end: u8) -> Line
-    requires front { length front.now ≤ 17 }
+/// The line of a prefix and a name, or with another end what stands before that.
+fn plain_line(prefix: &str, name: &str, end: u8) -> Line
+    requires prefix { length prefix.now ≤ 17 }
     requires name { length name.now ≤ 12 }
-    ensures { result.items ≡ codes "haboob: " ++ front.now ++ name.now ++ end ∷ [] }
+    ensures { result.items ≡ codes "haboob: " ++ prefix.now ++ name.now ++ end ∷ [] }
 {
     let mut line = Line::new();
     line.try_extend_from_slice(b"haboob: ").unwrap();
-    line.try_extend_from_slice(front.as_bytes()).unwrap();
+    line.try_extend_from_slice(prefix.as_bytes()).unwrap();
     line.try_extend_from_slice(name.as_bytes()).unwrap();
     line.push(end);
     line
 }
 
-/// The line of a front, a number and a name.
-fn numbered_line(front: &str, number: usize, name: &str) -> Line
-    requires front { length front.now ≤ 17 }
+/// The line of a prefix, a number and a name.
+fn numbered_line(prefix: &str, number: usize, name: &str) -> Line
+    requires prefix { length prefix.now ≤ 17 }
     requires name { length name.now ≤ 12 }
-    ensures { result.items ≡ codes "haboob: " ++ front.now ++ decimal number ++ codes ": " ++ name.now ++ codes "\n" }
+    ensures { result.items ≡ codes "haboob: " ++ prefix.now ++ decimal number ++ codes ": " ++ name.now ++ codes "\n" }
 {
     let mut buffer = Buffer::new();
     let mut line = Line::new();
     line.try_extend_from_slice(b"haboob: ").unwrap();
-    line.try_extend_from_slice(front.as_bytes()).unwrap();
+    line.try_extend_from_slice(prefix.as_bytes()).unwrap();
     line.try_extend_from_slice(buffer.format(number).as_bytes())
         .unwrap();
     line.try_extend_from_slice(b": ").unwrap();

@@ -20,7 +20,6 @@ mod replaying;
 mod snapshotting;
 mod told;
 mod upgrading;
-mod wanted;
 
 pub use buffered::run_files;
 pub use bundle::run_bundle;
@@ -32,7 +31,6 @@ pub use in_force::{run_settings, settings_files};
 pub use inspecting::{inspect_files, run_inspect};
 pub use place::Place;
 pub use program::run_program;
-pub use replaying::run_replay;
+pub use replaying::{Wanted, run_replay};
 pub use snapshotting::run_snapshot;
 pub use upgrading::{run_upgrade, upgrade_files};
-pub use wanted::Wanted;

@@ -14,7 +14,6 @@ ghost use Rattle.runs.specs.Wanted.{HasWritten, wanted_of};
 
 use crate::fault::Fault;
 use crate::place::Place;
-use crate::wanted::Wanted;
 use command_line::Engine;
 use paths::{Input, Output, Snapshot, Tree};
 use replay::{Outcome, ReplayFault, Settings, explain_replay, plain_replay, staged_replay};
@@ -25,6 +24,15 @@ use std::io::{Read, Write};
 use std::marker::Brand;
 use std::sync::Wait;
 use std::thread::Threads;
+
+/// What a run writes of each message of a capture.
+#[derive(Clone, Copy, Debug, PartialEq, Eq)]
+pub enum Wanted {
+    /// Its reply, which this engine makes.
+    Replies(Engine),
+    /// Its row in a table of decisions.
+    Rows,
+}
 
 /// Writes the report of an outcome.
 fn write_report<O: Write>(

@@ -5,8 +5,9 @@ use Rattle.std.proofs.Math.Seq.{get_or-append_seam}
 use Rattle.std.proofs.lemmas.List.{append_assoc, length-append, map-append}
 use Rattle.std.proofs.lemmas.List.Elements.{filter-append}
 use Rattle.std.proofs.lemmas.Grind.{flat_map-append}
+use Rattle.paths.specs.Ascii.{line_feed}
 use Rattle.paths.specs.declared.file.File.{File}
-use Rattle.paths.specs.Snapshots.{feed, no_file, file_of, file_text, last_line, text_before_end, snapshot_text, max_text_bytes, IsSnapshot, Follows}
+use Rattle.paths.specs.Snapshots.{no_file, file_of, file_text, last_line, text_before_end, snapshot_text, max_text_bytes, IsSnapshot, Follows}
 use Rattle.paths.proofs.OneList.{header}
 use Rattle.snapshots.specs.declared.so_far.SoFar.{SoFar}
 use Rattle.snapshots.specs.Keeping.{last_name, lengths_within, IsSoFar, Grown}
@@ -37,9 +38,9 @@ pub whole_size : (files : List File) (f : File)
     → length (snapshot_text (files ++ f ∷ [])) ≡ (length (text_before_end files) + length (file_text f)) + (5 + length (decimal (length files + 1)))
 whole_size files f =
     let one_more : length (files ++ f ∷ []) ≡ length files + 1 = length-append files (f ∷ []) in
-    let last : length (last_line (files ++ f ∷ []) ++ feed ∷ []) ≡ 5 + length (decimal (length files + 1)) =
-    ap (λ (n : ℕ). length ((codes "end " ++ decimal n) ++ feed ∷ [])) one_more ∙ omega (arith, length-append (decimal (length files + 1)) (feed ∷ [])) in
-    length-append (text_before_end (files ++ f ∷ [])) (last_line (files ++ f ∷ []) ++ feed ∷ []) ∙ omega (arith, last, size_push files f)
+    let last : length (last_line (files ++ f ∷ []) ++ line_feed ∷ []) ≡ 5 + length (decimal (length files + 1)) =
+    ap (λ (n : ℕ). length ((codes "end " ++ decimal n) ++ line_feed ∷ [])) one_more ∙ omega (arith, length-append (decimal (length files + 1)) (line_feed ∷ [])) in
+    length-append (text_before_end (files ++ f ∷ [])) (last_line (files ++ f ∷ []) ++ line_feed ∷ []) ∙ omega (arith, last, size_push files f)
 
 pub kept_more : (files : List File) (f : File) (s next : SoFar) (n : ℕ) → IsSnapshot files → Follows files f → length (snapshot_text (files ++ f ∷ [])) ≤ max_text_bytes
     → IsSoFar files s → n ≡ length (file_text f) → Grown s f.name n next → IsSoFar (files ++ f ∷ []) next

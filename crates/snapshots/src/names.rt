@@ -45,7 +45,7 @@ impl Names {
     }
 
     /// n bytes of the last name.
-    fn front(&self, len: usize) -> &[u8]
+    fn prefix(&self, len: usize) -> &[u8]
         ensures { result.now ≡ take len self.now.last.items }
     {
         &self.last[..len.min(self.last.len())]
@@ -63,7 +63,7 @@ impl Names {
         ensures { result ≡ list_any (λ len. lies_in (take len self.now.last.items) name.now) self.now.lengths.items }
     {
         for len in &self.lengths {
-            if lies_in(self.front(*len), name) {
+            if lies_in(self.prefix(*len), name) {
                 return true;
             }
         }
@@ -80,7 +80,7 @@ impl Names {
         let last = Vec::from_slice(alloc, name)?;
         let mut lengths = Vec::new(alloc);
         for len in &self.lengths {
-            push_if(&mut lengths, *len, name.starts_with(self.front(*len)))?;
+            push_if(&mut lengths, *len, name.starts_with(self.prefix(*len)))?;
         }
         lengths.push(name.len())?;
         Ok(Names { last, lengths })

@@ -2,8 +2,9 @@
 
 ghost use Rattle.std.specs.Prelude.{◌≡◌, ◌<◌, ◌-◌, ◌^◌, ◌++◌, ◌∷◌, [], codes, decimal, IfOk};
 ghost use Rattle.std.specs.String.{string_bytes};
+ghost use Rattle.paths.specs.Ascii.{line_feed};
 ghost use Rattle.paths.specs.Devices.{CanFail, WritesProperPrefix, CountsFailed};
-ghost use Rattle.paths.specs.Snapshots.{feed, file_line};
+ghost use Rattle.paths.specs.Snapshots.{file_line};
 ghost use Rattle.snapshots.specs.Keeping.{a_file};
 
 use paths::{Failed, Output};
@@ -18,7 +19,7 @@ pub(crate) fn file_head(
     bytes: &[u8],
 ) -> Result<Vec<u8>, AllocError>
     ensures { IfOk result (λ head. head.items
-        ≡ (file_line (a_file name.now mtime bytes.now) ++ feed ∷ []) ++ (name.now ++ feed ∷ [])) }
+        ≡ (file_line (a_file name.now mtime bytes.now) ++ line_feed ∷ []) ++ (name.now ++ line_feed ∷ [])) }
 {
     let line = format!(in alloc; "file {mtime} {} {}\n", name.len(), bytes.len())?;
     let mut head = line.into_bytes();
@@ -35,7 +36,7 @@ pub(crate) fn write_file<W: Write>(
 ) -> Result<(), Failed>
     requires { CanFail output.old }
     ensures prefix { WritesProperPrefix output.old.bytes output.new.bytes result
-        (head.now ++ (bytes.now ++ feed ∷ [])) }
+        (head.now ++ (bytes.now ++ line_feed ∷ [])) }
     ensures count { CountsFailed output.old.failures output.new.failures result }
 {
     match output.write_all(head) {
@@ -46,7 +47,7 @@ pub(crate) fn write_file<W: Write>(
 
 /// The last line, with its line feed.
 pub(crate) fn last_line(alloc: Global, count: usize) -> Result<String, AllocError>
-    ensures { IfOk result (λ line. string_bytes line ≡ (codes "end " ++ decimal count) ++ feed ∷ []) }
+    ensures { IfOk result (λ line. string_bytes line ≡ (codes "end " ++ decimal count) ++ line_feed ∷ []) }
 {
     format!(in alloc; "end {count}\n")
 }

@@ -6,18 +6,18 @@ pub find-requires-clause-none : goal.find-requires-clause-none
 find-requires-clause-none c =
     let e = c.len-had.ensures in
     let h : c.len-had.result ≡ length c.args.held.now.items = grind (arith, e) in
-    rw h (no_end_joined c.args.held.now.items c.args.text.now c.deref.result.now c.min-most.result c.requires.front (c.deref.ensures.value ∙ c.in_ok-extend_from_slice.ensures.items))
+    rw h (no_end_joined c.args.held.now.items c.args.text.now c.deref.result.now c.min-most.result c.requires.unfinished (c.deref.ensures.value ∙ c.in_ok-extend_from_slice.ensures.items))
 
 pub overflow_sub-result-in-Whole : goal.overflow_sub-result-in-Whole
 overflow_sub-result-in-Whole c =
-    let b = short_held c.args.held.now.items c.args.text.now c.deref.result.now c.min-most.result c.in-Whole.start c.in-Whole.len c.requires.front
+    let b = short_held c.args.held.now.items c.args.text.now c.deref.result.now c.min-most.result c.in-Whole.start c.in-Whole.len c.requires.unfinished
     (c.deref.ensures.value ∙ c.in_ok-extend_from_slice.ensures.items) c.in-Whole.ensures in
     let h = c.len-had.ensures in
     grind (arith, b, h)
 
 pub returns-in-Wait-clause-waits : goal.returns-in-Wait-clause-waits
 returns-in-Wait-clause-waits c =
-    let lim = c.requires.front.2 in
+    let lim = c.requires.unfinished.2 in
     let h = c.len-had.ensures in
     let m = c.min-most.ensures in
     let some = c.requires.some in
@@ -28,7 +28,7 @@ returns-in-Wait-clause-waits c =
 
 pub returns-in-Over-clause-begins : goal.returns-in-Over-clause-begins
 returns-in-Over-clause-begins c =
-    let lim = c.requires.front.2 in
+    let lim = c.requires.unfinished.2 in
     let h = c.len-had.ensures in
     let m = c.min-most.ensures in
     let i = c.in-Over.ensures.0 in
@@ -38,7 +38,7 @@ returns-in-Over-clause-begins c =
 
 pub returns-in_ok-verdict-in-Whole-clause-begins : goal.returns-in_ok-verdict-in-Whole-clause-begins
 returns-in_ok-verdict-in-Whole-clause-begins c =
-    let b = short_held c.args.held.now.items c.args.text.now c.deref.result.now c.min-most.result c.in-Whole.start c.in-Whole.len c.requires.front
+    let b = short_held c.args.held.now.items c.args.text.now c.deref.result.now c.min-most.result c.in-Whole.start c.in-Whole.len c.requires.unfinished
     (c.deref.ensures.value ∙ c.in_ok-extend_from_slice.ensures.items) c.in-Whole.ensures in
     let h = c.len-had.ensures in
     let m = c.min-most.ensures in

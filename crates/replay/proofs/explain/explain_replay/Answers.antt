@@ -2,7 +2,7 @@ use Rattle.std.proofs.Common.{ℕ, List, Option}
 use Rattle.replay.specs.Choices.{Terms, terms_of}
 use Rattle.replay.specs.Serving.{HasTold}
 use Rattle.replay.specs.Explaining.{Explains, rows_told}
-use Rattle.replay.specs.declared.outcome.Outcome.{Outcome}
+use Rattle.replay.specs.declared.summary.Outcome.{Outcome}
 use Rattle.replay.proofs.Judging.{if_ok}
 use Rattle.replay.proofs.explain.explain_replay.Goals as goal
 

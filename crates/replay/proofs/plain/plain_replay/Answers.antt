@@ -3,7 +3,7 @@ use Rattle.replay.specs.Choices.{Terms, terms_of}
 use Rattle.replay.specs.Telling.{replies_told}
 use Rattle.replay.specs.Serving.{HasTold}
 use Rattle.replay.specs.Outcomes.{Answers}
-use Rattle.replay.specs.declared.outcome.Outcome.{Outcome}
+use Rattle.replay.specs.declared.summary.Outcome.{Outcome}
 use Rattle.replay.proofs.Judging.{if_ok}
 use Rattle.replay.proofs.plain.plain_replay.Goals as goal
 

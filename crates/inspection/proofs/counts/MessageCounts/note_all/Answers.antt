@@ -1,7 +1,7 @@
 use Rattle.std.proofs.Common.{ap, arith, take, ◌≡◌}
 use Rattle.std.proofs.lemmas.Grind.{common_steps}
 use Rattle.inspection.proofs.Counted.{counted_more, few_at}
-use Rattle.inspection.proofs.message_counts.MessageCounts.note_all.Goals as goal
+use Rattle.inspection.proofs.counts.MessageCounts.note_all.Goals as goal
 
 pub note-requires : goal.note-requires
 note-requires c =

@@ -1,4 +1,13 @@
-//! How many messages of each kind there are.
+//! How many records and messages of each kind there are.
+
+/// How many records a capture has.
+#[derive(Clone, Copy, Debug, PartialEq, Eq)]
+pub struct RecordCounts {
+    pub all: u64,
+    pub pieces: u64,
+    pub ends: u64,
+    pub tiers: u64,
+}
 
 /// How many requests have each method.
 #[derive(Clone, Copy, Debug, PartialEq, Eq)]

@@ -1,7 +1,7 @@
 use Rattle.std.proofs.Common.{◌≡◌, ◌++◌, List, map, take}
 use Rattle.http_requests.specs.declared.messages.Meaning.{Meaning}
 use Rattle.inspection.specs.Figures.{messages_by_kind}
-use Rattle.inspection.proofs.message_counts.MessageCounts.note_all.Given as goal
+use Rattle.inspection.proofs.counts.MessageCounts.note_all.Given as goal
 
 -- the messages so far are counted
 abbrev pub invariant-loop-message : goal.invariant-loop-message
