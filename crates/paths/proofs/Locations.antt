@@ -5,6 +5,7 @@ use Rattle.std.specs.Prelude.{codes, Result, Ok, Err, IfOk}
 use Rattle.paths.specs.Ascii.{slash}
 use Rattle.paths.specs.declared.resolution.Outcome.{Outcome}
 use Rattle.std.specs.List.{list_all, position, position_or_len}
+use Rattle.std.specs.Char.{is_ascii_graphic}
 use Rattle.std.specs.Fmt.{digit_glyph}
 use Rattle.std.proofs.lemmas.List.Folds.{list_all-append}
 use Rattle.percent_encoding.specs.Percent.{percent_encode_byte}
