@@ -10,8 +10,8 @@ ghost use Rattle.inspection.specs.Running.{FewRecords, most_connections, tail_at
 ghost use Rattle.inspection.specs.Running.{with_end, with_tier};
 
 use crate::busy::Busy;
-use crate::inspection::{Inspection, Second};
 use crate::counts::{FaultCounts, MessageCounts, MethodCounts, RecordCounts, VersionCounts};
+use crate::inspection::{Inspection, Second};
 use crate::shares::shares_of;
 use crate::tails::Tails;
 use captures::Version;

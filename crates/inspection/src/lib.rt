@@ -2,8 +2,8 @@
 #![tactic(auto)]
 
 mod busy;
-mod counts;
 mod counting;
+mod counts;
 mod found;
 mod inspect_fault;
 mod inspecting;
