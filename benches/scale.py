@@ -54,8 +54,8 @@ def write_input(folder, files, requests):
 
 def replay(program, names, engine, replies, more=()):
     """The words of a replay."""
-    return [program, "replay", "--snapshot", names[0], "--capture", names[1], "--replies", replies, "--engine", engine] \
-        + list(more)
+    files = ["--snapshot", names[0], "--capture", names[1], "--replies", replies]
+    return [program, "replay", *files, "--engine", engine, *more]
 
 
 def grow(program, runs, folder):

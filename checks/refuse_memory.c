@@ -1,6 +1,6 @@
-/* Loaded in front of the C library, it refuses the request for memory whose number REFUSE_AT gives, counted from 1 over all
-   threads, and then writes a byte to the file descriptor REFUSED. How many there were so far stands in the file COUNTED,
-   where that is set, as a number in the machine's own form. */
+/* Loaded in front of the C library, it refuses the request for memory whose number REFUSE_AT gives, counted from 1 over
+   all threads, and then writes a byte to the file descriptor REFUSED. How many there were so far stands in the file
+   COUNTED, where that is set, as a number in the machine's own form. */
 #include <errno.h>
 #include <fcntl.h>
 #include <stdatomic.h>

@@ -1,6 +1,6 @@
 #!/usr/bin/env bash
-# Tries the edits of checks/edits/, which must fail as those of must-fail/ must, and stand outside the gate to save its time;
-# then sorts them by how they were refused, as .ci/run does. It works on a copy of the repository.
+# Tries the edits of checks/edits/, which must fail as those of must-fail/ must, and stand outside the gate to save its
+# time; then sorts them by how they were refused, as .ci/run does. It works on a copy of the repository.
 #
 # usage: try_edits.sh [CRATE..]
 set -euo pipefail

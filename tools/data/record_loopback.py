@@ -2,8 +2,8 @@
 """Records loopback.pcap beside itself: real packets between clients of this script and a server on port 18098.
 
 It needs tcpdump, the right to record (root), and an HTTP server on 127.0.0.1 and ::1, port 18098 (it was nginx 1.22).
-What each client gives its socket is written to loopback.expected: for each connection, in the order of their first bytes,
-a line `connection <bytes>`, the bytes, and LF. It comes from the senders alone, not from the packets.
+What each client gives its socket is written to loopback.expected: for each connection, in the order of their first
+bytes, a line `connection <bytes>`, the bytes, and LF. It comes from the senders alone, not from the packets.
 """
 import os
 import socket
