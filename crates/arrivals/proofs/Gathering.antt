@@ -1,5 +1,5 @@
 -- How a batch of records is read.
-use Rattle.std.proofs.Common.{◌≡◌, ◌≢◌, ℕ, ◌==◌, inl, inr, Bool, true, false, List, [], ◌∷◌, ◌++◌, Option, Some, Ok, refl, sym, ap, ◌∙◌, subst, append-nil, append_assoc}
+use Rattle.std.proofs.Common.{◌≡◌, ◌≢◌, ℕ, ◌+◌, ◌≤◌, ◌==◌, arith, inl, inr, Bool, true, false, List, [], ◌∷◌, ◌++◌, Option, Some, Ok, refl, sym, ap, ◌∙◌, subst, append-nil, append_assoc}
 use Rattle.std.specs.Prelude.{if◌then◌else◌}
 use Rattle.std.proofs.lemmas.Bool.Decides.{eqb_tells}
 use Rattle.captures.specs.declared.record.Record.{Record}
@@ -8,7 +8,9 @@ use Rattle.captures.specs.declared.version.Version.{Version}
 use Rattle.captures.specs.declared.progress.Progress.{Progress}
 use Rattle.captures.specs.Readers.{ReaderAfter, Gave}
 use Rattle.arrivals.specs.Batches.{pieces_to, with_tier, tiers_of, origins_of}
-use Rattle.arrivals.specs.Gathering.{with_pieces, Adds, AddsOne}
+use Rattle.std.proofs.lemmas.List.Sums.{sum_by-append, sum_by-cons}
+use Rattle.captures.specs.Captures.{IsRecord, size_of, sizes_of, max_piece_bytes}
+use Rattle.arrivals.specs.Gathering.{with_pieces, Adds, AddsOne, as_piece, piece_count}
 use Rattle.arrivals.specs.Places.{Place, place_at, with_piece}
 use Rattle.arrivals.proofs.Arriving.{if_true, if_false}
 use Rattle.arrivals.proofs.Merging.{tiers_piece, tiers_end, tiers_tier}
@@ -67,3 +69,20 @@ adds_piece tick conn n bytes piece r old new is named same own others = rw is (�
   | inl e ↦ rw (if_true (conn == c) (bytes ∷ []) [] e.0, ← e.1) (rw (named, same) at own)
   | inr e ↦ rw (if_false (conn == c) (bytes ∷ []) [] e.0, append-nil (place_at old c).pieces) (others c (λ s. e.1 (sym (s ∙ named))))
 ])
+
+-- one more record: how many pieces there are then, and how many bytes of them
+pub count_push : (rs : List Record) (r : Record) → piece_count (rs ++ r ∷ []) ≡ piece_count rs + as_piece r
+count_push rs r = omega (arith, sum_by-append as_piece rs (r ∷ []), sum_by-cons as_piece r [])
+
+pub sizes_push : (rs : List Record) (r : Record) → sizes_of (rs ++ r ∷ []) ≡ sizes_of rs + size_of r
+sizes_push rs r = omega (arith, sum_by-append size_of rs (r ∷ []), sum_by-cons size_of r [])
+
+pub one_piece : (r : Record) → as_piece r ≤ 1
+one_piece (Piece tick conn bytes) = omega arith
+one_piece (End tick conn) = omega arith
+one_piece (Tier conn tier) = omega arith
+
+pub one_size : (v : Version) (r : Record) → IsRecord v r → size_of r ≤ max_piece_bytes
+one_size v (Piece tick conn bytes) h = h.3
+one_size v (End tick conn) h = omega arith
+one_size v (Tier conn tier) h = omega arith

@@ -1,8 +1,10 @@
 -- How a batch of records is read: its pieces wait at the seats of their connections.
-use Rattle.std.specs.Prelude.{◌≡◌, ℕ, ◌+◌, List, [], ◌∷◌, ◌++◌, Option, None, Ok, Err}
+use Rattle.std.specs.Prelude.{◌≡◌, ℕ, ◌+◌, ◌<◌, ◌≤◌, ◌⊎◌, List, [], ◌∷◌, ◌++◌, Option, None, Ok, Err, sum_by}
 use Rattle.captures.specs.declared.record.Record.{Record}
+use Rattle.captures.specs.declared.record.Record.TheVariants.{Piece, End as Ends, Tier}
 use Rattle.captures.specs.declared.progress.Progress.{Progress}
 use Rattle.captures.specs.declared.version.Version.{Version}
+use Rattle.captures.specs.Captures.{max_piece_bytes, sizes_of}
 use Rattle.captures.specs.CaptureFaults.{failures_of}
 use Rattle.captures.specs.Readers.{ReaderAfter, Gave, FailsNext}
 use Rattle.arrivals.specs.Batches.{pieces_to}
@@ -44,3 +46,23 @@ CountsEnding old new other = new ≡ old
 abbrev pub IfMore : Ending → Type 0 → Type 0
 IfMore More P = P
 IfMore other P = Unit {0}
+
+-- how many of these records are pieces
+abbrev pub as_piece : Record → ℕ
+as_piece (Piece tick conn bytes) = 1
+as_piece (Ends tick conn) = 0
+as_piece (Tier conn tier) = 0
+
+abbrev pub piece_count : List Record → ℕ
+piece_count records = sum_by as_piece records
+
+-- so many bytes of pieces are enough for a batch
+abbrev pub enough_bytes : ℕ
+enough_bytes = 16777216
+
+-- A batch has no more pieces than it was asked for, and of their bytes at most a piece beyond what is enough; where
+-- more records may follow it, it has all that it was asked for, or enough bytes.
+pub record HasSize (pieces : ℕ) (rs : List Record) (ending : Ending) : Type 0 where
+  pub most : piece_count rs ≤ pieces
+  pub bytes : sizes_of rs < enough_bytes + max_piece_bytes
+  pub full : IfMore ending ((pieces ≤ piece_count rs) ⊎ (enough_bytes ≤ sizes_of rs))

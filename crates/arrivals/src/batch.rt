@@ -4,14 +4,14 @@ ghost use Rattle.std.specs.Prelude.{◌≡◌, ◌<◌, ◌≤◌, ◌-◌, ◌^
 ghost use Rattle.std.specs.Prelude.{IfOk, IfErr, OnOk, MatchResult};
 ghost use Rattle.paths.specs.Devices.{CanFail};
 ghost use Rattle.captures.specs.declared.version.Version.{Version as AVersion};
-ghost use Rattle.captures.specs.Captures.{IsRecord};
+ghost use Rattle.captures.specs.Captures.{IsRecord, size_of};
 ghost use Rattle.captures.specs.Readers.{ReaderAfter};
 ghost use Rattle.captures.specs.Shown.{progress_of, device_of, loan_of};
 ghost use Rattle.captures.specs.declared.record.Record.{Record as ARecord};
 ghost use Rattle.captures.specs.declared.progress.Stage.TheVariants.{Reading};
 ghost use Rattle.arrivals.specs.Batches.{origins_of, tiers_of};
 ghost use Rattle.arrivals.specs.Tiers.{AreTiers};
-ghost use Rattle.arrivals.specs.Gathering.{AddsOne, Adds, ReadOn, CountsEnding, IfMore};
+ghost use Rattle.arrivals.specs.Gathering.{AddsOne, Adds, ReadOn, CountsEnding, IfMore, HasSize, as_piece};
 
 use crate::incoming::Origin;
 use crate::seats::Seats;
@@ -42,7 +42,9 @@ pub struct Batch {
 const ENOUGH_BYTES: usize = 16_777_216;
 
 /// How many bytes a record brings.
-fn bytes_of(next: &Record) -> usize {
+fn bytes_of(next: &Record) -> usize
+    ensures { result ≡ size_of next.now }
+{
     match next {
         Record::Piece { bytes, .. } => bytes.as_slice().len(),
         Record::End { .. } | Record::Tier { .. } => 0,
@@ -64,7 +66,7 @@ fn take_record(
         → AreTiers (records ++ next ∷ []) tiers.new) }
     ensures origins { OnOk result ((records : List ARecord) → AreTiers records tiers.old
         → origins.new.items ≡ origins.old.items ++ origins_of (tiers_of records) (next ∷ [])) }
-    ensures len { OnOk result (vec_len origins.new ≤ vec_len origins.old + 1) }
+    ensures len { OnOk result (vec_len origins.new ≡ vec_len origins.old + as_piece next) }
 {
     match next {
         Record::End { .. } => Ok(()),
@@ -78,7 +80,7 @@ fn take_record(
     }
 }
 
-/// Reads the next batch: n pieces, with the other records between them, or fewer where their bytes are enough, or
+/// Reads the next batch: n pieces, with the other records between them, or fewer where these have 16 MiB, or
 /// those before the end of the capture or its fault.
 pub fn read_batch<'a, R: Read>(
     alloc: Global,
@@ -95,7 +97,8 @@ pub fn read_batch<'a, R: Read>(
         × ((version : AVersion) (text : Option (List ℕ)) (start : ℕ) (records : List ARecord)
         → ReaderAfter version text start records (progress_of capture.old) (device_of capture.old).bytes
         → ReadOn version text start (records ++ rs) batch.ending
-        (progress_of capture.new) (device_of capture.new).bytes)) }
+        (progress_of capture.new) (device_of capture.new).bytes)
+        × HasSize pieces rs batch.ending) }
     ensures room { IfOk result (λ batch. IfMore batch.ending (0 < pieces
         → (progress_of capture.new).room < (progress_of capture.old).room)) }
     ensures count { MatchResult result

@@ -1,7 +1,10 @@
-use Rattle.std.proofs.Common.{◌∷◌, ◌++◌, [], ◌∙◌, inl, inr, refl, sym, ap, arith, append_assoc, append-nil}
+use Rattle.std.proofs.Common.{◌≤◌, ◌⊎◌, ◌∷◌, ◌++◌, [], ◌∙◌, inl, inr, refl, sym, ap, arith, append_assoc, append-nil}
+use Rattle.captures.specs.Captures.{sizes_of}
 use Rattle.arrivals.specs.Batches.{origins_of, tiers_of}
-use Rattle.arrivals.proofs.Gathering.{adds_none, adds_more, origins_push, gave_some}
+use Rattle.arrivals.specs.Gathering.{piece_count, enough_bytes}
+use Rattle.arrivals.proofs.Gathering.{adds_none, adds_more, origins_push, gave_some, count_push, sizes_push, one_piece, one_size}
 use Rattle.arrivals.proofs.batch.read_batch.Goals as goal
+use Rattle.arrivals.proofs.batch.read_batch.Goals.{then-loop-alloc-test+else-bytes-lt-ENOUGH_BYTES, else-loop-alloc-test}
 
 pub loop-alloc-init : goal.loop-alloc-init
 loop-alloc-init g c =
@@ -12,6 +15,10 @@ loop-alloc-init g c =
         adds_none c.args.seats.now,
         λ records are. (none, rw (append-nil records) are),
         λ v text start records fits. rw (append-nil records) fits,
+        len,
+        refl,
+        omega arith,
+        omega arith,
       ),
       c.requires.stage,
       omega (arith, len),
@@ -32,6 +39,7 @@ returns-in-Ok-None-clause-batch g c =
         fits = inv.3 v text start records fits;
         ends = rw c.in-Ok-None.field-0-is at (c.in-Ok-None.ensures.next v text start (records ++ inv.0) (inv.3 v text start records fits));
       },
+      record { most = inv.6; bytes = inv.7; full = record {} },
     )
 
 pub returns-in-Err-clause-batch : goal.returns-in-Err-clause-batch
@@ -49,6 +57,7 @@ returns-in-Err-clause-batch g c =
           c.in-Err.ensures.failed v text start (records ++ inv.0) (inv.3 v text start records fits),
         );
       },
+      record { most = inv.6; bytes = inv.7; full = record {} },
     )
 
 pub take_record-requires : goal.take_record-requires
@@ -61,6 +70,9 @@ loop-alloc-preserved g c =
     let took = c.in_ok-take_record.ensures in
     let read = c.in-Ok-Some.ensures in
     let room = rw c.in-Ok-Some.field-0-is at read.room in
+    let small = one_size c.loop-alloc.capture.progress.version r (rw c.in-Ok-Some.field-0-is at read.limits) in
+    let bytes = sizes_push inv.0.0 r in
+    let few = c.if-bytes-lt-ENOUGH_BYTES.true in
     let before = inv.2 in (
       (
         inv.0.0 ++ r ∷ [],
@@ -72,9 +84,13 @@ loop-alloc-preserved g c =
             )),
         λ v text start records fits.
             rw (append_assoc records inv.0.0 (r ∷ [])) at (gave_some v text _ start (records ++ inv.0.0) _ _ r c.in-Ok-Some.field-0-is (read.next v text start (records ++ inv.0.0) (inv.0.3 v text start records fits))),
+        omega (arith, took.len, count_push inv.0.0 r, inv.0.4),
+        omega (arith, c.saturating_add-bytes.ensures, c.bytes_of.ensures, bytes, inv.0.5, few, small),
+        omega (arith, c.loop-alloc-test.true, c.len.ensures, count_push inv.0.0 r, one_piece r, inv.0.4),
+        omega (arith, bytes, inv.0.5, few, small),
       ),
       rw c.in-Ok-Some.field-0-is at read.stage,
-      (let few = took.len in omega (arith, room, before, few)),
+      omega (arith, room, before, took.len, one_piece r),
       read.count ∙ inv.3,
       read.same ∙ inv.4,
       inr (omega (arith, room, before)),
@@ -83,4 +99,11 @@ loop-alloc-preserved g c =
 pub returns-clause-batch : goal.returns-clause-batch
 returns-clause-batch g c =
     let inv = c.loop-alloc.invariant.0 in
-    (inv.0, inv.1, inv.2, λ v text start records fits. record { progress = _; ahead = _; fits = inv.3 v text start records fits; ends = inv.3 v text start records fits })
+    let full : (c.args.pieces ≤ piece_count inv.0) ⊎ (enough_bytes ≤ sizes_of inv.0) =
+        elim c.loop-alloc-test.branch [
+          | then-loop-alloc-test+else-bytes-lt-ENOUGH_BYTES w ↦
+              inr (let enough = w.if-bytes-lt-ENOUGH_BYTES.false in omega (arith, enough, inv.5))
+          | else-loop-alloc-test w ↦ inl (let all = w.loop-alloc-test.false in omega (arith, all, c.len.ensures, inv.4))
+        ] in
+    (inv.0, inv.1, inv.2, λ v text start records fits. record { progress = _; ahead = _; fits = inv.3 v text start records fits; ends = inv.3 v text start records fits },
+      record { most = inv.6; bytes = inv.7; full = full })

@@ -5,7 +5,8 @@ use Rattle.captures.specs.declared.record.Record.{Record}
 use Rattle.captures.specs.declared.progress.Stage.TheVariants.{Reading}
 use Rattle.arrivals.specs.Batches.{origins_of, tiers_of}
 use Rattle.arrivals.specs.Tiers.{AreTiers}
-use Rattle.arrivals.specs.Gathering.{Adds}
+use Rattle.captures.specs.Captures.{sizes_of, max_piece_bytes}
+use Rattle.arrivals.specs.Gathering.{Adds, piece_count, enough_bytes}
 use Rattle.arrivals.proofs.batch.read_batch.Given as goal
 
 -- some records were read, their pieces wait, and their connections have the tiers that they gave
@@ -14,7 +15,8 @@ invariant-loop-alloc g l =
     ((rs : List Record) × Adds rs l.fn.seats l.seats
     × ((records : List Record) → AreTiers records l.fn.tiers → (l.origins.items ≡ origins_of (tiers_of records) rs) × AreTiers (records ++ rs) l.tiers)
     × ((v : Version) (text : Option (List ℕ)) (start : ℕ) (records : List Record) → ReaderAfter v text start records l.fn.capture.progress l.fn.capture.input.now.bytes
-    → ReaderAfter v text start (records ++ rs) l.capture.progress l.capture.input.now.bytes))
+    → ReaderAfter v text start (records ++ rs) l.capture.progress l.capture.input.now.bytes)
+    × (vec_len l.origins ≡ piece_count rs) × (l.bytes ≡ sizes_of rs) × (piece_count rs ≤ l.fn.pieces) × (sizes_of rs < enough_bytes + max_piece_bytes))
     × (l.capture.progress.stage ≡ Reading) × (l.capture.progress.room + vec_len l.origins ≤ l.fn.capture.progress.room)
     × (l.capture.input.now.failures ≡ l.fn.capture.input.now.failures) × (l.capture.input.ghost_name ≡ l.fn.capture.input.ghost_name)
     × ((l.bytes ≡ 0) ⊎ (l.capture.progress.room < l.fn.capture.progress.room))
