@@ -100,10 +100,14 @@ pub returns-clause-batch : goal.returns-clause-batch
 returns-clause-batch g c =
     let inv = c.loop-alloc.invariant.0 in
     let full : (c.args.pieces ≤ piece_count inv.0) ⊎ (enough_bytes ≤ sizes_of inv.0) =
-        elim c.loop-alloc-test.branch [
-          | then-loop-alloc-test+else-bytes-lt-ENOUGH_BYTES w ↦
-              inr (let enough = w.if-bytes-lt-ENOUGH_BYTES.false in omega (arith, enough, inv.5))
-          | else-loop-alloc-test w ↦ inl (let all = w.loop-alloc-test.false in omega (arith, all, c.len.ensures, inv.4))
-        ] in
-    (inv.0, inv.1, inv.2, λ v text start records fits. record { progress = _; ahead = _; fits = inv.3 v text start records fits; ends = inv.3 v text start records fits },
-      record { most = inv.6; bytes = inv.7; full = full })
+    elim c.loop-alloc-test.branch [
+      | then-loop-alloc-test+else-bytes-lt-ENOUGH_BYTES w ↦
+          inr (let enough = w.if-bytes-lt-ENOUGH_BYTES.false in omega (arith, enough, inv.5))
+      | else-loop-alloc-test w ↦ inl (let all = w.loop-alloc-test.false in omega (arith, all, c.len.ensures, inv.4))
+    ] in (
+      inv.0,
+      inv.1,
+      inv.2,
+      λ v text start records fits. record { progress = _; ahead = _; fits = inv.3 v text start records fits; ends = inv.3 v text start records fits },
+      record { most = inv.6; bytes = inv.7; full = full },
+    )
