@@ -155,6 +155,52 @@ fn interrupted_write(rt: HostRuntime) {
     );
 }
 
+/// A writer that counts how often it is flushed, in vain or not.
+#[derive(Drop)]
+struct Flushed {
+    taken: Narrow,
+    /// Whether it can't be flushed.
+    fails: bool,
+    /// How often that was asked for.
+    calls: usize,
+}
+
+impl Write for Flushed {
+    fn write(&mut self, bytes: &[u8]) -> io::Result<usize> {
+        self.taken.write(bytes)
+    }
+
+    fn flush(&mut self) -> io::Result<()> {
+        self.calls = self.calls.saturating_add(1);
+        if self.fails {
+            return Err(io::Error::other("refused"));
+        }
+        Ok(())
+    }
+}
+
+/// Runs with such a writer.
+fn run_flushed(alloc: Global, fails: bool) -> (Result<(), Fault>, Flushed) {
+    let device = Flushed {
+        taken: Narrow::ample(),
+        fails,
+        calls: 0,
+    };
+    run_program(alloc, FIRST_RUN.as_bytes(), device)
+}
+
+/// The device is flushed once, after the whole answer, and where it can't be, the answer is unwritten.
+#[test]
+fn flushed_at_the_end(rt: HostRuntime) {
+    let (ran, device) = run_flushed(rt.alloc(), false);
+    assert_eq!(rt; ran, Ok(()));
+    assert_eq!(rt; device.calls, 1);
+    let (ran, device) = run_flushed(rt.alloc(), true);
+    assert_eq!(rt; ran, Err(Fault::Write(Place::Replies)));
+    assert_eq!(rt; device.calls, 1);
+    assert_eq!(rt; device.taken.text(), REPLIES.as_bytes());
+}
+
 /// After a run the whole answer stands after what stood at the device before.
 #[test]
 fn answer_at_a_vector(rt: HostRuntime) -> Result<(), Fail> {
