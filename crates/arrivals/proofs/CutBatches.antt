@@ -57,3 +57,11 @@ all_cut (t ∷ tasks) (r ∷ given) (k ∷ cuts) h e =
 pub match_ok : {T E : Type 0} (r : Result T E) (P Q : T → Type 0) (R : E → Type 0) → ((v : T) → P v → Q v) → MatchResult r P R → IfOk r Q
 match_ok (Ok v) P Q R f h = f v h
 match_ok (Err e) P Q R f h = tt
+
+-- a connection without a piece stays as it is
+pub nothing_cut : (p : Place) → p.pieces ≡ [] → p.lists ≡ [] → IsCutOf p p
+nothing_cut p none fresh = record { reads = rw (none, fresh) refl; done = none }
+
+pub no_items : {A : Type 0} (xs : List A) → length xs ≡ 0 → xs ≡ []
+no_items [] e = refl
+no_items (x ∷ xs) e = absurd (let z : ⊥ = grind (arith, e) in z)

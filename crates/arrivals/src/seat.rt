@@ -81,6 +81,18 @@ impl Taken {
     }
 }
 
+/// Cuts the pieces of a connection. One that sent nothing stays where it is.
+fn cut_box(alloc: Global, taken: Box<Taken>) -> Result<Box<Taken>, AllocError>
+    requires { IsReady taken.value }
+    ensures { IfOk result (λ cut. IsCutOf taken.value cut.value) }
+{
+    if taken.pieces.is_empty() {
+        return Ok(taken);
+    }
+    let cut = Box::into_inner(taken).cut(alloc)?;
+    Ok(Box::new(alloc, cut)?)
+}
+
 /// The seat of a connection. It takes no more than a pointer until something comes.
 #[derive(Drop)]
 pub struct Seat {
@@ -125,12 +137,9 @@ impl Seat {
         ensures { IfOk result (IsCutOf self) }
     {
         match self.taken {
-            Some(taken) => {
-                let cut = Box::into_inner(taken).cut(alloc)?;
-                Ok(Seat {
-                    taken: Some(Box::new(alloc, cut)?),
-                })
-            }
+            Some(taken) => Ok(Seat {
+                taken: Some(cut_box(alloc, taken)?),
+            }),
             None => Ok(Seat { taken: None }),
         }
     }
