@@ -14,7 +14,7 @@ use crate::ticket::{Due, Ticket};
 use page_cache::{Page, PageCache};
 use paths::{Snapshot, Tree};
 use responses::{Given, Reply, SharedPage, Slip, try_render};
-use stage_graph::{Chain, Gate, Named, Plan, RunName, Unrun, run_floor};
+use stage_graph::{Chain, Gate, Named, Plan, Unrun, run_through};
 use std::alloc::{AllocError, Global};
 use std::marker::{Brand, PhantomData};
 use std::sync::{Arc, Mutex, Wait};
@@ -231,8 +231,9 @@ fn back_items<F: Tree, K: Backs>(
 ) -> Result<Vec<BackItem<F, K>>, AllocError>
     requires named { map ticket_elsewhere tickets.items ≡ K.tickets }
     requires ready { list_all (λ t. is_back F.files (Waits t)) tickets.items ≡ true }
-    ensures { IfOk result (λ v. map (λ x. (x.number, x.done)) v.items
+    ensures fresh { IfOk result (λ v. map (λ x. (x.number, x.done)) v.items
         ≡ map (with_steps 0) (range_with_len 0 (length tickets.items))) }
+    ensures len { IfOk result (λ v. length v.items ≡ length tickets.items) }
 {
     let mut items = Vec::with_capacity(alloc, tickets.len())?;
     for ticket in tickets {
@@ -261,12 +262,13 @@ fn replies_of<F: Tree, K: Backs>(
 
 fn run_back_with<
     F: Tree + Send + Sync,
-    K: Backs + RunName + Send + Sync,
+    K: Backs + Send + Sync,
     G: Gate + Sync,
     T: Threads + Wait + Sync,
 >(
     server: &Server<'_, F>,
     rt: &T,
+    threads: usize,
     plan: Plan,
     cache: &Mutex<PageCache<F>>,
     tickets: Vec<Ticket<F>>,
@@ -274,8 +276,6 @@ fn run_back_with<
 ) -> Result<Vec<Reply<F>>, Unrun>
     requires named { map ticket_elsewhere tickets.items ≡ K.tickets }
     requires ready { list_all (λ t. is_back F.files (Waits t)) tickets.items ≡ true }
-    requires count { length tickets.items ≡ K.count }
-    requires plan { plan ≡ K.plan }
     requires cut { last_cut plan ≡ 2 }
     ensures { IfOk result (λ v. v.items ≡ map (λ t. reply_to F.files (slip_of_ticket t)) tickets.items) }
 {
@@ -288,14 +288,15 @@ fn run_back_with<
         cache,
         of: PhantomData,
     };
-    let run = run_floor::<Back<F, K, T>, K, G, T>(rt, alloc, plan, &chain, items, gate)?;
-    Ok(replies_of(alloc, run.into_items())?)
+    let items = run_through::<Back<F, K, T>, G, T>(rt, alloc, threads, plan, &chain, items, gate)?;
+    Ok(replies_of(alloc, items)?)
 }
 
-/// The replies to the tickets, by a floor that shares a cache of pages.
+/// The replies to the tickets, by a floor of so many threads that share a cache of pages.
 pub(crate) fn run_back<F: Tree + Send + Sync, G: Gate + Sync, T: Threads + Wait + Sync>(
     server: &Server<'_, F>,
     rt: &T,
+    threads: usize,
     cache: &Mutex<PageCache<F>>,
     tickets: Vec<Ticket<F>>,
     gate: &G,
@@ -305,5 +306,5 @@ pub(crate) fn run_back<F: Tree + Send + Sync, G: Gate + Sync, T: Threads + Wait 
 {
     let settings = server.settings;
     let plan = settings.back.try_clone(server.alloc)?;
-    run_back_with::<F, Brand, G, T>(server, rt, plan, cache, tickets, gate)
+    run_back_with::<F, Brand, G, T>(server, rt, threads, plan, cache, tickets, gate)
 }

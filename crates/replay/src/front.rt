@@ -15,7 +15,7 @@ use arrivals::Incoming;
 use cost_model::Costs;
 use http_requests::Meaning;
 use paths::{Snapshot, Tree, inspect, locate};
-use stage_graph::{Chain, Gate, Named, Plan, RunName, Unrun, run_floor};
+use stage_graph::{Chain, Gate, Named, Plan, Unrun, run_through};
 use std::alloc::{AllocError, Global};
 use std::marker::{Brand, PhantomData};
 use std::sync::Wait;
@@ -190,8 +190,9 @@ fn front_items<F: Tree, K: Fronts>(
     messages: Vec<Incoming>,
 ) -> Result<Vec<FrontItem<F, K>>, AllocError>
     requires { messages.items ≡ K.messages }
-    ensures { IfOk result (λ v. map (λ x. (x.number, x.done)) v.items
+    ensures fresh { IfOk result (λ v. map (λ x. (x.number, x.done)) v.items
         ≡ map (with_steps 0) (range_with_len 0 (length messages.items))) }
+    ensures len { IfOk result (λ v. length v.items ≡ length messages.items) }
 {
     let mut items = Vec::with_capacity(alloc, messages.len())?;
     for message in messages {
@@ -218,20 +219,19 @@ fn sights_of<F: Tree, K: Fronts>(
 
 fn run_front_with<
     F: Tree + Send + Sync,
-    K: Fronts + RunName + Send + Sync,
+    K: Fronts + Send + Sync,
     G: Gate + Sync,
     T: Threads + Wait + Sync,
 >(
     server: &Server<'_, F>,
     rt: &T,
+    threads: usize,
     plan: Plan,
     messages: Vec<Incoming>,
     gate: &G,
 ) -> Result<Vec<Sighted>, Unrun>
     requires costs { server.now.costs ≡ K.costs }
     requires messages { messages.items ≡ K.messages }
-    requires count { length messages.items ≡ K.count }
-    requires plan { plan ≡ K.plan }
     requires cut { last_cut plan ≡ 3 }
     ensures { IfOk result (λ v. v.items ≡ map (front_value F.files server.now.costs) messages.items) }
 {
@@ -245,14 +245,15 @@ fn run_front_with<
         tree: PhantomData,
         of: PhantomData,
     };
-    let run = run_floor::<Front<F, K>, K, G, T>(rt, alloc, plan, &chain, items, gate)?;
-    Ok(sights_of(alloc, run.into_items())?)
+    let items = run_through::<Front<F, K>, G, T>(rt, alloc, threads, plan, &chain, items, gate)?;
+    Ok(sights_of(alloc, items)?)
 }
 
-/// What is known of each message before it is decided on, by a floor.
+/// What is known of each message before it is decided on, by a floor of so many threads.
 pub(crate) fn run_front<F: Tree + Send + Sync, G: Gate + Sync, T: Threads + Wait + Sync>(
     server: &Server<'_, F>,
     rt: &T,
+    threads: usize,
     messages: Vec<Incoming>,
     gate: &G,
 ) -> Result<Vec<Sighted>, Unrun>
@@ -260,5 +261,5 @@ pub(crate) fn run_front<F: Tree + Send + Sync, G: Gate + Sync, T: Threads + Wait
 {
     let settings = server.settings;
     let plan = settings.front.try_clone(server.alloc)?;
-    run_front_with::<F, Brand, G, T>(server, rt, plan, messages, gate)
+    run_front_with::<F, Brand, G, T>(server, rt, threads, plan, messages, gate)
 }

@@ -40,6 +40,8 @@ use std::thread::Threads;
 #[derive(Drop)]
 pub(crate) struct Floors<'a, F: Tree, G, T> {
     pub rt: &'a T,
+    /// How many threads work at a time, where the gate never holds a message.
+    pub threads: usize,
     pub pages: Pages<F>,
     pub gate: &'a G,
 }
@@ -87,7 +89,14 @@ fn answer_group<F: Tree + Send + Sync, G: Gate + Sync, T: Threads + Wait + Sync,
         first,
     };
     let cache = &floors.pages.cache;
-    let replies = run_back::<F, Shifted<G>, T>(server, floors.rt, cache, group, &following)?;
+    let replies = run_back::<F, Shifted<G>, T>(
+        server,
+        floors.rt,
+        floors.threads,
+        cache,
+        group,
+        &following,
+    )?;
     write_replies(&replies, writer)
 }
 
@@ -142,7 +151,13 @@ fn serve_few<F: Tree + Send + Sync, G: Gate + Sync, T: Threads + Wait + Sync, W:
         stages: 0,
         first,
     };
-    let sights = run_front::<F, Shifted<G>, T>(server, floors.rt, messages, &before)?;
+    let sights = run_front::<F, Shifted<G>, T>(
+        server,
+        floors.rt,
+        floors.threads,
+        messages,
+        &before,
+    )?;
     let tickets = decide_all(server, sights, desk)?;
     answer_tickets(server, floors, tickets, writer)
 }

@@ -23,4 +23,8 @@ impl<'a, G: Gate> Gate for Shifted<'a, G> {
         let stage = self.stages.wrapping_add(stage);
         self.gate.left(stage, self.first.wrapping_add(number));
     }
+
+    fn is_open(&self) -> bool {
+        self.gate.is_open()
+    }
 }

@@ -30,7 +30,7 @@ use std::alloc::Global;
 use std::io::{Read, Write};
 use std::marker::PhantomData;
 use std::sync::{Mutex, Wait};
-use std::thread::Threads;
+use std::thread::{Threads, available_parallelism};
 
 /// Serves a batch whose pieces wait at the seats: the connections are cut in parallel, and their messages answered in
 /// the order of their arrival.
@@ -64,6 +64,14 @@ fn serve_batch<F: Tree + Send + Sync, G: Gate + Sync, T: Threads + Wait + Sync, 
     let parts = parts_of(server.alloc, pieces)?;
     serve_parts(server, floors, parts, desk, writer)?;
     Ok(seats)
+}
+
+/// How many processors there are for threads; more than any, where that isn't known.
+fn processors<T: Threads>(rt: &T) -> usize {
+    match available_parallelism(rt) {
+        Ok(count) => count.get(),
+        Err(_) => usize::MAX,
+    }
 }
 
 /// Replays a capture through stages of threads: a batch of its pieces at a time is cut, its messages are looked up by
@@ -132,7 +140,12 @@ pub fn staged_replay<
         settings,
         tree: PhantomData,
     };
-    let floors = Floors { rt, pages, gate };
+    let floors = Floors {
+        rt,
+        threads: processors(rt),
+        pages,
+        gate,
+    };
     loop {
         let batch = read_batch(alloc, &mut capture, settings.batch, &mut seats, &mut tiers)?;
         seats = serve_batch(&server, &floors, seats, &batch.origins, &mut desk, writer)?;

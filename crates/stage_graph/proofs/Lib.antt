@@ -17,3 +17,4 @@ pub mod Capacities
 pub mod Laws
 pub mod Counting
 pub mod ByNumber
+mod Lotting

@@ -176,6 +176,13 @@ impl<C: Chain, N: RunName> Floor<C, N> {
         self.left.iter().all(|left| *left)
     }
 
+    // How many workers there are.
+    pub(crate) fn workers(&self) -> usize
+        ensures { result ≡ workers N.plan }
+    {
+        self.plan.workers()
+    }
+
     // The stage of a worker, and the steps that are done where it ends.
     pub(crate) fn place(&self, worker: usize) -> (usize, usize)
         requires { worker < workers N.plan }

@@ -87,6 +87,23 @@ impl Plan {
         })
     }
 
+    // The same plan for lots of so many items: each queue has room for no more items than before, and for one lot.
+    pub(crate) fn in_lots(&self, alloc: Global, size: usize) -> Result<Plan, Memory>
+        ensures { IfOk result (λ p. (p.cuts ≡ self.now.cuts) × (p.posts ≡ self.now.posts)) }
+    {
+        let cuts = Vec::from_slice(alloc, &self.cuts)?;
+        let posts = Vec::from_slice(alloc, &self.posts)?;
+        let mut capacities = Vec::with_capacity(alloc, self.capacities.len())?;
+        for capacity in &self.capacities {
+            capacities.push_reserved(lots_within(*capacity, size));
+        }
+        Ok(Plan {
+            cuts,
+            posts,
+            capacities,
+        })
+    }
+
     /// How many stages there are.
     pub fn stages(&self) -> usize
         ensures count { result ≡ stages self.now }
@@ -235,4 +252,9 @@ fn add_crew(posts: &mut Vec<usize>, stage: usize, crew: usize) -> Result<(), All
         posts.push(stage)?;
     }
     Ok(())
+}
+
+// How many lots of this size have no more items than that, and one at least.
+fn lots_within(capacity: usize, size: usize) -> usize {
+    capacity.checked_div(size).unwrap_or(capacity).max(1)
 }

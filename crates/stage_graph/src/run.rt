@@ -9,6 +9,7 @@ ghost use Rattle.stage_graph.specs.After.{with_steps, last_cut};
 ghost use Rattle.stage_graph.specs.Stopped.{IsStopped};
 
 mod locked;
+pub(crate) mod pool;
 mod seats;
 mod shared;
 mod sleepers;
@@ -32,6 +33,12 @@ pub trait Gate {
     /// An item was given on, or sent back, by a worker of a stage. The worker may have its next item by then, which
     /// enters after this call.
     fn left(&self, stage: usize, number: usize);
+
+    /// Whether it never holds an item: whether each of its calls returns without waiting for another. Then items may
+    /// travel together.
+    fn is_open(&self) -> bool {
+        false
+    }
 }
 
 /// A gate that does nothing.
@@ -42,6 +49,10 @@ impl Gate for NoGate {
     fn enter(&self, _stage: usize, _number: usize) {}
 
     fn left(&self, _stage: usize, _number: usize) {}
+
+    fn is_open(&self) -> bool {
+        true
+    }
 }
 
 /// Runs a floor to its end: every item goes through all steps of the chain, by the workers of the plan in threads.

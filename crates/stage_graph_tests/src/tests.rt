@@ -2,6 +2,7 @@
 mod adding;
 mod floors;
 mod gates;
+mod lots;
 mod memory;
 mod threads;
 

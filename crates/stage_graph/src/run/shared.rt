@@ -71,6 +71,25 @@ struct Crew {
     for_room: Sleepers,
 }
 
+// An item in the hand of a worker, with the stage of the worker and the steps that are done where the stage ends.
+#[derive(Drop)]
+pub(super) struct Picked<C: Chain> {
+    pub(super) worker: usize,
+    pub(super) stage: usize,
+    pub(super) cut: usize,
+    pub(super) item: C::Item,
+}
+
+// Feeds the items that there is room for.
+fn fill<C: Chain, N: RunName, L: Ledger, R: Wait>(rt: &R, locked: &mut Locked<C, N, L>) {
+    for _ in rt.forever() {
+        if locked.feed().is_err() {
+            return;
+        }
+    }
+    unreachable!()
+}
+
 pub(super) fn new_shared<C: Chain, N: RunName, L: Ledger>(
     alloc: Global,
     locked: Locked<C, N, L>,
@@ -198,6 +217,86 @@ impl<C: Chain, N: RunName, L: Ledger> Shared<C, N, L> {
                 };
             }
             locked = self.crews[stage].for_room.sleep(rt, locked);
+        }
+        unreachable!()
+    }
+
+    // Takes an item for a worker of the last stage that has one and a worker whose hand is empty. Feeds first what there
+    // is room for.
+    pub(super) fn pick<R: Wait>(&self, rt: &R) -> Option<Picked<C>>
+        ensures { IfSome result (λ p. (p.worker < workers N.plan) × (p.stage < stages N.plan)
+            × (p.cut ≤ last_cut N.plan)) }
+    {
+        let mut locked = self.locked.lock(rt);
+        fill(rt, &mut *locked);
+        let count = locked.floor().workers();
+        for before in 0..count {
+            let worker = count - 1 - before;
+            if let Ok(item) = locked.take(worker) {
+                let (stage, cut) = locked.floor().place(worker);
+                self.end_taken(locked, stage);
+                return Some(Picked {
+                    worker,
+                    stage,
+                    cut,
+                    item,
+                });
+            }
+        }
+        None
+    }
+
+    // Gives the item on, once there is room for it. Where the floor is stopped and there is none, it sends the item back.
+    pub(super) fn hand_on<R: Wait>(&self, rt: &R, worker: usize, stage: usize, item: C::Item)
+        requires worker { worker < workers N.plan }
+        requires stage { stage < stages N.plan }
+    {
+        let mut item = item;
+        let mut locked = self.locked.lock(rt);
+        for _ in rt.forever() {
+            item = match locked.give(worker, item) {
+                Ok(()) => return,
+                Err((_, item)) => item,
+            };
+            if locked.floor().stopped() {
+                item = match locked.back(worker, item) {
+                    Ok(()) => {
+                        drop(locked);
+                        self.wake_all();
+                        return;
+                    }
+                    Err((_, item)) => item,
+                };
+            }
+            locked = self.crews[stage].for_room.sleep(rt, locked);
+        }
+        unreachable!()
+    }
+
+    // All workers leave, once they may.
+    pub(super) fn leave_all<R: Wait>(&self, rt: &R, crew: usize, all: &mut Share<L>)
+        requires crew { crew ≡ workers N.plan }
+        requires parts { all.old.parts ≡ workers N.plan }
+        requires none { all.old.amount ≡ 0 }
+        ensures parts { all.new.parts ≡ all.old.parts }
+        ensures leaves { all.new.amount ≡ workers N.plan }
+    {
+        for worker in 0..crew {
+            self.leave(rt, worker, all);
+        }
+    }
+
+    // A worker leaves, once it may.
+    fn leave<R: Wait>(&self, rt: &R, worker: usize, all: &mut Share<L>)
+        requires worker { worker < workers N.plan }
+        requires part { 0 < all.old.parts }
+        ensures parts { all.new.parts ≡ all.old.parts }
+        ensures leaves { all.new.amount ≡ all.old.amount + 1 }
+    {
+        for _ in rt.forever() {
+            if self.locked.lock(rt).leave(worker, all).is_ok() {
+                return;
+            }
         }
         unreachable!()
     }

@@ -5,7 +5,7 @@ ghost use Rattle.stage_graph.specs.Steps.{value_of};
 ghost use Rattle.stage_graph.specs.After.{last_cut, with_steps};
 ghost use Rattle.std.specs.List.{range_with_len};
 
-use stage_graph::{Chain, Gate, History, Named, Plan, Run, RunName, Unrun, run_floor};
+use stage_graph::{Chain, Gate, History, Named, Plan, Run, RunName, Unrun, run_floor, run_through};
 use std::alloc::Global;
 use std::marker::{Brand, PhantomData};
 use std::sync::Wait;
@@ -100,8 +100,9 @@ impl<'a, K: Sums> Chain for Adding<'a, K> {
 // The items of the inputs, with no step done.
 pub fn items_of<K: Sums>(alloc: Global, inputs: &[u64]) -> Result<Vec<Sum<K>>, Unrun>
     requires { inputs.now ≡ K.inputs }
-    ensures { IfOk result
+    ensures fresh { IfOk result
         (λ v. map (λ x. (x.number, x.done)) v.items ≡ map (with_steps 0) (range_with_len 0 (length inputs.now))) }
+    ensures len { IfOk result (λ v. length v.items ≡ length inputs.now) }
 {
     let mut items = Vec::with_capacity(alloc, inputs.len())?;
     for i in 0..inputs.len() {
@@ -198,4 +199,40 @@ pub fn sums_of<G: Gate + Sync, R: Threads + Wait + Sync>(
         (value_of (λ k x. (x * 2 + slice_index addends.now k) % 2 ^ 64) (length addends.now)) inputs.now) }
 {
     sums_with::<Brand, G, R>(rt, alloc, plan, addends, refused, inputs, gate)
+}
+
+fn lots_with<K: Sums + Send + Sync, G: Gate + Sync, R: Threads + Wait + Sync>(
+    rt: &R,
+    alloc: Global,
+    threads: usize,
+    plan: Plan,
+    addends: &[u64],
+    refused: Option<usize>,
+    inputs: &[u64],
+    gate: &G,
+) -> Result<Vec<u64>, Unrun>
+    requires inputs { inputs.now ≡ K.inputs }
+    requires addends { addends.now ≡ K.addends }
+    requires cut { last_cut plan ≡ length addends.now }
+{
+    let items = items_of::<K>(alloc, inputs)?;
+    let chain = chain_over::<K>(addends, refused);
+    let items = run_through::<Adding<K>, G, R>(rt, alloc, threads, plan, &chain, items, gate)?;
+    values_of(alloc, items)
+}
+
+// The sums of all inputs by the chain over a table, by so many threads at most where the gate never holds an item.
+pub fn sums_through<G: Gate + Sync, R: Threads + Wait + Sync>(
+    rt: &R,
+    alloc: Global,
+    threads: usize,
+    plan: Plan,
+    addends: &[u64],
+    refused: Option<usize>,
+    inputs: &[u64],
+    gate: &G,
+) -> Result<Vec<u64>, Unrun>
+    requires { last_cut plan ≡ length addends.now }
+{
+    lots_with::<Brand, G, R>(rt, alloc, threads, plan, addends, refused, inputs, gate)
 }

@@ -1,0 +1,129 @@
+-- Items that travel in lots.
+use Rattle.std.proofs.Common.{◌≡◌, ℕ, zero, suc, ◌+◌, List, [], ◌∷◌, ◌++◌, drop, map, refl, sym, ap, ◌∙◌, arith, get_or, length, append_assoc}
+use Rattle.std.specs.Prelude.{flat_map, Bool, true, false}
+use Rattle.std.proofs.lemmas.List.{map-append}
+use Rattle.std.specs.List.{range_with_len}
+use Rattle.stage_graph.specs.After.{with_steps}
+use Rattle.stage_graph.specs.Layouts.{Layout, IsPlan, stages}
+use Rattle.stage_graph.specs.Steps.{value_of}
+use Rattle.stage_graph.proofs.ByNumber.{by_number}
+use Rattle.stage_graph.specs.Lots.{step_each, inputs_in, numbers_in, lot_content, lot_value, each_alone}
+
+-- the first of a lot's items, and the others
+pub first_mark : {X : Type 0} (mark : X → ℕ × ℕ) (d : ℕ) (xs ys : List X) (x : X) (ns : List ℕ) → xs ≡ x ∷ ys → map mark xs ≡ map (with_steps d) ns
+    → ((mark x).1 ≡ d) × ((ms : List ℕ) × (map mark ys ≡ map (with_steps d) ms))
+first_mark mark d xs ys x [] e h = absurd (let z : ⊥ = grind (arith, e, h) in z)
+first_mark mark d xs ys x (n ∷ ns) e h =
+    let all : ◌≡◌ {A = List (ℕ × ℕ)} (mark x ∷ map mark ys) ((n, d) ∷ map (with_steps d) ns) = rw e at h in
+    let one : mark x ≡ (n, d) = cc in
+    let rest : map mark ys ≡ map (with_steps d) ns = cc in
+    (ap (λ (p : ℕ × ℕ). p.1) one, (ns, rest))
+
+-- one more step is done to each
+pub one_more : {X : Type 0} (number done : X → ℕ) (d : ℕ) (xs : List X) (ns : List ℕ)
+    → map {B = ℕ × ℕ} (λ x. (number x, done x)) xs ≡ map (with_steps d) ns → ◌≡◌ {A = List (ℕ × ℕ)} (map {B = ℕ × ℕ} (λ x. (number x, done x + 1)) xs) (map (with_steps (d + 1)) ns)
+one_more number done d [] [] h = refl
+one_more number done d [] (n ∷ ns) h = absurd (let z : ⊥ = grind (arith, h) in z)
+one_more number done d (x ∷ xs) [] h = absurd (let z : ⊥ = grind (arith, h) in z)
+one_more number done d (x ∷ xs) (n ∷ ns) h =
+    let one : ◌≡◌ {A = ℕ × ℕ} (number x, done x) (n, d) = cc in
+    let rest : map {B = ℕ × ℕ} (λ x. (number x, done x)) xs ≡ map (with_steps d) ns = cc in
+    let first : ◌≡◌ {A = ℕ × ℕ} (number x, done x + 1) (n, d + 1) = ap (λ (p : ℕ × ℕ). (p.0, p.1 + 1)) one in
+    ap (λ p. p ∷ map {B = ℕ × ℕ} (λ x. (number x, done x + 1)) xs) first ∙ ap (λ ps. (n, d + 1) ∷ ps) (one_more number done d xs ns rest)
+
+-- lots, read by number
+pub lots_by_number : {V : Type 0} (f : List ℕ → V) (lots : List (List ℕ)) → map (λ k. f (numbers_in lots k)) (range_with_len 0 (length lots)) ≡ map f lots
+lots_by_number f lots = by_number f lots []
+
+-- what the lots hold, one after another
+pub all_alone : {V : Type 0} (step : ℕ → V → V) (input : ℕ → V) (d : ℕ) (lots : List (List ℕ))
+    → flat_map (λ vs. vs) (map (λ ns. value_of (step_each step) d (map input ns)) lots) ≡ map (λ n. value_of step d (input n)) (flat_map (λ ns. ns) lots)
+all_alone step input d [] = refl
+all_alone step input d (ns ∷ lots) =
+    ap (λ vs. vs ++ flat_map (λ vs. vs) (map (λ ns. value_of (step_each step) d (map input ns)) lots)) (each_alone step input d ns)
+    ∙ (ap (λ vs. map (λ n. value_of step d (input n)) ns ++ vs) (all_alone step input d lots)
+    ∙ sym (map-append (λ n. value_of step d (input n)) ns (flat_map (λ ns. ns) lots)))
+
+-- the numbers of items that have as many steps done
+pub numbers_are : {X : Type 0} (number done : X → ℕ) (d : ℕ) (xs : List X) (ns : List ℕ)
+    → map {B = ℕ × ℕ} (λ x. (number x, done x)) xs ≡ map (with_steps d) ns → map number xs ≡ ns
+numbers_are number done d [] [] h = refl
+numbers_are number done d [] (n ∷ ns) h = absurd (let z : ⊥ = grind (arith, h) in z)
+numbers_are number done d (x ∷ xs) [] h = absurd (let z : ⊥ = grind (arith, h) in z)
+numbers_are number done d (x ∷ xs) (n ∷ ns) h =
+    let one : ◌≡◌ {A = ℕ × ℕ} (number x, done x) (n, d) = cc in
+    let rest : map {B = ℕ × ℕ} (λ x. (number x, done x)) xs ≡ map (with_steps d) ns = cc in
+    ap (λ k. k ∷ map number xs) (ap (λ (p : ℕ × ℕ). p.0) one) ∙ ap (λ ks. n ∷ ks) (numbers_are number done d xs ns rest)
+
+-- a lot in front of others
+split_marks : {X : Type 0} (number done : X → ℕ) (d : ℕ) (xs ys : List X) (ns : List ℕ)
+    → map {B = ℕ × ℕ} (λ x. (number x, done x)) (xs ++ ys) ≡ map (with_steps d) ns
+    → (map {B = ℕ × ℕ} (λ x. (number x, done x)) xs ≡ map (with_steps d) (map number xs)) × ((ms : List ℕ) × (map {B = ℕ × ℕ} (λ x. (number x, done x)) ys ≡ map (with_steps d) ms))
+split_marks number done d [] ys ns h = (refl, (ns, h))
+split_marks number done d (x ∷ xs) ys [] h = absurd (let z : ⊥ = grind (arith, h) in z)
+split_marks number done d (x ∷ xs) ys (n ∷ ns) h =
+    let one : ◌≡◌ {A = ℕ × ℕ} (number x, done x) (n, d) = cc in
+    let rest : map {B = ℕ × ℕ} (λ x. (number x, done x)) (xs ++ ys) ≡ map (with_steps d) ns = cc in
+    let more = split_marks number done d xs ys ns rest in
+    let first : ◌≡◌ {A = ℕ × ℕ} (number x, done x) (number x, d) = ap (λ (p : ℕ × ℕ). (number x, p.1)) one in
+    (ap (λ p. p ∷ map {B = ℕ × ℕ} (λ x. (number x, done x)) xs) first ∙ ap (λ ps. (number x, d) ∷ ps) more.0, more.1)
+
+-- fresh items in lots are fresh
+pub fresh_lots : {X L : Type 0} (number done : X → ℕ) (d : ℕ) (items : L → List X) (lots : List L) (ns : List ℕ)
+    → map {B = ℕ × ℕ} (λ x. (number x, done x)) (flat_map items lots) ≡ map (with_steps d) ns
+    → map (λ v. map {B = ℕ × ℕ} (λ x. (number x, done x)) (items v)) lots ≡ map (map (with_steps d)) (map (λ v. map number (items v)) lots)
+fresh_lots number done d items [] ns h = refl
+fresh_lots number done d items (v ∷ lots) ns h =
+    let both = split_marks number done d (items v) (flat_map items lots) ns h in
+    let rest = fresh_lots number done d items lots both.1.0 both.1.1 in
+    ap (λ ps. ps ∷ map (λ w. map {B = ℕ × ℕ} (λ x. (number x, done x)) (items w)) lots) both.0
+    ∙ ap (λ pss. map (with_steps d) (map number (items v)) ∷ pss) rest
+
+-- the numbers in all lots are those of the items
+pub flat_numbers : {X L : Type 0} (number : X → ℕ) (items : L → List X) (lots : List L)
+    → flat_map (λ ns. ns) (map (λ v. map number (items v)) lots) ≡ map number (flat_map items lots)
+flat_numbers number items [] = refl
+flat_numbers number items (v ∷ lots) =
+    ap (λ ns. map number (items v) ++ ns) (flat_numbers number items lots) ∙ sym (map-append number (items v) (flat_map items lots))
+
+-- a plan with queues of other capacities
+pub resized : (p : Layout) (capacities : List ℕ) → IsPlan p → length capacities ≡ stages p → IsPlan (record { cuts = p.cuts; posts = p.posts; capacities = capacities })
+resized p capacities h e = record {
+  some = h.some;
+  capacities = e;
+  posted = h.posted;
+  manned = h.manned;
+  bounded = h.bounded;
+  rising = h.rising;
+}
+
+-- the marks of the lots that follow the first
+pub rest_marks : {X B : Type 0} (f : X → B) (w : List ℕ → B) (xs ys : List X) (x : X) (lots : List (List ℕ)) (k : ℕ)
+    → xs ≡ x ∷ ys → map f xs ≡ map w (drop k lots) → map f ys ≡ map w (drop (k + 1) lots)
+rest_marks f w xs ys x lots k e h =
+    let n : k + 1 ≡ suc k = omega arith in
+    rw n (after f w xs ys x lots k e h)
+  where
+    after : {X B : Type 0} (f : X → B) (w : List ℕ → B) (xs ys : List X) (x : X) (lots : List (List ℕ)) (k : ℕ)
+        → xs ≡ x ∷ ys → map f xs ≡ map w (drop k lots) → map f ys ≡ map w (drop (suc k) lots)
+    after f w xs ys x [] zero e h = absurd (let z : ⊥ = grind (arith, e, h) in z)
+    after f w xs ys x [] (suc k) e h = absurd (let z : ⊥ = grind (arith, e, h) in z)
+    after f w xs ys x (l ∷ lots) zero e h = let all : f x ∷ map f ys ≡ w l ∷ map w lots = rw e at h in cc
+    after f w xs ys x (l ∷ lots) (suc k) e h = after f w xs ys x lots k e h
+
+-- an item that was worked on goes from those that are left to those that are done
+pub step_append : {X : Type 0} (mark more : X → ℕ × ℕ) (done old new : List X) (x y : X) (all : List (ℕ × ℕ))
+    → old ≡ x ∷ new → mark y ≡ more x → map mark done ++ map more old ≡ all → map mark (done ++ y ∷ []) ++ map more new ≡ all
+step_append mark more done old new x y all steps same h =
+    ap (λ ms. ms ++ map more new) (map-append mark done (y ∷ []))
+    ∙ (append_assoc (map mark done) (mark y ∷ []) (map more new)
+    ∙ (ap (λ m. map mark done ++ (m ∷ map more new)) same
+    ∙ (ap (λ xs. map mark done ++ map more xs) (sym steps) ∙ h)))
+
+-- the items of lots, by what they are seen as
+pub flat_map-seen : {A B C : Type 0} (f : B → List C) (g : A → B) (xs : List A) → flat_map (λ x. f (g x)) xs ≡ flat_map f (map g xs)
+flat_map-seen f g [] = refl
+flat_map-seen f g (x ∷ xs) = ap (λ l. f (g x) ++ l) (flat_map-seen f g xs)
+
+pub length-more : {X : Type 0} (xs ys : List X) (x : X) → xs ≡ x ∷ ys → length xs ≡ length ys + 1
+length-more xs ys x e = rw e (omega arith)

@@ -1,0 +1,395 @@
+//! A floor on which items travel in lots: several of them are given on at once.
+
+ghost use Rattle.std.specs.Prelude.{◌≡◌, ◌+◌, ◌<◌, ◌++◌, ℕ, List, true, map, flat_map, length, IfOk, IfSome};
+ghost use Rattle.std.specs.List.{range_with_len};
+ghost use Rattle.stage_graph.specs.After.{with_steps, last_cut};
+ghost use Rattle.stage_graph.specs.Lots.{step_each, inputs_in, numbers_in, lot_content, lot_value, lot_holds};
+ghost use Rattle.stage_graph.specs.Steps.{value_of};
+
+use crate::run::pool::run_pool;
+use crate::{Chain, Gate, Named, Plan, RunName, Unrun, run_floor};
+use stage_queue::Memory;
+use std::alloc::{AllocError, Global};
+use std::marker::{Brand, PhantomData};
+use std::sync::Wait;
+use std::thread::Threads;
+
+/// The most items in a lot.
+const MOST: usize = 32;
+
+/// How many lots there are at least, so that each worker finds some.
+const LOTS: usize = 32;
+
+/// Names the lots: the numbers of the items in each.
+pub trait LotName {
+    ghost use Rattle.std.specs.Prelude.{ℕ, List};
+
+    ghost lots: { List (List ℕ) };
+}
+
+impl LotName for Brand {
+    ghost use Rattle.std.specs.Prelude.{[]};
+
+    ghost lots = { [] };
+}
+
+/// What a lot's content is seen as: the values of its items. No value of it is made.
+#[derive(Drop)]
+pub struct Values<V> {
+    of: PhantomData<V>,
+}
+
+impl<V> std::marker::Model for Values<V> {
+    ghost use Rattle.std.specs.Prelude.{List, []};
+
+    ghost Value = { List V };
+
+    ghost view = { λ _. [] };
+}
+
+/// A lot: some items with as many steps done to each, or none any more where a step was refused memory.
+#[derive(Drop)]
+pub struct Lot<C: Chain, K: LotName> {
+    number: usize,
+    done: usize,
+    whole: bool,
+    items: Vec<C::Item>,
+    of: PhantomData<K>,
+    ghost marks: { whole ≡ true → map (λ x. (C.Item.number_of x, C.Item.done_of x)) items.items
+        ≡ map (with_steps done) (numbers_in K.lots number) },
+}
+
+impl<C: Chain, K: LotName> Named for Lot<C, K> {
+    ghost number_of = { λ x. x.number };
+
+    ghost done_of = { λ x. x.done };
+
+    fn number(&self) -> usize {
+        self.number
+    }
+
+    fn done(&self) -> usize {
+        self.done
+    }
+}
+
+/// A chain whose steps are done to each item of a lot.
+#[derive(Drop)]
+pub struct Lots<'a, C: Chain, K: LotName> {
+    alloc: Global,
+    chain: &'a C,
+    of: PhantomData<K>,
+}
+
+/// The items after one more step each; nothing where one was refused memory.
+fn step_all<C: Chain>(
+    chain: &C,
+    alloc: Global,
+    done: usize,
+    items: Vec<C::Item>,
+) -> Option<Vec<C::Item>>
+    requires marks { (numbers : List ℕ) × (map (λ x. (C.Item.number_of x, C.Item.done_of x)) items.items
+        ≡ map (with_steps done) numbers) }
+    requires more { done < C.steps }
+    ensures { IfSome result (λ v. map (λ x. (C.Item.number_of x, C.Item.done_of x)) v.items
+        ≡ map {B = ℕ × ℕ} (λ x. (C.Item.number_of x, C.Item.done_of x + 1)) items.items) }
+{
+    let Ok(mut stepped) = Vec::with_capacity(alloc, items.len()) else {
+        return None;
+    };
+    for item in items {
+        match chain.work(item) {
+            Ok(item) => stepped.push_reserved(item),
+            Err(_) => return None,
+        }
+    }
+    Some(stepped)
+}
+
+impl<'a, C: Chain, K: LotName> Chain for Lots<'a, C, K> {
+    type Item = Lot<C, K>;
+
+    type Value = Values<C::Value>;
+
+    ghost steps = { C.steps };
+
+    ghost step = { step_each C.step };
+
+    ghost input_at = { λ n. inputs_in C.input_at K.lots n };
+
+    ghost content = { λ x. lot_content C.content C.step C.input_at K.lots x.whole x.items.items x.done x.number };
+
+    fn steps(&self) -> usize {
+        self.chain.steps()
+    }
+
+    fn work(&self, item: Lot<C, K>) -> Result<Lot<C, K>, Lot<C, K>> {
+        let Lot {
+            number,
+            done,
+            whole,
+            items,
+            of,
+        } = item;
+        // So that one step more can be counted.
+        let _steps = self.chain.steps();
+        if !whole {
+            return Err(spoiled(self.alloc, number, done));
+        }
+        match step_all(self.chain, self.alloc, done, items) {
+            Some(items) => Ok(Lot {
+                number,
+                done: done + 1,
+                whole: true,
+                items,
+                of,
+            }),
+            None => Err(spoiled(self.alloc, number, done)),
+        }
+    }
+
+    ghost holds = { λ x. lot_holds C.content C.Item.number_of C.Item.done_of C.step C.input_at K.lots C.holds
+        x.whole x.items.items x.done x.number x.marks };
+}
+
+/// A lot whose items are dropped.
+fn spoiled<C: Chain, K: LotName>(alloc: Global, number: usize, done: usize) -> Lot<C, K>
+    ensures { (result.number ≡ number) × (result.done ≡ done) }
+{
+    Lot {
+        number,
+        done,
+        whole: false,
+        items: Vec::new(alloc),
+        of: PhantomData,
+    }
+}
+
+/// A gate that sees the items of each lot.
+#[derive(Drop)]
+struct LotGate<'a, G> {
+    gate: &'a G,
+    /// How many items each lot has, but the last, which may have fewer.
+    size: usize,
+    /// How many items there are.
+    count: usize,
+}
+
+impl<'a, G> LotGate<'a, G> {
+    /// The numbers of the items in a lot: the first, and the one after the last.
+    fn range(&self, lot: usize) -> (usize, usize) {
+        let first = lot.saturating_mul(self.size);
+        (first, first.saturating_add(self.size).min(self.count))
+    }
+}
+
+impl<'a, G: Gate> Gate for LotGate<'a, G> {
+    fn enter(&self, stage: usize, lot: usize) {
+        let (first, end) = self.range(lot);
+        for number in first..end {
+            self.gate.enter(stage, number);
+        }
+    }
+
+    fn left(&self, stage: usize, lot: usize) {
+        let (first, end) = self.range(lot);
+        for number in first..end {
+            self.gate.left(stage, number);
+        }
+    }
+}
+
+/// How many items go into a lot: as many as the queue of each stage has room for, and few enough that there are lots
+/// for all workers.
+fn lot_size(plan: &Plan, count: usize) -> usize {
+    let mut size = MOST.min(count / LOTS).max(1);
+    for stage in 0..plan.stages() {
+        size = size.min(plan.capacity(stage));
+    }
+    size
+}
+
+/// Puts a lot after the others if it is full: what is left of it.
+fn laid_by<T: Drop>(
+    alloc: Global,
+    lots: &mut Vec<Vec<T>>,
+    lot: Vec<T>,
+    size: usize,
+) -> Result<Vec<T>, AllocError>
+    ensures { IfOk result (λ rest. flat_map (λ v. v.items) lots.new.items ++ rest.items
+        ≡ flat_map (λ v. v.items) lots.old.items ++ lot.items) }
+{
+    if lot.len() < size {
+        return Ok(lot);
+    }
+    lots.push(lot)?;
+    Vec::with_capacity(alloc, size)
+}
+
+/// The items in lots of this size, one after another; the last may be smaller.
+fn lots_of<T: Drop>(alloc: Global, size: usize, items: Vec<T>) -> Result<Vec<Vec<T>>, AllocError>
+    ensures { IfOk result (λ lots. flat_map (λ v. v.items) lots.items ≡ items.items) }
+{
+    let mut lots = Vec::new(alloc);
+    let mut lot = Vec::with_capacity(alloc, size)?;
+    for item in items {
+        lot = laid_by(alloc, &mut lots, lot, size)?;
+        lot.push(item)?;
+    }
+    lots.push(lot)?;
+    Ok(lots)
+}
+
+/// A lot with no step done.
+fn new_lot<C: Chain, K: LotName>(number: usize, items: Vec<C::Item>) -> Lot<C, K>
+    requires { map (λ x. (C.Item.number_of x, C.Item.done_of x)) items.items
+        ≡ map (with_steps 0) (numbers_in K.lots number) }
+    ensures { (result.number ≡ number) × (result.done ≡ 0) }
+{
+    Lot {
+        number,
+        done: 0,
+        whole: true,
+        items,
+        of: PhantomData,
+    }
+}
+
+/// The lots as items of a floor, with no step done.
+fn lot_items<C: Chain, K: LotName>(
+    alloc: Global,
+    lots: Vec<Vec<C::Item>>,
+) -> Result<Vec<Lot<C, K>>, AllocError>
+    requires { map (λ v. map (λ x. (C.Item.number_of x, C.Item.done_of x)) v.items) lots.items
+        ≡ map (map (with_steps 0)) K.lots }
+    ensures { IfOk result (λ v. map (λ x. (x.number, x.done)) v.items
+        ≡ map (with_steps 0) (range_with_len 0 (length lots.items))) }
+{
+    let mut items = Vec::with_capacity(alloc, lots.len())?;
+    for lot in lots {
+        let number = items.len();
+        items.push_reserved(new_lot(number, lot));
+    }
+    Ok(items)
+}
+
+/// The items of the lots, one after another; out of memory where one was refused it.
+fn items_of<C: Chain, K: LotName>(
+    alloc: Global,
+    count: usize,
+    lots: Vec<Lot<C, K>>,
+) -> Result<Vec<C::Item>, Unrun>
+    ensures { IfOk result (λ v. map C.content v.items
+        ≡ flat_map (λ x. lot_content C.content C.step C.input_at K.lots x.whole x.items.items x.done x.number)
+        lots.items) }
+{
+    let mut items = Vec::with_capacity(alloc, count)?;
+    for lot in lots {
+        let Lot {
+            whole,
+            items: mut own,
+            ..
+        } = lot;
+        if !whole {
+            return Err(Unrun::Memory);
+        }
+        items.append(&mut own)?;
+    }
+    Ok(items)
+}
+
+/// Runs a floor of lots.
+fn run_lots<
+    C: Chain + Sync,
+    K: LotName + RunName + Send + Sync,
+    G: Gate + Sync,
+    R: Threads + Wait + Sync,
+>(
+    rt: &R,
+    alloc: Global,
+    threads: usize,
+    plan: Plan,
+    chain: &C,
+    lots: Vec<Vec<C::Item>>,
+    gate: &LotGate<'_, G>,
+) -> Result<Vec<C::Item>, Unrun>
+where
+    C::Item: Send,
+    requires fresh { map (λ v. map (λ x. (C.Item.number_of x, C.Item.done_of x)) v.items) lots.items
+        ≡ map (map (with_steps 0)) K.lots }
+    requires count { length lots.items ≡ K.count }
+    requires plan { plan ≡ K.plan }
+    requires cut { last_cut plan ≡ C.steps }
+    ensures { IfOk result (λ v. map C.content v.items
+        ≡ map (λ n. value_of C.step C.steps (C.input_at n)) (flat_map (λ ns. ns) K.lots)) }
+{
+    let count = gate.count;
+    let items = lot_items::<C, K>(alloc, lots)?;
+    let chain = Lots::<C, K> {
+        alloc,
+        chain,
+        of: PhantomData,
+    };
+    let run = run_pool::<Lots<C, K>, K, LotGate<G>, R>(
+        rt, alloc, threads, plan, &chain, items, gate,
+    )?;
+    Ok(items_of(alloc, count, run.into_items())?)
+}
+
+/// Runs a floor of items, each for itself.
+fn run_each<C: Chain + Sync, N: RunName + Send + Sync, G: Gate + Sync, R: Threads + Wait + Sync>(
+    rt: &R,
+    alloc: Global,
+    plan: Plan,
+    chain: &C,
+    items: Vec<C::Item>,
+    gate: &G,
+) -> Result<Vec<C::Item>, Unrun>
+where
+    C::Item: Send,
+    requires plan { plan ≡ N.plan }
+    requires fresh { map (λ x. (C.Item.number_of x, C.Item.done_of x)) items.items
+        ≡ map (with_steps 0) (range_with_len 0 N.count) }
+    requires cut { last_cut plan ≡ C.steps }
+    ensures { IfOk result (λ v. map C.content v.items
+        ≡ map (λ n. value_of C.step C.steps (C.input_at n)) (range_with_len 0 N.count)) }
+{
+    let run = run_floor::<C, N, G, R>(rt, alloc, plan, chain, items, gate)?;
+    Ok(run.into_items())
+}
+
+/// Runs a floor to its end, as [`run_floor`] does, and gives the items by number, each with the chain's value of its own
+/// input. Where the gate never holds an item, so many threads at most work, each for any worker that is free, and items
+/// travel in lots: each queue has room for as many items as the plan says all the same, and the gate sees each item, one
+/// after another where they enter or leave together. It may wait.
+///
+/// # Errors
+///
+/// `Memory`, and `Stopped` with the history of the floor that was stopped, whose items may be lots.
+pub fn run_through<C: Chain + Sync, G: Gate + Sync, R: Threads + Wait + Sync>(
+    rt: &R,
+    alloc: Global,
+    threads: usize,
+    plan: Plan,
+    chain: &C,
+    items: Vec<C::Item>,
+    gate: &G,
+) -> Result<Vec<C::Item>, Unrun>
+where
+    C::Item: Send,
+    requires fresh { map (λ x. (C.Item.number_of x, C.Item.done_of x)) items.items
+        ≡ map (with_steps 0) (range_with_len 0 (length items.items)) }
+    requires cut { last_cut plan ≡ C.steps }
+    ensures { IfOk result (λ v. map C.content v.items
+        ≡ map (λ n. value_of C.step C.steps (C.input_at n)) (range_with_len 0 (length items.items))) }
+{
+    let count = items.len();
+    if !gate.is_open() {
+        return Ok(run_each::<C, Brand, G, R>(rt, alloc, plan, chain, items, gate)?);
+    }
+    let size = lot_size(&plan, count);
+    let plan = plan.in_lots(alloc, size)?;
+    let lots = lots_of(alloc, size, items)?;
+    let gate = LotGate { gate, size, count };
+    Ok(run_lots::<C, Brand, G, R>(rt, alloc, threads, plan, chain, lots, &gate)?)
+}

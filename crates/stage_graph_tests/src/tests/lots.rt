@@ -1,0 +1,144 @@
+//! Floors run by threads that take what comes, with items in lots.
+use super::adding::sums_through;
+use super::plan_of;
+use stage_graph::{Gate, NoGate, Unrun};
+use std::alloc::Global;
+use std::process::Abort;
+use std::sync::Wait;
+use std::sync::atomic::{AtomicU64, Ordering};
+use std::test::*;
+use std::thread::Threads;
+
+type Lists = (&'static [usize], &'static [usize], &'static [usize]);
+
+const TABLE: [u64; 3] = [1, 10, 100];
+
+// The sums of the inputs on a floor of three steps.
+fn through<G: Gate + Sync, R: Threads + Wait + Sync>(
+    rt: &R,
+    alloc: Global,
+    threads: usize,
+    lists: Lists,
+    refused: Option<usize>,
+    inputs: &[u64],
+    gate: &G,
+) -> Result<Vec<u64>, Unrun> {
+    let Some(plan) = plan_of(alloc, lists.0, lists.1, lists.2) else {
+        return Err(Unrun::Memory);
+    };
+    if plan.steps() != 3 {
+        return Err(Unrun::Memory);
+    }
+    sums_through(rt, alloc, threads, plan, &TABLE, refused, inputs, gate)
+}
+
+// An open gate that counts the items that go in and out, and adds up their numbers.
+#[derive(Drop)]
+struct Counter {
+    entered: AtomicU64,
+    left: AtomicU64,
+    numbers: AtomicU64,
+    open: bool,
+}
+
+impl Gate for Counter {
+    fn enter(&self, _stage: usize, number: usize) {
+        self.entered.fetch_add(1, Ordering::SeqCst);
+        self.numbers.fetch_add(number as u64, Ordering::SeqCst);
+    }
+
+    fn left(&self, _stage: usize, _number: usize) {
+        self.left.fetch_add(1, Ordering::SeqCst);
+    }
+
+    fn is_open(&self) -> bool {
+        self.open
+    }
+}
+
+// Each item has its own sum, and the gate saw it enter and leave each stage, by its number.
+fn try_inputs<R: Threads + Wait + Sync + Abort>(
+    rt: &R,
+    alloc: Global,
+    threads: usize,
+    lists: Lists,
+    count: u64,
+    open: bool,
+) -> Result<(), Fail> {
+    let inputs: Vec<u64> = (0..count).collect(alloc)?;
+    let gate = Counter {
+        entered: AtomicU64::new(0),
+        left: AtomicU64::new(0),
+        numbers: AtomicU64::new(0),
+        open,
+    };
+    let sums = through(rt, alloc, threads, lists, None, &inputs, &gate)?;
+    assert_eq!(rt; sums.len(), inputs.len());
+    for (sum, input) in sums.iter().zip(&inputs) {
+        // 2 * (2 * (2 * input + 1) + 10) + 100
+        assert_eq!(rt; *sum, input.wrapping_mul(8).wrapping_add(124));
+    }
+    let stages = lists.0.len() as u64;
+    let passed = stages.wrapping_mul(count);
+    let added = passed.wrapping_mul(count.wrapping_sub(1)) / 2;
+    assert_eq!(rt; gate.entered.load(Ordering::SeqCst), passed);
+    assert_eq!(rt; gate.left.load(Ordering::SeqCst), passed);
+    assert_eq!(rt; gate.numbers.load(Ordering::SeqCst), added);
+    Ok(())
+}
+
+#[test]
+fn each_count(rt: HostRuntime) -> Result<(), Fail> {
+    let plans: [Lists; 4] = [
+        (&[3], &[4], &[64]),
+        (&[1, 2, 3], &[2, 2, 2], &[64, 64, 64]),
+        (&[1, 3], &[3, 1], &[1, 2]),
+        (&[2, 3], &[1, 16], &[4096, 7]),
+    ];
+    for lists in plans {
+        for count in [1, 2, 31, 64, 65, 1000, 1025] {
+            for threads in [0, 1, 3, 64] {
+                try_inputs(&rt, rt.alloc(), threads, lists, count, true)?;
+            }
+        }
+        try_inputs(&rt, rt.alloc(), 2, lists, 65, false)?;
+    }
+    Ok(())
+}
+
+#[test]
+fn no_item(rt: HostRuntime) -> Result<(), Fail> {
+    let sums = through(
+        &rt,
+        rt.alloc(),
+        4,
+        (&[1, 3], &[2, 1], &[1, 1]),
+        None,
+        &[],
+        &NoGate,
+    )?;
+    assert!(rt; sums.is_empty());
+    Ok(())
+}
+
+// Each step is refused in turn.
+#[test]
+fn refused_lots(rt: HostRuntime) -> Result<(), Fail> {
+    let inputs = [3; 500];
+    let lists: Lists = (&[1, 2, 3], &[3, 2, 2], &[1, 9, 64]);
+    for step in 0..3usize {
+        for threads in [1, 4] {
+            let refused = through(
+                &rt,
+                rt.alloc(),
+                threads,
+                lists,
+                Some(step),
+                &inputs,
+                &NoGate,
+            );
+            assert!(rt; matches!(refused, Err(Unrun::Stopped(_))));
+        }
+    }
+    Ok(())
+}
