@@ -221,8 +221,8 @@ impl<C: Chain, N: RunName, L: Ledger> Shared<C, N, L> {
         unreachable!()
     }
 
-    // Takes an item for a worker of the last stage that has one and a worker whose hand is empty. Feeds first what there
-    // is room for.
+    // Takes an item for a worker of the last stage that has one and a worker whose hand is empty. Feeds first what
+    // there is room for.
     pub(super) fn pick<R: Wait>(&self, rt: &R) -> Option<Picked<C>>
         ensures { IfSome result (λ p. (p.worker < workers N.plan) × (p.stage < stages N.plan)
             × (p.cut ≤ last_cut N.plan)) }
@@ -246,7 +246,8 @@ impl<C: Chain, N: RunName, L: Ledger> Shared<C, N, L> {
         None
     }
 
-    // Gives the item on, once there is room for it. Where the floor is stopped and there is none, it sends the item back.
+    // Gives the item on, once there is room for it. Where the floor is stopped and there is none, it sends the item
+    // back.
     pub(super) fn hand_on<R: Wait>(&self, rt: &R, worker: usize, stage: usize, item: C::Item)
         requires worker { worker < workers N.plan }
         requires stage { stage < stages N.plan }
