@@ -56,6 +56,13 @@ use std::sync::{Mutex, MutexGuard, Wait};
 // the queue falls to half, and those that wait for room are woken, if of all workers of the stage one comes back. A
 // gate that holds them all, until an item after the held ones has moved on, can count on half of the queue's
 // capacity and one place more: nobody sleeps for good before a queue with fewer items.
+//
+// The threads of a pool (`pick`, `hand_on`, `leave_all`) have no worker of their own, and sleep at `for_room` alone.
+// None sleeps for good: say that all sleep, the last queue at which one does is of stage k, and the last item that came
+// into it was given by a thread Z. Z picked next, from the last stage on, and found an item in that queue, so it took
+// one, unless each worker of stage k had one; who held those gave them on, since nobody sleeps beyond, and picked in
+// turn. So the queue fell to half, and a sleeper was woken. None of the items is left behind: a thread ends where it
+// finds nothing to take, and who holds an item then looks again once it was given.
 #[derive(Drop)]
 pub(super) struct Shared<C: Chain, N: RunName, L: Ledger> {
     locked: Mutex<Locked<C, N, L>>,
