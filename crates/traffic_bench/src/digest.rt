@@ -3,21 +3,50 @@
 use std::io;
 use std::io::Write;
 
+/// How many sums are kept side by side, each of every fourth word: a long chain of multiplications would take longer
+/// than what is measured.
+const LANES: usize = 4;
+
 /// The sum of a text, whatever the writes that it came in.
 #[derive(Clone, Copy, Debug)]
 pub struct Sum {
-    value: u64,
+    lanes: [u64; LANES],
+    /// The lane of the next word.
+    lane: usize,
     bytes: u64,
     /// The bytes after the last whole word.
     rest: u64,
     held: u32,
 }
 
+/// A sum that goes on with eight bytes.
+fn mixed(value: u64, word: u64) -> u64 {
+    let mixed = (value ^ word).wrapping_mul(0x9e37_79b9_7f4a_7c15);
+    mixed ^ (mixed >> 29)
+}
+
+/// The word at the front of some bytes.
+fn first_word(bytes: &[u8]) -> u64 {
+    match bytes.first_chunk::<8>() {
+        Some(word) => u64::from_be_bytes(*word),
+        None => 0,
+    }
+}
+
+/// The word after n bytes.
+fn word_after(bytes: &[u8], n: usize) -> u64 {
+    match bytes.get(n..) {
+        Some(bytes) => first_word(bytes),
+        None => 0,
+    }
+}
+
 impl Sum {
     /// The sum of the empty text.
     pub fn new() -> Sum {
         Sum {
-            value: 0xcbf2_9ce4_8422_2325,
+            lanes: [0xcbf2_9ce4_8422_2325; LANES],
+            lane: 0,
             bytes: 0,
             rest: 0,
             held: 0,
@@ -31,16 +60,18 @@ impl Sum {
 
     /// The sum of the text.
     pub fn value(&self) -> u64 {
-        let mut whole = *self;
-        whole.add_word(self.rest);
-        whole.add_word(self.bytes);
-        whole.value
+        let mut value = mixed(self.bytes, self.rest);
+        for lane in self.lanes {
+            value = mixed(value, lane);
+        }
+        value
     }
 
     /// Goes on with eight bytes.
     fn add_word(&mut self, word: u64) {
-        let mixed = (self.value ^ word).wrapping_mul(0x9e37_79b9_7f4a_7c15);
-        self.value = mixed ^ (mixed >> 29);
+        let lane = self.lane % LANES;
+        self.lanes[lane] = mixed(self.lanes[lane], word);
+        self.lane = (lane + 1) % LANES;
     }
 
     /// Goes on with a byte.
@@ -54,12 +85,11 @@ impl Sum {
         }
     }
 
-    /// Goes on with these bytes.
-    pub fn add(&mut self, bytes: &[u8]) {
-        self.bytes = self.bytes.wrapping_add(bytes.len() as u64);
+    /// Goes on with the first bytes, until a word for the first lane is next, and answers the others.
+    fn add_front<'a>(&mut self, bytes: &'a [u8]) -> &'a [u8] {
         let mut bytes = bytes;
-        for _ in 0..8 {
-            if self.held == 0 {
+        for _ in 0..32 {
+            if self.held == 0 && self.lane == 0 {
                 break;
             }
             let Some((byte, others)) = bytes.split_first() else {
@@ -68,12 +98,29 @@ impl Sum {
             self.add_byte(*byte);
             bytes = others;
         }
-        let words = bytes.chunks_exact(8);
-        let others = words.remainder();
-        for word in words {
-            self.add_word(u64::from_be_bytes(word.try_into().unwrap_or([0; 8])));
+        bytes
+    }
+
+    /// Goes on with whole rows of words, one for each lane, and answers what follows them.
+    fn add_rows<'a>(&mut self, bytes: &'a [u8]) -> &'a [u8] {
+        let rows = bytes.chunks_exact(32);
+        let others = rows.remainder();
+        let [mut first, mut second, mut third, mut fourth] = self.lanes;
+        for row in rows {
+            first = mixed(first, first_word(row));
+            second = mixed(second, word_after(row, 8));
+            third = mixed(third, word_after(row, 16));
+            fourth = mixed(fourth, word_after(row, 24));
         }
-        for byte in others {
+        self.lanes = [first, second, third, fourth];
+        others
+    }
+
+    /// Goes on with these bytes.
+    pub fn add(&mut self, bytes: &[u8]) {
+        self.bytes = self.bytes.wrapping_add(bytes.len() as u64);
+        let bytes = self.add_front(bytes);
+        for byte in self.add_rows(bytes) {
             self.add_byte(*byte);
         }
     }
