@@ -1,33 +1,67 @@
 -- The first end of a block, found by the line feeds.
-use Rattle.std.proofs.Common.{◌≡◌, ℕ, ◌+◌, ◌-◌, ◌<◌, ◌≤◌, ◌⊎◌, inl, inr, true, false, ◌==◌, List, length, take, drop, slice_index, ◌∙◌, ap, arith}
-use Rattle.std.proofs.lemmas.Grind.{common_steps}
+use Rattle.std.specs.Prelude.{max}
+use Rattle.std.proofs.Common.{◌≡◌, ℕ, ◌+◌, ◌-◌, ◌<◌, ◌≤◌, ◌⊎◌, inl, inr, true, false, ◌==◌, List, length, slice_index, arith}
 use Rattle.std.proofs.lemmas.Bool.{cases_lt}
-use Rattle.memchr.specs.Find.{Nowhere, Passes, is_byte}
-use Rattle.http_requests.specs.Framing.{ends_at, EndsAt, NoBlock, IsBlock}
-use Rattle.http_requests.specs.Scanning.{NoEndIn}
-use Rattle.http_requests.proofs.FrontLemmas.{ends_within}
+use Rattle.std.proofs.lemmas.Bool.Decides.{nat_tests}
+use Rattle.http_requests.specs.Framing.{ends_at, EndsAt, NoBlock, IsBlock, blank_len}
+use Rattle.http_requests.specs.Scanning.{NoEndIn, IsQuiet}
+use Rattle.http_requests.proofs.FrontLemmas.{ends_within, blank_at, bool_cases}
 
--- an end stands after a line feed
-end_lf : (s : List ℕ) (e : ℕ) → EndsAt s e → (slice_index s (e - 1) == 10) ≡ true
+-- the place of the first line feed of an end, after which a line feed or a carriage return stands
+record StartsAt (s : List ℕ) (p e : ℕ) : Type 0 where
+  pub low : p + 2 ≤ e
+  pub high : e ≤ p + 3
+  pub feed : slice_index s p ≡ 10
+  pub end : slice_index s (p + 1) ≤ 13
+
+start_two : (s : List ℕ) (e : ℕ) → EndsAt s e → (slice_index s (e - 2) == 10) ≡ true → StartsAt s (e - 2) e
 unfolding ends_at
-end_lf s e h = grind arith
+start_two s e h t =
+    let w = ends_within s e h in
+    let next : e - 2 + 1 ≡ e - 1 = omega (arith, w.0) in
+    record { low = omega (arith, w.0); high = omega (arith, w.0); feed = grind (arith, nat_tests, t); end = rw next (grind (arith, nat_tests, h)) }
 
-slice_read : (s : List ℕ) (from to k : ℕ) → from + k < to → to ≤ length s → slice_index (take (to - from) (drop from s)) k ≡ slice_index s (from + k)
-slice_read s from to k h w = grind (arith, common_steps)
+start_three : (s : List ℕ) (e : ℕ) → EndsAt s e → (slice_index s (e - 2) == 10) ≡ false → StartsAt s (e - 3) e
+unfolding ends_at
+start_three s e h t =
+    let three : 3 ≤ e = grind (arith, nat_tests, h, t) in
+    let next : e - 3 + 1 ≡ e - 2 = omega (arith, three) in
+    record { low = omega (arith, three); high = omega (arith, three); feed = grind (arith, nat_tests, h, t); end = rw next (grind (arith, nat_tests, h, t)) }
 
--- no end stands after bytes among which no line feed is
-pub no_lf_more : (s : List ℕ) (from to n : ℕ) → from + n ≤ to → to ≤ length s → NoEndIn from s → Nowhere (Passes (is_byte 10) (take (to - from) (drop from s))) 0 n → NoEndIn (from + n) s
-no_lf_more s from to n a b before nowhere e le ends =
-    elim (cases_lt from e) [
-      | inl lt ↦ (let w = ends_within s e ends in
-          let place : from + (e - 1 - from) ≡ e - 1 = omega (arith, lt) in
-          let read : slice_index (take (to - from) (drop from s)) (e - 1 - from) ≡ slice_index s (e - 1) = slice_read s from to (e - 1 - from) (omega (arith, lt, le, a)) b ∙ ap (slice_index s) place in
-          nowhere (e - 1 - from) (omega arith) (omega (arith, lt, le)) (ap (λ x. x == 10) read ∙ end_lf s e ends))
-      | inr ge ↦ before e ge ends
-    ]
+no_start : (s : List ℕ) (a b k p e : ℕ) → k + 2 ≤ a → b < k + 34 → a < e → e ≤ b → IsQuiet s k 32 → StartsAt s p e → ⊥
+no_start s a b k p e low high after most quiet start =
+    let before = start.low in
+    let behind = start.high in
+    quiet p (omega (arith, low, after, behind)) (omega (arith, high, most, before)) start.feed start.end
 
-pub slice_len : (s : List ℕ) (from to : ℕ) → from ≤ to → to ≤ length s → length (take (to - from) (drop from s)) ≡ to - from
-slice_len s from to a b = grind (arith, common_steps)
+-- no end stands past a place up to which none stands, where none starts
+pub quiet_more : (s : List ℕ) (a b k : ℕ) → k + 2 ≤ a → b < k + 34 → NoEndIn a s → IsQuiet s k 32 → NoEndIn b s
+quiet_more s a b k low high before quiet e le ends = elim (cases_lt a e) [
+  | inl after ↦ elim (bool_cases (slice_index s (e - 2) == 10)) [
+    | inl t ↦ no_start s a b k (e - 2) e low high after le quiet (start_two s e ends t)
+    | inr f ↦ no_start s a b k (e - 3) e low high after le quiet (start_three s e ends f)
+  ]
+  | inr ge ↦ before e ge ends
+]
+
+first_feed : (s : List ℕ) → blank_len s ≡ 0 → EndsAt s 2 → ⊥
+unfolding ends_at
+first_feed s begins ends =
+    let w = ends_within s 2 ends in
+    let feed : (slice_index s 0 == 10) ≡ true = grind (arith, nat_tests, ends) in
+    let b = blank_at s 0 (omega (arith, w.1)) in
+    let c = rw feed at b in
+    absurd (omega (arith, begins, c))
+
+-- no end stands up to place 2, where the text doesn't begin with an empty line
+pub no_end_first : (s : List ℕ) (seen at : ℕ) → blank_len s ≡ 0 → NoEndIn seen s → at ≡ max seen 2 → NoEndIn at s
+no_end_first s seen at begins before is e le ends = elim (cases_lt seen e) [
+  | inl after ↦ (let w = ends_within s e ends in
+      let two : e ≡ 2 = omega (arith, after, is, le, w.0) in
+      let here = rw two at ends in
+      first_feed s begins here)
+  | inr ge ↦ before e ge ends
+]
 
 pub one_more : (s : List ℕ) (n : ℕ) → NoEndIn n s → ends_at s (n + 1) ≡ false → NoEndIn (n + 1) s
 one_more s n before is_none e le ends = elim (cases_lt n e) [

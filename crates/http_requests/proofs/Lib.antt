@@ -5,6 +5,7 @@ pub mod MessageLemmas
 pub mod FoundLemmas
 pub mod CutLemmas
 pub mod HeadLemmas
+pub mod LaneLemmas
 pub mod JudgeLemmas
 pub mod MeaningLemmas
 pub mod PieceLemmas

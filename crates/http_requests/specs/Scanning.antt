@@ -1,6 +1,6 @@
 -- What stands at the start of a text.
-use Rattle.std.specs.Prelude.{◌≡◌, ℕ, ◌+◌, ◌<◌, ◌≤◌, List, length, drop}
-use Rattle.http_requests.specs.Limits.{max_block_bytes}
+use Rattle.std.specs.Prelude.{◌≡◌, ℕ, ◌+◌, ◌<◌, ◌≤◌, List, length, drop, slice_index}
+use Rattle.http_requests.specs.Limits.{line_feed, carriage_return, max_block_bytes}
 use Rattle.http_requests.specs.declared.scanning.Found.{Found}
 use Rattle.http_requests.specs.declared.scanning.Found.TheVariants.{Wait, Over, Whole}
 use Rattle.http_requests.specs.Framing.{EndsAt, NoBlock, IsBlock, blank_len}
@@ -8,6 +8,11 @@ use Rattle.http_requests.specs.Framing.{EndsAt, NoBlock, IsBlock, blank_len}
 -- no block ends in the first n bytes
 abbrev pub NoEndIn : ℕ → List ℕ → Type 0
 NoEndIn n s = (e : ℕ) → e ≤ n → EndsAt s e → ⊥
+
+-- none of the n bytes from k on is a line feed with a line feed, a carriage return or a lower byte after it
+abbrev pub IsQuiet : List ℕ → ℕ → ℕ → Type 0
+IsQuiet s k n =
+    (p : ℕ) → k ≤ p → p < k + n → slice_index s p ≡ line_feed → slice_index s (p + 1) ≤ carriage_return → ⊥
 
 -- what was found at the start of a text
 abbrev pub IsFound : List ℕ → Found → Type 0

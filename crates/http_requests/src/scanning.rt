@@ -1,13 +1,16 @@
 //! The empty lines and the block at the start of a text.
-ghost use Rattle.std.specs.Prelude.{◌≡◌, ◌≤◌, length, IfSome, IfNone};
+ghost use Rattle.std.specs.Prelude.{◌≡◌, ◌+◌, ◌<◌, ◌≤◌, length, IfSome, IfNone, IsTrue};
 ghost use Rattle.http_requests.specs.Limits.{max_block_bytes};
 ghost use Rattle.http_requests.specs.Framing.{ends_at, NoBlock, IsBlock, blank_len};
-ghost use Rattle.http_requests.specs.Scanning.{IsFound, NoEndIn};
+ghost use Rattle.http_requests.specs.Scanning.{IsFound, IsQuiet, NoEndIn};
 
-use memchr::memchr;
+use std::simd::prelude::*;
 
 /// The most bytes that a block may have. A longer one is a fault.
 pub const MAX_BLOCK_BYTES: usize = 8192;
+
+/// How many bytes are looked at together.
+const LANES: usize = 32;
 
 /// What stands at the start of a text.
 #[derive(Clone, Copy)]
@@ -23,12 +26,11 @@ pub enum Found {
 /// Whether a block's end, LF LF or LF CR LF, stands before this place.
 #[tactic(auto, unfolding(crate::specs::Framing::ends_at))]
 fn ends_at(s: &[u8], e: usize) -> bool
-    requires { e ≤ length s.now }
+    requires two { 2 ≤ e }
+    requires within { e ≤ length s.now }
     ensures { result ≡ ends_at s.now e }
 {
-    e >= 2
-        && s[e - 1] == b'\n'
-        && (s[e - 2] == b'\n' || (e >= 3 && s[e - 2] == b'\r' && s[e - 3] == b'\n'))
+    s[e - 1] == b'\n' && (s[e - 2] == b'\n' || (e >= 3 && s[e - 2] == b'\r' && s[e - 3] == b'\n'))
 }
 
 /// How many bytes the empty lines take with which a text begins (RFC 9112, section 2.2).
@@ -46,28 +48,77 @@ fn blanks(s: &[u8]) -> usize
     i
 }
 
-/// The first end of a block within the limit, where none stands in the first `seen` bytes. Only the
-/// line feeds after those are looked at.
+/// Whether no line feed among the `LANES` bytes from `at` on has a line feed or a carriage return after it. In a head
+/// that is so up to the empty line.
+#[inline(always)]
+fn is_quiet(s: &[u8], at: usize) -> bool
+    requires { at + LANES < length s.now }
+    ensures { IsTrue result → IsQuiet s.now at LANES }
+{
+    let feeds = u8x32::from_slice(&s[at..]).simd_eq(u8x32::splat(b'\n'));
+    let ends = u8x32::from_slice(&s[at + 1..]).simd_le(u8x32::splat(b'\r'));
+    (feeds & ends).to_bitmask() == 0
+}
+
+/// A place up to which no block ends, where none ends up to `at`: `last`, or a place at most `LANES` bytes before the
+/// first end, or before what looks like one.
+#[inline(always)]
+fn skip_lines(s: &[u8], at: usize, last: usize) -> usize
+    requires two { 2 ≤ at }
+    requires ordered { at ≤ last }
+    requires within { last ≤ length s.now }
+    requires none { NoEndIn at s.now }
+    ensures low { at ≤ result }
+    ensures high { result ≤ last }
+    ensures none { NoEndIn result s.now }
+{
+    let mut end = at;
+    while last - end >= LANES - 1 && is_quiet(s, end - 2) {
+        end += LANES - 1;
+    }
+    // The last look overlaps the one before.
+    if last - end < LANES - 1 && last > LANES && is_quiet(s, last - LANES - 1) {
+        return last;
+    }
+    end
+}
+
+/// The first end of a block up to `to`, where none stands up to `at`. Each place is looked at.
+fn end_up_to(s: &[u8], at: usize, to: usize) -> Option<usize>
+    requires two { 2 ≤ at }
+    requires within { to ≤ length s.now }
+    requires limit { to ≤ max_block_bytes }
+    requires none { NoEndIn at s.now }
+    ensures some { IfSome result (λ e. IsBlock s.now e) }
+    ensures none { IfNone result (NoEndIn to s.now) }
+{
+    let mut end = at;
+    while end < to {
+        if ends_at(s, end + 1) {
+            return Some(end + 1);
+        }
+        end += 1;
+    }
+    None
+}
+
+/// The first end of a block within the limit, where none stands in the first `seen` bytes of a text that doesn't begin
+/// with an empty line. Only the bytes after those are looked at, and a few before.
 fn block_end(s: &[u8], seen: usize) -> Option<usize>
-    requires within { seen ≤ length s.now }
-    requires limit { seen ≤ max_block_bytes }
+    requires begins { blank_len s.now ≡ 0 }
     requires none { NoEndIn seen s.now }
     ensures some { IfSome result (λ e. IsBlock s.now e) }
     ensures none { IfNone result (NoBlock s.now) }
 {
     let last = s.len().min(MAX_BLOCK_BYTES);
-    let mut at = seen;
+    let mut at = seen.max(2);
     while at < last {
-        match memchr(b'\n', &s[at..last]) {
-            Some(found) => {
-                let end = at + found + 1;
-                if ends_at(s, end) {
-                    return Some(end);
-                }
-                at = end;
-            }
-            None => return None,
+        let from = skip_lines(s, at, last);
+        let to = last.min(from + LANES);
+        if let Some(end) = end_up_to(s, from, to) {
+            return Some(end);
         }
+        at = to;
     }
     None
 }

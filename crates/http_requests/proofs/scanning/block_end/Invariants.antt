@@ -1,9 +1,9 @@
-use Rattle.std.proofs.Common.{◌-◌, ◌≤◌, length}
+use Rattle.std.proofs.Common.{◌-◌, ◌≤◌}
 use Rattle.http_requests.specs.Scanning.{NoEndIn}
 use Rattle.http_requests.proofs.scanning.block_end.Given as goal
 
 abbrev pub invariant-loop-at : goal.invariant-loop-at
-invariant-loop-at l = record { within : l.at ≤ length l.s; limit : l.at ≤ 8192; none : NoEndIn l.at l.s }
+invariant-loop-at l = record { two : 2 ≤ l.at; none : NoEndIn l.at l.s }
 
 abbrev pub decreases-loop-at : goal.decreases-loop-at
-decreases-loop-at l = length l.s - l.at
+decreases-loop-at l = l.last - l.at

@@ -1,7 +1,7 @@
 use Rattle.std.proofs.Common.{◌≡◌, ℕ, ◌-◌, ◌≤◌, List, length, take, drop, arith, length-drop}
 use Rattle.std.proofs.lemmas.Grind.{common_steps}
-use Rattle.http_requests.specs.Framing.{EndsAt}
-use Rattle.http_requests.proofs.FrontLemmas.{ends_within}
+use Rattle.http_requests.specs.Framing.{EndsAt, blank_len}
+use Rattle.http_requests.proofs.FrontLemmas.{ends_within, blank_fixed}
 use Rattle.http_requests.proofs.scanning.find.Goals.{then-start-eq0, else-start-eq0}
 use Rattle.http_requests.proofs.scanning.find.Goals as goal
 
@@ -10,6 +10,12 @@ same_rest r q = grind (arith, common_steps)
 
 ends_whole : (r : List ℕ) (q e : ℕ) → q ≡ 0 → EndsAt (take (length r - q) (drop q r)) e → EndsAt r e
 ends_whole r q e h ends = rw (same_rest r q, h) at ends
+
+begins_none : (r : List ℕ) (q : ℕ) → q ≡ blank_len r → blank_len (take (length r - q) (drop q r)) ≡ 0
+begins_none r q is = rw (same_rest r q, is) (blank_fixed r)
+
+pub block_end-requires-clause-begins : goal.block_end-requires-clause-begins
+block_end-requires-clause-begins c = begins_none c.args.r.now c.blanks-start.result c.blanks-start.ensures.is
 
 pub block_end-requires-clause-none : goal.block_end-requires-clause-none
 block_end-requires-clause-none c = λ e below ends. elim c.if-start-eq0.branch [
