@@ -1,5 +1,5 @@
 -- The lines of a name among the first headers, and one more.
-use Rattle.std.proofs.Common.{◌≡◌, ℕ, ◌+◌, ◌<◌, ◌≤◌, Bool, true, false, ◌||◌, if◌then◌else◌, List, [], ◌∷◌, ◌++◌, length, get_or, take, drop, map, refl, sym, ◌∙◌, ap, arith, append_assoc, append-nil, length-append}
+use Rattle.std.proofs.Common.{◌≡◌, ℕ, ◌+◌, ◌<◌, Bool, true, false, ◌||◌, if◌then◌else◌, List, [], ◌∷◌, ◌++◌, length, get_or, take, drop, map, refl, sym, ◌∙◌, ap, arith, append_assoc, append-nil, length-append}
 use Rattle.std.proofs.lemmas.Grind.{common_steps}
 use Rattle.std.proofs.lemmas.List.{take-append-drop}
 use Rattle.std.proofs.lemmas.List.Folds.{list_any-append}
@@ -11,8 +11,8 @@ use Rattle.httparse.specs.declared.spans.Span.{Span}
 use Rattle.httparse.specs.Spans.{header_bytes, span_bytes, IsWithin}
 use Rattle.http_requests.specs.declared.heads.Lines.{Lines}
 use Rattle.http_requests.specs.declared.heads.Lines.TheVariants.{Absent, Once, Repeated}
-use Rattle.http_requests.specs.Heads.{FieldLine, same_text, values_of, options_of, has_option}
-use Rattle.http_requests.specs.Lines.{AreLines}
+use Rattle.http_requests.specs.Heads.{FieldLine, same_text, values_of, is_given, options_of, has_option}
+use Rattle.http_requests.specs.Lines.{AreLines, and_if, is_there}
 
 -- the field lines at these places of a block
 abbrev pub lines_from : List ℕ → List HeaderSpan → List FieldLine
@@ -147,20 +147,38 @@ pub other_option : (p : Bool) (s t option : List ℕ) → s ≡ t → false ≡ 
     → (p && list_any (λ part. same_text (trim_ows part) option) (slice_split (λ c. c == 44) t)) ≡ false
 other_option p s t option e h = let k = rw e at (sym h) in rw k (and_false p)
 
--- one more value
-pub lines_first : (block : List ℕ) (values : List (List ℕ)) (lines : Lines) (b : Bool) (span : Span) → AreLines block values lines → lines ≡ Absent → b ≡ true
-    → IsWithin (length block) span → AreLines block (values ++ value_if b (span_bytes block span)) (Once span)
-lines_first block values lines b span are e h within = let none : values ≡ [] = rw e at are in rw (none, h) (within, refl)
+-- the lines of a name, and one more where it has the name
+lines_and : (block : List ℕ) (values : List (List ℕ)) (lines : Lines) (b : Bool) (span : Span) → AreLines block values lines → IsWithin (length block) span
+    → AreLines block (values ++ value_if b (span_bytes block span)) (and_if lines b span)
+lines_and block values lines false span are within = rw (append-nil values) are
+lines_and block values Absent true span are within = rw are (within, refl)
+lines_and block values (Once first) true span are within = rw are.1 (omega arith)
+lines_and block values Repeated true span are within = rw (length-append values (span_bytes block span ∷ [])) (omega (arith, are))
 
-length_two : (block : List ℕ) (values : List (List ℕ)) (lines : Lines) (value : List ℕ) → AreLines block values lines → (lines ≡ Absent → ⊥) → 2 ≤ length (values ++ value ∷ [])
-length_two block values Absent value are not = absurd (not refl)
-length_two block values (Once span) value are not = rw are.1 (omega arith)
-length_two block values Repeated value are not = rw (length-append values (value ∷ [])) (omega (arith, are))
+-- the lines of a name among the first headers, and the next header, whose name the text is
+pub noted_more : (name block : List ℕ) (headers : List HeaderSpan) (i : ℕ) (text : List ℕ) (lines after : Lines) (b : Bool) → i < length headers
+    → IsWithin (length block) (get_or headers i no_header).value → text ≡ span_bytes block (get_or headers i no_header).name
+    → AreLines block (values_of name (lines_from block (take i headers))) lines
+    → b ≡ same_text text name → after ≡ and_if lines b (get_or headers i no_header).value
+    → AreLines block (values_of name (lines_from block (take (i + 1) headers))) after
+noted_more name block headers i text lines after b h within is are named and_is =
+    let e : after ≡ and_if lines (same_text (span_bytes block (get_or headers i no_header).name) name) (get_or headers i no_header).value =
+    and_is ∙ ap (λ t. and_if lines t (get_or headers i no_header).value) (named ∙ ap (λ t. same_text t name) is) in
+    rw (values_more name block headers i no_header h, e)
+    (lines_and block (values_of name (lines_from block (take i headers))) lines _ (get_or headers i no_header).value are within)
 
-pub lines_again : (block : List ℕ) (values : List (List ℕ)) (lines : Lines) (b : Bool) (value : List ℕ) → AreLines block values lines → (lines ≡ Absent → ⊥) → b ≡ true
-    → AreLines block (values ++ value_if b value) Repeated
-lines_again block values lines b value are not h = rw h (length_two block values lines value are not)
+-- whether there is a line
+pub there : (block : List ℕ) (values : List (List ℕ)) (lines : Lines) → AreLines block values lines → is_given values ≡ is_there lines
+there block values Absent are = rw are refl
+there block values (Once span) are = rw are.1 refl
+there block [] Repeated are = absurd (omega (arith, are))
+there block (value ∷ values) Repeated are = refl
 
-pub lines_same : (block : List ℕ) (values : List (List ℕ)) (lines : Lines) (b : Bool) (value : List ℕ) → AreLines block values lines → b ≡ false
-    → AreLines block (values ++ value_if b value) lines
-lines_same block values lines b value are h = rw (h, append-nil values) are
+-- an option of the only line, or of none
+pub option_once : (option block : List ℕ) (lines : List FieldLine) (span : Span) → AreLines block (values_of (codes "connection") lines) (Once span)
+    → has_option option lines ≡ list_any (λ part. same_text (trim_ows part) option) (slice_split (λ c. c == 44) (span_bytes block span))
+option_once option block lines span are =
+    ap (λ values. list_any (λ given. same_text given option) (options_of values)) are.1 ∙ one_option true option (span_bytes block span)
+
+pub option_absent : (option block : List ℕ) (lines : List FieldLine) → AreLines block (values_of (codes "connection") lines) Absent → has_option option lines ≡ false
+option_absent option block lines are = ap (λ values. list_any (λ given. same_text given option) (options_of values)) are

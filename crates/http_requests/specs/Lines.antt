@@ -1,10 +1,12 @@
 -- What the code reads of a head, whose parts the parser gives as places in the block.
-use Rattle.std.specs.Prelude.{◌≡◌, ℕ, ◌≤◌, List, [], ◌∷◌, length, map, All}
+use Rattle.std.specs.Prelude.{◌≡◌, ℕ, ◌≤◌, Bool, true, false, List, [], ◌∷◌, length, map, All, codes}
+use Rattle.httparse.specs.declared.spans.Span.{Span}
 use Rattle.httparse.specs.Spans.{header_bytes, span_bytes, IsWithin, IsHeaderWithin}
-use Rattle.http_requests.specs.Heads.{FieldLine, PartsSay}
+use Rattle.http_requests.specs.Heads.{FieldLine, PartsSay, values_of}
 use Rattle.http_requests.specs.declared.heads.Verdict.{Verdict}
 use Rattle.http_requests.specs.declared.heads.Head.{Head}
 use Rattle.http_requests.specs.declared.heads.Lines.{Lines}
+use Rattle.http_requests.specs.declared.heads.Noted.{Noted}
 use Rattle.http_requests.specs.declared.heads.Lines.TheVariants.{Absent, Once, Repeated}
 
 -- each place of the head lies within its block
@@ -28,3 +30,25 @@ abbrev pub AreLines : List ℕ → List (List ℕ) → Lines → Type 0
 AreLines block values Absent = values ≡ []
 AreLines block values (Once span) = IsWithin (length block) span × (values ≡ span_bytes block span ∷ [])
 AreLines block values Repeated = 2 ≤ length values
+
+-- these lines, and one more with this value if it has the name
+abbrev pub and_if : Lines → Bool → Span → Lines
+and_if lines false value = lines
+and_if Absent true value = Once value
+and_if (Once first) true value = Repeated
+and_if Repeated true value = Repeated
+
+-- there is a line
+abbrev pub is_there : Lines → Bool
+is_there Absent = false
+is_there (Once value) = true
+is_there Repeated = true
+
+-- the lines of each name that counts
+pub record AreNoted (block : List ℕ) (lines : List FieldLine) (noted : Noted) : Type 0 where
+  pub host : AreLines block (values_of (codes "host") lines) noted.host
+  pub coding : AreLines block (values_of (codes "transfer-encoding") lines) noted.coding
+  pub length : AreLines block (values_of (codes "content-length") lines) noted.length
+  pub connection : AreLines block (values_of (codes "connection") lines) noted.connection
+  pub none_match : AreLines block (values_of (codes "if-none-match") lines) noted.none_match
+  pub since : AreLines block (values_of (codes "if-modified-since") lines) noted.since

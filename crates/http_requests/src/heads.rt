@@ -6,10 +6,10 @@ ghost use Rattle.httparse.specs.Spans.{span_bytes};
 ghost use Rattle.std.specs.Str.Parse.{digits_value};
 ghost use Rattle.std.specs.List.{list_all, list_any, slice_split};
 ghost use Rattle.http_requests.specs.Limits.{max_body_bytes};
-ghost use Rattle.http_requests.specs.Heads.{IsVerdict, same_text, values_of, is_host_byte, is_host_fault, is_given};
+ghost use Rattle.http_requests.specs.Heads.{IsVerdict, same_text, values_of, is_host_byte, is_host_fault};
 ghost use Rattle.http_requests.specs.Heads.{is_numeral, body_length, head_fault, has_option, is_closing};
 ghost use Rattle.http_requests.specs.Heads.{is_get_or_head, IsModifiedSince, bad};
-ghost use Rattle.http_requests.specs.Lines.{LiesWithin, lines_at, Says, AreLines};
+ghost use Rattle.http_requests.specs.Lines.{LiesWithin, lines_at, Says, AreNoted, and_if, is_there};
 ghost use Rattle.http_requests.specs.Counting.{IsExtent};
 ghost use Rattle.http_requests.specs.declared.heads.Verdict.{Verdict as AVerdict};
 ghost use Rattle.http_requests.specs.declared.messages.Fault.TheVariants.{Block};
@@ -39,6 +39,42 @@ enum Lines {
     Absent,
     Once(Span),
     Repeated,
+}
+
+impl Lines {
+    /// Adds a line with this value, where it has the name.
+    #[inline(always)]
+    fn add_if(&mut self, is_named: bool, value: Span)
+        ensures { self.new ≡ and_if self.old is_named value }
+    {
+        if is_named {
+            *self = match *self {
+                Lines::Absent => Lines::Once(value),
+                _ => Lines::Repeated,
+            };
+        }
+    }
+
+    /// Whether there is a line.
+    fn is_there(self) -> bool
+        ensures { result ≡ is_there self }
+    {
+        match self {
+            Lines::Absent => false,
+            _ => true,
+        }
+    }
+}
+
+/// The lines of each name that counts, as one pass over the fields finds them.
+#[derive(Clone, Copy)]
+struct Noted {
+    host: Lines,
+    coding: Lines,
+    length: Lines,
+    connection: Lines,
+    none_match: Lines,
+    since: Lines,
 }
 
 /// Whether the texts are equal but for the case of ASCII letters.
@@ -176,40 +212,49 @@ impl<'a> Head<'a> {
         }
     }
 
-    /// The lines of this name.
-    fn lines_named(&self, name: &[u8]) -> Lines
+    /// The lines of each name that counts.
+    fn note(&self) -> Noted
         requires { LiesWithin self.now }
-        ensures { AreLines self.now.block.now (values_of name.now (lines_at self.now)) result }
+        ensures { AreNoted self.now.block.now (lines_at self.now) result }
     {
-        let mut lines = Lines::Absent;
+        let mut noted = Noted {
+            host: Lines::Absent,
+            coding: Lines::Absent,
+            length: Lines::Absent,
+            connection: Lines::Absent,
+            none_match: Lines::Absent,
+            since: Lines::Absent,
+        };
         for header in self.headers {
-            if same_text(header.name.of(self.block), name) {
-                lines = match lines {
-                    Lines::Absent => Lines::Once(header.value),
-                    _ => Lines::Repeated,
-                };
-            }
+            let name = header.name.of(self.block);
+            let value = header.value;
+            noted.host.add_if(same_text(name, b"host"), value);
+            noted
+                .coding
+                .add_if(same_text(name, b"transfer-encoding"), value);
+            noted
+                .length
+                .add_if(same_text(name, b"content-length"), value);
+            noted
+                .connection
+                .add_if(same_text(name, b"connection"), value);
+            noted
+                .none_match
+                .add_if(same_text(name, b"if-none-match"), value);
+            noted
+                .since
+                .add_if(same_text(name, b"if-modified-since"), value);
         }
-        lines
-    }
-
-    /// Whether a line of this name is there.
-    fn is_given(&self, name: &[u8]) -> bool
-        requires { LiesWithin self.now }
-        ensures { result ≡ is_given (values_of name.now (lines_at self.now)) }
-    {
-        match self.lines_named(name) {
-            Lines::Absent => false,
-            _ => true,
-        }
+        noted
     }
 
     /// Whether Host is missing where it must stand, is repeated, or has a wrong byte (RFC 9112, section 3.2).
-    fn is_host_fault(&self) -> bool
-        requires { LiesWithin self.now }
+    fn is_host_fault(&self, noted: &Noted) -> bool
+        requires within { LiesWithin self.now }
+        requires noted { AreNoted self.now.block.now (lines_at self.now) noted.now }
         ensures { result ≡ is_host_fault self.now.minor (values_of (codes "host") (lines_at self.now)) }
     {
-        match self.lines_named(b"host") {
+        match noted.host {
             Lines::Absent => self.minor == 1,
             Lines::Once(value) => !is_host(value.of(self.block)),
             Lines::Repeated => true,
@@ -217,21 +262,22 @@ impl<'a> Head<'a> {
     }
 
     /// The length of the body (RFC 9112, section 6.3), or the first fault of the head.
-    fn body_length(&self) -> Result<u64, Fault>
-        requires { LiesWithin self.now }
+    fn body_length(&self, noted: &Noted) -> Result<u64, Fault>
+        requires within { LiesWithin self.now }
+        requires noted { AreNoted self.now.block.now (lines_at self.now) noted.now }
         ensures cases { MatchResult result
             (λ n. (head_fault self.now.minor (lines_at self.now) ≡ None)
             × (n ≡ body_length (values_of (codes "content-length") (lines_at self.now))))
             (λ fault. head_fault self.now.minor (lines_at self.now) ≡ Some fault) }
         ensures small { IfOk result (λ n. n ≤ max_body_bytes) }
     {
-        if self.is_host_fault() {
+        if self.is_host_fault(noted) {
             return Err(Fault::Host);
         }
-        if self.is_given(b"transfer-encoding") {
+        if noted.coding.is_there() {
             return Err(Fault::Coding);
         }
-        match self.lines_named(b"content-length") {
+        match noted.length {
             Lines::Absent => Ok(0),
             Lines::Once(value) => match number(value.of(self.block)) {
                 Some(n) if n <= MAX_BODY_BYTES => Ok(n),
@@ -242,8 +288,8 @@ impl<'a> Head<'a> {
         }
     }
 
-    /// Whether a line of Connection has this option (RFC 9110, section 7.6.1).
-    fn has_option(&self, option: &[u8]) -> bool
+    /// Whether one of several lines of Connection has this option.
+    fn repeats_option(&self, option: &[u8]) -> bool
         requires { LiesWithin self.now }
         ensures { result ≡ has_option option.now (lines_at self.now) }
     {
@@ -257,23 +303,39 @@ impl<'a> Head<'a> {
         false
     }
 
+    /// Whether a line of Connection has this option (RFC 9110, section 7.6.1).
+    fn has_option(&self, noted: &Noted, option: &[u8]) -> bool
+        requires within { LiesWithin self.now }
+        requires noted { AreNoted self.now.block.now (lines_at self.now) noted.now }
+        ensures { result ≡ has_option option.now (lines_at self.now) }
+    {
+        match noted.connection {
+            Lines::Absent => false,
+            Lines::Once(value) => lists(value.of(self.block), option),
+            Lines::Repeated => self.repeats_option(option),
+        }
+    }
+
     /// Whether the connection ends after the reply (RFC 9112, section 9.3).
-    fn is_closing(&self) -> bool
-        requires { LiesWithin self.now }
+    fn is_closing(&self, noted: &Noted) -> bool
+        requires within { LiesWithin self.now }
+        requires noted { AreNoted self.now.block.now (lines_at self.now) noted.now }
         ensures { result ≡ is_closing self.now.minor (lines_at self.now) }
     {
-        self.has_option(b"close") || (self.minor == 0 && !self.has_option(b"keep-alive"))
+        self.has_option(noted, b"close")
+            || (self.minor == 0 && !self.has_option(noted, b"keep-alive"))
     }
 
     /// The second of If-Modified-Since, where it counts (RFC 9110, section 13.1.3).
-    fn modified_since(&self) -> Option<u64>
-        requires { LiesWithin self.now }
+    fn modified_since(&self, noted: &Noted) -> Option<u64>
+        requires within { LiesWithin self.now }
+        requires noted { AreNoted self.now.block.now (lines_at self.now) noted.now }
         ensures { IsModifiedSince (span_bytes self.now.block.now self.now.method) (lines_at self.now) result }
     {
-        if !is_get_or_head(self.method.of(self.block)) || self.is_given(b"if-none-match") {
+        if !is_get_or_head(self.method.of(self.block)) || noted.none_match.is_there() {
             return None;
         }
-        match self.lines_named(b"if-modified-since") {
+        match noted.since {
             Lines::Once(value) => match HttpDate::parse_ascii(value.of(self.block)) {
                 Ok(date) => Some(date.unix_secs()),
                 Err(_) => None,
@@ -289,7 +351,8 @@ impl<'a> Head<'a> {
         ensures says { IfOk result (Says self.now) }
         ensures small { IfOk result (λ verdict. verdict.length ≤ max_body_bytes) }
     {
-        let length = match self.body_length() {
+        let noted = self.note();
+        let length = match self.body_length(&noted) {
             Ok(length) => length,
             Err(fault) => return Ok(bad(fault)),
         };
@@ -302,8 +365,8 @@ impl<'a> Head<'a> {
                 } else {
                     Version::Http11
                 },
-                closes: self.is_closing(),
-                modified_since: self.modified_since(),
+                closes: self.is_closing(&noted),
+                modified_since: self.modified_since(&noted),
             },
             length,
         })
@@ -315,12 +378,13 @@ impl<'a> Head<'a> {
         ensures says { (verdict : AVerdict) × Says self.now verdict × IsExtent verdict result }
         ensures small { result.length ≤ max_body_bytes }
     {
-        match self.body_length() {
+        let noted = self.note();
+        match self.body_length(&noted) {
             Ok(length) => {
                 // A verdict tells this as well, and so it is there.
-                let _since = self.modified_since();
+                let _since = self.modified_since(&noted);
                 Extent {
-                    closes: self.is_closing(),
+                    closes: self.is_closing(&noted),
                     length,
                 }
             }

@@ -1,14 +1,16 @@
-use Rattle.http_requests.proofs.HeadLemmas.{option_here, option_not_here, other_line, other_option}
-use Rattle.http_requests.proofs.heads.Head.has_option.Goals.{else-same_text-via-then-same_text+else-lists, else-same_text-via-else-same_text}
+use Rattle.std.proofs.Common.{sym, ◌∙◌, ap}
+use Rattle.std.specs.List.{list_any, slice_split}
+use Rattle.std.specs.Prelude.{◌==◌}
+use Rattle.httparse.specs.Grammar.{trim_ows}
+use Rattle.http_requests.specs.Heads.{same_text}
+use Rattle.http_requests.specs.Lines.{lines_at}
+use Rattle.http_requests.proofs.HeadLemmas.{option_once, option_absent}
 use Rattle.http_requests.proofs.heads.Head.has_option.Goals as goal
 
-pub returns-then-lists : goal.returns-then-lists
-returns-then-lists c = option_here c.args.option.now c.args.self.now.block.now c.args.self.now.headers.now c.loop-header.header-index c.of.result.now c.of-then-same_text.result.now
-    c.loop-header-test.true c.of.ensures c.if-same_text.ensures c.of-then-same_text.ensures c.if-lists.ensures
+pub returns-in-Absent : goal.returns-in-Absent
+returns-in-Absent c = sym (option_absent c.args.option.now c.args.self.now.block.now (lines_at c.args.self.now) (rw c.in-Absent.is at c.requires.noted.connection))
 
-pub loop-header-preserved : goal.loop-header-preserved
-loop-header-preserved c = option_not_here c.args.option.now c.args.self.now.block.now c.args.self.now.headers.now c.loop-header.header-index c.loop-header-test.true c.loop-header.invariant
-    (elim c.else-same_text.branch [
-      | else-same_text-via-then-same_text+else-lists w ↦ other_option _ w.of-then-same_text.result.now _ c.args.option.now w.of-then-same_text.ensures w.if-lists.ensures
-      | else-same_text-via-else-same_text w ↦ other_line c.of.result.now _ _ c.of.ensures w.if-same_text.ensures
-    ])
+pub returns-in-Once : goal.returns-in-Once
+returns-in-Once c =
+    c.lists.ensures ∙ ap (λ value. list_any (λ part. same_text (trim_ows part) c.args.option.now) (slice_split (λ b. b == 44) value)) c.of.ensures
+    ∙ sym (option_once c.args.option.now c.args.self.now.block.now (lines_at c.args.self.now) c.in-Once.value (rw c.in-Once.is at c.requires.noted.connection))
