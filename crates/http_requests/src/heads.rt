@@ -26,6 +26,17 @@ const MAX_BODY_BYTES: u64 = 65_536;
 /// The most fields that a head may have.
 const MAX_FIELDS: usize = 64;
 
+/// Each byte that may stand in a host stands at its own place, and `#` at every other place.
+static HOST_MAP: [u8; 256] = *b"\
+    ################################\
+    #!##$%&'()*+,-.#0123456789:;#=##\
+    #ABCDEFGHIJKLMNOPQRSTUVWXYZ[#]#_\
+    #abcdefghijklmnopqrstuvwxyz###~#\
+    ################################\
+    ################################\
+    ################################\
+    ################################";
+
 /// The verdict of a block: what it is, and how many bytes of body follow it.
 #[derive(Drop)]
 pub struct Verdict {
@@ -110,7 +121,7 @@ fn trim(text: &[u8]) -> &[u8]
 fn is_host_byte(byte: u8) -> bool
     ensures { result ≡ is_host_byte byte }
 {
-    byte.is_ascii_alphanumeric() || b"-._~!$&'()*+,;=:[]%".contains(&byte)
+    HOST_MAP[byte as usize] != b'#'
 }
 
 /// Whether each byte may stand in a host.
