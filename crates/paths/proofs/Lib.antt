@@ -14,3 +14,4 @@ pub mod PlainPaths
 pub mod Segmenting
 pub mod Taking
 pub mod Locations
+pub mod Windows

@@ -1,13 +1,15 @@
 -- What one read after another takes of a text.
-use Rattle.std.proofs.Common.{◌≡◌, ℕ, suc, ◌+◌, ◌-◌, ◌<◌, ◌≤◌, ◌==◌, not, cond, nat_lt, Bool, true, false, List, [], ◌∷◌, ◌++◌, length, take, drop, Option, Result, Ok, Err, refl, sym, ap, ◌∙◌, arith, zero, is_some, unwrap_or, eq-eqb, slice_index}
-use Rattle.std.proofs.lemmas.List.{append_assoc, take_at, drop_at, length-take, length-append, take-take, append-nil, take_all, take-append-le}
+use Rattle.std.proofs.Common.{◌≡◌, ℕ, suc, ◌+◌, ◌-◌, ◌<◌, ◌≤◌, ◌==◌, not, cond, nat_lt, Bool, true, false, List, [], ◌∷◌, ◌++◌, length, take, drop, Option, Result, Ok, Err, refl, sym, ap, ◌∙◌, arith, zero, is_some, unwrap_or, eq-eqb, slice_index, get_or, subst}
+use Rattle.std.proofs.lemmas.List.{append_assoc, take_at, drop_at, length-take, length-append, take-take, append-nil, take_all, take_more, take-append-le, get_or-take}
 use Rattle.std.proofs.Math.Seq.{take-append-add}
-use Rattle.std.proofs.lemmas.Bool.Decides.{nat_tests}
+use Rattle.std.proofs.lemmas.Bool.Decides.{nat_tests, Decides-eqb}
 use Rattle.std.specs.List.{prefix_len, before_first}
 use Rattle.std.proofs.lemmas.List.Folds.{prefix_len-append}
+use Rattle.std.proofs.lemmas.List.Sums.{passes_at_first, prefix_len-le-length, prefix_len_passes, prefix_len_is}
 use Rattle.paths.specs.declared.text.Stop.{Stop}
 use Rattle.paths.specs.declared.text.Stop.TheVariants.{TooLong, Cut, TooLarge}
 use borrow.Rule.Slice.PartMut.{put_mid, post_of}
+use Rattle.paths.specs.Feeds.{NoneAfterFeed}
 use Rattle.paths.specs.Texts.{is_unforeseen, Ahead, ahead_of, byte_at, line_at, line_start, available, past, ended}
 
 -- n bytes of the text were taken, and where the bytes of the input are known, just these
@@ -184,3 +186,62 @@ takes_part o n m l nl ml a k more xs ys t in_xs in_ys count bytes =
       known = λ q. (bytes q).1;
     } in
     rw (take_put a k more xs ys in_xs in_ys) (takes_more o n m l nl ml (take a xs) (take more ys) t step)
+
+-- ---- a line that is read up to its line feed
+
+-- none of the bytes stands after a line feed: the last one is the line feed
+feed_last : (xs : List ℕ) (size : ℕ) → length xs ≡ size + 1 → NoneAfterFeed xs → get_or xs size 0 ≡ 10
+    → (xs ≡ take size xs ++ 10 ∷ []) × (prefix_len (λ b. not (b == 10)) (take size xs) ≡ length (take size xs))
+feed_last xs size is none last =
+    let p = prefix_len (λ b. not (b == 10)) xs in
+    let below : p ≤ length xs = prefix_len-le-length (λ b. not (b == 10)) xs in
+    let not_all : p ≡ size + 1 → ⊥ = λ all. let passes : not (10 == 10) ≡ true = ap (λ b. not (b == 10)) (sym last) ∙ prefix_len_passes (λ b. not (b == 10)) xs size 0 (omega arith) in cc in
+    let first : p ≡ size = omega arith in
+    let front_size : length (take size xs) ≡ size = omega (arith, length-take size xs) in (
+      sym (take_all (size + 1) xs (omega arith)) ∙ (take_more xs size 0 (omega arith) ∙ ap (λ b. take size xs ++ b ∷ []) last),
+      prefix_len_is (λ b. not (b == 10)) (take size xs) (length (take size xs)) 0 (omega arith)
+          (λ i under. ap (λ b. not (b == 10)) (get_or-take size xs i 0 (omega arith)) ∙ prefix_len_passes (λ b. not (b == 10)) xs i 0 (omega arith))
+          (λ past_end. absurd (omega arith)),
+    )
+
+-- or there is none
+feed_none : (xs : List ℕ) (size : ℕ) → length xs ≡ size + 1 → NoneAfterFeed xs → (get_or xs size 0 ≡ 10 → ⊥) → prefix_len (λ b. not (b == 10)) xs ≡ length xs
+feed_none xs size is none other =
+    let p = prefix_len (λ b. not (b == 10)) xs in
+    let below : p ≤ length xs = prefix_len-le-length (λ b. not (b == 10)) xs in
+    let not_here : p ≡ size → ⊥ = λ here. other (ap (λ k. get_or xs k 0) (sym here) ∙ (Decides-eqb (get_or xs p 0) 10).0 (passes_at_first (λ b. b == 10) xs 0 (omega arith))) in
+    omega arith
+
+-- a line goes on by bytes of which none stands after a line feed
+pub goes_on : (a k more : ℕ) (xs ys : List ℕ) → a ≤ length xs → more ≤ length ys → prefix_len (λ b. not (b == 10)) (take a xs) ≡ length (take a xs)
+    → NoneAfterFeed (take more ys) → NoneAfterFeed (take (a + more) (put_mid a k xs ys)) × (a + more ≤ length (put_mid a k xs ys))
+goes_on a k more xs ys in_xs in_ys feeds none =
+    let line = take a xs in
+    let came = take more ys in
+    let whole = take_put a k more xs ys in_xs in_ys in
+    let joined : NoneAfterFeed (line ++ came) = rw (prefix_len-append (λ b. not (b == 10)) line came, eq-eqb (prefix_len (λ b. not (b == 10)) line) (length line) feeds, length-append line came) (omega (arith, none)) in (
+      rw whole joined,
+      omega (arith, ap length whole, length-append line came, length-take a xs, length-take more ys, length-take (a + more) (put_mid a k xs ys)),
+    )
+
+pub line_fed : (o m : Option (List ℕ)) (l ml whole : ℕ) (xs : List ℕ) → Takes o l m ml (take whole xs) → NoneAfterFeed (take whole xs) → 0 < whole → whole ≤ length xs → whole ≤ 65
+    → get_or xs (whole - 1) 0 ≡ 10 → is_some o ≡ true → (line_at (ahead_of o l) ≡ Ok (take (whole - 1) xs, ahead_of m ml)) × (is_some m ≡ true)
+line_fed o m l ml whole xs t none some within most last k =
+    let size = whole - 1 in
+    let line = take size xs in
+    let all_size : length (take whole xs) ≡ size + 1 = omega (arith, length-take whole xs) in
+    let found = feed_last (take whole xs) size all_size none (get_or-take whole xs size 0 (omega arith) ∙ last) in
+    let same : take size (take whole xs) ≡ line = take-take size whole xs (omega arith) in
+    let feeds : prefix_len (λ b. not (b == 10)) line ≡ length line = subst (λ (v : List ℕ). prefix_len (λ b. not (b == 10)) v ≡ length v) same found.1 in
+    let text : unwrap_or o [] ≡ line ++ 10 ∷ unwrap_or m [] = t.bytes k ∙ (ap (λ v. v ++ unwrap_or m []) (found.0 ∙ ap (λ v. v ++ 10 ∷ []) same) ∙ append_assoc line (10 ∷ []) (unwrap_or m [])) in (
+      ap (λ v. line_at (record { bytes = v; left = l })) text
+          ∙ line_whole line (unwrap_or m []) l ml feeds (omega (arith, length-take size xs)) (omega (arith, t.count k, all_size, length-take size xs)),
+      t.known k,
+    )
+
+pub line_unfed : (o m : Option (List ℕ)) (l ml whole : ℕ) (xs : List ℕ) → Takes o l m ml (take whole xs) → NoneAfterFeed (take whole xs) → 0 < whole → whole ≤ length xs
+    → (get_or xs (whole - 1) 0 ≡ 10 → ⊥) → TakesLine o l m ml (take whole xs)
+line_unfed o m l ml whole xs t none some within other = record {
+  takes = t;
+  feeds = feed_none (take whole xs) (whole - 1) (omega (arith, length-take whole xs)) none (λ feed. other (sym (get_or-take whole xs (whole - 1) 0 (omega arith)) ∙ feed));
+}

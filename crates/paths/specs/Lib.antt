@@ -1,6 +1,7 @@
 pub mod Above
 pub mod Ascii
 pub mod Devices
+pub mod Feeds
 pub mod KnownText
 pub mod Numbers
 pub mod Owed

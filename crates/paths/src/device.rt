@@ -1,10 +1,12 @@
 //! A reader that is lent to a call, and the count of its failures.
 
-ghost use Rattle.std.specs.Prelude.{◌≡◌, ◌+◌, ◌-◌, ◌<◌, ◌^◌, OnOk, OnErr};
+ghost use Rattle.std.specs.Prelude.{◌≡◌, ◌+◌, ◌-◌, ◌<◌, ◌^◌, take, IfOk, OnOk, OnErr};
 ghost use Rattle.std.specs.Io.{ReadsAtMost};
 ghost use Rattle.std.specs.Io.KnownBytes.{ReadConsumes};
 ghost use Rattle.paths.specs.Devices.{ByteConsumes, fresh, CanFail};
+ghost use Rattle.paths.specs.Feeds.{NoneAfterFeed};
 
+use crate::window::Window;
 use std::io::Read;
 use std::marker::Model;
 use thiserror::Error;
@@ -16,19 +18,22 @@ pub struct Failed;
 
 /// A reader that is lent to a call, and how often it has failed.
 ///
-/// Contracts see the bytes that the reader has left, where these are known, and the count of failures.
+/// Contracts see the bytes that are ahead, where these are known, and the count of failures. What was read ahead of a
+/// line's end waits in a window, and comes before what the reader has left.
 #[derive(Drop)]
 pub struct Input<R: Read> {
     reader: R,
     failures: u64,
+    window: Window,
 }
 
 impl<R: Read> Model for Input<R> {
+    ghost use Rattle.std.specs.Io.KnownBytes.{prepend_known};
     ghost use Rattle.paths.specs.Devices.{Device};
 
     ghost Value = { Device };
 
-    ghost view = { λ i. record { bytes = R.remaining i.reader; failures = i.failures } };
+    ghost view = { λ i. record { bytes = prepend_known i.window (R.remaining i.reader); failures = i.failures } };
 }
 
 impl<R: Read> Input<R> {
@@ -39,6 +44,7 @@ impl<R: Read> Input<R> {
         Input {
             reader,
             failures: 0,
+            window: Window::new(),
         }
     }
 
@@ -50,7 +56,8 @@ impl<R: Read> Input<R> {
     }
 
     /// Makes one read into the beginning of `room`, and answers how many bytes came. None come at the end of the input
-    /// alone, or where there is no room. A read that was interrupted is a failure.
+    /// alone, or where there is no room. A read that was interrupted is a failure. Where bytes wait that were read
+    /// ahead, these come, and no read is made.
     pub fn read_some(&mut self, room: &mut [u8]) -> Result<usize, Failed>
         requires { CanFail self.old }
         ensures bound { ReadsAtMost result room.new }
@@ -58,6 +65,9 @@ impl<R: Read> Input<R> {
         ensures ok { OnOk result (self.new.failures ≡ self.old.failures) }
         ensures err { OnErr result (self.new.failures ≡ self.old.failures + 1) }
     {
+        if !self.window.is_empty() {
+            return Ok(self.window.take(room));
+        }
         match self.reader.read(room) {
             Ok(count) => Ok(count),
             Err(_) => {
@@ -67,7 +77,29 @@ impl<R: Read> Input<R> {
         }
     }
 
-    /// Makes one read of one byte; `None` at the end of the input.
+    /// Gives some of the next bytes, at most as many as the room holds, and none after a line feed. Where no byte
+    /// waits, one read is made first, of up to 64 bytes.
+    pub(crate) fn read_to_feed(&mut self, room: &mut [u8]) -> Result<usize, Failed>
+        requires { CanFail self.old }
+        ensures bound { ReadsAtMost result room.new }
+        ensures bytes { ReadConsumes self.old.bytes self.new.bytes result room.new }
+        ensures feed { IfOk result (λ n. NoneAfterFeed (take n room.new)) }
+        ensures ok { OnOk result (self.new.failures ≡ self.old.failures) }
+        ensures err { OnErr result (self.new.failures ≡ self.old.failures + 1) }
+    {
+        if !self.window.is_empty() {
+            return Ok(self.window.take_to_feed(room));
+        }
+        match self.window.fill(&mut self.reader) {
+            Ok(()) => Ok(self.window.take_to_feed(room)),
+            Err(Failed) => {
+                self.failures += 1;
+                Err(Failed)
+            }
+        }
+    }
+
+    /// Makes one read of one byte, where none waits that was read ahead; `None` at the end of the input.
     pub fn read_byte(&mut self) -> Result<Option<u8>, Failed>
         requires { CanFail self.old }
         ensures bytes { ByteConsumes self.old.bytes self.new.bytes result }

@@ -17,6 +17,7 @@ mod snapshot;
 mod snapshot_fault;
 mod target;
 mod text;
+mod window;
 
 pub use bytes::Bytes;
 pub use device::{Failed, Input};
