@@ -42,16 +42,16 @@ can_read_more k after piece pieces ms c r =
     }
 
 -- each task gave what it was cut into
-pub all_cut : (tasks : List Place) (given : List (Result Place AllocError)) (cuts : List Place) → AllZip (λ t r. IfOk r (IsCutOf t)) tasks given → given ≡ map Ok cuts → AllZip IsCutOf tasks cuts
-all_cut [] [] [] h e = tt
-all_cut [] [] (k ∷ cuts) h e = absurd (let z : ⊥ = grind (arith, e) in z)
-all_cut [] (r ∷ given) cuts h e = absurd h
-all_cut (t ∷ tasks) [] cuts h e = absurd h
-all_cut (t ∷ tasks) (r ∷ given) [] h e = absurd (let z : ⊥ = grind (arith, e) in z)
-all_cut (t ∷ tasks) (r ∷ given) (k ∷ cuts) h e =
+pub all_cut : {A : Type 0} (R : A → A → Type 0) (tasks : List A) (given : List (Result A AllocError)) (cuts : List A) → AllZip (λ t r. IfOk r (R t)) tasks given → given ≡ map Ok cuts → AllZip R tasks cuts
+all_cut R [] [] [] h e = tt
+all_cut R [] [] (k ∷ cuts) h e = absurd (let z : ⊥ = grind (arith, e) in z)
+all_cut R [] (r ∷ given) cuts h e = absurd h
+all_cut R (t ∷ tasks) [] cuts h e = absurd h
+all_cut R (t ∷ tasks) (r ∷ given) [] h e = absurd (let z : ⊥ = grind (arith, e) in z)
+all_cut R (t ∷ tasks) (r ∷ given) (k ∷ cuts) h e =
     let head : r ≡ Ok k = cc in
     let tail : given ≡ map Ok cuts = cc in
-    (rw head at h.0, all_cut tasks given cuts h.1 tail)
+    (rw head at h.0, all_cut R tasks given cuts h.1 tail)
 
 -- what is known of a result, where it is `Ok`
 pub match_ok : {T E : Type 0} (r : Result T E) (P Q : T → Type 0) (R : E → Type 0) → ((v : T) → P v → Q v) → MatchResult r P R → IfOk r Q

@@ -3,5 +3,7 @@ pub mod Tiers
 pub mod Connections
 pub mod Batches
 pub mod Places
+pub mod Noted
+pub mod Picking
 pub mod Gathering
 pub mod Laws

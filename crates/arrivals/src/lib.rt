@@ -7,6 +7,7 @@ mod connections;
 mod incoming;
 pub mod laws;
 mod parts;
+mod picked;
 mod seat;
 mod seats;
 mod series;

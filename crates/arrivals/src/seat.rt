@@ -1,6 +1,6 @@
 //! The pieces of one connection in a batch, and their cutting into messages.
 
-ghost use Rattle.std.specs.Prelude.{◌≡◌, ◌<◌, [], ◌∷◌, length, IfOk, OnOk};
+ghost use Rattle.std.specs.Prelude.{◌≡◌, ◌<◌, ◌↔◌, [], ◌∷◌, length, IsTrue, IfOk, OnOk};
 ghost use Rattle.arrivals.specs.Places.{empty_place, with_piece, with_lists, IsReady, IsCutOf};
 
 use crate::Series;
@@ -46,6 +46,13 @@ impl Taken {
     {
         self.pieces.push(piece)?;
         Ok(())
+    }
+
+    /// Whether pieces wait to be cut.
+    fn waits(&self) -> bool
+        ensures { IsTrue result ↔ (0 < length self.now.pieces) }
+    {
+        !self.pieces.is_empty()
     }
 
     /// Cuts the pieces.
@@ -128,6 +135,16 @@ impl Seat {
                 self.taken = Some(Box::new(alloc, taken)?);
                 Ok(())
             }
+        }
+    }
+
+    /// Whether pieces wait to be cut.
+    pub(crate) fn waits(&self) -> bool
+        ensures { IsTrue result ↔ (0 < length self.now.pieces) }
+    {
+        match &self.taken {
+            Some(taken) => taken.waits(),
+            None => false,
         }
     }
 

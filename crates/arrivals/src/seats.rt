@@ -1,36 +1,63 @@
 //! All seats of a batch, cut side by side, and their messages merged in the order of the pieces.
 
-ghost use Rattle.std.specs.Prelude.{◌≡◌, ◌≢◌, ◌<◌, ◌∷◌, [], ℕ, length, map, All, IfOk, OnOk};
-ghost use Rattle.std.specs.List.{AllZip};
+ghost use Rattle.std.specs.Prelude.{◌≡◌, ◌≢◌, ◌<◌, ◌≤◌, ◌∷◌, [], ℕ, length, map, All, IfOk, OnOk};
+ghost use Rattle.std.specs.List.{AllZip, Contains};
 ghost use Rattle.arrivals.specs.Batches.{lists_to};
+ghost use Rattle.arrivals.specs.Noted.{AreNoted};
 ghost use Rattle.arrivals.specs.Places.{place_at, with_piece, with_lists, IsReady, IsCutOf, count_to};
 
 use crate::Series;
 use crate::incoming::{Origin, PieceMessages};
+use crate::picked::{cut_all, pick, put_back};
 use crate::seat::Seat;
 use http_requests::Message;
 use paths::Bytes;
-use rayon::prelude::*;
 use std::alloc::{AllocError, Global};
 use std::marker::Model;
 use std::thread::Threads;
 
-/// The fewest connections that a thread is started for.
-const LEAST: usize = 16;
-
-/// The connections of a capture, by their numbers.
+/// The connections of a capture, by their numbers, and which of them have pieces that wait to be cut.
 #[derive(Drop)]
 pub struct Seats {
     list: Vec<Seat>,
+    noted: Vec<usize>,
 }
 
 impl Model for Seats {
     ghost use Rattle.std.specs.Prelude.{List};
     ghost use Rattle.arrivals.specs.Places.{Place};
+    ghost use Rattle.arrivals.specs.Noted.{AreNoted};
 
     ghost Value = { List Place };
 
     ghost view = { λ s. s.list.items };
+
+    ghost invariant = { λ s. AreNoted s.noted.items s.list.items };
+}
+
+/// Makes a place for a connection.
+fn reach(list: &mut Vec<Seat>, conn: usize) -> Result<(), AllocError>
+    ensures place { OnOk result (conn < length list.new.items) }
+    ensures longer { length list.old.items ≤ length list.new.items }
+    ensures same { (c : ℕ) → place_at list.new.items c ≡ place_at list.old.items c }
+{
+    while list.len() <= conn {
+        list.push(Seat::new())?;
+    }
+    Ok(())
+}
+
+/// Notes a seat, where no piece waits at it yet.
+fn note(list: &[Seat], noted: &mut Vec<usize>, conn: usize) -> Result<(), AllocError>
+    requires below { conn < length list.now }
+    requires noted { AreNoted noted.old.items list.now }
+    ensures noted { AreNoted noted.new.items list.now }
+    ensures own { OnOk result (Contains noted.new.items conn) }
+{
+    if !list[conn].waits() {
+        noted.push(conn)?;
+    }
+    Ok(())
 }
 
 impl Seats {
@@ -40,18 +67,8 @@ impl Seats {
     {
         Seats {
             list: Vec::new(alloc),
+            noted: Vec::new(alloc),
         }
-    }
-
-    /// Makes a place for a connection.
-    fn reach(&mut self, conn: usize) -> Result<(), AllocError>
-        ensures place { OnOk result (conn < length self.new) }
-        ensures same { (c : ℕ) → place_at self.new c ≡ place_at self.old c }
-    {
-        while self.list.len() <= conn {
-            self.list.push(Seat::new())?;
-        }
-        Ok(())
     }
 
     /// A piece came on a connection.
@@ -59,7 +76,8 @@ impl Seats {
         ensures own { OnOk result (place_at self.new conn ≡ with_piece piece (place_at self.old conn)) }
         ensures others { OnOk result ((c : ℕ) → c ≢ conn → place_at self.new c ≡ place_at self.old c) }
     {
-        self.reach(conn)?;
+        reach(&mut self.list, conn)?;
+        note(&self.list, &mut self.noted, conn)?;
         self.list[conn].add(alloc, piece)
     }
 
@@ -68,18 +86,15 @@ impl Seats {
         requires ready { All IsReady self }
         ensures { IfOk result (λ cut. AllZip IsCutOf self cut) }
     {
-        let list = self
-            .list
-            .into_par_iter()
-            .with_min_len(LEAST)
-            .map(
-                |seat: Seat| -> Result<Seat, AllocError>
-                    requires { IsReady seat }
-                    ensures { IfOk result (IsCutOf seat) }
-                { seat.cut(alloc) },
-            )
-            .collect::<Result<Vec<Seat>, AllocError>>(rt, alloc)??;
-        Ok(Seats { list })
+        let Seats {
+            mut list,
+            mut noted,
+        } = self;
+        let picked = pick(alloc, &mut list, &noted)?;
+        let cuts = cut_all(rt, alloc, picked)?;
+        put_back(&mut list, cuts);
+        noted.clear();
+        Ok(Seats { list, noted })
     }
 
     /// The messages that end in the next piece of a connection.

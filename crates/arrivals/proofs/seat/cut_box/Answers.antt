@@ -1,4 +1,4 @@
-use Rattle.std.proofs.Common.{◌≡◌, [], length, ap, sym, ◌∙◌, arith}
+use Rattle.std.proofs.Common.{◌≡◌, length, ap, sym, ◌∙◌, arith}
 use Rattle.arrivals.proofs.CutBatches.{nothing_cut, no_items}
 use Rattle.arrivals.proofs.seat.cut_box.Goals as goal
 

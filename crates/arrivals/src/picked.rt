@@ -1,0 +1,101 @@
+//! The seats at which pieces wait: taken out of the list to be cut, and put back.
+
+ghost use Rattle.std.specs.Prelude.{◌≡◌, ◌<◌, ◌++◌, ◌∷◌, [], length, slice_set, All, IfOk, OnOk};
+ghost use Rattle.std.specs.List.{AllZip};
+ghost use Rattle.arrivals.specs.Places.{place_at, empty_place, IsReady};
+ghost use Rattle.arrivals.specs.Picking.{IsCut, TakesOut, with_picked};
+
+use crate::seat::Seat;
+use rayon::prelude::*;
+use std::alloc::{AllocError, Global};
+use std::mem;
+use std::thread::Threads;
+
+/// The fewest connections that a thread is started for.
+const LEAST: usize = 16;
+
+/// A seat that was taken out, and the number of its connection.
+#[derive(Drop)]
+pub(crate) struct Picked {
+    conn: usize,
+    seat: Seat,
+}
+
+impl Picked {
+    /// Cuts the pieces.
+    fn cut(self, alloc: Global) -> Result<Picked, AllocError>
+        requires { IsReady self.seat }
+        ensures { IfOk result (IsCut self) }
+    {
+        let Picked { conn, seat } = self;
+        Ok(Picked {
+            conn,
+            seat: seat.cut(alloc)?,
+        })
+    }
+}
+
+/// Takes a seat out of the list where pieces wait at it.
+fn pick_one(list: &mut [Seat], conn: usize, picked: &mut Vec<Picked>) -> Result<(), AllocError>
+    requires { conn < length list.old }
+    ensures stays { OnOk result (length (place_at list.old conn).pieces ≡ 0
+        → (list.new ≡ list.old) × (picked.new.items ≡ picked.old.items)) }
+    ensures goes { OnOk result (0 < length (place_at list.old conn).pieces
+        → (list.new ≡ slice_set list.old conn empty_place)
+        × (picked.new.items ≡ picked.old.items ++ record { conn = conn; seat = place_at list.old conn } ∷ [])) }
+{
+    if list[conn].waits() {
+        let seat = mem::replace(&mut list[conn], Seat::new());
+        picked.push(Picked { conn, seat })?;
+    }
+    Ok(())
+}
+
+/// Takes the seats out of the list at which pieces wait, of those that are noted.
+pub(crate) fn pick(
+    alloc: Global,
+    list: &mut [Seat],
+    noted: &[usize],
+) -> Result<Vec<Picked>, AllocError>
+    requires { All (λ k. k < length list.old) noted.now }
+    ensures { IfOk result (λ picked. TakesOut list.old noted.now list.new picked.items) }
+{
+    let mut picked = Vec::with_capacity(alloc, noted.len())?;
+    for conn in noted {
+        pick_one(list, *conn, &mut picked)?;
+    }
+    Ok(picked)
+}
+
+/// Cuts the pieces of each seat, the seats in parallel.
+pub(crate) fn cut_all<R: Threads + Sync>(
+    rt: &R,
+    alloc: Global,
+    picked: Vec<Picked>,
+) -> Result<Vec<Picked>, AllocError>
+    requires { All (λ p. IsReady p.seat) picked.items }
+    ensures { IfOk result (λ cuts. AllZip IsCut picked.items cuts.items) }
+{
+    let cuts = picked
+        .into_par_iter()
+        .with_min_len(LEAST)
+        .map(
+            |one: Picked| -> Result<Picked, AllocError>
+                requires { IsReady one.seat }
+                ensures { IfOk result (IsCut one) }
+            { one.cut(alloc) },
+        )
+        .collect::<Result<Vec<Picked>, AllocError>>(rt, alloc)??;
+    Ok(cuts)
+}
+
+/// Puts seats back at their places.
+pub(crate) fn put_back(list: &mut [Seat], picked: Vec<Picked>)
+    requires { All (λ p. p.conn < length list.old) picked.items }
+    ensures { list.new ≡ with_picked list.old picked.items }
+{
+    for one in picked {
+        let Picked { conn, seat } = one;
+        list[conn] = seat;
+    }
+}
