@@ -27,11 +27,9 @@ impl Picked {
         requires { IsReady self.seat }
         ensures { IfOk result (IsCut self) }
     {
-        let Picked { conn, seat } = self;
-        Ok(Picked {
-            conn,
-            seat: seat.cut(alloc)?,
-        })
+        let Picked { conn, mut seat } = self;
+        seat.cut(alloc)?;
+        Ok(Picked { conn, seat })
     }
 }
 

@@ -1,7 +1,8 @@
 //! The pieces of one connection in a batch, and their cutting into messages.
 
 ghost use Rattle.std.specs.Prelude.{◌≡◌, ◌<◌, ◌↔◌, [], ◌∷◌, length, IsTrue, IfOk, OnOk};
-ghost use Rattle.arrivals.specs.Places.{empty_place, with_piece, with_lists, IsReady, IsCutOf};
+ghost use Rattle.arrivals.specs.Batches.{ReadsOn};
+ghost use Rattle.arrivals.specs.Places.{empty_place, with_piece, with_lists, CanRead, IsReady, IsCutOf};
 
 use crate::Series;
 use crate::connections::Connection;
@@ -10,6 +11,10 @@ use paths::Bytes;
 use std::alloc::{AllocError, Global};
 use std::collections::VecDeque;
 use std::marker::Model;
+use std::mem;
+
+/// How many places for pieces a connection keeps from one batch to the next.
+const KEPT: usize = 4;
 
 /// What is kept of a connection that sent something: itself, the pieces that wait to be cut, and for each piece that
 /// was cut the messages that end in it.
@@ -56,27 +61,14 @@ impl Taken {
     }
 
     /// Cuts the pieces.
-    fn cut(self, alloc: Global) -> Result<Taken, AllocError>
-        requires { IsReady self }
-        ensures { IfOk result (IsCutOf self) }
+    fn cut(&mut self, alloc: Global) -> Result<(), AllocError>
+        requires { IsReady self.old }
+        ensures { OnOk result (IsCutOf self.old self.new) }
     {
-        let Taken {
-            connection,
-            pieces,
-            lists: _lists,
-        } = self;
-        let mut connection = connection;
-        let mut lists = Vec::with_capacity(alloc, pieces.len())?;
-        for piece in &pieces {
-            let mut more = Vec::new(alloc);
-            connection = connection.read(alloc, piece.as_slice(), &mut more)?;
-            lists.push(Series::from_vec(more))?;
-        }
-        Ok(Taken {
-            connection,
-            pieces: Vec::new(alloc),
-            lists: VecDeque::from_vec(lists),
-        })
+        let connection = mem::replace(&mut self.connection, Connection::Closed);
+        self.connection = cut_pieces(alloc, connection, &self.pieces, &mut self.lists)?;
+        empty(alloc, &mut self.pieces);
+        Ok(())
     }
 
     /// The messages that end in the next piece.
@@ -88,16 +80,36 @@ impl Taken {
     }
 }
 
-/// Cuts the pieces of a connection. One that sent nothing stays where it is.
-fn cut_box(alloc: Global, taken: Box<Taken>) -> Result<Box<Taken>, AllocError>
-    requires { IsReady taken.value }
-    ensures { IfOk result (λ cut. IsCutOf taken.value cut.value) }
+/// Cuts the pieces of a connection, with a list for each of the messages that end in it.
+fn cut_pieces(
+    alloc: Global,
+    connection: Connection,
+    pieces: &[Bytes],
+    lists: &mut VecDeque<Series<Message>>,
+) -> Result<Connection, AllocError>
+    requires can { CanRead connection pieces.now }
+    requires fresh { lists.old.items ≡ [] }
+    ensures { IfOk result (ReadsOn connection pieces.now lists.new.items) }
 {
-    if taken.pieces.is_empty() {
-        return Ok(taken);
+    lists.reserve_exact(pieces.len())?;
+    let mut connection = connection;
+    for piece in pieces {
+        let mut more = Vec::new(alloc);
+        connection = connection.read(alloc, piece.as_slice(), &mut more)?;
+        lists.push_back(Series::from_vec(more))?;
     }
-    let cut = Box::into_inner(taken).cut(alloc)?;
-    Ok(Box::new(alloc, cut)?)
+    Ok(connection)
+}
+
+/// Empties a vector of pieces. A large one gives its memory back.
+fn empty(alloc: Global, pieces: &mut Vec<Bytes>)
+    ensures { pieces.new.items ≡ [] }
+{
+    if pieces.capacity() <= KEPT {
+        pieces.clear();
+    } else {
+        *pieces = Vec::new(alloc);
+    }
 }
 
 /// The seat of a connection. It takes no more than a pointer until something comes.
@@ -149,15 +161,13 @@ impl Seat {
     }
 
     /// Cuts the pieces.
-    pub(crate) fn cut(self, alloc: Global) -> Result<Seat, AllocError>
-        requires { IsReady self }
-        ensures { IfOk result (IsCutOf self) }
+    pub(crate) fn cut(&mut self, alloc: Global) -> Result<(), AllocError>
+        requires { IsReady self.old }
+        ensures { OnOk result (IsCutOf self.old self.new) }
     {
-        match self.taken {
-            Some(taken) => Ok(Seat {
-                taken: Some(cut_box(alloc, taken)?),
-            }),
-            None => Ok(Seat { taken: None }),
+        match &mut self.taken {
+            Some(taken) => taken.cut(alloc),
+            None => Ok(()),
         }
     }
 
