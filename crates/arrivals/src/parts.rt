@@ -1,6 +1,6 @@
 //! The messages of a batch in parts of some thousands.
 
-ghost use Rattle.std.specs.Prelude.{◌≡◌, ◌++◌, flat_map, IfOk};
+ghost use Rattle.std.specs.Prelude.{◌≡◌, ◌++◌, [], flat_map, IfOk};
 ghost use Rattle.arrivals.specs.Batches.{incoming_from, joined};
 
 use crate::Series;
@@ -9,6 +9,22 @@ use std::alloc::{AllocError, Global};
 
 /// How many messages are enough for a pair of floors.
 const ENOUGH: usize = 4_096;
+
+/// How many messages these pieces have.
+fn count(pieces: &[PieceMessages]) -> usize {
+    let mut messages: usize = 0;
+    for piece in pieces {
+        messages = messages.saturating_add(piece.messages.as_slice().len());
+    }
+    messages
+}
+
+/// A part without a message, with room for as many of those that are left as are enough.
+fn empty_part(alloc: Global, left: usize) -> Result<Vec<Incoming>, AllocError>
+    ensures { IfOk result (λ part. part.items ≡ []) }
+{
+    Vec::with_capacity(alloc, left.min(ENOUGH))
+}
 
 /// A part with the messages of one more piece.
 fn with_piece(part: Vec<Incoming>, piece: PieceMessages) -> Result<Vec<Incoming>, AllocError>
@@ -25,11 +41,12 @@ fn with_piece(part: Vec<Incoming>, piece: PieceMessages) -> Result<Vec<Incoming>
     Ok(part)
 }
 
-/// Puts a part after the others where it is long enough: what is left of it.
+/// Puts a part after the others where it is long enough: what is left of it, with room for the messages to come.
 fn laid_by(
     alloc: Global,
     parts: &mut Vec<Series<Incoming>>,
     part: Vec<Incoming>,
+    left: usize,
 ) -> Result<Vec<Incoming>, AllocError>
     ensures { IfOk result (λ rest. joined parts.new.items ++ rest.items ≡ joined parts.old.items ++ part.items) }
 {
@@ -37,7 +54,7 @@ fn laid_by(
         return Ok(part);
     }
     parts.push(Series::from_vec(part))?;
-    Ok(Vec::new(alloc))
+    empty_part(alloc, left)
 }
 
 /// The messages of a batch, in parts of a few thousand: each takes a pair of floors, and memory for no more.
@@ -48,10 +65,12 @@ pub fn parts_of(
     ensures { IfOk result (λ parts. joined parts.items ≡ flat_map incoming_from pieces.items) }
 {
     let mut parts = Vec::new(alloc);
-    let mut part = Vec::new(alloc);
+    let mut left = count(&pieces);
+    let mut part = empty_part(alloc, left)?;
     for piece in pieces {
+        left = left.saturating_sub(piece.messages.as_slice().len());
         let longer = with_piece(part, piece)?;
-        part = laid_by(alloc, &mut parts, longer)?;
+        part = laid_by(alloc, &mut parts, longer, left)?;
     }
     parts.push(Series::from_vec(part))?;
     Ok(parts)
