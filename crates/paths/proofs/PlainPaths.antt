@@ -215,3 +215,8 @@ plain_found files method target name (Some i) rules served plain is found =
 -- so it is there
 pub plain_within : (files : List File) (method target : List ℕ) (i : ℕ) → outcomes.File i ≡ outcome files (asked method target) → i < length files
 plain_within files method target i is = subst (λ (o : Outcome). IsOutcome files o) (sym is) (outcome_is files (asked method target))
+
+pub is_found : (files : List File) (method target : List ℕ) (r : Option ℕ) → IfSome r (λ file. outcomes.File file ≡ outcome files (asked method target))
+    → IfSome r (λ file. IsOutcome files (outcomes.File file))
+is_found files method target None is = tt
+is_found files method target (Some i) is = plain_within files method target i is

@@ -31,7 +31,7 @@ pub use laws::{
 pub use limits::{MAX_FILE_BYTES, MAX_FILES, MAX_NAME_BYTES, MAX_TEXT_BYTES, MAX_TIME};
 pub use numbers::{number, number_and_rest, three_numbers};
 pub use output::Output;
-pub use resolution::{Outcome, locate, resolve};
+pub use resolution::{Outcome, find_plain, locate, resolve};
 pub use segments::Segments;
 pub use snapshot::{Snapshot, Tree};
 pub use snapshot_fault::{SnapshotFault, SnapshotFaultKind};

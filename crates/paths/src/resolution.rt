@@ -74,9 +74,11 @@ fn is_plain_target(target: &[u8]) -> bool
     target.iter().all(|byte| is_plain(*byte))
 }
 
-/// The file that a plain target names as it stands. It takes no memory.
-fn find_plain(files: &Snapshot, method: &[u8], target: &[u8]) -> Option<usize>
-    ensures { IfSome result (λ file. Outcome.File file ≡ outcome files.now (asked method.now target.now)) }
+/// The file that a request asks for whose target names it as it stands, byte for byte after the first slash: where one is
+/// found, it is what [`resolve`] answers. It takes no memory.
+pub fn find_plain(files: &Snapshot, method: &[u8], target: &[u8]) -> Option<usize>
+    ensures outcome { IfSome result (λ file. Outcome.File file ≡ outcome files.now (asked method.now target.now)) }
+    ensures is { IfSome result (λ file. IsOutcome files.now (Outcome.File file)) }
 {
     if !is_served(method) || !is_plain_target(target) {
         return None;
