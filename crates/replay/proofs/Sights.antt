@@ -5,7 +5,7 @@ use Rattle.std.specs.List.{range_with_len}
 use Rattle.replay.specs.declared.ticket.Ticket.{Ticket}
 use Rattle.replay.specs.declared.back.BackState.{BackState}
 use Rattle.replay.specs.declared.back.BackState.TheVariants.{Due as Waits, Fetched, Rendered}
-use Rattle.std.specs.Prelude.{Bool, true, false, ◌&&◌}
+use Rattle.std.specs.Prelude.{Bool, true, false, ◌&&◌, nat_lt, if◌then◌else◌}
 use Rattle.std.specs.List.{list_all}
 use Rattle.responses.specs.declared.slip.Link.{Link}
 use Rattle.responses.specs.declared.slip.Slip.{Slip}
@@ -34,30 +34,75 @@ use Rattle.http_requests.specs.declared.messages.Version.{Version}
 use Rattle.cost_model.specs.Services.{service}
 use Rattle.replay.specs.Answers.{is_head, answers_head}
 use Rattle.replay.specs.Offers.{is_unmodified_file, length_given}
-use Rattle.replay.specs.Fronts.{sight_after, front_step, sight_of, unseen_at, IsSight}
+use Rattle.replay.specs.Fronts.{floor_sight, floor_step, front_value, seen_as, sight_of, unseen, unseen_at, IsSight}
 
-one_sight : (files : List File) (costs : CostTable) (what : Meaning) (sight : Sight) → IsSight files sight → IsSight files (sight_after files costs what sight)
-one_sight files costs (Bad fault) sight h = h
-one_sight files costs (Request method target version closing since) Unseen h = tt
-one_sight files costs (Request method target version closing since) (Asked a) h = outcome_is files a
-one_sight files costs (Request method target version closing since) (Found o) h = h
-one_sight files costs (Request method target version closing since) (Priced o cost) h = h
+abbrev pub sighted : Incoming → Sight → Sighted
+sighted message sight = record { message = message; sight = sight }
+
+one_sight : (files : List File) (costs : CostTable) (k : ℕ) (what : Meaning) (sight : Sight) → IsSight files sight → IsSight files (floor_sight files costs k what sight)
+one_sight files costs k (Bad fault) sight h = h
+one_sight files costs k (Request method target version closing since) Unseen h = outcome_is files (asked method target)
+one_sight files costs k (Request method target version closing since) (Asked a) h = outcome_is files a
+one_sight files costs k (Request method target version closing since) (Found o) h = priced_or_not (nat_lt k 2)
+  where
+    priced_or_not : (b : Bool) → IsSight files (if b then Found o else Priced o (service costs o (is_head method) (is_unmodified_file files since o) (length_given files o)))
+    priced_or_not true = h
+    priced_or_not false = h
+one_sight files costs k (Request method target version closing since) (Priced o cost) h = h
 
 -- an outcome that an item has found is one of the files'
-pub sight_is : (files : List File) (costs : CostTable) (messages : List Incoming) (number k : ℕ) → IsSight files (value_of (front_step files costs) k (unseen_at messages number)).sight
+pub sight_is : (files : List File) (costs : CostTable) (messages : List Incoming) (number k : ℕ) → IsSight files (value_of (floor_step files costs) k (unseen_at messages number)).sight
 sight_is files costs messages number zero = tt
 sight_is files costs messages number (suc k) =
-    let v = value_of (front_step files costs) k (unseen_at messages number) in
-    one_sight files costs v.message.what v.sight (sight_is files costs messages number k)
+    let v = value_of (floor_step files costs) k (unseen_at messages number) in
+    one_sight files costs k v.message.what v.sight (sight_is files costs messages number k)
+
+pub as_it_is : (files : List File) (s : Sight) → IsSight files (seen_as files s) → IsSight files s
+as_it_is files Unseen h = tt
+as_it_is files (Asked a) h = tt
+as_it_is files (Found o) h = h
+as_it_is files (Priced o cost) h = h
+
+same_sight : (files : List File) (costs : CostTable) (what : Meaning)
+    → floor_sight files costs 2 what (floor_sight files costs 1 what (floor_sight files costs 0 what Unseen)) ≡ sight_of files costs what
+same_sight files costs (Bad fault) = refl
+same_sight files costs (Request method target version closing since) = refl
+
+-- the floor finds of a message what is to be known of it
+pub same_value : (files : List File) (costs : CostTable) (message : Incoming) → value_of (floor_step files costs) 3 (unseen message) ≡ front_value files costs message
+same_value files costs message = ap (λ s. sighted message s) (same_sight files costs message.what)
+
+never_found : (files : List File) (costs : CostTable) (what : Meaning) (o : Outcome) → Found o ≡ sight_of files costs what → ⊥
+never_found files costs (Bad fault) o e = let z : ⊥ = grind (arith, e) in z
+never_found files costs (Request method target version closing since) o e = let z : ⊥ = grind (arith, e) in z
+
+as_known : (files : List File) (costs : CostTable) (message m : Incoming) (s : Sight) → sighted message (seen_as files s) ≡ front_value files costs m → sighted message s ≡ front_value files costs m
+as_known files costs message m Unseen h = h
+as_known files costs message m (Asked a) h = absurd (never_found files costs m.what (outcome files a) (ap (λ (v : Sighted). v.sight) h))
+as_known files costs message m (Found o) h = h
+as_known files costs message m (Priced o cost) h = h
+
+-- all that is known at the end is known in full
+pub all_known : {X : Type 0} (files : List File) (costs : CostTable) (message : X → Incoming) (sight : X → Sight) (xs : List X) (ms : List Incoming)
+    → map (λ x. sighted (message x) (seen_as files (sight x))) xs ≡ map (front_value files costs) ms → map (λ x. sighted (message x) (sight x)) xs ≡ map (front_value files costs) ms
+all_known files costs message sight [] ms e = e
+all_known files costs message sight (x ∷ xs) [] e = absurd (let z : ⊥ = grind (arith, e) in z)
+all_known files costs message sight (x ∷ xs) (m ∷ ms) e =
+    let first : sighted (message x) (seen_as files (sight x)) ≡ front_value files costs m = cc in
+    let rest : map (λ y. sighted (message y) (seen_as files (sight y))) xs ≡ map (front_value files costs) ms = cc in
+    let one = as_known files costs (message x) m (sight x) first in
+    let all = all_known files costs message sight xs ms rest in
+    rw (one, all) refl
+
+pub same_values : (files : List File) (costs : CostTable) (ms : List Incoming) → map (λ m. value_of (floor_step files costs) 3 (unseen m)) ms ≡ map (front_value files costs) ms
+same_values files costs [] = refl
+same_values files costs (m ∷ ms) = rw (same_value files costs m, same_values files costs ms) refl
 
 -- one more step
 pub value_more : {V : Type 0} (step : ℕ → V → V) (k : ℕ) (x : V) → value_of step (k + 1) x ≡ step k (value_of step k x)
 value_more step k x =
     let e : k + 1 ≡ suc k = omega arith in
     rw e refl
-
-abbrev pub sighted : Incoming → Sight → Sighted
-sighted message sight = record { message = message; sight = sight }
 
 -- what follows the first of the rest of a list
 pub drop_next : {X : Type 0} (xs ys : List X) (k : ℕ) (x : X) → drop k xs ≡ x ∷ ys → drop (k + 1) xs ≡ ys

@@ -1,5 +1,5 @@
 -- The steps that a message takes before it is decided on.
-use Rattle.std.specs.Prelude.{ℕ, List, slice_index_or}
+use Rattle.std.specs.Prelude.{ℕ, List, slice_index_or, nat_lt, if◌then◌else◌}
 use Rattle.stage_graph.specs.Steps.{value_of}
 use Rattle.paths.specs.Targets.{asked}
 use Rattle.paths.specs.Resolution.{outcome, IsOutcome}
@@ -52,3 +52,26 @@ front_value files costs message = value_of (front_step files costs) 3 (unseen me
 abbrev pub sight_of : List File → CostTable → Meaning → Sight
 sight_of files costs what = sight_after files costs what
     (sight_after files costs what (sight_after files costs what Unseen))
+
+-- A target that was read is worth what it is found to ask for: one that names a file as it stands is looked up where it
+-- is read.
+abbrev pub seen_as : List File → Sight → Sight
+seen_as files (Asked a) = Found (outcome files a)
+seen_as files Unseen = Unseen
+seen_as files (Found o) = Found o
+seen_as files (Priced o cost) = Priced o cost
+
+-- what is known of a message after step k of the front floor: steps 0 and 1 find what it asks for, step 2 how long that
+-- takes
+abbrev pub floor_sight : List File → CostTable → ℕ → Meaning → Sight → Sight
+floor_sight files costs k (Bad fault) sight = sight
+floor_sight files costs k (Request method target version closing since) Unseen =
+    Found (outcome files (asked method target))
+floor_sight files costs k (Request method target version closing since) (Asked a) = Found (outcome files a)
+floor_sight files costs k (Request method target version closing since) (Found o) =
+    if nat_lt k 2 then Found o
+    else Priced o (service costs o (is_head method) (is_unmodified_file files since o) (length_given files o))
+floor_sight files costs k (Request method target version closing since) (Priced o cost) = Priced o cost
+
+abbrev pub floor_step : List File → CostTable → ℕ → Sighted → Sighted
+floor_step files costs k v = record { message = v.message; sight = floor_sight files costs k v.message.what v.sight }

@@ -5,7 +5,10 @@ ghost use Rattle.std.specs.List.{range_with_len};
 ghost use Rattle.stage_graph.specs.After.{last_cut, with_steps};
 ghost use Rattle.replay.specs.Fronts.{front_value};
 ghost use Rattle.stage_graph.specs.Steps.{value_of};
-ghost use Rattle.replay.specs.Fronts.{sight_after, front_step, unseen, unseen_at, IsSight};
+ghost use Rattle.paths.specs.Targets.{asked};
+ghost use Rattle.paths.specs.Resolution.{outcome, IsOutcome};
+ghost use Rattle.replay.specs.declared.sight.Sight.TheVariants.{Unseen, Found};
+ghost use Rattle.replay.specs.Fronts.{floor_sight, floor_step, seen_as, unseen, unseen_at, IsSight};
 
 use crate::answers::{answers_head, service_of};
 use crate::server::Server;
@@ -14,12 +17,15 @@ use crate::sight::{Sight, Sighted};
 use arrivals::Incoming;
 use cost_model::Costs;
 use http_requests::Meaning;
-use paths::{Snapshot, Tree, inspect, locate};
+use paths::{Outcome, Snapshot, Tree, find_plain, inspect, locate};
 use stage_graph::{Chain, Gate, Named, Plan, Unrun, run_through};
 use std::alloc::{AllocError, Global};
 use std::marker::{Brand, PhantomData};
 use std::sync::Wait;
 use std::thread::Threads;
+
+/// The number of the step that prices a request, after those that find what it asks for.
+const LAST_STEP: usize = 2;
 
 /// Names the messages of a front floor, and the costs.
 pub trait Fronts {
@@ -49,8 +55,8 @@ pub struct FrontItem<F: Tree, K: Fronts> {
     pub sight: Sight,
     tree: PhantomData<F>,
     of: PhantomData<K>,
-    pub ghost own: { record { message = message; sight = sight }
-        ≡ value_of (front_step F.files K.costs) done (unseen_at K.messages number) },
+    pub ghost own: { record { message = message; sight = seen_as F.files sight }
+        ≡ value_of (floor_step F.files K.costs) done (unseen_at K.messages number) },
 }
 
 impl<F: Tree, K: Fronts> Named for FrontItem<F, K> {
@@ -67,7 +73,8 @@ impl<F: Tree, K: Fronts> Named for FrontItem<F, K> {
     }
 }
 
-/// The steps before the decision: the target is read, it is looked up, and its service time is computed.
+/// The steps before the decision: the target is read, it is looked up, and its service time is computed. A target that
+/// names a file as it stands is looked up where it is read.
 #[derive(Drop)]
 pub struct Front<'a, F: Tree, K: Fronts> {
     alloc: Global,
@@ -80,42 +87,56 @@ pub struct Front<'a, F: Tree, K: Fronts> {
 }
 
 impl<'a, F: Tree, K: Fronts> Front<'a, F, K> {
-    /// Looks one step further into a message.
-    fn look(&self, what: &Meaning, sight: Sight) -> Result<Sight, Sight>
+    /// Reads what a request asks for. A file that its target names as it stands is found at once, without memory.
+    fn read(&self, method: &[u8], target: &[u8]) -> Result<Sight, Sight>
+        ensures ok { IfOk result (λ s. seen_as F.files s ≡ Found (outcome F.files (asked method.now target.now))) }
+        ensures is { IfOk result (IsSight F.files) }
+        ensures err { IfErr result (λ s. s ≡ Unseen) }
+    {
+        if let Some(file) = find_plain(self.snapshot, method, target) {
+            return Ok(Sight::Found(Outcome::File(file)));
+        }
+        match inspect(self.alloc, method, target) {
+            Ok(asked) => Ok(Sight::Asked(asked)),
+            Err(_) => Err(Sight::Unseen),
+        }
+    }
+
+    /// What is known of a message after this step where this is what it asks for: the last step prices it.
+    fn found(&self, done: usize, what: &Meaning, outcome: Outcome) -> Sight
+        requires { IsOutcome F.files outcome }
+        ensures sight { seen_as F.files result ≡ floor_sight F.files K.costs done what.now (Found outcome) }
+        ensures is { IsSight F.files result }
+    {
+        let Meaning::Request { modified_since, .. } = what else {
+            return Sight::Found(outcome);
+        };
+        if done < LAST_STEP {
+            return Sight::Found(outcome);
+        }
+        let head = answers_head(what);
+        let service = service_of(self.snapshot, self.costs, head, *modified_since, &outcome);
+        Sight::Priced(outcome, ServiceTime::new(service))
+    }
+
+    /// Looks one step further into a message, after so many steps.
+    fn look(&self, done: usize, what: &Meaning, sight: Sight) -> Result<Sight, Sight>
         requires { IsSight F.files sight }
-        ensures ok { IfOk result (λ s. s ≡ sight_after F.files K.costs what.now sight) }
+        ensures ok { IfOk result
+            (λ s. seen_as F.files s ≡ floor_sight F.files K.costs done what.now (seen_as F.files sight)) }
         ensures is { IfOk result (IsSight F.files) }
         ensures err { IfErr result (λ s. s ≡ sight) }
     {
-        let Meaning::Request {
-            method,
-            target,
-            modified_since,
-            ..
-        } = what
-        else {
+        let Meaning::Request { method, target, .. } = what else {
             return Ok(sight);
         };
         match sight {
-            Sight::Unseen => match inspect(self.alloc, method.as_slice(), target.as_slice()) {
-                Ok(asked) => Ok(Sight::Asked(asked)),
-                Err(_) => Err(Sight::Unseen),
-            },
+            Sight::Unseen => self.read(method.as_slice(), target.as_slice()),
             Sight::Asked(asked) => match locate(self.alloc, self.snapshot, &asked) {
-                Ok(outcome) => Ok(Sight::Found(outcome)),
+                Ok(outcome) => Ok(self.found(done, what, outcome)),
                 Err(_) => Err(Sight::Asked(asked)),
             },
-            Sight::Found(outcome) => {
-                let head = answers_head(what);
-                let service = service_of(
-                    self.snapshot,
-                    self.costs,
-                    head,
-                    *modified_since,
-                    &outcome,
-                );
-                Ok(Sight::Priced(outcome, ServiceTime::new(service)))
-            }
+            Sight::Found(outcome) => Ok(self.found(done, what, outcome)),
             Sight::Priced(outcome, service) => Ok(Sight::Priced(outcome, service)),
         }
     }
@@ -128,11 +149,11 @@ impl<'a, F: Tree, K: Fronts> Chain for Front<'a, F, K> {
 
     ghost steps = { 3 };
 
-    ghost step = { front_step F.files K.costs };
+    ghost step = { floor_step F.files K.costs };
 
     ghost input_at = { λ n. unseen_at K.messages n };
 
-    ghost content = { λ x. record { message = x.message; sight = x.sight } };
+    ghost content = { λ x. record { message = x.message; sight = seen_as F.files x.sight } };
 
     fn steps(&self) -> usize {
         3
@@ -147,7 +168,7 @@ impl<'a, F: Tree, K: Fronts> Chain for Front<'a, F, K> {
             tree,
             of,
         } = item;
-        match self.look(&message.what, sight) {
+        match self.look(done, &message.what, sight) {
             Ok(sight) => Ok(FrontItem {
                 number,
                 done: done + 1,

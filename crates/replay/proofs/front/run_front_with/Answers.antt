@@ -2,7 +2,9 @@ use Rattle.std.proofs.Common.{◌≡◌, ap, sym, ◌∙◌, map, length}
 use Rattle.std.specs.List.{range_with_len}
 use Rattle.stage_graph.specs.After.{last_cut, with_steps}
 use Rattle.stage_graph.proofs.ByNumber.{by_number}
-use Rattle.replay.specs.Fronts.{front_value, no_message}
+use Rattle.stage_graph.specs.Steps.{value_of}
+use Rattle.replay.specs.Fronts.{floor_step, no_message, unseen}
+use Rattle.replay.proofs.Sights.{all_known, same_values}
 use Rattle.replay.proofs.front.run_front_with.Goals as goal
 
 pub run_through-requires-clause-fresh : goal.run_through-requires-clause-fresh
@@ -11,7 +13,10 @@ run_through-requires-clause-fresh g c κs within = rw c.in_ok-items.ensures.len 
 pub returns : goal.returns
 returns g c =
     let xs = c.args.messages.items in
+    let files = g.F.Tree.files in
+    let costs = c.args.server.now.costs in
     let values = rw c.in_ok-items.ensures.len at c.in_ok-items-2.ensures in
-    c.in_ok-sights_of.ensures
-    ∙ (values
-    ∙ (rw (← c.requires.messages, ← c.requires.costs) (by_number (front_value g.F.Tree.files c.args.server.now.costs) xs no_message)))
+    let found = values
+    ∙ (rw (← c.requires.messages, ← c.requires.costs)
+    (by_number (λ m. value_of (floor_step files costs) 3 (unseen m)) xs no_message ∙ same_values files costs xs)) in
+    c.in_ok-sights_of.ensures ∙ all_known files costs _ _ _ xs found

@@ -1,16 +1,17 @@
-use Rattle.std.proofs.Common.{ap}
+use Rattle.std.proofs.Common.{ap, sym}
 use Rattle.replay.specs.declared.sight.Sighted.{Sighted}
-use Rattle.replay.specs.Fronts.{front_step, unseen_at}
-use Rattle.replay.proofs.Sights.{sight_is, value_more}
+use Rattle.replay.specs.Fronts.{floor_step, unseen_at, IsSight}
+use Rattle.replay.proofs.Sights.{as_it_is, sight_is, value_more}
 use Rattle.replay.proofs.front.FrontChain.work.Goals as goal
 
 pub look-requires : goal.look-requires
 look-requires g c =
     let item = c.args.item in
-    rw (ap (λ (v : Sighted). v.sight) item.own) (sight_is g.F.Tree.files g.K.Fronts.costs g.K.Fronts.messages item.number item.done)
+    as_it_is g.F.Tree.files item.sight
+    (rw (ap (λ (v : Sighted). v.sight) item.own) (sight_is g.F.Tree.files g.K.Fronts.costs g.K.Fronts.messages item.number item.done))
 
 pub invariant_of-result : goal.invariant_of-result
 invariant_of-result g c =
     let item = c.args.item in
-    let step = front_step g.F.Tree.files g.K.Fronts.costs in
+    let step = floor_step g.F.Tree.files g.K.Fronts.costs in
     record { own = rw (c.in-Ok.ensures.ok, value_more step item.done (unseen_at g.K.Fronts.messages item.number)) (ap (step item.done) item.own) }
