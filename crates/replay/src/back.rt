@@ -1,4 +1,4 @@
-//! The back floor: a ticket becomes a reply, with its page out of the cache.
+//! The back floor: a ticket becomes a reply, with its page from the shelf.
 
 ghost use Rattle.std.specs.Prelude.{◌≡◌, ◌<◌, true, ℕ, List, length, map, flat_map, IfOk, IfErr};
 ghost use Rattle.std.specs.List.{list_all, range_with_len};
@@ -10,14 +10,15 @@ ghost use Rattle.replay.specs.Backs.{slip_of_ticket, back_step, is_back, can_ren
 ghost use Rattle.replay.specs.Backs.{reply_to, back_after, elsewhere, ticket_elsewhere};
 
 use crate::server::Server;
+use crate::shelf::{Shelf, page_at};
 use crate::ticket::{Due, Ticket};
-use page_cache::{Page, PageCache};
+use page_cache::Page;
 use paths::{Snapshot, Tree};
 use responses::{Given, Reply, SharedPage, Slip, try_render};
 use stage_graph::{Chain, Gate, Named, Plan, Unrun, run_through};
 use std::alloc::{AllocError, Global};
 use std::marker::{Brand, PhantomData};
-use std::sync::{Arc, Mutex, Wait};
+use std::sync::{Arc, Wait};
 use std::thread::Threads;
 
 /// Stands for a tree in a type where none is named.
@@ -80,30 +81,34 @@ impl<F: Tree, K: Backs> Named for BackItem<F, K> {
     }
 }
 
-/// The steps after the decision: the page is fetched through a cache that all workers share, and the reply is
+/// The steps after the decision: the page is fetched from a shelf that all workers share, and the reply is
 /// rendered.
 #[derive(Drop)]
 pub struct Back<'a, F: Tree, K: Backs, R: Wait> {
     rt: &'a R,
     alloc: Global,
     snapshot: &'a Snapshot,
-    cache: &'a Mutex<PageCache<F>>,
+    shelf: &'a Shelf<F>,
     of: PhantomData<K>,
     pub ghost files: { snapshot.now ≡ F.files },
 }
 
 impl<'a, F: Tree, K: Backs, R: Wait> Back<'a, F, K, R> {
-    /// The page of a file: from the cache, or built and kept there.
+    /// The page of a file: from the shelf, or built and kept there.
     fn page(&self, file: usize) -> Result<SharedPage<F>, AllocError>
         requires { file < length F.files }
         ensures { IfOk result (λ p. p ≡ file) }
     {
-        let found = self.cache.lock(self.rt).look(file)?;
+        let cache = match self.shelf {
+            Shelf::Whole(places) => return page_at(places, self.alloc, self.snapshot, file),
+            Shelf::Recent(cache) => cache,
+        };
+        let found = cache.lock(self.rt).look(file)?;
         if let Some(page) = found {
             return Ok(SharedPage::new(page));
         }
         let page = Page::build(self.alloc, self.snapshot, file)?;
-        let _kept = self.cache.lock(self.rt).keep(Arc::try_clone(&page)?);
+        let _kept = cache.lock(self.rt).keep(Arc::try_clone(&page)?);
         Ok(SharedPage::new(page))
     }
 
@@ -270,7 +275,7 @@ fn run_back_with<
     rt: &T,
     threads: usize,
     plan: Plan,
-    cache: &Mutex<PageCache<F>>,
+    shelf: &Shelf<F>,
     tickets: Vec<Ticket<F>>,
     gate: &G,
 ) -> Result<Vec<Reply<F>>, Unrun>
@@ -285,19 +290,19 @@ fn run_back_with<
         rt,
         alloc,
         snapshot: server.snapshot,
-        cache,
+        shelf,
         of: PhantomData,
     };
     let items = run_through::<Back<F, K, T>, G, T>(rt, alloc, threads, plan, &chain, items, gate)?;
     Ok(replies_of(alloc, items)?)
 }
 
-/// The replies to the tickets, by a floor of so many threads that share a cache of pages.
+/// The replies to the tickets, by a floor of so many threads that share a shelf of pages.
 pub(crate) fn run_back<F: Tree + Send + Sync, G: Gate + Sync, T: Threads + Wait + Sync>(
     server: &Server<'_, F>,
     rt: &T,
     threads: usize,
-    cache: &Mutex<PageCache<F>>,
+    shelf: &Shelf<F>,
     tickets: Vec<Ticket<F>>,
     gate: &G,
 ) -> Result<Vec<Reply<F>>, Unrun>
@@ -306,5 +311,5 @@ pub(crate) fn run_back<F: Tree + Send + Sync, G: Gate + Sync, T: Threads + Wait 
 {
     let settings = server.settings;
     let plan = settings.back.try_clone(server.alloc)?;
-    run_back_with::<F, Brand, G, T>(server, rt, threads, plan, cache, tickets, gate)
+    run_back_with::<F, Brand, G, T>(server, rt, threads, plan, shelf, tickets, gate)
 }

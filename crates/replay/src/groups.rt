@@ -3,12 +3,11 @@
 ghost use Rattle.std.specs.Prelude.{◌≡◌, ◌++◌, IfOk};
 ghost use Rattle.replay.specs.Groups.{all_of};
 
+use crate::shelf::Shelf;
 use crate::ticket::{Due, Ticket};
 use arrivals::Series;
-use page_cache::PageCache;
 use paths::{Snapshot, Tree};
 use std::alloc::{AllocError, Global};
-use std::sync::Mutex;
 
 /// How many bytes of pages the replies of a group hold at most, where the cache can't hold the pages of all files.
 const MAX_HELD: usize = 33_554_432;
@@ -19,20 +18,37 @@ const FIELDS: usize = 256;
 /// The pages that all workers share.
 #[derive(Drop)]
 pub struct Pages<F: Tree> {
-    pub cache: Mutex<PageCache<F>>,
+    pub shelf: Shelf<F>,
     /// How many bytes of pages the replies of a group may hold, each counted as often as it is due.
     pub room: usize,
 }
 
-/// How many bytes of pages the replies of a group may hold. Where the cache has room for the pages of all files, each
-/// stands in memory once, however many replies share it.
-pub(crate) fn room_for_pages(snapshot: &Snapshot, cache: usize) -> usize {
+/// Whether so many bytes have room for the pages of all files.
+fn all_fit(snapshot: &Snapshot, bytes: usize) -> bool {
     let mut all: usize = 0;
     for file in 0..snapshot.len() {
         let page = snapshot.bytes(file).len().saturating_add(FIELDS);
         all = all.saturating_add(page);
     }
-    if all <= cache { usize::MAX } else { MAX_HELD }
+    all <= bytes
+}
+
+impl<F: Tree> Pages<F> {
+    /// No page yet, and room for so many bytes of them. Where these are enough for the pages of all files, each stands
+    /// in memory once, however many replies share it.
+    pub(crate) fn new(
+        alloc: Global,
+        snapshot: &Snapshot,
+        bytes: usize,
+    ) -> Result<Pages<F>, AllocError>
+        requires { snapshot.now ≡ F.files }
+    {
+        let all_fit = all_fit(snapshot, bytes);
+        Ok(Pages {
+            shelf: Shelf::new(alloc, snapshot.len(), all_fit, bytes)?,
+            room: if all_fit { usize::MAX } else { MAX_HELD },
+        })
+    }
 }
 
 /// How many bytes of a file the page of a ticket holds.

@@ -19,6 +19,7 @@ mod server;
 mod service_time;
 mod serving;
 mod settings;
+mod shelf;
 mod shifted;
 mod sight;
 mod staged;

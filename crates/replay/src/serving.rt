@@ -88,12 +88,12 @@ fn answer_group<F: Tree + Send + Sync, G: Gate + Sync, T: Threads + Wait + Sync,
         stages: settings.front.stages(),
         first,
     };
-    let cache = &floors.pages.cache;
+    let shelf = &floors.pages.shelf;
     let replies = run_back::<F, Shifted<G>, T>(
         server,
         floors.rt,
         floors.threads,
-        cache,
+        shelf,
         group,
         &following,
     )?;
