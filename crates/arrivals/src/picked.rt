@@ -6,6 +6,7 @@ ghost use Rattle.arrivals.specs.Places.{place_at, empty_place, IsReady};
 ghost use Rattle.arrivals.specs.Picking.{IsCut, TakesOut, with_picked};
 
 use crate::seat::Seat;
+use rayon::current_num_threads;
 use rayon::prelude::*;
 use std::alloc::{AllocError, Global};
 use std::mem;
@@ -74,9 +75,11 @@ pub(crate) fn cut_all<R: Threads + Sync>(
     requires { All (λ p. IsReady p.seat) picked.items }
     ensures { IfOk result (λ cuts. AllZip IsCut picked.items cuts.items) }
 {
+    // One piece for each processor: a thread costs more than what pieces that differ would lose.
+    let each = picked.len().div_ceil(current_num_threads(rt));
     let cuts = picked
         .into_par_iter()
-        .with_min_len(LEAST)
+        .with_min_len(each.max(LEAST))
         .map(
             |one: Picked| -> Result<Picked, AllocError>
                 requires { IsReady one.seat }
