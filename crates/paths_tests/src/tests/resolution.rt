@@ -1,6 +1,6 @@
 //! Methods and targets, and what they are answered with.
 use crate::tests::{EMPTY, snapshot};
-use paths::{Asked, Outcome, Snapshot, inspect, locate, resolve};
+use paths::{Asked, Outcome, Snapshot, find_plain, inspect, locate, resolve};
 use std::process::Abort;
 use std::test::Fail;
 
@@ -199,5 +199,18 @@ fn halves(rt: HostRuntime) -> Result<(), Fail> {
     assert_eq!(rt; parts, 2);
     let outcome = locate(rt.alloc(), &files, &asked)?;
     assert!(rt; reads_as(&files, &outcome, "File a/c.txt"));
+    Ok(())
+}
+
+/// A target that names a file as it stands is found at once, and no other.
+#[test]
+fn plain_targets(rt: HostRuntime) -> Result<(), Fail> {
+    let files = snapshot(rt.alloc(), TWO.as_bytes())?;
+    assert_eq!(rt; find_plain(&files, b"GET", b"/a/c.txt"), Some(0));
+    assert_eq!(rt; find_plain(&files, b"HEAD", b"/b.txt"), Some(1));
+    assert_eq!(rt; find_plain(&files, b"POST", b"/b.txt"), None);
+    assert_eq!(rt; find_plain(&files, b"GET", b"/%62.txt"), None);
+    assert_eq!(rt; find_plain(&files, b"GET", b"/b.txt?x"), None);
+    assert_eq!(rt; find_plain(&files, b"GET", b"b.txt"), None);
     Ok(())
 }
