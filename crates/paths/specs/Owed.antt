@@ -1,5 +1,5 @@
--- How long a line is that announces something, and what stays ahead of it.
-use Rattle.std.specs.Prelude.{◌≡◌, ℕ, ◌+◌, ◌≤◌, true, false, List, length, nat_eq, Option, Result, Ok, Err}
+-- What a line that announces something owes, and how it is read in pieces.
+use Rattle.std.specs.Prelude.{◌≡◌, ℕ, ◌+◌, ◌≤◌, ◌++◌, true, false, List, length, nat_eq, Option, Result, Ok, Err}
 use Rattle.std.specs.Prelude.{MatchResult, is_some}
 use Rattle.std.specs.List.{starts_with}
 use Rattle.paths.specs.Texts.{Ahead, ahead_of, line_at, is_unforeseen}
@@ -11,6 +11,10 @@ use Rattle.paths.specs.declared.file.Heading.{Heading}
 abbrev pub IsLong : ℕ → List ℕ → ℕ → List ℕ → Type 0
 IsLong least kind longer line = (least ≤ length line + 1)
     × (starts_with nat_eq line kind ≡ true → longer ≤ length line + 1)
+
+-- a line that begins so and is that long has at least n bytes more, its line feed among them
+abbrev pub IsOwed : ℕ → List ℕ → ℕ → List ℕ → ℕ → Type 0
+IsOwed least kind longer prefix n = (rest : List ℕ) → IsLong least kind longer (prefix ++ rest) → n ≤ length rest + 1
 
 -- The call gave the next line. Where that is so long, what follows the line is ahead now.
 abbrev pub GivesLongLine : ℕ → List ℕ → ℕ → Option (List ℕ) → ℕ → Option (List ℕ) → ℕ → Result (List ℕ) Stop → Type 0

@@ -18,13 +18,14 @@ pub struct Failed;
 
 /// A reader that is lent to a call, and how often it has failed.
 ///
-/// Contracts see the bytes that are ahead, where these are known, and the count of failures. What was read ahead of a
-/// line's end waits in a window, and comes before what the reader has left.
+/// Contracts see the bytes that are ahead, where these are known, and the count of failures. What was read beyond a
+/// line's end, where the input reads ahead, waits in a window, and comes before what the reader has left.
 #[derive(Drop)]
 pub struct Input<R: Read> {
     reader: R,
     failures: u64,
     window: Window,
+    ahead: bool,
 }
 
 impl<R: Read> Model for Input<R> {
@@ -37,7 +38,7 @@ impl<R: Read> Model for Input<R> {
 }
 
 impl<R: Read> Input<R> {
-    /// A reader that has not failed yet.
+    /// A reader that has not failed yet. No call reads on beyond what it gives.
     pub fn new(reader: R) -> Input<R>
         ensures { result ≡ fresh (R.remaining reader) }
     {
@@ -45,7 +46,23 @@ impl<R: Read> Input<R> {
             reader,
             failures: 0,
             window: Window::new(),
+            ahead: false,
         }
+    }
+
+    /// The same, but lines and single bytes are read by fewer reads, of up to 64 bytes: what came beyond them waits for
+    /// the input's next calls. It is for a reader that nobody reads on after the input.
+    pub fn ahead(reader: R) -> Input<R>
+        ensures { result ≡ fresh (R.remaining reader) }
+    {
+        let mut input = Input::new(reader);
+        input.ahead = true;
+        input
+    }
+
+    /// Whether lines and single bytes may be read with bytes beyond them.
+    pub(crate) fn reads_ahead(&self) -> bool {
+        self.ahead
     }
 
     /// How often a call answered [`Failed`].

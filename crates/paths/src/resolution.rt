@@ -4,7 +4,7 @@ ghost use Rattle.std.specs.Prelude.{◌≡◌, ◌++◌, [], ◌∷◌, true, fa
 ghost use Rattle.std.specs.Prelude.{List, ℕ};
 ghost use Rattle.std.specs.List.{list_all};
 ghost use Rattle.paths.specs.Ascii.{slash};
-ghost use Rattle.paths.specs.PlainPaths.{is_plain};
+ghost use Rattle.paths.specs.PlainPaths.{is_plain, plain_file};
 ghost use Rattle.paths.specs.Targets.{asked};
 ghost use Rattle.paths.specs.Resolution.{IsOutcome, outcome, joined, location, location_byte, slash_before};
 
@@ -74,9 +74,10 @@ fn is_plain_target(target: &[u8]) -> bool
     target.iter().all(|byte| is_plain(*byte))
 }
 
-/// The file that a request asks for whose target names it as it stands, byte for byte after the first slash: where one is
-/// found, it is what [`resolve`] answers. It takes no memory.
+/// The file that a request asks for whose target names it as it stands, byte for byte after the first slash: where one
+/// is found, it is what [`resolve`] answers. It takes no memory.
 pub fn find_plain(files: &Snapshot, method: &[u8], target: &[u8]) -> Option<usize>
+    ensures found { result ≡ plain_file files.now method.now target.now }
     ensures outcome { IfSome result (λ file. Outcome.File file ≡ outcome files.now (asked method.now target.now)) }
     ensures is { IfSome result (λ file. IsOutcome files.now (Outcome.File file)) }
 {

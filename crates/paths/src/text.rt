@@ -1,7 +1,9 @@
 //! Reading lines, bytes and runs of a text of limited size.
 
-ghost use Rattle.std.specs.Prelude.{◌≡◌, ◌≢◌, ℕ, ◌+◌, ◌-◌, ◌<◌, ◌≤◌, ◌^◌, ◌++◌, [], ◌∷◌, true, false, is_some};
-ghost use Rattle.std.specs.Prelude.{take, length, IfOk, IfErr};
+ghost use Rattle.std.specs.Prelude.{◌≡◌, ◌≢◌, ℕ, ◌+◌, ◌-◌, ◌<◌, ◌≤◌, ◌==◌, ◌^◌, ◌++◌, [], ◌∷◌, true, false, is_some};
+ghost use Rattle.std.specs.Prelude.{take, length, nat_lt, IfOk, IfErr};
+ghost use Rattle.std.specs.List.{before_first};
+ghost use Rattle.paths.specs.Ascii.{line_feed};
 ghost use Rattle.paths.specs.Devices.{CanFail};
 ghost use Rattle.paths.specs.Feeds.{NoneAfterFeed};
 ghost use Rattle.paths.specs.Parts.{TookPart, FailsAtOnce, FailsWithin};
@@ -52,7 +54,7 @@ impl Model for Line {
 }
 
 impl Line {
-    fn new() -> Line
+    pub(crate) fn new() -> Line
         ensures { result ≡ [] }
     {
         Line {
@@ -73,6 +75,21 @@ impl Line {
     {
         self.bytes[self.len] = byte;
         self.len += 1;
+    }
+
+    /// Takes the bytes up to a line feed, and tells whether one was there.
+    pub(crate) fn push_to_feed(&mut self, bytes: &[u8]) -> bool
+        requires { length self.old + length bytes.now ≤ 65 }
+        ensures line { self.new ≡ self.old ++ before_first (λ b. b == line_feed) bytes.now }
+        ensures feed { result ≡ nat_lt (length (before_first (λ b. b == line_feed) bytes.now)) (length bytes.now) }
+    {
+        for byte in bytes {
+            if *byte == b'\n' {
+                return true;
+            }
+            self.push(*byte);
+        }
+        false
     }
 }
 
@@ -98,7 +115,7 @@ fn look_further<R: Read>(input: &mut Input<R>) -> Stop
 
 /// Makes one read of a text that may take `left` more bytes, and answers how many came, at least one. Where the text
 /// may take none, one byte further is looked for: the text is too large if it is there, and cut if it is not.
-fn read_some_of<R: Read>(
+pub(crate) fn read_some_of<R: Read>(
     input: &mut Input<R>,
     left: &mut usize,
     room: &mut [u8],
@@ -157,8 +174,29 @@ fn read_to_feed_of<R: Read>(
     }
 }
 
-/// Reads the next byte of a text that may take `left` more bytes. Bytes after it may be read ahead, and wait in the
-/// input.
+/// Takes some of the next bytes as [`read_some_of`] does, and reads ahead where the input does.
+fn read_next_of<R: Read>(
+    input: &mut Input<R>,
+    left: &mut usize,
+    room: &mut [u8],
+) -> Result<usize, Stop>
+    requires healthy { CanFail input.old }
+    requires room { 0 < length room.old }
+    ensures some { TakesSome input.old.bytes left.old input.new.bytes left.new room.new result }
+    // A read that failed took nothing.
+    ensures part { FailsAtOnce Stop.Read input.old.bytes left.old input.new.bytes left.new result }
+    ensures count { Counts input.old.failures input.new.failures result }
+    // It takes no memory.
+    ensures memory { IfErr result (λ e. e ≢ Stop.Memory) }
+{
+    if input.reads_ahead() {
+        read_to_feed_of(input, left, room)
+    } else {
+        read_some_of(input, left, room)
+    }
+}
+
+/// Reads the next byte of a text that may take `left` more bytes.
 pub fn read_byte_of<R: Read>(input: &mut Input<R>, left: &mut usize) -> Result<u8, Stop>
     requires { CanFail input.old }
     ensures byte { Gives is_unforeseen byte_at input.old.bytes left.old input.new.bytes left.new result }
@@ -169,31 +207,13 @@ pub fn read_byte_of<R: Read>(input: &mut Input<R>, left: &mut usize) -> Result<u
     ensures memory { IfErr result (λ e. e ≢ Stop.Memory) }
 {
     let mut room = [0];
-    match read_to_feed_of(input, left, &mut room) {
+    match read_next_of(input, left, &mut room) {
         Ok(_) => Ok(room[0]),
         Err(stop) => Err(stop),
     }
 }
 
-/// Reads the next byte of a text that may take `left` more bytes, and reads nothing ahead.
-fn read_one_of<R: Read>(input: &mut Input<R>, left: &mut usize) -> Result<u8, Stop>
-    requires { CanFail input.old }
-    ensures byte { Gives is_unforeseen byte_at input.old.bytes left.old input.new.bytes left.new result }
-    // A read that failed took nothing.
-    ensures part { FailsAtOnce Stop.Read input.old.bytes left.old input.new.bytes left.new result }
-    ensures count { Counts input.old.failures input.new.failures result }
-    // It takes no memory.
-    ensures memory { IfErr result (λ e. e ≢ Stop.Memory) }
-{
-    let mut one = [0];
-    match read_some_of(input, left, &mut one) {
-        Ok(_) => Ok(one[0]),
-        Err(stop) => Err(stop),
-    }
-}
-
 /// Reads the next line of a text that may take `left` more bytes, byte by byte, and leaves what follows its line feed.
-/// Nothing is read ahead.
 pub fn read_line<R: Read>(input: &mut Input<R>, left: &mut usize) -> Result<Line, Stop>
     requires { CanFail input.old }
     ensures line { Gives is_unforeseen line_at input.old.bytes left.old input.new.bytes left.new result }
@@ -205,7 +225,7 @@ pub fn read_line<R: Read>(input: &mut Input<R>, left: &mut usize) -> Result<Line
 {
     let mut line = Line::new();
     for _ in 0..65usize {
-        match read_one_of(input, left) {
+        match read_byte_of(input, left) {
             Ok(b'\n') => return Ok(line),
             Ok(byte) => line.push(byte),
             Err(stop) => return Err(stop),
@@ -214,7 +234,7 @@ pub fn read_line<R: Read>(input: &mut Input<R>, left: &mut usize) -> Result<Line
     Err(Stop::TooLong)
 }
 
-/// The same by as few reads as the device allows: bytes after the line may be read ahead, and wait in the input.
+/// The same by as few reads as the device allows, of an input that reads ahead.
 pub(crate) fn read_line_ahead<R: Read>(input: &mut Input<R>, left: &mut usize) -> Result<Line, Stop>
     requires { CanFail input.old }
     ensures line { Gives is_unforeseen line_at input.old.bytes left.old input.new.bytes left.new result }

@@ -1,5 +1,5 @@
 //! Lines and runs at the end of what a text may take.
-use paths::{Input, Stop, number, read_byte_of, read_line, read_run};
+use paths::{Input, Stop, number, read_byte_of, read_line, read_long_line, read_run};
 
 /// A text, how many bytes of it may be taken, and the length of its first line.
 static LINES: [(&str, usize, Result<usize, Stop>); 8] = [
@@ -32,6 +32,45 @@ fn lines(rt: HostRuntime) {
         };
         assert_eq!(rt; got, *want);
     }
+}
+
+#[test]
+fn lines_read_ahead(rt: HostRuntime) {
+    for (text, limit, want) in &LINES {
+        let mut input = Input::ahead(text.as_bytes());
+        let mut left = *limit;
+        let got = match read_long_line(&mut input, &mut left, 6, b"piece ", 12) {
+            Ok(line) => Ok(line.as_slice().len()),
+            Err(stop) => Err(stop),
+        };
+        assert_eq!(rt; got, *want);
+    }
+}
+
+/// A reader that was lent to an input stands after the line that was read, and not further.
+#[test]
+fn lent_reader_stands_after_the_line(rt: HostRuntime) {
+    for text in ["end 0\nrest", "piece 0 1 2\nrest", "piece 100 200 300\nrest"] {
+        let mut reader = text.as_bytes();
+        let mut input = Input::new(&mut reader);
+        let read = read_long_line(&mut input, &mut 100, 6, b"piece ", 12).is_ok();
+        drop(input);
+        assert_eq!(rt; (read, reader), (true, b"rest".as_slice()));
+    }
+}
+
+/// What was read ahead of a line's end is given by the next calls.
+#[test]
+fn what_was_read_ahead_comes_next(rt: HostRuntime) {
+    let mut input = Input::ahead(b"end 0\nab\nrest".as_slice());
+    let mut left = 100;
+    let long = read_long_line(&mut input, &mut left, 6, b"piece ", 12).is_ok();
+    let byte = read_byte_of(&mut input, &mut left);
+    let line = read_line(&mut input, &mut left).is_ok();
+    assert_eq!(rt; (long, byte, line, left), (true, Ok(b'a'), true, 91));
+    let mut room = [0; 8];
+    let came = input.read_some(&mut room).unwrap_or(0);
+    assert_eq!(rt; &room[..came], b"rest".as_slice());
 }
 
 /// A text, how many bytes of it may be taken, the length of a run, and how many bytes may be taken then.
