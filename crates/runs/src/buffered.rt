@@ -61,8 +61,8 @@ fn run_files_buffered<
         alloc,
         settings,
         wanted,
-        &mut Input::new(snapshot),
-        &mut Input::new(capture),
+        &mut Input::ahead(snapshot),
+        &mut Input::ahead(capture),
         &mut written,
         &mut report,
     );

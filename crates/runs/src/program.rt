@@ -57,7 +57,7 @@ fn run_buffered<N: Stood, R: Read + Drop, W: Write + Drop>(
         (W.contents writer) (W.contents result.1) result.0 }
 {
     let mut replies = Output::new(Buffered::<N, W>::new(Device::new(writer), waiting));
-    let ran = run_bundle(alloc, &mut Input::new(reader), &mut replies);
+    let ran = run_bundle(alloc, &mut Input::ahead(reader), &mut replies);
     let cut = is_cut(&ran);
     write_rest(replies.into_writer(), Place::Replies, cut, ran)
 }

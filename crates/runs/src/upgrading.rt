@@ -57,7 +57,7 @@ fn upgrade_buffered<N: Stood, R: Read + Drop, W: Write + Drop>(
         (W.contents writer) (W.contents result.1) result.0 }
 {
     let mut output = Output::new(Buffered::<N, W>::new(Device::new(writer), waiting));
-    let ran = run_upgrade(alloc, &mut Input::new(reader), &mut output);
+    let ran = run_upgrade(alloc, &mut Input::ahead(reader), &mut output);
     let cut = is_cut(&ran);
     write_rest(output.into_writer(), Place::Output, cut, ran)
 }

@@ -13,7 +13,7 @@ returns g c =
       whole = c.run_replay-ran.new.written.bytes;
       out_whole = c.run_replay-ran.new.out.bytes;
       rest = c.write_rest-ran.result.0;
-      says = files_says c.args.wanted c.args.settings.now _ _ _ _ _ _ c.run_replay-ran.new.capture _ c.run_replay-ran.new.written _ c.run_replay-ran.new.out c.run_replay-ran.result c.new-5.ensures c.new-6.ensures opens out_opens c.run_replay-ran.ensures.ok c.run_replay-ran.ensures.fault;
+      says = files_says c.args.wanted c.args.settings.now _ _ _ _ _ _ c.run_replay-ran.new.capture _ c.run_replay-ran.new.written _ c.run_replay-ran.new.out c.run_replay-ran.result c.ahead.ensures c.ahead-2.ensures opens out_opens c.run_replay-ran.ensures.ok c.run_replay-ran.ensures.fault;
       replies = settled _ _ _ _ _ _ _ _ _ _ c.requires.written c.into_writer.ensures c.is_cut-cut.ensures c.write_rest-ran.ensures;
       report = settled _ _ _ _ _ _ _ _ _ _ c.requires.out c.into_writer-2.ensures c.is_fault-cut.ensures c.write_rest-ran-2.ensures;
     }

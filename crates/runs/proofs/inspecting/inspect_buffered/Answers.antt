@@ -10,6 +10,6 @@ returns g c =
     record {
       ran = c.run_inspect-ran.result;
       whole = c.run_inspect-ran.new.output.bytes;
-      says = inspect_says _ _ _ c.run_inspect-ran.new.input _ c.run_inspect-ran.new.output c.run_inspect-ran.result c.new-3.ensures opens c.run_inspect-ran.ensures.ok c.run_inspect-ran.ensures.fault;
+      says = inspect_says _ _ _ c.run_inspect-ran.new.input _ c.run_inspect-ran.new.output c.run_inspect-ran.result c.ahead.ensures opens c.run_inspect-ran.ensures.ok c.run_inspect-ran.ensures.fault;
       stands = settled _ _ _ _ _ _ _ _ _ _ c.requires.stood c.into_writer.ensures c.is_unwritten-cut.ensures c.write_rest.ensures;
     }

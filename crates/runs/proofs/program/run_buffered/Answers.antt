@@ -9,6 +9,6 @@ returns g c =
     record {
       ran = c.run_bundle-ran.result;
       whole = c.run_bundle-ran.new.output.bytes;
-      says = bundle_says _ _ _ c.run_bundle-ran.new.input _ c.run_bundle-ran.new.output c.run_bundle-ran.result c.new-3.ensures opens c.run_bundle-ran.ensures.ok c.run_bundle-ran.ensures.fault;
+      says = bundle_says _ _ _ c.run_bundle-ran.new.input _ c.run_bundle-ran.new.output c.run_bundle-ran.result c.ahead.ensures opens c.run_bundle-ran.ensures.ok c.run_bundle-ran.ensures.fault;
       stands = settled _ _ _ _ _ _ _ _ _ _ c.requires.stood c.into_writer.ensures c.is_cut-cut.ensures c.write_rest.ensures;
     }

@@ -9,6 +9,6 @@ returns g c =
     record {
       ran = c.run_upgrade-ran.result;
       whole = c.run_upgrade-ran.new.output.bytes;
-      says = upgrade_says _ _ _ c.run_upgrade-ran.new.input _ c.run_upgrade-ran.new.output c.run_upgrade-ran.result c.new-3.ensures opens c.run_upgrade-ran.ensures.ok c.run_upgrade-ran.ensures.fault;
+      says = upgrade_says _ _ _ c.run_upgrade-ran.new.input _ c.run_upgrade-ran.new.output c.run_upgrade-ran.result c.ahead.ensures opens c.run_upgrade-ran.ensures.ok c.run_upgrade-ran.ensures.fault;
       stands = settled _ _ _ _ _ _ _ _ _ _ c.requires.stood c.into_writer.ensures c.is_cut-cut.ensures c.write_rest.ensures;
     }
