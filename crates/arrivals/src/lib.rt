@@ -4,6 +4,7 @@
 
 mod batch;
 mod connections;
+mod fifo;
 mod incoming;
 pub mod laws;
 mod parts;

@@ -6,23 +6,20 @@ ghost use Rattle.arrivals.specs.Places.{empty_place, with_piece, with_lists, Can
 
 use crate::Series;
 use crate::connections::Connection;
+use crate::fifo::Fifo;
 use http_requests::Message;
 use paths::Bytes;
 use std::alloc::{AllocError, Global};
-use std::collections::VecDeque;
 use std::marker::Model;
 use std::mem;
-
-/// How many places for pieces a connection keeps from one batch to the next.
-const KEPT: usize = 4;
 
 /// What is kept of a connection that sent something: itself, the pieces that wait to be cut, and for each piece that
 /// was cut the messages that end in it.
 #[derive(Drop)]
 struct Taken {
     connection: Connection,
-    pieces: Vec<Bytes>,
-    lists: VecDeque<Series<Message>>,
+    pieces: Fifo<Bytes>,
+    lists: Fifo<Series<Message>>,
 }
 
 impl Model for Taken {
@@ -30,27 +27,26 @@ impl Model for Taken {
 
     ghost Value = { Place };
 
-    ghost view = { λ s. record { connection = s.connection; pieces = s.pieces.items; lists = s.lists.items } };
+    ghost view = { λ s. record { connection = s.connection; pieces = s.pieces; lists = s.lists } };
 }
 
 impl Taken {
     /// A connection of which nothing came yet.
-    fn new(alloc: Global) -> Taken
+    fn new() -> Taken
         ensures { result ≡ empty_place }
     {
         Taken {
             connection: Connection::Silent,
-            pieces: Vec::new(alloc),
-            lists: VecDeque::new(alloc),
+            pieces: Fifo::new(),
+            lists: Fifo::new(),
         }
     }
 
     /// A piece came.
-    fn add(&mut self, piece: Bytes) -> Result<(), AllocError>
+    fn add(&mut self, alloc: Global, piece: Bytes) -> Result<(), AllocError>
         ensures { OnOk result (self.new ≡ with_piece piece self.old) }
     {
-        self.pieces.push(piece)?;
-        Ok(())
+        self.pieces.push(alloc, piece)
     }
 
     /// Whether pieces wait to be cut.
@@ -66,8 +62,7 @@ impl Taken {
         ensures { OnOk result (IsCutOf self.old self.new) }
     {
         let connection = mem::replace(&mut self.connection, Connection::Closed);
-        self.connection = cut_pieces(alloc, connection, &self.pieces, &mut self.lists)?;
-        empty(alloc, &mut self.pieces);
+        self.connection = cut_pieces(alloc, connection, &mut self.pieces, &mut self.lists)?;
         Ok(())
     }
 
@@ -76,7 +71,7 @@ impl Taken {
         requires { 0 < length self.old.lists }
         ensures { self.old ≡ with_lists (result ∷ self.new.lists) self.new }
     {
-        self.lists.pop_front().unwrap()
+        self.lists.pop().unwrap()
     }
 }
 
@@ -84,32 +79,21 @@ impl Taken {
 fn cut_pieces(
     alloc: Global,
     connection: Connection,
-    pieces: &[Bytes],
-    lists: &mut VecDeque<Series<Message>>,
+    pieces: &mut Fifo<Bytes>,
+    lists: &mut Fifo<Series<Message>>,
 ) -> Result<Connection, AllocError>
-    requires can { CanRead connection pieces.now }
-    requires fresh { lists.old.items ≡ [] }
-    ensures { IfOk result (ReadsOn connection pieces.now lists.new.items) }
+    requires can { CanRead connection pieces.old }
+    requires fresh { lists.old ≡ [] }
+    ensures reads { IfOk result (ReadsOn connection pieces.old lists.new) }
+    ensures done { OnOk result (pieces.new ≡ []) }
 {
-    lists.reserve_exact(pieces.len())?;
     let mut connection = connection;
-    for piece in pieces {
+    while let Some(piece) = pieces.pop() {
         let mut more = Vec::new(alloc);
         connection = connection.read(alloc, piece.as_slice(), &mut more)?;
-        lists.push_back(Series::from_vec(more))?;
+        lists.push(alloc, Series::from_vec(more))?;
     }
     Ok(connection)
-}
-
-/// Empties a vector of pieces. A large one gives its memory back.
-fn empty(alloc: Global, pieces: &mut Vec<Bytes>)
-    ensures { pieces.new.items ≡ [] }
-{
-    if pieces.capacity() <= KEPT {
-        pieces.clear();
-    } else {
-        *pieces = Vec::new(alloc);
-    }
 }
 
 /// The seat of a connection. It takes no more than a pointer until something comes.
@@ -140,10 +124,10 @@ impl Seat {
         ensures { OnOk result (self.new ≡ with_piece piece self.old) }
     {
         match &mut self.taken {
-            Some(taken) => taken.add(piece),
+            Some(taken) => taken.add(alloc, piece),
             None => {
-                let mut taken = Taken::new(alloc);
-                taken.add(piece)?;
+                let mut taken = Taken::new();
+                taken.add(alloc, piece)?;
                 self.taken = Some(Box::new(alloc, taken)?);
                 Ok(())
             }

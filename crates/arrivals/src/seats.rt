@@ -86,15 +86,14 @@ impl Seats {
         requires ready { All IsReady self }
         ensures { IfOk result (λ cut. AllZip IsCutOf self cut) }
     {
-        let Seats {
-            mut list,
-            mut noted,
-        } = self;
+        let Seats { mut list, noted } = self;
         let picked = pick(alloc, &mut list, &noted)?;
         let cuts = cut_all(rt, alloc, picked)?;
         put_back(&mut list, cuts);
-        noted.clear();
-        Ok(Seats { list, noted })
+        Ok(Seats {
+            list,
+            noted: Vec::new(alloc),
+        })
     }
 
     /// The messages that end in the next piece of a connection.

@@ -16,7 +16,7 @@ invariant_of-result g c =
     let before : c.deref_mut.result.now ≡ c.args.self = c.deref_mut.ensures.value ∙ c.self.view_is in
     let t = rw (before, c.deref.ensures.value) at c.in_ok-picked.ensures in
     let count : length c.args.self ≡ c.self.inside.list.len = ap length (sym c.self.view_is) ∙ sym c.self.inside.list.ok.0 in
-    rw c.clear.ensures.items (none_noted c.args.self _ (cut_list c.self.inside.list.len c.args.self c.pick.new.list c.deref_mut-2.result.now c.put_back.new.list _ _ c.self.inside.noted.items
+    rw c.new.ensures.items (none_noted c.args.self _ (cut_list c.self.inside.list.len c.args.self c.pick.new.list c.deref_mut-2.result.now c.put_back.new.list _ _ c.self.inside.noted.items
     c.in_ok-picked.picked.items c.in_ok-cuts.cuts.items count (rw (← c.self.view_is) c.self.invariant) c.requires.ready t c.in_ok-cuts.ensures c.deref_mut-2.ensures.value c.put_back.ensures))
 
 pub returns : goal.returns
