@@ -1,7 +1,6 @@
-use Rattle.std.proofs.Common.{◌≡◌, ◌+◌, [], ◌∷◌, ◌++◌, length, arith, refl, sym, ap, ◌∙◌}
+use Rattle.std.proofs.Common.{[], ◌∷◌, ◌++◌, length, arith, refl, sym, ap, ◌∙◌}
 use Rattle.std.proofs.lemmas.List.{append_assoc, append-nil}
-use Rattle.arrivals.specs.Batches.{Reads, ReadsOn}
-use Rattle.arrivals.specs.Places.{CanRead}
+use Rattle.arrivals.specs.Batches.{Reads}
 use Rattle.arrivals.proofs.CutBatches.{reads_push, can_read_more, can_read_room}
 use Rattle.arrivals.proofs.seat.cut_pieces.Goals as goal
 
