@@ -16,6 +16,8 @@ use Rattle.replay.specs.declared.ticket.Due.{Due}
 use Rattle.replay.specs.declared.ticket.Due.TheVariants.{Page, Told}
 use Rattle.replay.specs.Backs.{only_head, has_location, can_render, is_due, is_back, due_at, reply_in, reply_to, back_after, back_step, slip_of_ticket, told, given_elsewhere, due_elsewhere, ticket_elsewhere, slip_elsewhere, elsewhere}
 use Rattle.std.proofs.lemmas.Bool.{leb-true}
+use Rattle.std.proofs.lemmas.Grind.{flat_map-append}
+use Rattle.std.proofs.lemmas.List.{map-append}
 use Rattle.stage_graph.specs.Steps.{value_of}
 use Rattle.paths.specs.declared.file.File.{File}
 use Rattle.paths.proofs.Locations.{outcome_is}
@@ -129,6 +131,20 @@ by_ticket f [] = refl
 by_ticket f (t ∷ ts) =
     let step : map (λ k. f (due_at (t ∷ ts) (k + 1))) (range_with_len 0 (length ts)) ≡ map (λ k. f (due_at ts k)) (range_with_len 0 (length ts)) = simp add-one in
     ap (λ vs. f (Waits t) ∷ vs) (range_map (λ k. f (due_at (t ∷ ts) k)) 0 (length ts) ∙ (step ∙ by_ticket f ts))
+
+-- what is made of each item of some lists, in lists or in all
+pub flat_map-mapped : {X V L : Type 0} (f : X → V) (items : L → List X) (lots : List L)
+    → flat_map (λ v. map f (items v)) lots ≡ map f (flat_map items lots)
+flat_map-mapped f items [] = refl
+flat_map-mapped f items (v ∷ lots) =
+    ap (λ vs. map f (items v) ++ vs) (flat_map-mapped f items lots) ∙ sym (map-append f (items v) (flat_map items lots))
+
+-- what each item of some lists gives, in lists or in all
+pub flat_map-flat : {X V L : Type 0} (f : X → List V) (items : L → List X) (lots : List L)
+    → flat_map (λ v. flat_map f (items v)) lots ≡ flat_map f (flat_map items lots)
+flat_map-flat f items [] = refl
+flat_map-flat f items (v ∷ lots) =
+    ap (λ vs. flat_map f (items v) ++ vs) (flat_map-flat f items lots) ∙ sym (flat_map-append f (items v) (flat_map items lots))
 
 pub flat_map-states : {A B C : Type 0} (f : B → List C) (g : A → B) (xs : List A) → flat_map (λ x. f (g x)) xs ≡ flat_map f (map g xs)
 flat_map-states f g [] = refl

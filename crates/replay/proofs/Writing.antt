@@ -1,12 +1,9 @@
 -- What was written of one more message, and of one more record.
-use Rattle.std.proofs.Common.{◌≡◌, ℕ, suc, ◌+◌, ◌<◌, List, [], ◌∷◌, ◌++◌, length, take, get_or, Option, Some, None, refl, sym, ap, ◌∙◌, arith, append-nil}
+use Rattle.std.proofs.Common.{◌≡◌, ℕ, suc, ◌+◌, ◌<◌, List, [], ◌∷◌, ◌++◌, length, take, get_or, Option, refl, sym, ap, ◌∙◌, arith, append-nil}
 use Rattle.std.proofs.lemmas.List.{append_assoc, map-append, length-map}
 use Rattle.std.proofs.lemmas.Grind.{flat_map-append}
-use Rattle.std.proofs.Math.Seq.{take-suc, take-append-add}
-use Rattle.std.specs.Io.KnownBytes.{Appends}
-use Rattle.paths.specs.Devices.{AppendsPrefix}
+use Rattle.std.proofs.Math.Seq.{take-suc}
 use Rattle.paths.proofs.Appending.{appends_none, appends_then, prefix_then}
-use Rattle.paths.specs.Devices.{AppendsPrefix}
 use Rattle.http_requests.specs.declared.messages.Message.{Message}
 use Rattle.responses.specs.Records.{record_text}
 use Rattle.arrivals.specs.declared.incoming.Origin.{Origin}

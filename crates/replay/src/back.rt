@@ -1,6 +1,6 @@
 //! The back floor: a ticket becomes a reply, with its page from the shelf.
 
-ghost use Rattle.std.specs.Prelude.{◌≡◌, ◌<◌, true, ℕ, List, length, map, flat_map, IfOk, IfErr};
+ghost use Rattle.std.specs.Prelude.{◌≡◌, ◌<◌, ◌++◌, true, ℕ, List, length, map, flat_map, IfOk, OnOk, IfErr};
 ghost use Rattle.std.specs.List.{list_all, range_with_len};
 ghost use Rattle.stage_graph.specs.After.{last_cut, with_steps};
 ghost use Rattle.replay.specs.declared.back.BackState.TheVariants.{Due as Waits};
@@ -15,7 +15,7 @@ use crate::ticket::{Due, Ticket};
 use page_cache::Page;
 use paths::{Snapshot, Tree};
 use responses::{Given, Reply, SharedPage, Slip, try_render};
-use stage_graph::{Chain, Gate, Named, Plan, Unrun, run_through};
+use stage_graph::{Chain, Gate, Lotted, Named, Plan, Unrun, run_through};
 use std::alloc::{AllocError, Global};
 use std::marker::{Brand, PhantomData};
 use std::sync::{Arc, Wait};
@@ -229,38 +229,54 @@ fn back_item<F: Tree, K: Backs>(number: usize, ticket: Ticket<F>) -> BackItem<F,
     }
 }
 
-/// The items of the tickets, with no step done.
+/// The items of the tickets, with no step done, in lots for a plan.
 fn back_items<F: Tree, K: Backs>(
     alloc: Global,
+    plan: &Plan,
     tickets: Vec<Ticket<F>>,
-) -> Result<Vec<BackItem<F, K>>, AllocError>
+) -> Result<Lotted<BackItem<F, K>>, AllocError>
     requires named { map ticket_elsewhere tickets.items ≡ K.tickets }
     requires ready { list_all (λ t. is_back F.files (Waits t)) tickets.items ≡ true }
-    ensures fresh { IfOk result (λ v. map (λ x. (x.number, x.done)) v.items
+    ensures fresh { IfOk result (λ v. map (λ x. (x.number, x.done)) v
         ≡ map (with_steps 0) (range_with_len 0 (length tickets.items))) }
-    ensures len { IfOk result (λ v. length v.items ≡ length tickets.items) }
+    ensures len { IfOk result (λ v. length v ≡ length tickets.items) }
 {
-    let mut items = Vec::with_capacity(alloc, tickets.len())?;
+    let mut items = Lotted::new(alloc, plan, tickets.len())?;
+    let mut number = 0;
     for ticket in tickets {
-        let number = items.len();
-        items.push_reserved(back_item(number, ticket));
+        items.push(alloc, back_item(number, ticket))?;
+        number += 1;
     }
     Ok(items)
 }
 
-/// The replies of the items.
-fn replies_of<F: Tree, K: Backs>(
-    alloc: Global,
-    items: Vec<BackItem<F, K>>,
-) -> Result<Vec<Reply<F>>, AllocError>
-    ensures { IfOk result (λ v. v.items ≡ flat_map (λ x. reply_in x.state) items.items) }
+/// The replies of the items of a lot, after others.
+fn add_replies<F: Tree, K: Backs>(
+    replies: &mut Vec<Reply<F>>,
+    lot: Vec<BackItem<F, K>>,
+) -> Result<(), AllocError>
+    ensures { OnOk result (replies.new.items ≡ replies.old.items ++ flat_map (λ x. reply_in x.state) lot.items) }
 {
-    let mut replies = Vec::new(alloc);
-    for item in items {
+    for item in lot {
         let BackItem { state, .. } = item;
         if let BackState::Rendered(reply) = state {
             replies.push(reply)?;
         }
+    }
+    Ok(())
+}
+
+/// The replies of the items, of which there are so many.
+fn replies_of<F: Tree, K: Backs>(
+    alloc: Global,
+    count: usize,
+    lots: Vec<Vec<BackItem<F, K>>>,
+) -> Result<Vec<Reply<F>>, AllocError>
+    ensures { IfOk result (λ v. v.items ≡ flat_map (λ lot. flat_map (λ x. reply_in x.state) lot.items) lots.items) }
+{
+    let mut replies = Vec::with_capacity(alloc, count)?;
+    for lot in lots {
+        add_replies(&mut replies, lot)?;
     }
     Ok(replies)
 }
@@ -285,7 +301,8 @@ fn run_back_with<
     ensures { IfOk result (λ v. v.items ≡ map (λ t. reply_to F.files (slip_of_ticket t)) tickets.items) }
 {
     let alloc = server.alloc;
-    let items = back_items::<F, K>(alloc, tickets)?;
+    let count = tickets.len();
+    let items = back_items::<F, K>(alloc, &plan, tickets)?;
     let chain = Back::<F, K, T> {
         rt,
         alloc,
@@ -293,8 +310,8 @@ fn run_back_with<
         shelf,
         of: PhantomData,
     };
-    let items = run_through::<Back<F, K, T>, G, T>(rt, alloc, threads, plan, &chain, items, gate)?;
-    Ok(replies_of(alloc, items)?)
+    let lots = run_through::<Back<F, K, T>, G, T>(rt, alloc, threads, plan, &chain, items, gate)?;
+    Ok(replies_of(alloc, count, lots)?)
 }
 
 /// The replies to the tickets, by a floor of so many threads that share a shelf of pages.

@@ -1,6 +1,6 @@
 //! The front floor: what answers each message of a part, and how long that takes.
 
-ghost use Rattle.std.specs.Prelude.{◌≡◌, ℕ, List, IfOk, IfErr, length, map, slice_index_or};
+ghost use Rattle.std.specs.Prelude.{◌≡◌, ◌++◌, ℕ, List, IfOk, OnOk, IfErr, length, map, flat_map, slice_index_or};
 ghost use Rattle.std.specs.List.{range_with_len};
 ghost use Rattle.stage_graph.specs.After.{last_cut, with_steps};
 ghost use Rattle.replay.specs.Fronts.{front_value};
@@ -18,7 +18,7 @@ use arrivals::Incoming;
 use cost_model::Costs;
 use http_requests::Meaning;
 use paths::{Outcome, Snapshot, Tree, find_plain, inspect, locate};
-use stage_graph::{Chain, Gate, Named, Plan, Unrun, run_through};
+use stage_graph::{Chain, Gate, Lotted, Named, Plan, Unrun, run_through};
 use std::alloc::{AllocError, Global};
 use std::marker::{Brand, PhantomData};
 use std::sync::Wait;
@@ -205,35 +205,53 @@ fn front_item<F: Tree, K: Fronts>(number: usize, message: Incoming) -> FrontItem
     }
 }
 
-/// The items of the messages, with no step done.
+/// The items of the messages, with no step done, in lots for a plan.
 fn front_items<F: Tree, K: Fronts>(
     alloc: Global,
+    plan: &Plan,
     messages: Vec<Incoming>,
-) -> Result<Vec<FrontItem<F, K>>, AllocError>
+) -> Result<Lotted<FrontItem<F, K>>, AllocError>
     requires { messages.items ≡ K.messages }
-    ensures fresh { IfOk result (λ v. map (λ x. (x.number, x.done)) v.items
+    ensures fresh { IfOk result (λ v. map (λ x. (x.number, x.done)) v
         ≡ map (with_steps 0) (range_with_len 0 (length messages.items))) }
-    ensures len { IfOk result (λ v. length v.items ≡ length messages.items) }
+    ensures len { IfOk result (λ v. length v ≡ length messages.items) }
 {
-    let mut items = Vec::with_capacity(alloc, messages.len())?;
+    let mut items = Lotted::new(alloc, plan, messages.len())?;
+    let mut number = 0;
     for message in messages {
-        let number = items.len();
-        items.push_reserved(front_item(number, message));
+        items.push(alloc, front_item(number, message))?;
+        number += 1;
     }
     Ok(items)
 }
 
-/// What is known of the messages.
+/// What is known of the messages of a lot, after others.
+fn add_sights<F: Tree, K: Fronts>(
+    sights: &mut Vec<Sighted>,
+    lot: Vec<FrontItem<F, K>>,
+) -> Result<(), AllocError>
+    ensures { OnOk result (sights.new.items
+        ≡ sights.old.items ++ map (λ x. record { message = x.message; sight = x.sight }) lot.items) }
+{
+    for item in lot {
+        let FrontItem { message, sight, .. } = item;
+        sights.push(Sighted { message, sight })?;
+    }
+    Ok(())
+}
+
+/// What is known of the messages, of which there are so many.
 fn sights_of<F: Tree, K: Fronts>(
     alloc: Global,
-    items: Vec<FrontItem<F, K>>,
+    count: usize,
+    lots: Vec<Vec<FrontItem<F, K>>>,
 ) -> Result<Vec<Sighted>, AllocError>
-    ensures { IfOk result (λ v. v.items ≡ map (λ x. record { message = x.message; sight = x.sight }) items.items) }
+    ensures { IfOk result (λ v. v.items ≡ flat_map
+        (λ lot. map (λ x. record { message = x.message; sight = x.sight }) lot.items) lots.items) }
 {
-    let mut sights = Vec::with_capacity(alloc, items.len())?;
-    for item in items {
-        let FrontItem { message, sight, .. } = item;
-        sights.push_reserved(Sighted { message, sight });
+    let mut sights = Vec::with_capacity(alloc, count)?;
+    for lot in lots {
+        add_sights(&mut sights, lot)?;
     }
     Ok(sights)
 }
@@ -258,7 +276,8 @@ fn run_front_with<
 {
     let alloc = server.alloc;
     let settings = server.settings;
-    let items = front_items::<F, K>(alloc, messages)?;
+    let count = messages.len();
+    let items = front_items::<F, K>(alloc, &plan, messages)?;
     let chain = Front::<F, K> {
         alloc,
         snapshot: server.snapshot,
@@ -266,8 +285,8 @@ fn run_front_with<
         tree: PhantomData,
         of: PhantomData,
     };
-    let items = run_through::<Front<F, K>, G, T>(rt, alloc, threads, plan, &chain, items, gate)?;
-    Ok(sights_of(alloc, items)?)
+    let lots = run_through::<Front<F, K>, G, T>(rt, alloc, threads, plan, &chain, items, gate)?;
+    Ok(sights_of(alloc, count, lots)?)
 }
 
 /// What is known of each message before it is decided on, by a floor of so many threads.

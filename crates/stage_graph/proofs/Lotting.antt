@@ -1,13 +1,13 @@
 -- Items that travel in lots.
-use Rattle.std.proofs.Common.{◌≡◌, ℕ, zero, suc, ◌+◌, List, [], ◌∷◌, ◌++◌, drop, map, refl, sym, ap, ◌∙◌, arith, get_or, length, append_assoc}
-use Rattle.std.specs.Prelude.{flat_map, Bool, true, false}
+use Rattle.std.proofs.Common.{◌≡◌, ℕ, zero, suc, ◌+◌, List, [], ◌∷◌, ◌++◌, drop, map, refl, sym, ap, ◌∙◌, arith, length, append_assoc}
+use Rattle.std.specs.Prelude.{flat_map}
 use Rattle.std.proofs.lemmas.List.{map-append}
 use Rattle.std.specs.List.{range_with_len}
 use Rattle.stage_graph.specs.After.{with_steps}
 use Rattle.stage_graph.specs.Layouts.{Layout, IsPlan, stages}
 use Rattle.stage_graph.specs.Steps.{value_of}
 use Rattle.stage_graph.proofs.ByNumber.{by_number}
-use Rattle.stage_graph.specs.Lots.{step_each, inputs_in, numbers_in, lot_content, lot_value, each_alone}
+use Rattle.stage_graph.specs.Lots.{step_each, numbers_in, each_alone}
 
 -- the first of a lot's items, and the others
 pub first_mark : {X : Type 0} (mark : X → ℕ × ℕ) (d : ℕ) (xs ys : List X) (x : X) (ns : List ℕ) → xs ≡ x ∷ ys → map mark xs ≡ map (with_steps d) ns
@@ -124,6 +124,13 @@ step_append mark more done old new x y all steps same h =
 pub flat_map-seen : {A B C : Type 0} (f : B → List C) (g : A → B) (xs : List A) → flat_map (λ x. f (g x)) xs ≡ flat_map f (map g xs)
 flat_map-seen f g [] = refl
 flat_map-seen f g (x ∷ xs) = ap (λ l. f (g x) ++ l) (flat_map-seen f g xs)
+
+-- what is made of each item of some lists, in lists or in all
+pub flat_map-mapped : {X V L : Type 0} (f : X → V) (items : L → List X) (lots : List L)
+    → flat_map (λ v. map f (items v)) lots ≡ map f (flat_map items lots)
+flat_map-mapped f items [] = refl
+flat_map-mapped f items (v ∷ lots) =
+    ap (λ vs. map f (items v) ++ vs) (flat_map-mapped f items lots) ∙ sym (map-append f (items v) (flat_map items lots))
 
 pub length-more : {X : Type 0} (xs ys : List X) (x : X) → xs ≡ x ∷ ys → length xs ≡ length ys + 1
 length-more xs ys x e = rw e (omega arith)

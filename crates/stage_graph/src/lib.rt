@@ -17,7 +17,7 @@ pub use chain::{Chain, Named};
 pub use event::{Cause, Event, History};
 pub use floor::{Floor, Run, RunName};
 pub use legality::{Checked, replay_history};
-pub use lots::run_through;
+pub use lots::{Lotted, run_through};
 pub use plan::{Plan, PlanFault};
 pub use run::{Gate, NoGate, run_floor};
 pub use stage_queue::Memory;

@@ -1,6 +1,7 @@
 //! A floor on which items travel in lots: several of them are given on at once.
 
-ghost use Rattle.std.specs.Prelude.{◌≡◌, ◌+◌, ◌<◌, ◌++◌, ℕ, List, true, map, flat_map, length, IfOk, IfSome};
+ghost use Rattle.std.specs.Prelude.{◌≡◌, ◌+◌, ◌<◌, ◌++◌, [], ◌∷◌, ℕ, List, true, map, flat_map, length};
+ghost use Rattle.std.specs.Prelude.{IfOk, OnOk, IfSome};
 ghost use Rattle.std.specs.List.{range_with_len};
 ghost use Rattle.stage_graph.specs.After.{with_steps, last_cut};
 ghost use Rattle.stage_graph.specs.Lots.{step_each, inputs_in, numbers_in, lot_content, lot_value, lot_holds};
@@ -11,6 +12,7 @@ use crate::{Chain, Gate, Named, Plan, RunName, Unrun, run_floor};
 use stage_queue::Memory;
 use std::alloc::{AllocError, Global};
 use std::marker::{Brand, PhantomData};
+use std::mem;
 use std::sync::Wait;
 use std::thread::Threads;
 
@@ -209,34 +211,86 @@ fn lot_size(plan: &Plan, count: usize) -> usize {
     size
 }
 
-/// Puts a lot after the others if it is full: what is left of it.
-fn laid_by<T: Drop>(
-    alloc: Global,
-    lots: &mut Vec<Vec<T>>,
-    lot: Vec<T>,
+/// Items in lots for the queues of a plan: as many in each lot, but the last, which may have fewer. Contracts see the
+/// items, one after another.
+#[derive(Drop)]
+pub struct Lotted<T> {
+    /// How many items a lot has.
     size: usize,
-) -> Result<Vec<T>, AllocError>
-    ensures { IfOk result (λ rest. flat_map (λ v. v.items) lots.new.items ++ rest.items
-        ≡ flat_map (λ v. v.items) lots.old.items ++ lot.items) }
-{
-    if lot.len() < size {
-        return Ok(lot);
-    }
-    lots.push(lot)?;
-    Vec::with_capacity(alloc, size)
+    full: Vec<Vec<T>>,
+    last: Vec<T>,
 }
 
-/// The items in lots of this size, one after another; the last may be smaller.
-fn lots_of<T: Drop>(alloc: Global, size: usize, items: Vec<T>) -> Result<Vec<Vec<T>>, AllocError>
+impl<T> std::marker::Model for Lotted<T> {
+    ghost use Rattle.std.specs.Prelude.{List, ◌++◌, flat_map};
+
+    ghost Value = { List T };
+
+    ghost view = { λ l. flat_map (λ v. v.items) l.full.items ++ l.last.items };
+}
+
+impl<T: Drop> Lotted<T> {
+    /// No item yet, of so many that are to come.
+    pub fn new(alloc: Global, plan: &Plan, count: usize) -> Result<Lotted<T>, AllocError>
+        ensures { IfOk result (λ l. l ≡ []) }
+    {
+        let size = lot_size(plan, count);
+        Ok(Lotted {
+            size,
+            full: Vec::with_capacity(alloc, count.checked_div(size).unwrap_or(0))?,
+            last: Vec::with_capacity(alloc, size)?,
+        })
+    }
+
+    /// Puts an item behind the others.
+    pub fn push(&mut self, alloc: Global, item: T) -> Result<(), AllocError>
+        ensures { OnOk result (self.new ≡ self.old ++ item ∷ []) }
+    {
+        if self.last.len() >= self.size {
+            let empty = Vec::with_capacity(alloc, self.size)?;
+            self.full.reserve(1)?;
+            let full = mem::replace(&mut self.last, empty);
+            self.full.push_reserved(full);
+        }
+        self.last.push(item)?;
+        Ok(())
+    }
+
+    /// How many items there are.
+    fn len(&self) -> usize {
+        let full = self.full.len().saturating_mul(self.size);
+        full.saturating_add(self.last.len())
+    }
+
+    /// The lots.
+    fn into_lots(self) -> Result<Vec<Vec<T>>, AllocError>
+        ensures { IfOk result (λ lots. flat_map (λ v. v.items) lots.items ≡ self) }
+    {
+        let Lotted { full, last, .. } = self;
+        let mut lots = full;
+        lots.push(last)?;
+        Ok(lots)
+    }
+}
+
+/// The items of these lots, one after another.
+fn flat<T: Drop>(alloc: Global, lots: Vec<Vec<T>>) -> Result<Vec<T>, AllocError>
+    ensures { IfOk result (λ v. v.items ≡ flat_map (λ v. v.items) lots.items) }
+{
+    let mut items = Vec::new(alloc);
+    for lot in lots {
+        let mut lot = lot;
+        items.append(&mut lot)?;
+    }
+    Ok(items)
+}
+
+/// These items as one lot.
+fn one_lot<T: Drop>(alloc: Global, items: Vec<T>) -> Result<Vec<Vec<T>>, AllocError>
     ensures { IfOk result (λ lots. flat_map (λ v. v.items) lots.items ≡ items.items) }
 {
-    let mut lots = Vec::new(alloc);
-    let mut lot = Vec::with_capacity(alloc, size)?;
-    for item in items {
-        lot = laid_by(alloc, &mut lots, lot, size)?;
-        lot.push(item)?;
-    }
-    lots.push(lot)?;
+    let mut lots = Vec::with_capacity(alloc, 1)?;
+    lots.push(items)?;
     Ok(lots)
 }
 
@@ -273,29 +327,23 @@ fn lot_items<C: Chain, K: LotName>(
     Ok(items)
 }
 
-/// The items of the lots, one after another; out of memory where one was refused it.
+/// The lots' items; out of memory where one was refused it.
 fn items_of<C: Chain, K: LotName>(
     alloc: Global,
-    count: usize,
     lots: Vec<Lot<C, K>>,
-) -> Result<Vec<C::Item>, Unrun>
-    ensures { IfOk result (λ v. map C.content v.items
+) -> Result<Vec<Vec<C::Item>>, Unrun>
+    ensures { IfOk result (λ v. flat_map (λ own. map C.content own.items) v.items
         ≡ flat_map (λ x. lot_content C.content C.step C.input_at K.lots x.whole x.items.items x.done x.number)
         lots.items) }
 {
-    let mut items = Vec::with_capacity(alloc, count)?;
+    let mut all = Vec::with_capacity(alloc, lots.len())?;
     for lot in lots {
-        let Lot {
-            whole,
-            items: mut own,
-            ..
-        } = lot;
-        if !whole {
+        let Lot { whole, items, .. } = lot;
+        if !whole || all.push(items).is_err() {
             return Err(Unrun::Memory);
         }
-        items.append(&mut own)?;
     }
-    Ok(items)
+    Ok(all)
 }
 
 /// Runs a floor of lots.
@@ -312,7 +360,7 @@ fn run_lots<
     chain: &C,
     lots: Vec<Vec<C::Item>>,
     gate: &LotGate<'_, G>,
-) -> Result<Vec<C::Item>, Unrun>
+) -> Result<Vec<Vec<C::Item>>, Unrun>
 where
     C::Item: Send,
     requires fresh { map (λ v. map (λ x. (C.Item.number_of x, C.Item.done_of x)) v.items) lots.items
@@ -320,10 +368,9 @@ where
     requires count { length lots.items ≡ K.count }
     requires plan { plan ≡ K.plan }
     requires cut { last_cut plan ≡ C.steps }
-    ensures { IfOk result (λ v. map C.content v.items
+    ensures { IfOk result (λ v. flat_map (λ own. map C.content own.items) v.items
         ≡ map (λ n. value_of C.step C.steps (C.input_at n)) (flat_map (λ ns. ns) K.lots)) }
 {
-    let count = gate.count;
     let items = lot_items::<C, K>(alloc, lots)?;
     let chain = Lots::<C, K> {
         alloc,
@@ -333,7 +380,7 @@ where
     let run = run_pool::<Lots<C, K>, K, LotGate<G>, R>(
         rt, alloc, threads, plan, &chain, items, gate,
     )?;
-    Ok(items_of(alloc, count, run.into_items())?)
+    Ok(items_of(alloc, run.into_items())?)
 }
 
 /// Runs a floor of items, each for itself.
@@ -342,26 +389,27 @@ fn run_each<C: Chain + Sync, N: RunName + Send + Sync, G: Gate + Sync, R: Thread
     alloc: Global,
     plan: Plan,
     chain: &C,
-    items: Vec<C::Item>,
+    lots: Vec<Vec<C::Item>>,
     gate: &G,
-) -> Result<Vec<C::Item>, Unrun>
+) -> Result<Vec<Vec<C::Item>>, Unrun>
 where
     C::Item: Send,
     requires plan { plan ≡ N.plan }
-    requires fresh { map (λ x. (C.Item.number_of x, C.Item.done_of x)) items.items
+    requires fresh { map (λ x. (C.Item.number_of x, C.Item.done_of x)) (flat_map (λ v. v.items) lots.items)
         ≡ map (with_steps 0) (range_with_len 0 N.count) }
     requires cut { last_cut plan ≡ C.steps }
-    ensures { IfOk result (λ v. map C.content v.items
+    ensures { IfOk result (λ v. map C.content (flat_map (λ own. own.items) v.items)
         ≡ map (λ n. value_of C.step C.steps (C.input_at n)) (range_with_len 0 N.count)) }
 {
+    let items = flat(alloc, lots)?;
     let run = run_floor::<C, N, G, R>(rt, alloc, plan, chain, items, gate)?;
-    Ok(run.into_items())
+    Ok(one_lot(alloc, run.into_items())?)
 }
 
-/// Runs a floor to its end, as [`run_floor`] does, and gives the items by number, each with the chain's value of its
-/// own input. Where the gate never holds an item, so many threads at most work, each for any worker that is free, and
-/// items travel in lots: each queue has room for as many items as the plan says all the same, and the gate sees each
-/// item, one after another where they enter or leave together. It may wait.
+/// Runs a floor to its end, as [`run_floor`] does, and gives the items by number, some of them in each vector, each with
+/// the chain's value of its own input. Where the gate never holds an item, so many threads at most work, each for any
+/// worker that is free, and items travel in lots: each queue has room for as many items as the plan says all the same,
+/// and the gate sees each item, one after another where they enter or leave together. It may wait.
 ///
 /// # Errors
 ///
@@ -372,24 +420,24 @@ pub fn run_through<C: Chain + Sync, G: Gate + Sync, R: Threads + Wait + Sync>(
     threads: usize,
     plan: Plan,
     chain: &C,
-    items: Vec<C::Item>,
+    items: Lotted<C::Item>,
     gate: &G,
-) -> Result<Vec<C::Item>, Unrun>
+) -> Result<Vec<Vec<C::Item>>, Unrun>
 where
     C::Item: Send,
-    requires fresh { map (λ x. (C.Item.number_of x, C.Item.done_of x)) items.items
-        ≡ map (with_steps 0) (range_with_len 0 (length items.items)) }
+    requires fresh { map (λ x. (C.Item.number_of x, C.Item.done_of x)) items
+        ≡ map (with_steps 0) (range_with_len 0 (length items)) }
     requires cut { last_cut plan ≡ C.steps }
-    ensures { IfOk result (λ v. map C.content v.items
-        ≡ map (λ n. value_of C.step C.steps (C.input_at n)) (range_with_len 0 (length items.items))) }
+    ensures { IfOk result (λ v. flat_map (λ own. map C.content own.items) v.items
+        ≡ map (λ n. value_of C.step C.steps (C.input_at n)) (range_with_len 0 (length items))) }
 {
+    let size = items.size;
     let count = items.len();
+    let lots = items.into_lots()?;
     if !gate.is_open() {
-        return Ok(run_each::<C, Brand, G, R>(rt, alloc, plan, chain, items, gate)?);
+        return Ok(run_each::<C, Brand, G, R>(rt, alloc, plan, chain, lots, gate)?);
     }
-    let size = lot_size(&plan, count);
     let plan = plan.in_lots(alloc, size)?;
-    let lots = lots_of(alloc, size, items)?;
     let gate = LotGate { gate, size, count };
     Ok(run_lots::<C, Brand, G, R>(rt, alloc, threads, plan, chain, lots, &gate)?)
 }

@@ -5,7 +5,9 @@ ghost use Rattle.stage_graph.specs.Steps.{value_of};
 ghost use Rattle.stage_graph.specs.After.{last_cut, with_steps};
 ghost use Rattle.std.specs.List.{range_with_len};
 
-use stage_graph::{Chain, Gate, History, Named, Plan, Run, RunName, Unrun, run_floor, run_through};
+use stage_graph::{
+    Chain, Gate, History, Lotted, Named, Plan, Run, RunName, Unrun, run_floor, run_through,
+};
 use std::alloc::Global;
 use std::marker::{Brand, PhantomData};
 use std::sync::Wait;
@@ -201,6 +203,17 @@ pub fn sums_of<G: Gate + Sync, R: Threads + Wait + Sync>(
     sums_with::<Brand, G, R>(rt, alloc, plan, addends, refused, inputs, gate)
 }
 
+// The items in lots.
+fn lotted<T: Drop>(alloc: Global, plan: &Plan, items: Vec<T>) -> Result<Lotted<T>, Unrun>
+    ensures { IfOk result (λ l. l ≡ items.items) }
+{
+    let mut lotted = Lotted::new(alloc, plan, items.len())?;
+    for item in items {
+        lotted.push(alloc, item)?;
+    }
+    Ok(lotted)
+}
+
 fn lots_with<K: Sums + Send + Sync, G: Gate + Sync, R: Threads + Wait + Sync>(
     rt: &R,
     alloc: Global,
@@ -215,10 +228,15 @@ fn lots_with<K: Sums + Send + Sync, G: Gate + Sync, R: Threads + Wait + Sync>(
     requires addends { addends.now ≡ K.addends }
     requires cut { last_cut plan ≡ length addends.now }
 {
-    let items = items_of::<K>(alloc, inputs)?;
+    let items = lotted(alloc, &plan, items_of::<K>(alloc, inputs)?)?;
     let chain = chain_over::<K>(addends, refused);
-    let items = run_through::<Adding<K>, G, R>(rt, alloc, threads, plan, &chain, items, gate)?;
-    values_of(alloc, items)
+    let lots = run_through::<Adding<K>, G, R>(rt, alloc, threads, plan, &chain, items, gate)?;
+    let mut values = Vec::with_capacity(alloc, inputs.len())?;
+    for lot in lots {
+        let mut more = values_of(alloc, lot)?;
+        values.append(&mut more)?;
+    }
+    Ok(values)
 }
 
 // The sums of all inputs by the chain over a table, by so many threads at most where the gate never holds an item.

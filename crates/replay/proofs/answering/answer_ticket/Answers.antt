@@ -1,4 +1,4 @@
-use Rattle.std.proofs.Common.{ℕ, List, ◌≡◌, subst, ◌∙◌}
+use Rattle.std.proofs.Common.{ℕ, List, subst}
 use Rattle.paths.specs.Devices.{AppendsPrefix}
 use Rattle.paths.proofs.Appending.{proper_is_prefix}
 use Rattle.responses.specs.Records.{record_text}

@@ -1,10 +1,8 @@
-use Rattle.std.proofs.Common.{◌≡◌, ap, sym, ◌∙◌, map, length}
-use Rattle.std.specs.List.{range_with_len}
-use Rattle.stage_graph.specs.After.{last_cut, with_steps}
+use Rattle.std.proofs.Common.{sym, ◌∙◌}
 use Rattle.stage_graph.proofs.ByNumber.{by_number}
 use Rattle.stage_graph.specs.Steps.{value_of}
-use Rattle.replay.specs.Fronts.{floor_step, no_message, unseen}
-use Rattle.replay.proofs.Sights.{all_known, same_values}
+use Rattle.replay.specs.Fronts.{floor_step, no_message, unseen, seen_as}
+use Rattle.replay.proofs.Sights.{flat_map-mapped, all_known, same_values, sighted}
 use Rattle.replay.proofs.front.run_front_with.Goals as goal
 
 pub run_through-requires-clause-fresh : goal.run_through-requires-clause-fresh
@@ -15,8 +13,11 @@ returns g c =
     let xs = c.args.messages.items in
     let files = g.F.Tree.files in
     let costs = c.args.server.now.costs in
-    let values = rw c.in_ok-items.ensures.len at c.in_ok-items-2.ensures in
+    let lots = c.in_ok-lots.lots.items in
+    let values = sym (flat_map-mapped (λ x. sighted x.message (seen_as files x.sight)) (λ lot. lot.items) lots)
+    ∙ (rw c.in_ok-items.ensures.len at c.in_ok-lots.ensures) in
     let found = values
     ∙ (rw (← c.requires.messages, ← c.requires.costs)
     (by_number (λ m. value_of (floor_step files costs) 3 (unseen m)) xs no_message ∙ same_values files costs xs)) in
-    c.in_ok-sights_of.ensures ∙ all_known files costs _ _ _ xs found
+    c.in_ok-sights_of.ensures
+    ∙ (flat_map-mapped (λ x. sighted x.message x.sight) (λ lot. lot.items) lots ∙ all_known files costs _ _ _ xs found)

@@ -3,7 +3,7 @@ use Rattle.std.specs.Prelude.{flat_map}
 use Rattle.std.proofs.lemmas.List.{length-map}
 use Rattle.stage_graph.specs.After.{last_cut}
 use Rattle.stage_graph.specs.Steps.{value_of}
-use Rattle.stage_graph.specs.Lots.{step_each, inputs_in, lot_content}
+use Rattle.stage_graph.specs.Lots.{step_each, lot_content}
 use Rattle.stage_graph.proofs.Lotting.{flat_map-seen, lots_by_number, all_alone}
 use Rattle.stage_graph.proofs.lots.run_lots.Goals as goal
 

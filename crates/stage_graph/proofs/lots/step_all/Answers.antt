@@ -1,4 +1,4 @@
-use Rattle.std.proofs.Common.{◌≡◌, ◌<◌, ◌+◌, ℕ, arith, vec_len, vec_capacity, length}
+use Rattle.std.proofs.Common.{◌≡◌, ◌+◌, ℕ, arith}
 use Rattle.stage_graph.proofs.Lotting.{first_mark, step_append, length-more}
 use Rattle.stage_graph.proofs.lots.step_all.Goals as goal
 

@@ -1,6 +1,6 @@
-use Rattle.std.proofs.Common.{ap, sym}
+use Rattle.std.proofs.Common.{ap}
 use Rattle.replay.specs.declared.sight.Sighted.{Sighted}
-use Rattle.replay.specs.Fronts.{floor_step, unseen_at, IsSight}
+use Rattle.replay.specs.Fronts.{floor_step, unseen_at}
 use Rattle.replay.proofs.Sights.{as_it_is, sight_is, value_more}
 use Rattle.replay.proofs.front.FrontChain.work.Goals as goal
 

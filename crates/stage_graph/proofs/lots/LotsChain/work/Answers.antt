@@ -1,4 +1,4 @@
-use Rattle.std.proofs.Common.{◌∙◌, arith}
+use Rattle.std.proofs.Common.{◌∙◌}
 use Rattle.stage_graph.specs.Lots.{numbers_in}
 use Rattle.stage_graph.proofs.Lotting.{one_more}
 use Rattle.stage_graph.proofs.lots.LotsChain.work.Goals as goal

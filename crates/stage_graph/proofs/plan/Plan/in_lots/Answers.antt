@@ -1,4 +1,4 @@
-use Rattle.std.proofs.Common.{◌≡◌, length, vec_len, sym, ap, ◌∙◌, arith, rules}
+use Rattle.std.proofs.Common.{◌≡◌, length, arith, rules}
 use Rattle.stage_graph.proofs.Lotting.{resized}
 use Rattle.stage_graph.proofs.plan.Plan.in_lots.Goals as goal
 

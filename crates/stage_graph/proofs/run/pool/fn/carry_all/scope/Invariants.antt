@@ -1,4 +1,4 @@
-use Rattle.std.proofs.Common.{◌≡◌, ◌+◌, ◌≤◌, vec_len, vec_capacity}
+use Rattle.std.proofs.Common.{◌+◌, ◌≤◌, vec_len, vec_capacity}
 use Rattle.stage_graph.proofs.run.pool.fn.carry_all.scope.Given as goal
 
 abbrev pub invariant-loop : goal.invariant-loop
