@@ -75,6 +75,27 @@ fn laid_by<F: Tree>(
     Ok(Vec::new(alloc))
 }
 
+/// How many bytes of pages the tickets hold, each counted as often as it is due.
+fn held_by<F: Tree>(snapshot: &Snapshot, tickets: &[Ticket<F>]) -> usize {
+    let mut held: usize = 0;
+    for ticket in tickets {
+        held = held.saturating_add(page_len(snapshot, ticket));
+    }
+    held
+}
+
+/// The tickets in one group.
+fn one_group<F: Tree>(
+    alloc: Global,
+    tickets: Vec<Ticket<F>>,
+) -> Result<Vec<Series<Ticket<F>>>, AllocError>
+    ensures { IfOk result (λ groups. all_of groups.items ≡ tickets.items) }
+{
+    let mut whole = Vec::with_capacity(alloc, 1)?;
+    whole.push(Series::from_vec(tickets))?;
+    Ok(whole)
+}
+
 /// The tickets in groups, one after another, whose pages take no more than `room` bytes.
 pub(crate) fn groups_of<F: Tree>(
     alloc: Global,
@@ -84,6 +105,9 @@ pub(crate) fn groups_of<F: Tree>(
 ) -> Result<Vec<Series<Ticket<F>>>, AllocError>
     ensures { IfOk result (λ groups. all_of groups.items ≡ tickets.items) }
 {
+    if room == usize::MAX || held_by(snapshot, &tickets) <= room {
+        return one_group(alloc, tickets);
+    }
     let mut groups = Vec::new(alloc);
     let mut group = Vec::new(alloc);
     let mut held: usize = 0;
