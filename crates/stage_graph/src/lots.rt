@@ -406,10 +406,10 @@ where
     Ok(one_lot(alloc, run.into_items())?)
 }
 
-/// Runs a floor to its end, as [`run_floor`] does, and gives the items by number, some of them in each vector, each with
-/// the chain's value of its own input. Where the gate never holds an item, so many threads at most work, each for any
-/// worker that is free, and items travel in lots: each queue has room for as many items as the plan says all the same,
-/// and the gate sees each item, one after another where they enter or leave together. It may wait.
+/// Runs a floor to its end, as [`run_floor`] does, and gives the items by number, some of them in each vector, each
+/// with the chain's value of its own input. Where the gate never holds an item, so many threads at most work, each for
+/// any worker that is free, and items travel in lots: each queue has room for as many items as the plan says all the
+/// same, and the gate sees each item, one after another where they enter or leave together. It may wait.
 ///
 /// # Errors
 ///

@@ -106,6 +106,24 @@ fn each_count(rt: HostRuntime) -> Result<(), Fail> {
     Ok(())
 }
 
+// Queues with room for one item, so that who gives one often waits for room: each of many runs ends, with each sum.
+#[test]
+fn many_runs_with_full_queues(rt: HostRuntime) -> Result<(), Fail> {
+    for _ in 0..500 {
+        try_inputs(&rt, rt.alloc(), 4, (&[1, 2, 3], &[3, 1, 2], &[1, 1, 1]), 64, true)?;
+    }
+    Ok(())
+}
+
+// The same where the gate may hold an item, so that each worker of the plan has a thread and sleeps where it finds none.
+#[test]
+fn many_runs_of_workers(rt: HostRuntime) -> Result<(), Fail> {
+    for _ in 0..200 {
+        try_inputs(&rt, rt.alloc(), 4, (&[1, 2, 3], &[3, 1, 2], &[1, 1, 1]), 16, false)?;
+    }
+    Ok(())
+}
+
 #[test]
 fn no_item(rt: HostRuntime) -> Result<(), Fail> {
     let sums = through(
