@@ -50,7 +50,11 @@ fn lines_read_ahead(rt: HostRuntime) {
 /// A reader that was lent to an input stands after the line that was read, and not further.
 #[test]
 fn lent_reader_stands_after_the_line(rt: HostRuntime) {
-    for text in ["end 0\nrest", "piece 0 1 2\nrest", "piece 100 200 300\nrest"] {
+    for text in [
+        "end 0\nrest",
+        "piece 0 1 2\nrest",
+        "piece 100 200 300\nrest",
+    ] {
         let mut reader = text.as_bytes();
         let mut input = Input::new(&mut reader);
         let read = read_long_line(&mut input, &mut 100, 6, b"piece ", 12).is_ok();

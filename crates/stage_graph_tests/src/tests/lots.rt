@@ -110,7 +110,14 @@ fn each_count(rt: HostRuntime) -> Result<(), Fail> {
 #[test]
 fn many_runs_with_full_queues(rt: HostRuntime) -> Result<(), Fail> {
     for _ in 0..500 {
-        try_inputs(&rt, rt.alloc(), 4, (&[1, 2, 3], &[3, 1, 2], &[1, 1, 1]), 64, true)?;
+        try_inputs(
+            &rt,
+            rt.alloc(),
+            4,
+            (&[1, 2, 3], &[3, 1, 2], &[1, 1, 1]),
+            64,
+            true,
+        )?;
     }
     Ok(())
 }
@@ -119,7 +126,14 @@ fn many_runs_with_full_queues(rt: HostRuntime) -> Result<(), Fail> {
 #[test]
 fn many_runs_of_workers(rt: HostRuntime) -> Result<(), Fail> {
     for _ in 0..200 {
-        try_inputs(&rt, rt.alloc(), 4, (&[1, 2, 3], &[3, 1, 2], &[1, 1, 1]), 16, false)?;
+        try_inputs(
+            &rt,
+            rt.alloc(),
+            4,
+            (&[1, 2, 3], &[3, 1, 2], &[1, 1, 1]),
+            16,
+            false,
+        )?;
     }
     Ok(())
 }
