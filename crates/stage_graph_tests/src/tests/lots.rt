@@ -122,7 +122,7 @@ fn many_runs_with_full_queues(rt: HostRuntime) -> Result<(), Fail> {
     Ok(())
 }
 
-// The same where the gate may hold an item, so that each worker of the plan has a thread and sleeps where it finds none.
+// The same where the gate may hold an item: each worker of the plan has a thread, and sleeps where it finds none.
 #[test]
 fn many_runs_of_workers(rt: HostRuntime) -> Result<(), Fail> {
     for _ in 0..200 {
