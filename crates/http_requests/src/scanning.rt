@@ -48,20 +48,27 @@ fn blanks(s: &[u8]) -> usize
     i
 }
 
-/// Whether no line feed among the `LANES` bytes from `at` on has a line feed or a carriage return after it. In a head
-/// that is so up to the empty line.
+/// How many of the `LANES` bytes from `at` on stand before the first line feed that has a line feed or a carriage
+/// return after it; all, where there is none. In a head there is none up to the empty line.
 #[inline(always)]
-fn is_quiet(s: &[u8], at: usize) -> bool
+fn quiet_len(s: &[u8], at: usize) -> usize
     requires { at + LANES < length s.now }
-    ensures { IsTrue result → IsQuiet s.now at LANES }
+    ensures bound { result ≤ LANES }
+    ensures quiet { IsQuiet s.now at result }
 {
     let feeds = u8x32::from_slice(&s[at..]).simd_eq(u8x32::splat(b'\n'));
-    let ends = u8x32::from_slice(&s[at + 1..]).simd_le(u8x32::splat(b'\r'));
-    (feeds & ends).to_bitmask() == 0
+    let after = u8x32::from_slice(&s[at + 1..]);
+    let breaks = after.simd_eq(u8x32::splat(b'\n')) | after.simd_eq(u8x32::splat(b'\r'));
+    let found = (feeds & breaks).to_bitmask();
+    if found == 0 {
+        LANES
+    } else {
+        found.trailing_zeros() as usize
+    }
 }
 
-/// A place up to which no block ends, where none ends up to `at`: `last`, or a place at most `LANES` bytes before the
-/// first end, or before what looks like one.
+/// A place up to which no block ends, where none ends up to `at`: `last`, or a place before the first end or before
+/// what looks like one, at most two bytes before it where more than `LANES` bytes are there.
 #[inline(always)]
 fn skip_lines(s: &[u8], at: usize, last: usize) -> usize
     requires two { 2 ≤ at }
@@ -73,14 +80,19 @@ fn skip_lines(s: &[u8], at: usize, last: usize) -> usize
     ensures none { NoEndIn result s.now }
 {
     let mut end = at;
-    while last - end >= LANES - 1 && is_quiet(s, end - 2) {
+    while last - end >= LANES - 1 {
+        let quiet = quiet_len(s, end - 2);
+        if quiet < LANES {
+            return end.max(end + quiet - 1);
+        }
         end += LANES - 1;
     }
-    // The last look overlaps the one before.
-    if last - end < LANES - 1 && last > LANES && is_quiet(s, last - LANES - 1) {
-        return last;
+    if end == last || last <= LANES {
+        return end;
     }
-    end
+    // The last look overlaps the one before.
+    let quiet = quiet_len(s, last - LANES - 1);
+    end.max(last - LANES + quiet)
 }
 
 /// The first end of a block up to `to`, where none stands up to `at`. Each place is looked at.
