@@ -1,5 +1,6 @@
 //! Cutting a text that comes in pieces.
-ghost use Rattle.std.specs.Prelude.{◌≡◌, ◌<◌, ◌≤◌, [], drop, length, IfNone, IfOk, IfSome, OnSome};
+ghost use Rattle.std.specs.Prelude.{◌≡◌, ◌<◌, ◌≤◌, ◌++◌, ◌∷◌, [], drop, length, IfNone, IfOk, IfSome, OnErr, OnOk};
+ghost use Rattle.std.specs.Prelude.{OnSome};
 ghost use Rattle.http_requests.specs.Limits.{max_body_bytes, max_text_bytes};
 ghost use Rattle.http_requests.specs.Cutting.{Begins, IsUnfinished, Waits};
 
@@ -112,6 +113,18 @@ fn take_block(
     }
 }
 
+/// Puts a message behind the others. The first gets no more room than it takes, since most pieces end one message.
+fn push_message(out: &mut Vec<Message>, message: Message) -> Result<(), AllocError>
+    ensures ok { OnOk result (out.new.items ≡ out.old.items ++ message ∷ []) }
+    ensures err { OnErr result (out.new.items ≡ out.old.items) }
+{
+    if out.capacity() == 0 {
+        out.reserve_exact(1)?;
+    }
+    out.push(message)?;
+    Ok(())
+}
+
 /// What a cutter keeps.
 #[derive(Drop)]
 struct State {
@@ -160,10 +173,8 @@ impl State {
         } else {
             Stage::Seeking
         };
-        out.push(Message {
-            end: self.read,
-            what,
-        })?;
+        let end = self.read;
+        push_message(out, Message { end, what })?;
         self.stage = stage;
         Ok(())
     }
