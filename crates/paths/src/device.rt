@@ -38,7 +38,7 @@ impl<R: Read> Model for Input<R> {
 }
 
 impl<R: Read> Input<R> {
-    /// A reader that has not failed yet. No call reads on beyond what it gives.
+    /// A reader that has not failed yet. No byte is read ahead of the calls that take it.
     pub fn new(reader: R) -> Input<R>
         ensures { result ≡ fresh (R.remaining reader) }
     {

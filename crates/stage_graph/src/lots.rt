@@ -1,10 +1,11 @@
 //! A floor on which items travel in lots: several of them are given on at once.
 
-ghost use Rattle.std.specs.Prelude.{◌≡◌, ◌+◌, ◌<◌, ◌++◌, [], ◌∷◌, ℕ, List, true, map, flat_map, length};
+ghost use Rattle.std.specs.Prelude.{◌≡◌, ◌+◌, ◌<◌, ◌≤◌, ◌++◌, [], ◌∷◌, ℕ, List, true, map, flat_map, length};
 ghost use Rattle.std.specs.Prelude.{IfOk, OnOk, IfSome};
 ghost use Rattle.std.specs.List.{range_with_len};
 ghost use Rattle.stage_graph.specs.After.{with_steps, last_cut};
 ghost use Rattle.stage_graph.specs.Lots.{step_each, inputs_in, numbers_in, lot_content, lot_value, lot_holds};
+ghost use Rattle.stage_graph.specs.Layouts.{stages, capacity_at};
 ghost use Rattle.stage_graph.specs.Steps.{value_of};
 
 use crate::run::pool::run_pool;
@@ -203,7 +204,9 @@ impl<'a, G: Gate> Gate for LotGate<'a, G> {
 
 /// How many items go into a lot: as many as the queue of each stage has room for, and few enough that there are lots
 /// for all workers.
-fn lot_size(plan: &Plan, count: usize) -> usize {
+fn lot_size(plan: &Plan, count: usize) -> usize
+    ensures { (k : ℕ) → k < stages plan.now → result ≤ capacity_at plan.now k }
+{
     let mut size = MOST.min(count / LOTS).max(1);
     for stage in 0..plan.stages() {
         size = size.min(plan.capacity(stage));

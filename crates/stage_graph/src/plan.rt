@@ -5,7 +5,7 @@ ghost use Rattle.stage_graph.specs.Floors.{idle_before};
 ghost use Rattle.stage_graph.specs.After.{last_cut};
 ghost use Rattle.stage_graph.specs.PlanFaults.{plan_fault, AnswersFault};
 ghost use Rattle.stage_graph.specs.Layouts.{layout_of, is_rising, are_within, posts_of, IsPlan, stages, workers};
-ghost use Rattle.stage_graph.specs.Layouts.{stage_at, cut_at, capacity_at};
+ghost use Rattle.stage_graph.specs.Layouts.{stage_at, cut_at, capacity_at, FitInLots, HasRoomInLots};
 
 use stage_queue::Memory;
 use std::alloc::{AllocError, Global};
@@ -89,7 +89,8 @@ impl Plan {
 
     // The same plan for lots of so many items: each queue has room for no more items than before, and for one lot.
     pub(crate) fn in_lots(&self, alloc: Global, size: usize) -> Result<Plan, Memory>
-        ensures { IfOk result (λ p. (p.cuts ≡ self.now.cuts) × (p.posts ≡ self.now.posts)) }
+        ensures same { IfOk result (λ p. (p.cuts ≡ self.now.cuts) × (p.posts ≡ self.now.posts)) }
+        ensures room { IfOk result (HasRoomInLots size self.now) }
     {
         let cuts = Vec::from_slice(alloc, &self.cuts)?;
         let posts = Vec::from_slice(alloc, &self.posts)?;
@@ -255,6 +256,11 @@ fn add_crew(posts: &mut Vec<usize>, stage: usize, crew: usize) -> Result<(), All
 }
 
 // How many lots of this size have no more items than that, and one at least.
-fn lots_within(capacity: usize, size: usize) -> usize {
-    capacity.checked_div(size).unwrap_or(capacity).max(1)
+fn lots_within(capacity: usize, size: usize) -> usize
+    ensures { FitInLots size capacity result }
+{
+    if size == 0 || size > capacity {
+        return 1;
+    }
+    capacity / size
 }
