@@ -1,6 +1,6 @@
 //! A queue of which one item takes no memory.
 
-ghost use Rattle.std.specs.Prelude.{◌≡◌, ◌↔◌, ◌<◌, ◌++◌, [], ◌∷◌, length, IsTrue, OnOk, IfSome, IfNone};
+ghost use Rattle.std.specs.Prelude.{◌≡◌, ◌↔◌, ◌++◌, [], ◌∷◌, IsTrue, OnOk, IfSome, IfNone};
 
 use std::alloc::{AllocError, Global};
 use std::collections::VecDeque;

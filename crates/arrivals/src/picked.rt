@@ -6,14 +6,10 @@ ghost use Rattle.arrivals.specs.Places.{place_at, empty_place, IsReady};
 ghost use Rattle.arrivals.specs.Picking.{IsCut, TakesOut, with_picked};
 
 use crate::seat::Seat;
-use rayon::current_num_threads;
 use rayon::prelude::*;
 use std::alloc::{AllocError, Global};
 use std::mem;
 use std::thread::Threads;
-
-/// The fewest connections that a thread is started for.
-const LEAST: usize = 16;
 
 /// A seat that was taken out, and the number of its connection.
 #[derive(Drop)]
@@ -66,20 +62,22 @@ pub(crate) fn pick(
     Ok(picked)
 }
 
-/// Cuts the pieces of each seat, the seats in parallel.
+/// Cuts the pieces of each seat, by so many threads at most, the calling one among them.
 pub(crate) fn cut_all<R: Threads + Sync>(
     rt: &R,
     alloc: Global,
+    threads: usize,
     picked: Vec<Picked>,
 ) -> Result<Vec<Picked>, AllocError>
     requires { All (λ p. IsReady p.seat) picked.items }
     ensures { IfOk result (λ cuts. AllZip IsCut picked.items cuts.items) }
 {
-    // One piece for each processor: a thread costs more than what pieces that differ would lose.
-    let each = picked.len().div_ceil(current_num_threads(rt));
+    // Halves are halved down to so many seats: as many threads as that gives, and no more parts, since a thread costs
+    // more than what parts that differ lose.
+    let each = picked.len() / threads.max(1);
     let cuts = picked
         .into_par_iter()
-        .with_min_len(each.max(LEAST))
+        .with_min_len(each)
         .map(
             |one: Picked| -> Result<Picked, AllocError>
                 requires { IsReady one.seat }

@@ -12,15 +12,23 @@ use crate::picked::{cut_all, pick, put_back};
 use crate::seat::Seat;
 use http_requests::Message;
 use paths::Bytes;
+use rayon::current_num_threads;
 use std::alloc::{AllocError, Global};
 use std::marker::Model;
 use std::thread::Threads;
+
+/// How many bytes of pieces are worth a thread: cutting them takes longer than it takes to start one.
+const WORTH: usize = 65_536;
 
 /// The connections of a capture, by their numbers, and which of them have pieces that wait to be cut.
 #[derive(Drop)]
 pub struct Seats {
     list: Vec<Seat>,
     noted: Vec<usize>,
+    /// How many bytes the pieces have that wait.
+    waiting: usize,
+    /// How many threads may run at a time, once that was asked.
+    processors: Option<usize>,
 }
 
 impl Model for Seats {
@@ -68,6 +76,8 @@ impl Seats {
         Seats {
             list: Vec::new(alloc),
             noted: Vec::new(alloc),
+            waiting: 0,
+            processors: None,
         }
     }
 
@@ -78,21 +88,33 @@ impl Seats {
     {
         reach(&mut self.list, conn)?;
         note(&self.list, &mut self.noted, conn)?;
+        self.waiting = self.waiting.saturating_add(piece.as_slice().len());
         self.list[conn].add(alloc, piece)
     }
 
-    /// Cuts the pieces of each connection, the connections in parallel.
+    /// Cuts the pieces of each connection, the connections in parallel where the pieces are worth it.
     pub fn cut<R: Threads + Sync>(self, rt: &R, alloc: Global) -> Result<Seats, AllocError>
         requires ready { All IsReady self }
         ensures { IfOk result (λ cut. AllZip IsCutOf self cut) }
     {
-        let Seats { mut list, noted } = self;
+        let Seats {
+            mut list,
+            noted,
+            waiting,
+            processors,
+        } = self;
+        let processors = match processors {
+            Some(count) => count,
+            None => current_num_threads(rt),
+        };
         let picked = pick(alloc, &mut list, &noted)?;
-        let cuts = cut_all(rt, alloc, picked)?;
+        let cuts = cut_all(rt, alloc, processors.min(waiting / WORTH), picked)?;
         put_back(&mut list, cuts);
         Ok(Seats {
             list,
             noted: Vec::new(alloc),
+            waiting: 0,
+            processors: Some(processors),
         })
     }
 
