@@ -36,7 +36,7 @@ use Rattle.http_requests.specs.declared.messages.Version.{Version}
 use Rattle.cost_model.specs.Services.{service}
 use Rattle.replay.specs.Answers.{is_head, answers_head}
 use Rattle.replay.specs.Offers.{is_unmodified_file, length_given}
-use Rattle.replay.specs.Fronts.{floor_sight, floor_step, front_value, seen_as, sight_of, unseen, unseen_at, IsSight}
+use Rattle.replay.specs.Fronts.{each_sighted, floor_sight, floor_step, front_value, seen_as, sight_of, unseen, unseen_at, IsSight}
 
 abbrev pub sighted : Incoming → Sight → Sighted
 sighted message sight = record { message = message; sight = sight }
@@ -95,6 +95,18 @@ all_known files costs message sight (x ∷ xs) (m ∷ ms) e =
     let one = as_known files costs (message x) m (sight x) first in
     let all = all_known files costs message sight xs ms rest in
     rw (one, all) refl
+
+-- the sights of what is known
+pub sights_alone : {X : Type 0} (files : List File) (costs : CostTable) (message : X → Incoming) (sight : X → Sight) (xs : List X) (ms : List Incoming)
+    → map (λ x. sighted (message x) (sight x)) xs ≡ map (front_value files costs) ms → each_sighted ms (map sight xs) ≡ map (front_value files costs) ms
+sights_alone files costs message sight [] [] e = refl
+sights_alone files costs message sight [] (m ∷ ms) e = absurd (let z : ⊥ = grind (arith, e) in z)
+sights_alone files costs message sight (x ∷ xs) [] e = absurd (let z : ⊥ = grind (arith, e) in z)
+sights_alone files costs message sight (x ∷ xs) (m ∷ ms) e =
+    let first : sighted (message x) (sight x) ≡ front_value files costs m = cc in
+    let rest : map (λ y. sighted (message y) (sight y)) xs ≡ map (front_value files costs) ms = cc in
+    let own : sighted m (sight x) ≡ front_value files costs m = ap (λ (v : Sighted). sighted m v.sight) first in
+    rw (own, sights_alone files costs message sight xs ms rest) refl
 
 pub same_values : (files : List File) (costs : CostTable) (ms : List Incoming) → map (λ m. value_of (floor_step files costs) 3 (unseen m)) ms ≡ map (front_value files costs) ms
 same_values files costs [] = refl

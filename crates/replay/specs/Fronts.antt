@@ -1,5 +1,5 @@
 -- The steps that a message takes before it is decided on.
-use Rattle.std.specs.Prelude.{ℕ, List, slice_index_or, nat_lt, if◌then◌else◌}
+use Rattle.std.specs.Prelude.{ℕ, List, [], ◌∷◌, slice_index_or, nat_lt, if◌then◌else◌}
 use Rattle.stage_graph.specs.Steps.{value_of}
 use Rattle.paths.specs.Targets.{asked}
 use Rattle.paths.specs.Resolution.{outcome, IsOutcome}
@@ -34,6 +34,9 @@ unseen message = record { message = message; sight = Unseen }
 -- what stands for a message after the last
 abbrev pub no_message : Incoming
 no_message = record { origin = record { conn = 0; tick = 0; tier = 0 }; what = Bad Block }
+
+abbrev pub message_at : List Incoming → ℕ → Incoming
+message_at messages n = slice_index_or messages n no_message
 
 abbrev pub unseen_at : List Incoming → ℕ → Sighted
 unseen_at messages n = unseen (slice_index_or messages n no_message)
@@ -75,3 +78,10 @@ floor_sight files costs k (Request method target version closing since) (Priced 
 
 abbrev pub floor_step : List File → CostTable → ℕ → Sighted → Sighted
 floor_step files costs k v = record { message = v.message; sight = floor_sight files costs k v.message.what v.sight }
+
+-- each message with what is known of it
+abbrev pub each_sighted : List Incoming → List Sight → List Sighted
+each_sighted [] sights = []
+each_sighted (message ∷ messages) [] = []
+each_sighted (message ∷ messages) (sight ∷ sights) =
+    record { message = message; sight = sight } ∷ each_sighted messages sights

@@ -8,7 +8,7 @@ ghost use Rattle.stage_graph.specs.Steps.{value_of};
 ghost use Rattle.paths.specs.Targets.{asked};
 ghost use Rattle.paths.specs.Resolution.{outcome, IsOutcome};
 ghost use Rattle.replay.specs.declared.sight.Sight.TheVariants.{Unseen, Found};
-ghost use Rattle.replay.specs.Fronts.{floor_sight, floor_step, seen_as, unseen, unseen_at, IsSight};
+ghost use Rattle.replay.specs.Fronts.{floor_sight, floor_step, seen_as, unseen_at, message_at, each_sighted, IsSight};
 
 use crate::answers::{answers_head, service_of};
 use crate::server::Server;
@@ -46,16 +46,15 @@ impl Fronts for Brand {
     ghost costs = { record { file = 1; kib = 0; error = 1 } };
 }
 
-/// A message on its way to the decision.
+/// What is known of a message on its way to the decision. The message is that of its number, and stays where it is.
 #[derive(Drop)]
 pub struct FrontItem<F: Tree, K: Fronts> {
     pub number: usize,
     pub done: usize,
-    pub message: Incoming,
     pub sight: Sight,
     tree: PhantomData<F>,
     of: PhantomData<K>,
-    pub ghost own: { record { message = message; sight = seen_as F.files sight }
+    pub ghost own: { record { message = message_at K.messages number; sight = seen_as F.files sight }
         ≡ value_of (floor_step F.files K.costs) done (unseen_at K.messages number) },
 }
 
@@ -80,10 +79,12 @@ pub struct Front<'a, F: Tree, K: Fronts> {
     alloc: Global,
     snapshot: &'a Snapshot,
     costs: Costs,
+    messages: &'a [Incoming],
     tree: PhantomData<F>,
     of: PhantomData<K>,
     pub ghost files: { snapshot.now ≡ F.files },
     pub ghost table: { costs ≡ K.costs },
+    pub ghost named: { messages.now ≡ K.messages },
 }
 
 impl<'a, F: Tree, K: Fronts> Front<'a, F, K> {
@@ -140,6 +141,19 @@ impl<'a, F: Tree, K: Fronts> Front<'a, F, K> {
             Sight::Priced(outcome, service) => Ok(Sight::Priced(outcome, service)),
         }
     }
+
+    /// Looks one step further into the message of a number, after so many steps.
+    fn look_at(&self, number: usize, done: usize, sight: Sight) -> Result<Sight, Sight>
+        requires { IsSight F.files sight }
+        ensures ok { IfOk result (λ s. seen_as F.files s
+            ≡ floor_sight F.files K.costs done (message_at K.messages number).what (seen_as F.files sight)) }
+        ensures err { IfErr result (λ s. s ≡ sight) }
+    {
+        match self.messages.get(number) {
+            Some(message) => self.look(done, &message.what, sight),
+            None => Ok(sight),
+        }
+    }
 }
 
 impl<'a, F: Tree, K: Fronts> Chain for Front<'a, F, K> {
@@ -153,7 +167,7 @@ impl<'a, F: Tree, K: Fronts> Chain for Front<'a, F, K> {
 
     ghost input_at = { λ n. unseen_at K.messages n };
 
-    ghost content = { λ x. record { message = x.message; sight = seen_as F.files x.sight } };
+    ghost content = { λ x. record { message = message_at K.messages x.number; sight = seen_as F.files x.sight } };
 
     fn steps(&self) -> usize {
         3
@@ -163,16 +177,14 @@ impl<'a, F: Tree, K: Fronts> Chain for Front<'a, F, K> {
         let FrontItem {
             number,
             done,
-            message,
             sight,
             tree,
             of,
         } = item;
-        match self.look(done, &message.what, sight) {
+        match self.look_at(number, done, sight) {
             Ok(sight) => Ok(FrontItem {
                 number,
                 done: done + 1,
-                message,
                 sight,
                 tree,
                 of,
@@ -180,7 +192,6 @@ impl<'a, F: Tree, K: Fronts> Chain for Front<'a, F, K> {
             Err(sight) => Err(FrontItem {
                 number,
                 done,
-                message,
                 sight,
                 tree,
                 of,
@@ -191,51 +202,44 @@ impl<'a, F: Tree, K: Fronts> Chain for Front<'a, F, K> {
     ghost holds = { λ x. x.own };
 }
 
-fn front_item<F: Tree, K: Fronts>(number: usize, message: Incoming) -> FrontItem<F, K>
-    requires { unseen_at K.messages number ≡ unseen message }
+fn front_item<F: Tree, K: Fronts>(number: usize) -> FrontItem<F, K>
     ensures { (result.number ≡ number) × (result.done ≡ 0) }
 {
     FrontItem {
         number,
         done: 0,
-        message,
         sight: Sight::Unseen,
         tree: PhantomData,
         of: PhantomData,
     }
 }
 
-/// The items of the messages, with no step done, in lots for a plan.
+/// The items of so many messages, with no step done, in lots for a plan.
 fn front_items<F: Tree, K: Fronts>(
     alloc: Global,
     plan: &Plan,
-    messages: Vec<Incoming>,
+    count: usize,
 ) -> Result<Lotted<FrontItem<F, K>>, AllocError>
-    requires { messages.items ≡ K.messages }
-    ensures fresh { IfOk result (λ v. map (λ x. (x.number, x.done)) v
-        ≡ map (with_steps 0) (range_with_len 0 (length messages.items))) }
-    ensures len { IfOk result (λ v. length v ≡ length messages.items) }
+    ensures fresh { IfOk result (λ v. map (λ x. (x.number, x.done)) v ≡ map (with_steps 0) (range_with_len 0 count)) }
+    ensures len { IfOk result (λ v. length v ≡ count) }
 {
-    let mut items = Lotted::new(alloc, plan, messages.len())?;
-    let mut number = 0;
-    for message in messages {
-        items.push(alloc, front_item(number, message))?;
-        number += 1;
+    let mut items = Lotted::new(alloc, plan, count)?;
+    for number in 0..count {
+        items.push(alloc, front_item(number))?;
     }
     Ok(items)
 }
 
 /// What is known of the messages of a lot, after others.
 fn add_sights<F: Tree, K: Fronts>(
-    sights: &mut Vec<Sighted>,
+    sights: &mut Vec<Sight>,
     lot: Vec<FrontItem<F, K>>,
 ) -> Result<(), AllocError>
-    ensures { OnOk result (sights.new.items
-        ≡ sights.old.items ++ map (λ x. record { message = x.message; sight = x.sight }) lot.items) }
+    ensures { OnOk result (sights.new.items ≡ sights.old.items ++ map (λ x. x.sight) lot.items) }
 {
     for item in lot {
-        let FrontItem { message, sight, .. } = item;
-        sights.push(Sighted { message, sight })?;
+        let FrontItem { sight, .. } = item;
+        sights.push(sight)?;
     }
     Ok(())
 }
@@ -245,15 +249,33 @@ fn sights_of<F: Tree, K: Fronts>(
     alloc: Global,
     count: usize,
     lots: Vec<Vec<FrontItem<F, K>>>,
-) -> Result<Vec<Sighted>, AllocError>
-    ensures { IfOk result (λ v. v.items ≡ flat_map
-        (λ lot. map (λ x. record { message = x.message; sight = x.sight }) lot.items) lots.items) }
+) -> Result<Vec<Sight>, AllocError>
+    ensures { IfOk result (λ v. v.items ≡ flat_map (λ lot. map (λ x. x.sight) lot.items) lots.items) }
 {
     let mut sights = Vec::with_capacity(alloc, count)?;
     for lot in lots {
         add_sights(&mut sights, lot)?;
     }
     Ok(sights)
+}
+
+/// The messages, each with what is known of it.
+fn with_sights(
+    alloc: Global,
+    messages: Vec<Incoming>,
+    sights: Vec<Sight>,
+) -> Result<Vec<Sighted>, AllocError>
+    ensures { IfOk result (λ v. v.items ≡ each_sighted messages.items sights.items) }
+{
+    let mut all = Vec::with_capacity(alloc, messages.len())?;
+    let mut sights = sights.into_iter();
+    for message in messages {
+        let Some(sight) = sights.next() else {
+            return Ok(all);
+        };
+        all.push(Sighted { message, sight })?;
+    }
+    Ok(all)
 }
 
 fn run_front_with<
@@ -277,16 +299,18 @@ fn run_front_with<
     let alloc = server.alloc;
     let settings = server.settings;
     let count = messages.len();
-    let items = front_items::<F, K>(alloc, &plan, messages)?;
+    let items = front_items::<F, K>(alloc, &plan, count)?;
     let chain = Front::<F, K> {
         alloc,
         snapshot: server.snapshot,
         costs: settings.costs,
+        messages: &messages,
         tree: PhantomData,
         of: PhantomData,
     };
     let lots = run_through::<Front<F, K>, G, T>(rt, alloc, threads, plan, &chain, items, gate)?;
-    Ok(sights_of(alloc, count, lots)?)
+    let sights = sights_of(alloc, count, lots)?;
+    Ok(with_sights(alloc, messages, sights)?)
 }
 
 /// What is known of each message before it is decided on, by a floor of so many threads.

@@ -4,8 +4,8 @@ use Rattle.replay.specs.Fronts.{floor_step, unseen_at}
 use Rattle.replay.proofs.Sights.{as_it_is, sight_is, value_more}
 use Rattle.replay.proofs.front.FrontChain.work.Goals as goal
 
-pub look-requires : goal.look-requires
-look-requires g c =
+pub look_at-requires : goal.look_at-requires
+look_at-requires g c =
     let item = c.args.item in
     as_it_is g.F.Tree.files item.sight
     (rw (ap (λ (v : Sighted). v.sight) item.own) (sight_is g.F.Tree.files g.K.Fronts.costs g.K.Fronts.messages item.number item.done))
