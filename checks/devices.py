@@ -30,6 +30,9 @@ TOP = os.path.dirname(os.path.dirname(os.path.abspath(__file__)))
 SNAPSHOT = b"haboob-snapshot 1\nfile 784111777 5 3\na.txt\nhi\n\nend 1\n"
 REQUEST = b"GET /a.txt HTTP/1.1\r\nHost: a\r\n\r\n"
 SETTINGS = b"[policy]\ndepth = 50\n[floor]\nbatch = 100\n"
+# A batch that is worth threads: for its cutting, 192,000 bytes, and for both floors, more than 4,096 messages.
+LARGE = 6000
+LARGE_SETTINGS = b"[policy]\ndepth = 50\n[floor]\nbatch = 8192\n"
 ENGINES = (["--engine", "plain"], ["--engine", "staged"])
 # The places where a file is full: in the first line, in a reply, at the end of the program's buffer, in a later one.
 PLACES = (0, 1, 16, 17, 100, 4096, 65_535, 65_536, 65_537, 100_000)
@@ -48,13 +51,14 @@ def capture_of(count):
 class Replay:
     """The files of a replay, and what it is to write."""
 
-    def __init__(self, count):
-        self.capture = capture_of(count)
-        status, line, self.replies, self.report = reference.replay(SNAPSHOT, self.capture, SETTINGS)
+    def __init__(self, count, settings=SETTINGS):
+        self.capture, self.settings = capture_of(count), settings
+        status, line, self.replies, self.report = reference.replay(SNAPSHOT, self.capture, settings)
         assert (status, line) == (0, b"")
 
     def put(self, folder):
-        for name, data in (("snapshot", SNAPSHOT), ("capture", self.capture), ("settings", SETTINGS), ("replies", b"")):
+        files = ("snapshot", SNAPSHOT), ("capture", self.capture), ("settings", self.settings), ("replies", b"")
+        for name, data in files:
             with open(os.path.join(folder, name), "wb") as file:
                 file.write(data)
 
@@ -271,8 +275,7 @@ def check_poor(checks, program):
             for calls in ("READ", "WRITE"):
                 for error in (errno.EIO, errno.EINTR):
                     check_failing(checks, program, replay, task, shim, calls, error)
-        # so many connections that they are cut by threads too
-        replay = Replay(300)
+        replay = Replay(LARGE, LARGE_SETTINGS)
         task = Task("replay, staged", words(ENGINES[1]), b"", {"replies": replay.replies, "out": replay.report})
         print("%d threads were refused in turn" % check_threads(checks, program, replay, task, shim))
     return True

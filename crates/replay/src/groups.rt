@@ -15,6 +15,9 @@ const MAX_HELD: usize = 33_554_432;
 /// More bytes than a page has besides those of its file.
 const FIELDS: usize = 256;
 
+/// How many bytes are copied in the time that a reply takes besides its page.
+const REPLY: usize = 512;
+
 /// The pages that all workers share.
 #[derive(Drop)]
 pub struct Pages<F: Tree> {
@@ -82,6 +85,25 @@ fn held_by<F: Tree>(snapshot: &Snapshot, tickets: &[Ticket<F>]) -> usize {
         held = held.saturating_add(page_len(snapshot, ticket));
     }
     held
+}
+
+/// How much work a group is, in bytes that are copied: what its replies cost besides their pages, and the pages that
+/// may have to be built.
+pub(crate) fn work_of<F: Tree>(
+    snapshot: &Snapshot,
+    shelf: &Shelf<F>,
+    tickets: &[Ticket<F>],
+) -> usize {
+    let mut work: usize = 0;
+    for ticket in tickets {
+        work = work.saturating_add(REPLY);
+        if let Due::Page { file, .. } = &ticket.due {
+            if !shelf.has(*file) {
+                work = work.saturating_add(page_len(snapshot, ticket));
+            }
+        }
+    }
+    work
 }
 
 /// The tickets in one group.

@@ -23,7 +23,7 @@ use crate::back::run_back;
 use crate::deciding::decide_all;
 use crate::desk::Desk;
 use crate::front::run_front;
-use crate::groups::{Pages, groups_of};
+use crate::groups::{Pages, groups_of, work_of};
 use crate::server::Server;
 use crate::shifted::Shifted;
 use crate::ticket::Ticket;
@@ -35,6 +35,12 @@ use stage_graph::Gate;
 use std::io::Write;
 use std::sync::Wait;
 use std::thread::Threads;
+
+/// How many messages are worth a thread of the front floor: to look them up takes longer than to start one.
+const WORTH_LOOKING: usize = 1_024;
+
+/// How many bytes of work are worth a thread of the back floor.
+const WORTH_ANSWERING: usize = 524_288;
 
 /// What the floors of the staged engine work with, besides what they serve.
 #[derive(Drop)]
@@ -89,10 +95,11 @@ fn answer_group<F: Tree + Send + Sync, G: Gate + Sync, T: Threads + Wait + Sync,
         first,
     };
     let shelf = &floors.pages.shelf;
+    let work = work_of(server.snapshot, shelf, &group);
     let replies = run_back::<F, Shifted<G>, T>(
         server,
         floors.rt,
-        floors.threads,
+        floors.threads.min(work / WORTH_ANSWERING),
         shelf,
         group,
         &following,
@@ -151,10 +158,11 @@ fn serve_few<F: Tree + Send + Sync, G: Gate + Sync, T: Threads + Wait + Sync, W:
         stages: 0,
         first,
     };
+    let worth = messages.len() / WORTH_LOOKING;
     let sights = run_front::<F, Shifted<G>, T>(
         server,
         floors.rt,
-        floors.threads,
+        floors.threads.min(worth),
         messages,
         &before,
     )?;

@@ -47,6 +47,17 @@ fn page_there<F: Tree>(
 }
 
 impl<F: Tree> Shelf<F> {
+    /// Whether the page of a file stands at its place. One that was used lately may not stand there any more.
+    pub(crate) fn has(&self, file: usize) -> bool {
+        let Shelf::Whole(places) = self else {
+            return false;
+        };
+        match places.get(file) {
+            Some(place) => place.get().is_some(),
+            None => false,
+        }
+    }
+
     /// A shelf without pages: for the pages of all files, or within so many bytes.
     pub(crate) fn new(
         alloc: Global,
