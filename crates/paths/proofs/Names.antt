@@ -96,6 +96,12 @@ found_position files key i place =
     (λ _. (bytes_eq-Decides _ key).1 place.1) in
     rw first (grind (arith, nat_tests))
 
+-- the place of a name that some file has
+pub named_position : (files : List File) → AreRising files → (key : List ℕ) (i : ℕ) → i < length files
+    → (file_of files i).name ≡ key → position_of files key ≡ Some i
+named_position files rising key i lt is = found_position files key i
+    (lt, is, λ k below. subst (λ (v : List ℕ). comes_before (file_of files k).name v ≡ true) is (rising k i no_file below lt))
+
 pub missing_position : (files : List File) (key : List ℕ) (i : ℕ) → IsPlace files key (Err i) → position_of files key ≡ None
 missing_position files key i place =
     let p : File → Bool = λ f. bytes_eq f.name key in

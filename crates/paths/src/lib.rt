@@ -8,6 +8,7 @@ mod file;
 mod heading;
 mod laws;
 mod limits;
+mod name_index;
 mod numbers;
 mod output;
 mod reading;

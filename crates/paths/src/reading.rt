@@ -40,7 +40,10 @@ impl Snapshot {
         loop {
             let entry = files.len() + 1;
             match read_entry(alloc, input, &mut left, &files) {
-                Ok(None) => return Ok(files),
+                Ok(None) => {
+                    files.note_names(alloc);
+                    return Ok(files);
+                }
                 Ok(Some(file)) => match files.push(file) {
                     Ok(()) => continue,
                     Err(_) => {

@@ -10,7 +10,9 @@ ghost use Rattle.paths.specs.Above.{HasNoFileAbove};
 
 use crate::File;
 use crate::bytes::shared_front;
+use crate::name_index::NameIndex;
 use std::alloc::{AllocError, Global};
+use std::fmt;
 use std::marker::{Brand, Model};
 
 /// Names a snapshot in types, by the list of its files: what speaks of one snapshot, as a page of one of its files,
@@ -27,9 +29,10 @@ impl Tree for Brand {
 }
 
 /// The files of a tree at one moment, in the order of their names. Contracts see the list of the files.
-#[derive(Debug, Drop)]
+#[derive(Drop)]
 pub struct Snapshot {
     files: Vec<File>,
+    names: NameIndex,
 }
 
 impl Model for Snapshot {
@@ -44,6 +47,15 @@ impl Model for Snapshot {
     ghost invariant = { λ s. IsSnapshot s.files.items };
 }
 
+/// It shows the files alone.
+impl fmt::Debug for Snapshot {
+    fn fmt<W: fmt::Write>(&self, f: &mut fmt::Formatter<W>) -> fmt::Result {
+        f.debug_struct("Snapshot")
+            .field("files", &self.files)
+            .finish()
+    }
+}
+
 impl Snapshot {
     /// A snapshot without files.
     pub(crate) fn new(alloc: Global) -> Snapshot
@@ -51,6 +63,7 @@ impl Snapshot {
     {
         Snapshot {
             files: Vec::new(alloc),
+            names: NameIndex::empty(alloc),
         }
     }
 
@@ -62,6 +75,13 @@ impl Snapshot {
     {
         self.files.push(file)?;
         Ok(())
+    }
+
+    /// Notes where each file is, so that the next look for its name finds it at once.
+    pub(crate) fn note_names(&mut self, alloc: Global)
+        ensures { self.new ≡ self.old }
+    {
+        self.names = NameIndex::of(alloc, &self.files);
     }
 
     /// How many files there are, at most 65,536.
@@ -114,7 +134,9 @@ impl Snapshot {
         // The files of every snapshot keep the rules.
         ensures rules { IsSnapshot self.now }
     {
-        let _ = &self.files;
+        if let Some(file) = self.names.find(&self.files, name) {
+            return Some(file);
+        }
         match self.search(name) {
             Ok(file) => Some(file),
             Err(_) => None,

@@ -5,6 +5,7 @@ use std::test::Fail;
 
 mod devices;
 mod memory;
+mod names;
 mod resolution;
 mod snapshots;
 mod texts;

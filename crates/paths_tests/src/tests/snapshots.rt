@@ -20,6 +20,23 @@ fn snapshot_of_one_file(rt: HostRuntime) -> Result<(), Fail> {
     Ok(())
 }
 
+/// What is shown of a snapshot is its files, and nothing of how they are looked up.
+#[test]
+fn shown_as_its_files(rt: HostRuntime) -> Result<(), Fail> {
+    let none = snapshot(rt.alloc(), EMPTY.as_bytes())?;
+    assert_eq!(rt;
+        format!(in rt.alloc(); "{none:?}")?.as_str(),
+        "Snapshot { files: [] }"
+    );
+    let one = snapshot(rt.alloc(), b"haboob-snapshot 1\nfile 7 1 1\na\nb\nend 1\n")?;
+    let shown = format!(in rt.alloc(); "{one:?}")?;
+    assert_eq!(rt;
+        shown.as_str(),
+        "Snapshot { files: [File { name: Bytes { bytes: [97] }, mtime: 7, bytes: Bytes { bytes: [98] } }] }"
+    );
+    Ok(())
+}
+
 /// What follows the first line of a snapshot, and the first fault of the text.
 static FAULTS: [(&str, usize, Kind); 38] = [
     (

@@ -7,7 +7,8 @@ pub loop-files-init : goal.loop-files-init
 loop-files-init g c = (front_starts _ _ _ _ _ c.new-files.ensures c.in-Ok.ensures.line, c.in-Ok.ensures.count)
 
 pub returns-in-Ok-None-clause-ok : goal.returns-in-Ok-None-clause-ok
-returns-in-Ok-None-clause-ok g c = front_ends _ _ _ _ _ _ _ c.in-Ok-None.field-0-is (omega (arith, c.len-entry.ensures.count, c.len-entry.ensures.limit)) c.loop-files.invariant.0 c.in-Ok-None.ensures.entry
+returns-in-Ok-None-clause-ok g c = rw c.note_names.ensures
+    (front_ends _ _ _ _ _ _ _ c.in-Ok-None.field-0-is (omega (arith, c.len-entry.ensures.count, c.len-entry.ensures.limit)) c.loop-files.invariant.0 c.in-Ok-None.ensures.entry)
 
 pub loop-files-preserved : goal.loop-files-preserved
 loop-files-preserved g c = (

@@ -1,0 +1,109 @@
+//! Names that are looked up among many, or among those that an index by a hash can't tell apart.
+use crate::tests::snapshot;
+use paths::{Snapshot, find_plain};
+use std::alloc::{AllocError, Global};
+use std::process::Abort;
+use std::test::Fail;
+
+/// The text of a snapshot of empty files with these names, which rise.
+fn text_of(alloc: Global, names: &[&str]) -> Result<String, AllocError> {
+    let mut text = String::from_str(alloc, "haboob-snapshot 1\n")?;
+    for name in names {
+        let file = format!(in alloc; "file 0 {} 0\n{name}\n\n", name.len())?;
+        text.push_str(file.as_str())?;
+    }
+    let end = format!(in alloc; "end {}\n", names.len())?;
+    text.push_str(end.as_str())?;
+    Ok(text)
+}
+
+/// The number of the file of a name.
+fn found(alloc: Global, files: &Snapshot, name: &str) -> Result<Option<usize>, AllocError> {
+    let target = format!(in alloc; "/{name}")?;
+    Ok(find_plain(files, b"GET", target.as_bytes()))
+}
+
+/// Names of one hash, more than an index tries; the last one is of no file.
+static ALIKE: [&str; 24] = [
+    "00kcazgk&CNaM6Dq",
+    "01b5x93cW=.n-Y|t",
+    "0qdrhj0g*Alp-azY",
+    "0y4jqb9lFw[q-Vxt",
+    "0yatfnqjII2j-668",
+    "2ltc3s9n*b`70SI_",
+    "5793bac0R!iQXV<n",
+    "5wxvrgu503;XX^Zq",
+    "8fqqmds1-C=n``d9",
+    "bw87spilC$T)RX]K",
+    "e3ivp2wr~JXGZtS_",
+    "e4rckwh6nmNK:WZ|",
+    "et9xda2q+O0@:_Me",
+    "ev6ca049!3TMz$D0",
+    "hgdlntmapulvB+(+",
+    "mkab0tce*+mPMc5g",
+    "mlu49186BV&J-fq8",
+    "p57vyag0E)BquD=E",
+    "psyyjtqtml3a5gL<",
+    "rcu66h4i~&.18||_",
+    "rr9q4cs6,<)=XCgs",
+    "u918tkqzpd!F`|2H",
+    "x2wlr1xmurx~HXy3",
+    "zpjju69aLlt)s:+a",
+];
+
+#[test]
+fn names_of_one_hash(rt: HostRuntime) -> Result<(), Fail> {
+    let alloc = rt.alloc();
+    let text = text_of(alloc, &ALIKE[..23])?;
+    let files = snapshot(alloc, text.as_bytes())?;
+    for (number, name) in ALIKE[..23].iter().enumerate() {
+        assert_eq!(rt; found(alloc, &files, name)?, Some(number), "{name}");
+    }
+    assert_eq!(rt; found(alloc, &files, ALIKE[23])?, None);
+    Ok(())
+}
+
+/// Each name of so many files is found at its number, and no name that is a byte longer or shorter, or comes after all.
+fn check_many(rt: &(impl Abort + AllocGlobal), count: usize) -> Result<(), Fail> {
+    let alloc = rt.alloc();
+    let mut text = String::from_str(alloc, "haboob-snapshot 1\n")?;
+    for n in 0..count {
+        let file = format!(in alloc; "file 0 10 0\nd/{n:05}.md\n\n")?;
+        text.push_str(file.as_str())?;
+    }
+    let end = format!(in alloc; "end {count}\n")?;
+    text.push_str(end.as_str())?;
+    let files = snapshot(alloc, text.as_bytes())?;
+    for n in 0..count {
+        let name = format!(in alloc; "d/{n:05}.md")?;
+        assert_eq!(rt;
+            found(alloc, &files, name.as_str())?,
+            Some(n),
+            "{name} of {count}"
+        );
+        let longer = format!(in alloc; "d/{n:05}.mdx")?;
+        assert_eq!(rt;
+            found(alloc, &files, longer.as_str())?,
+            None,
+            "{longer} of {count}"
+        );
+        let shorter = format!(in alloc; "d/{n:05}.m")?;
+        assert_eq!(rt;
+            found(alloc, &files, shorter.as_str())?,
+            None,
+            "{shorter} of {count}"
+        );
+    }
+    let after = format!(in alloc; "d/{count:05}.md")?;
+    assert_eq!(rt; found(alloc, &files, after.as_str())?, None);
+    Ok(())
+}
+
+/// The counts stand on both sides of those at which an index has more slots.
+#[test]
+fn each_name_of_many(rt: HostRuntime) -> Result<(), Fail> {
+    for count in [0, 1, 2, 3, 4, 5, 8, 9, 500, 4_096, 4_097, 20_000] {
+        check_many(&rt, count)?;
+    }
+    check_many(&rt, 65_536)
+}
