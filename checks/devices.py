@@ -30,8 +30,9 @@ TOP = os.path.dirname(os.path.dirname(os.path.abspath(__file__)))
 SNAPSHOT = b"haboob-snapshot 1\nfile 784111777 5 3\na.txt\nhi\n\nend 1\n"
 REQUEST = b"GET /a.txt HTTP/1.1\r\nHost: a\r\n\r\n"
 SETTINGS = b"[policy]\ndepth = 50\n[floor]\nbatch = 100\n"
-# A batch that is worth threads: for its cutting, 192,000 bytes, and for both floors, more than 4,096 messages.
+# A batch that is worth threads: for its cutting, 3,000,000 bytes, and for both floors, more than 4,096 messages.
 LARGE = 6000
+LARGE_REQUEST = REQUEST[:-2] + b"Padding: %b\r\n\r\n" % (b"x" * 457)
 LARGE_SETTINGS = b"[policy]\ndepth = 50\n[floor]\nbatch = 8192\n"
 ENGINES = (["--engine", "plain"], ["--engine", "staged"])
 # The places where a file is full: in the first line, in a reply, at the end of the program's buffer, in a later one.
@@ -42,17 +43,18 @@ REPORT = 6, b"haboob: write: report\n"
 MEMORY = 7, b"haboob: memory\n"
 
 
-def capture_of(count):
-    """A capture of so many requests, one to a piece, on 50 connections."""
-    pieces = b"".join(b"piece %d %d 32\n%b\n" % (100 * number, number % 50, REQUEST) for number in range(count))
+def capture_of(count, request):
+    """A capture of so many of a request, one to a piece, on 50 connections."""
+    lines = (b"piece %d %d %d\n" % (100 * number, number % 50, len(request)) for number in range(count))
+    pieces = b"".join(line + request + b"\n" for line in lines)
     return b"haboob-capture 1 784111777\n%bstop %d\n" % (pieces, count)
 
 
 class Replay:
     """The files of a replay, and what it is to write."""
 
-    def __init__(self, count, settings=SETTINGS):
-        self.capture, self.settings = capture_of(count), settings
+    def __init__(self, count, settings=SETTINGS, request=REQUEST):
+        self.capture, self.settings = capture_of(count, request), settings
         status, line, self.replies, self.report = reference.replay(SNAPSHOT, self.capture, settings)
         assert (status, line) == (0, b"")
 
@@ -275,7 +277,7 @@ def check_poor(checks, program):
             for calls in ("READ", "WRITE"):
                 for error in (errno.EIO, errno.EINTR):
                     check_failing(checks, program, replay, task, shim, calls, error)
-        replay = Replay(LARGE, LARGE_SETTINGS)
+        replay = Replay(LARGE, LARGE_SETTINGS, LARGE_REQUEST)
         task = Task("replay, staged", words(ENGINES[1]), b"", {"replies": replay.replies, "out": replay.report})
         print("%d threads were refused in turn" % check_threads(checks, program, replay, task, shim))
     return True

@@ -72,8 +72,8 @@ pub(crate) fn cut_all<R: Threads + Sync>(
     requires { All (λ p. IsReady p.seat) picked.items }
     ensures { IfOk result (λ cuts. AllZip IsCut picked.items cuts.items) }
 {
-    // Halves are halved down to so many seats: as many threads as that gives, and no more parts, since a thread costs
-    // more than what parts that differ lose.
+    // A list is halved while each half has so many seats, and each part has a thread: there are no more parts than
+    // threads are worth it, though one part may take longer than another.
     let each = picked.len() / threads.max(1);
     let cuts = picked
         .into_par_iter()

@@ -17,8 +17,9 @@ use std::alloc::{AllocError, Global};
 use std::marker::Model;
 use std::thread::Threads;
 
-/// How many bytes of pieces are worth a thread: cutting them takes longer than it takes to start one.
-const WORTH: usize = 65_536;
+/// How many bytes of pieces are worth a thread. To cut fewer takes no longer than to start one, and to give back memory
+/// that another thread took.
+const WORTH: usize = 1_048_576;
 
 /// The connections of a capture, by their numbers, and which of them have pieces that wait to be cut.
 #[derive(Drop)]
