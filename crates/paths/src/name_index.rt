@@ -3,7 +3,7 @@
 ghost use Rattle.std.specs.Prelude.{◌≡◌, ◌<◌, ◌≤◌, ◌^◌, length, IfSome};
 ghost use Rattle.paths.specs.Snapshots.{file_of};
 
-use crate::File;
+use crate::{File, MAX_NAME_BYTES};
 use std::alloc::{AllocError, Global};
 
 /// How many slots are tried for a name, from that of its hash on.
@@ -105,6 +105,9 @@ impl NameIndex {
     pub(crate) fn find(&self, files: &[File], name: &[u8]) -> Option<usize>
         ensures { IfSome result (λ i. (i < length files.now) × ((file_of files.now i).name ≡ name.now)) }
     {
+        if name.len() as u64 > MAX_NAME_BYTES {
+            return None;
+        }
         let hash = hash_of(name);
         for tried in 0..TRIED {
             let slot = *self.slots.get(self.place(hash, tried))?;

@@ -107,3 +107,18 @@ fn each_name_of_many(rt: HostRuntime) -> Result<(), Fail> {
     }
     check_many(&rt, 65_536)
 }
+
+/// The longest name that a file may have is found, and none that is a byte shorter, or longer than any file's.
+#[test]
+fn longest_names(rt: HostRuntime) -> Result<(), Fail> {
+    let alloc = rt.alloc();
+    let longest = "n".repeat(alloc, 1024)?;
+    let text = text_of(alloc, &["a", &longest, "z"])?;
+    let files = snapshot(alloc, text.as_bytes())?;
+    assert_eq!(rt; found(alloc, &files, &longest)?, Some(1));
+    for count in [1023, 1025, 8000] {
+        let name = "n".repeat(alloc, count)?;
+        assert_eq!(rt; found(alloc, &files, &name)?, None, "{count}");
+    }
+    Ok(())
+}

@@ -1,8 +1,10 @@
 //! Lines and runs at the end of what a text may take.
-use paths::{Input, Stop, number, read_byte_of, read_line, read_long_line, read_run};
+ghost use Rattle.paths.specs.Devices.{CanFail};
+
+use paths::{Input, Line, Stop, number, read_byte_of, read_line, read_long_line, read_run};
 
 /// A text, how many bytes of it may be taken, and the length of its first line.
-static LINES: [(&str, usize, Result<usize, Stop>); 8] = [
+static LINES: [(&str, usize, Result<usize, Stop>); 13] = [
     ("ab\ncd", 100, Ok(2)),
     ("\n", 100, Ok(0)),
     ("ab", 100, Err(Stop::Cut)),
@@ -16,6 +18,31 @@ static LINES: [(&str, usize, Result<usize, Stop>); 8] = [
     ),
     (
         "xxxxxxxxxxxxxxxxxxxxxxxxxxxxxxxxxxxxxxxxxxxxxxxxxxxxxxxxxxxxxxxxxx",
+        64,
+        Err(Stop::TooLarge),
+    ),
+    (
+        "xxxxxxxxxxxxxxxxxxxxxxxxxxxxxxxxxxxxxxxxxxxxxxxxxxxxxxxxxxxxxxx\nab",
+        100,
+        Ok(63),
+    ),
+    (
+        "xxxxxxxxxxxxxxxxxxxxxxxxxxxxxxxxxxxxxxxxxxxxxxxxxxxxxxxxxxxxxxxx\nab",
+        100,
+        Ok(64),
+    ),
+    (
+        "xxxxxxxxxxxxxxxxxxxxxxxxxxxxxxxxxxxxxxxxxxxxxxxxxxxxxxxxxxxxxxxxx\nab",
+        100,
+        Err(Stop::TooLong),
+    ),
+    (
+        "xxxxxxxxxxxxxxxxxxxxxxxxxxxxxxxxxxxxxxxxxxxxxxxxxxxxxxxxxxxxxxxx\nab",
+        65,
+        Ok(64),
+    ),
+    (
+        "xxxxxxxxxxxxxxxxxxxxxxxxxxxxxxxxxxxxxxxxxxxxxxxxxxxxxxxxxxxxxxxx\nab",
         64,
         Err(Stop::TooLarge),
     ),
@@ -44,6 +71,47 @@ fn lines_read_ahead(rt: HostRuntime) {
             Err(stop) => Err(stop),
         };
         assert_eq!(rt; got, *want);
+    }
+}
+
+/// A text's first line, the byte after it, and how many more bytes may be taken then.
+fn line_and_byte(
+    input: Input<&[u8]>,
+    limit: usize,
+    long: bool,
+) -> Result<(Line, Result<u8, Stop>, usize), Stop>
+    requires { CanFail input }
+{
+    let mut input = input;
+    let mut left = limit;
+    let line = if long {
+        read_long_line(&mut input, &mut left, 6, b"piece ", 12)?
+    } else {
+        read_line(&mut input, &mut left)?
+    };
+    let byte = read_byte_of(&mut input, &mut left);
+    Ok((line, byte, left))
+}
+
+/// An input that reads ahead gives the same line, and the same byte after it, as one that does not.
+#[test]
+fn lines_of_either_input(rt: HostRuntime) {
+    for (text, limit, want) in &LINES {
+        let one = line_and_byte(Input::new(text.as_bytes()), *limit, false);
+        for long in [false, true] {
+            let ahead = line_and_byte(Input::ahead(text.as_bytes()), *limit, long);
+            match (&one, &ahead) {
+                (Ok(one), Ok(other)) => {
+                    assert_eq!(rt; Ok(one.0.as_slice().len()), *want);
+                    assert_eq!(rt; one.0.as_slice(), other.0.as_slice());
+                    assert_eq!(rt; (one.1, one.2), (other.1, other.2));
+                }
+                (Err(one), Err(other)) => {
+                    assert_eq!(rt; (Err(*one), Err(*other)), (*want, *want))
+                }
+                _ => panic!(rt; "one input alone gives a line of {text}"),
+            }
+        }
     }
 }
 
