@@ -62,7 +62,16 @@ pub(crate) fn pick(
     Ok(picked)
 }
 
-/// Cuts the pieces of each seat, by so many threads at most, the calling one among them.
+/// How many seats a part has at least, of those that so many threads cut. A list is halved while each half has so many:
+/// there are as many parts as threads, or as the next power of two.
+fn part_len(seats: usize, threads: usize) -> usize {
+    match threads.checked_next_power_of_two() {
+        Some(parts) => seats.checked_div(parts).unwrap_or(seats).max(2),
+        None => seats,
+    }
+}
+
+/// Cuts the pieces of each seat, in about so many parts, each of which has a thread; the calling thread cuts one.
 pub(crate) fn cut_all<R: Threads + Sync>(
     rt: &R,
     alloc: Global,
@@ -72,9 +81,7 @@ pub(crate) fn cut_all<R: Threads + Sync>(
     requires { All (λ p. IsReady p.seat) picked.items }
     ensures { IfOk result (λ cuts. AllZip IsCut picked.items cuts.items) }
 {
-    // A list is halved while each half has so many seats, and each part has a thread: there are no more parts than
-    // threads are worth it, though one part may take longer than another.
-    let each = picked.len() / threads.max(1);
+    let each = part_len(picked.len(), threads.max(1));
     let cuts = picked
         .into_par_iter()
         .with_min_len(each)

@@ -19,14 +19,17 @@ use std::thread::Threads;
 
 /// How many bytes of pieces are worth a thread. To cut fewer takes no longer than to start one, and to give back memory
 /// that another thread took.
-const WORTH: usize = 1_048_576;
+const WORTH: usize = 524_288;
+
+/// How many bytes a piece counts for besides its own.
+const PIECE: usize = 256;
 
 /// The connections of a capture, by their numbers, and which of them have pieces that wait to be cut.
 #[derive(Drop)]
 pub struct Seats {
     list: Vec<Seat>,
     noted: Vec<usize>,
-    /// How many bytes the pieces have that wait.
+    /// How many bytes the pieces count for that wait.
     waiting: usize,
     /// How many threads may run at a time, once that was asked.
     processors: Option<usize>,
@@ -89,8 +92,10 @@ impl Seats {
     {
         reach(&mut self.list, conn)?;
         note(&self.list, &mut self.noted, conn)?;
-        self.waiting = self.waiting.saturating_add(piece.as_slice().len());
-        self.list[conn].add(alloc, piece)
+        let bytes = piece.as_slice().len().saturating_add(PIECE);
+        self.list[conn].add(alloc, piece)?;
+        self.waiting = self.waiting.saturating_add(bytes);
+        Ok(())
     }
 
     /// Cuts the pieces of each connection, the connections in parallel where the pieces are worth it.

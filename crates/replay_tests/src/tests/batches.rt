@@ -9,7 +9,7 @@ use captures::{CaptureFault, CaptureFaultKind};
 use cost_model::Costs;
 use replay::ReplayFault;
 use stage_graph::NoGate;
-use std::alloc::AllocGlobal;
+use std::alloc::{AllocError, AllocGlobal, Global};
 use std::process::Abort;
 use std::sync::Wait;
 use std::test::Fail;
@@ -234,4 +234,62 @@ fn piece_after_an_end_in_batches(rt: HostRuntime) -> Result<(), Fail> {
         kind: CaptureFaultKind::Ended,
     };
     check_fault(&rt, &capture, ended)
+}
+
+/// A piece of 65,536 bytes that is one request: its block has 55 bytes, and its body 65,481.
+fn large_piece(alloc: Global, file: &str) -> Result<String, AllocError> {
+    let body = "b".repeat(alloc, 65_481)?;
+    format!(in alloc; "GET /{file} HTTP/1.1\r\nHost: a\r\nContent-Length: 65481\r\n\r\n{body}")
+}
+
+/// A capture of 40 such pieces, four of a kind after another, each on the next of so many connections.
+fn in_turn(alloc: Global, conns: usize, kinds: [&str; 3]) -> Result<String, AllocError> {
+    let mut capture = String::from_str(alloc, "haboob-capture 1 784111777\n")?;
+    for number in 0..40usize {
+        let piece = kinds[number / 4 % 3];
+        let conn = number.checked_rem(conns).unwrap_or(0);
+        write!(capture, "piece 0 {conn} 65536\n{piece}\n")?;
+    }
+    capture.push_str("stop 40\n")?;
+    Ok(capture)
+}
+
+/// Both engines write and answer the same to 40 pieces of these kinds, on one connection and on several. There are so
+/// many messages, and so many of them are rejected.
+fn check_kinds<T: Abort + AllocGlobal + Threads + Wait + Sync>(
+    rt: &T,
+    kinds: [&str; 3],
+    messages: usize,
+    rejected: usize,
+) -> Result<(), Fail> {
+    for kind in kinds {
+        assert_eq!(rt; kind.len(), 65_536);
+    }
+    let end = format!(in rt.alloc(); "\n\nstop {messages}\n")?;
+    for conns in [1, 3, 20usize] {
+        let capture = in_turn(rt.alloc(), conns, kinds)?;
+        let (costs, policy) = (default_costs(), default_policy());
+        let plain = run_shape(rt, Engine::Plain, DEFAULT_SHAPE, costs, policy, &capture);
+        let staged = run_shape(rt, Engine::Staged, DEFAULT_SHAPE, costs, policy, &capture);
+        assert!(rt; is_same(&staged, &plain), "{conns} connections");
+        assert!(rt;
+            staged.text.ends_with(end.as_bytes()),
+            "{conns} connections"
+        );
+        assert_eq!(rt; staged.answer?.rejected.as_slice().len(), rejected);
+    }
+    Ok(())
+}
+
+/// Batches with more bytes than one thread cuts: one with few large messages, and one with many small ones too. The
+/// bucket holds 100 tokens.
+#[test]
+fn cut_by_threads(rt: HostRuntime) -> Result<(), Fail> {
+    let alloc = rt.alloc();
+    let (found, missing) = (large_piece(alloc, "a.txt")?, large_piece(alloc, "b.txt")?);
+    check_kinds(&rt, [&found, &missing, &found], 40, 0)?;
+    let many = A.repeat(alloc, 2048)?;
+    let none = "GET /n.txt HTTP/1.1\r\nHost: a\r\n\r\n".repeat(alloc, 2048)?;
+    // 16 pieces of the first kind, 12 of the second and 12 of the third
+    check_kinds(&rt, [&many, &none, &found], 57_356, 57_256)
 }
