@@ -1,12 +1,13 @@
 //! A floor on which items travel in lots: several of them are given on at once.
 
 ghost use Rattle.std.specs.Prelude.{◌≡◌, ◌+◌, ◌<◌, ◌≤◌, ◌++◌, [], ◌∷◌, ℕ, List, true, map, flat_map, length};
-ghost use Rattle.std.specs.Prelude.{IfOk, OnOk, IfSome};
+ghost use Rattle.std.specs.Prelude.{IfOk, IfErr, OnOk, IfSome};
 ghost use Rattle.std.specs.List.{range_with_len};
 ghost use Rattle.stage_graph.specs.After.{with_steps, last_cut};
 ghost use Rattle.stage_graph.specs.Lots.{step_each, inputs_in, numbers_in, lot_content, lot_value, lot_holds};
-ghost use Rattle.stage_graph.specs.Layouts.{stages, capacity_at};
+ghost use Rattle.stage_graph.specs.Layouts.{Layout, stages, capacity_at};
 ghost use Rattle.stage_graph.specs.Steps.{value_of};
+ghost use Rattle.stage_graph.specs.Stopped.{IsStopped};
 
 use crate::run::pool::run_pool;
 use crate::{Chain, Gate, Named, Plan, RunName, Unrun, run_floor};
@@ -335,9 +336,10 @@ fn items_of<C: Chain, K: LotName>(
     alloc: Global,
     lots: Vec<Lot<C, K>>,
 ) -> Result<Vec<Vec<C::Item>>, Unrun>
-    ensures { IfOk result (λ v. flat_map (λ own. map C.content own.items) v.items
+    ensures values { IfOk result (λ v. flat_map (λ own. map C.content own.items) v.items
         ≡ flat_map (λ x. lot_content C.content C.step C.input_at K.lots x.whole x.items.items x.done x.number)
         lots.items) }
+    ensures memory { IfErr result (λ u. u ≡ Unrun.Memory) }
 {
     let mut all = Vec::with_capacity(alloc, lots.len())?;
     for lot in lots {
@@ -371,8 +373,9 @@ where
     requires count { length lots.items ≡ K.count }
     requires plan { plan ≡ K.plan }
     requires cut { last_cut plan ≡ C.steps }
-    ensures { IfOk result (λ v. flat_map (λ own. map C.content own.items) v.items
+    ensures values { IfOk result (λ v. flat_map (λ own. map C.content own.items) v.items
         ≡ map (λ n. value_of C.step C.steps (C.input_at n)) (flat_map (λ ns. ns) K.lots)) }
+    ensures stopped { IfErr result (IsStopped K.plan K.count) }
 {
     let items = lot_items::<C, K>(alloc, lots)?;
     let chain = Lots::<C, K> {
@@ -401,8 +404,9 @@ where
     requires fresh { map (λ x. (C.Item.number_of x, C.Item.done_of x)) (flat_map (λ v. v.items) lots.items)
         ≡ map (with_steps 0) (range_with_len 0 N.count) }
     requires cut { last_cut plan ≡ C.steps }
-    ensures { IfOk result (λ v. map C.content (flat_map (λ own. own.items) v.items)
+    ensures values { IfOk result (λ v. map C.content (flat_map (λ own. own.items) v.items)
         ≡ map (λ n. value_of C.step C.steps (C.input_at n)) (range_with_len 0 N.count)) }
+    ensures stopped { IfErr result (IsStopped N.plan N.count) }
 {
     let items = flat(alloc, lots)?;
     let run = run_floor::<C, N, G, R>(rt, alloc, plan, chain, items, gate)?;
@@ -411,12 +415,14 @@ where
 
 /// Runs a floor to its end, as [`run_floor`] does, and gives the items by number, some of them in each vector, each
 /// with the chain's value of its own input. Where the gate never holds an item, so many threads at most work, each for
-/// any worker that is free, and items travel in lots: each queue has room for as many items as the plan says all the
-/// same, and the gate sees each item, one after another where they enter or leave together. It may wait.
+/// any worker that is free, and items travel in the lots that they are in: where these were made for this plan, each
+/// queue has room for as many items as the plan says all the same. The gate sees each item, one after another where
+/// they enter or leave together. It may wait.
 ///
 /// # Errors
 ///
-/// `Memory`, and `Stopped` with the history of the floor that was stopped, whose items may be lots.
+/// `Memory`, also where a thread can't be started after others have worked, and `Stopped` with the history of the floor
+/// that was stopped, whose items may be lots.
 pub fn run_through<C: Chain + Sync, G: Gate + Sync, R: Threads + Wait + Sync>(
     rt: &R,
     alloc: Global,
@@ -431,8 +437,10 @@ where
     requires fresh { map (λ x. (C.Item.number_of x, C.Item.done_of x)) items
         ≡ map (with_steps 0) (range_with_len 0 (length items)) }
     requires cut { last_cut plan ≡ C.steps }
-    ensures { IfOk result (λ v. flat_map (λ own. map C.content own.items) v.items
+    ensures values { IfOk result (λ v. flat_map (λ own. map C.content own.items) v.items
         ≡ map (λ n. value_of C.step C.steps (C.input_at n)) (range_with_len 0 (length items))) }
+    // The history is that of a floor which was stopped, and which all had left.
+    ensures stopped { IfErr result (λ u. (floor : Layout) × (count : ℕ) × IsStopped floor count u) }
 {
     let size = items.size;
     let count = items.len();

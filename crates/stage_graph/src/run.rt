@@ -35,7 +35,7 @@ pub trait Gate {
     fn left(&self, stage: usize, number: usize);
 
     /// Whether it never holds an item: whether each of its calls returns without waiting for another. Then items may
-    /// travel together.
+    /// travel together, and a worker's next item may enter before it is told that the last one left.
     fn is_open(&self) -> bool {
         false
     }

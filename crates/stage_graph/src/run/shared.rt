@@ -231,8 +231,9 @@ impl<C: Chain, N: RunName, L: Ledger> Shared<C, N, L> {
     // Takes an item for a worker of the last stage that has one and a worker whose hand is empty. Feeds first what
     // there is room for.
     pub(super) fn pick<R: Wait>(&self, rt: &R) -> Option<Picked<C>>
-        ensures { IfSome result (λ p. (p.worker < workers N.plan) × (p.stage < stages N.plan)
+        ensures bounds { IfSome result (λ p. (p.worker < workers N.plan) × (p.stage < stages N.plan)
             × (p.cut ≤ last_cut N.plan)) }
+        ensures stage { IfSome result (λ p. p.stage ≡ stage_at N.plan p.worker) }
     {
         let mut locked = self.locked.lock(rt);
         fill(rt, &mut *locked);

@@ -52,11 +52,25 @@ impl<K: Sums> Named for Sum<K> {
     }
 }
 
+// A step that is refused to one item, or to each where none is named.
+#[derive(Clone, Copy)]
+pub struct Refusal {
+    pub step: usize,
+    pub item: Option<usize>,
+}
+
+impl Refusal {
+    // Whether an item is refused its next step.
+    fn meets<K: Sums>(&self, item: &Sum<K>) -> bool {
+        self.step == item.done && (self.item.is_none() || self.item == Some(item.number))
+    }
+}
+
 // A chain that borrows: step k doubles, and adds entry k of a table. One step may be set to be refused.
 #[derive(Drop)]
 pub struct Adding<'a, K: Sums> {
     addends: &'a [u64],
-    refused: Option<usize>,
+    refused: Option<Refusal>,
     of: PhantomData<K>,
     pub ghost table: { addends.now ≡ K.addends },
 }
@@ -79,7 +93,9 @@ impl<'a, K: Sums> Chain for Adding<'a, K> {
     }
 
     fn work(&self, item: Sum<K>) -> Result<Sum<K>, Sum<K>> {
-        if self.refused == Some(item.done) {
+        if let Some(refusal) = self.refused
+            && refusal.meets(&item)
+        {
             return Err(item);
         }
         let Sum {
@@ -136,7 +152,7 @@ fn values_of<K: Sums>(alloc: Global, items: Vec<Sum<K>>) -> Result<Vec<u64>, Unr
     Ok(values)
 }
 
-pub fn chain_over<'a, K: Sums>(addends: &'a [u64], refused: Option<usize>) -> Adding<'a, K>
+pub fn chain_over<'a, K: Sums>(addends: &'a [u64], refused: Option<Refusal>) -> Adding<'a, K>
     requires { addends.now ≡ K.addends }
 {
     Adding {
@@ -165,6 +181,7 @@ fn sums_with<K: Sums + RunName + Send + Sync, G: Gate + Sync, R: Threads + Wait 
         (value_of (λ k x. (x * 2 + slice_index addends.now k) % 2 ^ 64) (length addends.now)) inputs.now) }
 {
     let items = items_of::<K>(alloc, inputs)?;
+    let refused = refused.map(|step| Refusal { step, item: None });
     let chain = chain_over::<K>(addends, refused);
     let run = run_floor::<Adding<K>, K, G, R>(rt, alloc, plan, &chain, items, gate)?;
     let (items, history) = parts_of(alloc, run)?;
@@ -220,7 +237,7 @@ fn lots_with<K: Sums + Send + Sync, G: Gate + Sync, R: Threads + Wait + Sync>(
     threads: usize,
     plan: Plan,
     addends: &[u64],
-    refused: Option<usize>,
+    refused: Option<Refusal>,
     inputs: &[u64],
     gate: &G,
 ) -> Result<Vec<u64>, Unrun>
@@ -246,7 +263,7 @@ pub fn sums_through<G: Gate + Sync, R: Threads + Wait + Sync>(
     threads: usize,
     plan: Plan,
     addends: &[u64],
-    refused: Option<usize>,
+    refused: Option<Refusal>,
     inputs: &[u64],
     gate: &G,
 ) -> Result<Vec<u64>, Unrun>

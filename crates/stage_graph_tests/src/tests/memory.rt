@@ -1,6 +1,7 @@
 //! Out of memory: `checks/refuse_growths.py` refuses each growth of these tests in turn.
 
 use super::floors::{Course, history_of};
+use super::lots::{check_sums, through};
 use super::threads::{is_legal, sums};
 use stage_graph::{Checked, Event, NoGate, Plan, PlanFault, Unrun, replay_history};
 use std::alloc::Global;
@@ -60,6 +61,30 @@ fn each_growth_refused_of_threads(rt: HostRuntime) {
         Err(Unrun::Stopped(history)) => {
             assert!(rt; history.as_slice().contains(&Event::Halt));
             assert!(rt; is_legal(alloc, lists, 3, &history));
+        }
+    }
+}
+
+/// The same with items in lots: they are given with their sums, or memory ran out, or the floor was stopped by a step
+/// that was refused it.
+#[test]
+fn each_growth_refused_of_lots(rt: HostRuntime) {
+    let alloc = rt.alloc();
+    let lists: (&[usize], &[usize], &[usize]) = (&[1, 3], &[2, 2], &[64, 64]);
+    let mut inputs = [0u64; 200];
+    for number in 0..200usize {
+        inputs[number] = number as u64;
+    }
+    match through(&rt, alloc, 4, lists, None, &inputs, &NoGate) {
+        Ok(sums) => check_sums(&rt, &sums, &inputs),
+        Err(Unrun::Memory) => {}
+        Err(Unrun::Stopped(history)) => {
+            let backs = history
+                .as_slice()
+                .iter()
+                .filter(|e| matches!(e, Event::Back(_, _)))
+                .count();
+            assert!(rt; 0 < backs);
         }
     }
 }

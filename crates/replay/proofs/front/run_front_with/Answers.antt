@@ -16,7 +16,7 @@ returns g c =
     let lots = c.in_ok-lots.lots.items in
     let count : c.len-count.result ≡ length xs = search rules in
     let values = sym (flat_map-mapped (λ x. sighted (message_at g.K.Fronts.messages x.number) (seen_as files x.sight)) (λ lot. lot.items) lots)
-    ∙ (rw (c.in_ok-items.ensures.len, count) at c.in_ok-lots.ensures) in
+    ∙ (rw (c.in_ok-items.ensures.len, count) at c.in_ok-lots.ensures.values) in
     let found = values
     ∙ (rw (← c.requires.messages, ← c.requires.costs)
     (by_number (λ m. value_of (floor_step files costs) 3 (unseen m)) xs no_message ∙ same_values files costs xs)) in

@@ -7,8 +7,8 @@ use Rattle.stage_graph.specs.Lots.{step_each, lot_content}
 use Rattle.stage_graph.proofs.Lotting.{flat_map-seen, lots_by_number, all_alone}
 use Rattle.stage_graph.proofs.lots.run_lots.Goals as goal
 
-pub returns : goal.returns
-returns g c =
+pub returns-clause-values : goal.returns-clause-values
+returns-clause-values g c =
     let lots = g.K.LotName.lots in
     let step = g.C.Chain.step in
     let input = g.C.Chain.input_at in
@@ -16,7 +16,7 @@ returns g c =
     let cut : last_cut g.K.RunName.plan ≡ d = ap last_cut (sym c.requires.plan) ∙ c.requires.cut in
     let count : g.K.RunName.count ≡ length lots = sym c.requires.count ∙ (sym (length-map c.args.lots.items _) ∙ (ap length c.requires.fresh ∙ length-map lots _)) in
     let values = rw (cut, count) at c.into_items.ensures.values in
-    c.in_ok-items_of.ensures
+    c.in_ok-items_of.ensures.values
     ∙ (flat_map-seen (λ vs. vs) (λ x. lot_content g.C.Chain.content step input lots x.whole x.items.items x.done x.number) c.into_items.result.items
     ∙ (ap (flat_map (λ vs. vs)) (values ∙ lots_by_number (λ ns. value_of (step_each step) d (map input ns)) lots)
     ∙ all_alone step input d lots))
