@@ -29,6 +29,7 @@ use crate::shifted::Shifted;
 use crate::ticket::Ticket;
 use crate::{MAX_MESSAGES, ReplayFault};
 use arrivals::{Incoming, Series};
+use http_requests::Meaning;
 use paths::{Output, Tree};
 use responses::{Reply, write_reply};
 use stage_graph::Gate;
@@ -36,8 +37,11 @@ use std::io::Write;
 use std::sync::Wait;
 use std::thread::Threads;
 
-/// How many messages are worth a thread of the front floor: to look them up takes longer than to start one.
-const WORTH_LOOKING: usize = 1_024;
+/// How many bytes of targets are worth a thread of the front floor: to look them up takes longer than to start one.
+const WORTH_LOOKING: usize = 262_144;
+
+/// How many bytes of a target are looked up in the time that a message takes besides its target.
+const MESSAGE: usize = 256;
 
 /// How many bytes of work are worth a thread of the back floor.
 const WORTH_ANSWERING: usize = 524_288;
@@ -50,6 +54,19 @@ pub(crate) struct Floors<'a, F: Tree, G, T> {
     pub threads: usize,
     pub pages: Pages<F>,
     pub gate: &'a G,
+}
+
+/// How much work it is to look messages up, in bytes of targets.
+fn looking_of(messages: &[Incoming]) -> usize {
+    let mut work: usize = 0;
+    for message in messages {
+        let target = match &message.what {
+            Meaning::Request { target, .. } => target.as_slice().len(),
+            Meaning::Bad(_) => 0,
+        };
+        work = work.saturating_add(MESSAGE).saturating_add(target);
+    }
+    work
 }
 
 /// Writes replies, in their order.
@@ -158,7 +175,7 @@ fn serve_few<F: Tree + Send + Sync, G: Gate + Sync, T: Threads + Wait + Sync, W:
         stages: 0,
         first,
     };
-    let worth = messages.len() / WORTH_LOOKING;
+    let worth = looking_of(&messages) / WORTH_LOOKING;
     let sights = run_front::<F, Shifted<G>, T>(
         server,
         floors.rt,
