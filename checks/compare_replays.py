@@ -6,9 +6,10 @@ status, line on standard error and what is written.
 
 Two runs of 100,000 requests come first, then replays at the limits and just past them, then COUNT random ones (40
 without it), made from the seeds FIRST (0 without it), FIRST + 1 and so on: the same seed gives the same replay. About
-a third of these have a fault. Each is run with both engines, and compared byte for byte. The cuts of the steps into
-stages, the workers, the capacities, the batch and the cache are drawn at random for each, but for the first, which has
-those of the default settings: nothing that is written may depend on them.
+a third of these have a fault. Then come HEAVY heavy ones, from the seeds FIRST, FIRST + 1 and so on too: most have
+batches so large that the staged engine shares the work among threads. Each is run with both engines, and compared byte
+for byte. The cuts of the steps into stages, the workers, the capacities, the batch and the cache are drawn at random
+for each, but for the first, which has those of the default settings: nothing that is written may depend on them.
 
 Of each the table of decisions is compared too, with its report, and what its capture holds; and its settings, which are
 written out, and once more from the text that was written.
@@ -17,6 +18,7 @@ The capture of each is also upgraded, and the upgraded text once more, which lea
 from the capture, it is replayed with both engines: replies and report are those of the capture. For each seed a capture
 with a fault is upgraded besides. Exits with 1 where anything differs.
 """
+import collections
 import datetime
 import os
 import random
@@ -43,6 +45,8 @@ PARTS = {
 }
 START = 784111777
 FAULTS = ("", "", "", "", "", "snapshot", "capture", "settings")
+HEAVY = 20
+HEAVY_FAULTS = ("", "", "", "capture")
 
 FILES = [(b"a.txt", START, b"hi\n")]
 SNAPSHOT = b"haboob-snapshot 1\nfile 784111777 5 3\na.txt\nhi\n\nend 1\n"
@@ -90,6 +94,10 @@ LAST_PARTS = [
     "index.html.",
     "\U0001f42a.html",
 ]
+# What targets of many segments begin with, again and again.
+UNITS = [b"/a", b"/.", b"/", b"/%2e", b"/x/..", b"/%C3%A9/%2E.", b"/docs/a%20b"]
+# The kinds of a heavy replay's requests, and how often each comes: most leave their connection open.
+HEAVY_KINDS = {"plain": 500, "odd": 1, "target": 60, "segments": 100, "line": 100, "body": 100, "date": 100}
 METHODS = (
     [b"GET"] * 30
     + [b"HEAD"] * 8
@@ -427,6 +435,14 @@ def random_records(chance, names, times, version):
         texts = random_cut(chance, random_text(chance, names, times, chance.choice((1, 2, 3, 6, 12))))
         plain = [plain_request(chance, names) for _ in range(chance.randrange(150))] if busy else []
         waiting[conn] = plain + texts
+    records = mixed(chance, waiting)
+    if chance.random() < 0.2:
+        records.insert(0, (0, 5))
+    return with_tiers(chance, records) if version == 2 else records
+
+
+def mixed(chance, waiting):
+    """The pieces that wait at each connection, in an order and at ticks drawn at random, and some ends."""
     order = [conn for conn, pieces in waiting.items() for _ in pieces]
     chance.shuffle(order)
     steps = chance.choice(
@@ -438,9 +454,7 @@ def random_records(chance, names, times, version):
         records.append((tick, conn, waiting[conn].pop(0)))
         if not waiting[conn] and chance.random() < 0.3:
             records.append((tick, conn))
-    if chance.random() < 0.2:
-        records.insert(0, (0, 5))
-    return with_tiers(chance, records) if version == 2 else records
+    return records
 
 
 def odd_line(chance, line):
@@ -664,12 +678,98 @@ def random_replay(seed, faults=FAULTS):
     )
 
 
+def many_segments(chance, name):
+    """A target of some thousand bytes, which may lead to the file of this name."""
+    unit, size = chance.choice(UNITS), chance.choice((1500, 4000, 7900))
+    return unit * (size // len(unit)) + b"/" + urllib.parse.quote(name).encode()
+
+
+def heavy_request(chance, names, times, most):
+    """A request after which the connection most often stays open. A body has at most so many bytes, and looks like
+    requests."""
+    kind = chance.choices(list(HEAVY_KINDS), HEAVY_KINDS.values())[0]
+    if kind == "plain":
+        return plain_request(chance, names)
+    if kind == "odd":
+        return random_request(chance, names, times)
+    name, lines, body = chance.choice(names), [b"Host: a"], b""
+    target = b"/" + urllib.parse.quote(name).encode()
+    if kind == "target":
+        target = random_target(chance, names)
+    elif kind == "segments":
+        target = many_segments(chance, name)
+    elif kind == "line":
+        lines.append(b"Padding: " + b"x" * chance.choice((500, 2000, 7900)))
+    elif kind == "body":
+        body = (REQUEST * (most // len(REQUEST) + 1))[: chance.randint(0, most)]
+        lines.append(b"Content-Length: %d" % len(body))
+    else:
+        lines.append(b"If-Modified-Since: " + random_date(chance, chance.choice(times)))
+    line = chance.choice((b"GET", b"GET", b"GET", b"HEAD", b"POST")) + b" " + target + b" HTTP/1.1"
+    return b"\r\n".join([line] + chance.sample(lines, len(lines)) + [b"", body])
+
+
+def cut_elsewhere(chance, texts):
+    """As many texts, which are the same together, cut at any places."""
+    whole = b"".join(texts)
+    places = sorted([0, len(whole)] + chance.sample(range(1, len(whole)), len(texts) - 1))
+    return [whole[begin:end] for begin, end in zip(places, places[1:])]
+
+
+def heavy_pieces(chance, names, times, count):
+    """The pieces of a connection: so many texts of 1 to 6 requests, often cut elsewhere; a long one makes several."""
+    most = chance.choice((100, 3000, 3000, 60_000))
+    texts = [
+        b"".join(heavy_request(chance, names, times, most) for _ in range(chance.randint(1, 6))) for _ in range(count)
+    ]
+    texts = cut_elsewhere(chance, texts) if chance.random() < 0.4 else texts
+    limit = reference.PIECE_LIMIT
+    return [text[at : at + limit] for text in texts for at in range(0, len(text), limit)]
+
+
+def heavy_settings(chance):
+    """A document of settings, with batches that hold some hundred pieces, or all, and often with a bucket for all."""
+    tables = random_values(chance)
+    tables["floor"]["batch"] = chance.choice((7, 150, 400, 65_536, 65_536, 65_536))
+    if chance.random() < 0.6:
+        tables["policy"]["depth"] = 10**6
+    return document_text(chance, tables).encode()
+
+
+def heavy_replay(seed, faults=HEAVY_FAULTS):
+    """Snapshot, capture and settings of a seed: some thousand requests on 5 to 40 connections, worth threads in large
+    batches. One of the faults is in the capture."""
+    chance = random.Random("heavy, %d" % seed)
+    files = random_files(chance, START)
+    names = [name for name, _, _ in files] or [b"a.txt"]
+    names = names * (16 // len(names) + 1) + [b"large.js"]
+    files = sorted(files + [(b"large.js", START, chance.randbytes(chance.choice((3000, 30_000, 200_000))))])
+    times = [START, START + 1] + [time for _, time, _ in files]
+    version = chance.choice((1, 2))
+    conns = chance.sample(range(reference.LAST_CONNECTION[version] + 1), chance.randint(5, 40))
+    weights = [chance.choice((1, 1, 1, 8)) for _ in conns]
+    counts = collections.Counter(chance.choices(conns, weights, k=chance.choice((300, 600, 900, 900))))
+    waiting = {conn: heavy_pieces(chance, names, times, count) for conn, count in counts.items()}
+    records = mixed(chance, waiting)
+    records = with_tiers(chance, records) if version == 2 else records
+    capture = capture_text(chance, version, START, records, chance.choice(faults) == "capture")
+    return snapshot_text(chance, files, False), capture, heavy_settings(chance)
+
+
 def faulty_capture(seed):
     """The text of a capture with a fault, that a seed gives."""
     chance = random.Random("a fault, %d" % seed)
     version = chance.choice((1, 2))
     names = [name for name, _, _ in random_files(chance, START)]
     return capture_text(chance, version, START, random_records(chance, names, [START], version), True)
+
+
+def few_connections(count, connections):
+    """So many pieces on so many connections, of nearly as many bytes as a piece may have: in each a request with a
+    large body, or with a long line and a body."""
+    head = b"POST / HTTP/1.1\r\nHost: a\r\nX:%b\r\nContent-Length: %d\r\n\r\n"
+    requests = [head % (b"", 65_000) + b"x" * 65_000, head % (b"x" * 8000, 57_000) + b"x" * 57_000]
+    return [(number, 7 + number % connections, requests[number // connections % 2]) for number in range(count)]
 
 
 def limit_replays():
@@ -706,6 +806,9 @@ def limit_replays():
             (b"%05d" % number, 0, b"") for number in range(reference.FILES_LIMIT + past)
         ], 1, START, records, None
         yield "settings", FILES, 1, START, records, b"#" * (reference.SETTINGS_LIMIT + past)
+    # So many bytes are worth more threads than there are connections; of 300 pieces the first batch has 16 MiB.
+    for count, connections in (60, 1), (300, 1), (60, 3):
+        yield "few connections", FILES, 1, START, few_connections(count, connections), open_policy
 
 
 def hundred_thousand():
@@ -843,10 +946,15 @@ def compare_limits(comparison, chance):
     count = 0
     for name, files, version, start, records, settings in limit_replays():
         texts = snapshot_text(None, files, False), capture_text(None, version, start, records, False)
-        least = 65_536 if name == "batch" else 1
+        least = 65_536 if name in ("batch", "few connections") else 1
         comparison.compare("limit of " + name, *texts, with_floor(chance, settings, least))
         count += 1
     print("%-30s %d replays" % ("limits", count), flush=True)
+
+
+def ends_text(ends):
+    """How many replays ended with which status."""
+    return ", ".join("%d with status %d" % (number, status) for status, number in sorted(ends.items()))
 
 
 def compare_random(comparison, count, first):
@@ -856,8 +964,16 @@ def compare_random(comparison, count, first):
         status, *_ = comparison.compare("seed %d" % seed, *random_replay(seed))
         ends[status] = ends.get(status, 0) + 1
         comparison.upgrade("seed %d, a fault" % seed, faulty_capture(seed))
-    text = ", ".join("%d with status %d" % (number, status) for status, number in sorted(ends.items()))
-    print("%-30s %s" % ("seeds %d to %d" % (first, first + count - 1), text))
+    print("%-30s %s" % ("seeds %d to %d" % (first, first + count - 1), ends_text(ends)))
+
+
+def compare_heavy(comparison, count, first):
+    """Compares heavy replays, and prints how many of them end with which status."""
+    ends = {}
+    for seed in range(first, first + count):
+        status, *_ = comparison.compare("heavy seed %d" % seed, *heavy_replay(seed))
+        ends[status] = ends.get(status, 0) + 1
+    print("%-30s %s" % ("heavy seeds %d to %d" % (first, first + count - 1), ends_text(ends)), flush=True)
 
 
 def main():
@@ -867,10 +983,11 @@ def main():
     count, first = (int(word) for word in (sys.argv[2:] + ["40", "0"][len(sys.argv) - 2 :]))
     chance = random.Random(first)
     compare_large(comparison, "hundred thousand requests", None)
-    # With a batch of one piece, starting threads would take minutes.
+    # With a batch of one piece it takes longer.
     compare_large(comparison, "hundred thousand, tight bucket", with_floor(chance, TIGHT, 1000))
     compare_limits(comparison, chance)
     compare_random(comparison, count, first)
+    compare_heavy(comparison, HEAVY, first)
     counts = comparison.replays, comparison.tables, comparison.upgrades, comparison.wrong
     print("%d replays, %d tables and inspections, %d upgrades, %d wrong" % counts)
     return comparison.wrong != 0

@@ -7,9 +7,9 @@ Replays with both engines, a run from standard input to standard output, and upg
 byte; the replies go into a pipe that is read byte by byte, or into one whose reader goes away; replies and report go
 into a file that may have only so many bytes, and replies onto a disk with little room (where one can be mounted: a
 user's own tmpfs). With a C compiler (CC, or cc) besides: each read gives one byte, each write takes one byte; each read
-fails in turn, then each write, by an error and by an interruption; and each thread in turn can't be started. What
-stands at a device is always a prefix of what is right, all of it where the status is 0, and a file that is full has
-all that it may have.
+fails in turn, then each write, by an error and by an interruption; and each thread in turn can't be started, in small
+batches and in a large one, which has to start some where there is more than one processor. What stands at a device is
+always a prefix of what is right, all of it where the status is 0, and a file that is full has all that it may have.
 """
 import errno
 import os
@@ -261,6 +261,32 @@ def check_threads(checks, program, replay, task, shim):
     return number - 1
 
 
+def processors():
+    """How many processors a process may use at a time; 1 where that isn't told (it is by cgroups of version 2)."""
+    count = len(os.sched_getaffinity(0))
+    try:
+        with open("/proc/self/cgroup", encoding="ascii") as file:
+            place = next(line[3:].strip() for line in file if line.startswith("0::"))
+        while place:
+            limit = "/sys/fs/cgroup" + place.rstrip("/") + "/cpu.max"
+            if os.path.exists(limit):
+                with open(limit, encoding="ascii") as file:
+                    quota, period = file.read().split()
+                count = count if quota == "max" else min(count, int(quota) // int(period))
+            place = "" if place == "/" else os.path.dirname(place)
+        return count
+    except (OSError, StopIteration, ValueError):
+        return 1
+
+
+def check_staged_threads(checks, program, name, replay, shim):
+    """Refuses each thread of a staged replay in turn, and says how many there were."""
+    task = Task("staged, " + name, words(ENGINES[1]), b"", {"replies": replay.replies, "out": replay.report})
+    count = check_threads(checks, program, replay, task, shim)
+    print("%s: %d threads were refused in turn" % (name, count))
+    return count
+
+
 def check_poor(checks, program):
     """Whether there is a compiler for what makes devices poor."""
     compiler = shutil.which(os.environ.get("CC", "cc"))
@@ -277,9 +303,10 @@ def check_poor(checks, program):
             for calls in ("READ", "WRITE"):
                 for error in (errno.EIO, errno.EINTR):
                     check_failing(checks, program, replay, task, shim, calls, error)
-        replay = Replay(LARGE, LARGE_SETTINGS, LARGE_REQUEST)
-        task = Task("replay, staged", words(ENGINES[1]), b"", {"replies": replay.replies, "out": replay.report})
-        print("%d threads were refused in turn" % check_threads(checks, program, replay, task, shim))
+        check_staged_threads(checks, program, "small batches", Replay(300), shim)
+        large = Replay(LARGE, LARGE_SETTINGS, LARGE_REQUEST)
+        count = check_staged_threads(checks, program, "a large batch", large, shim)
+        checks.see("a large batch starts threads", count > 0 or processors() < 2, count)
     return True
 
 

@@ -3,8 +3,9 @@
 
 usage: refuse_memory.py PROGRAM
 
-For N = 1, 2, .. the Nth request is refused, until some runs make fewer. Each such run, a replay, an upgrade or a
-snapshot, says `haboob: memory`, with status 7, a prefix of the replies, of the upgraded capture or of the snapshot
+For N = 1, 2, .. the Nth request is refused, until some runs make fewer. (Of a replay that is large enough for threads,
+which makes very many, the first MOST are refused, and above these each STRIDEth.) Each such run, a replay, an upgrade
+or a snapshot, says `haboob: memory`, with status 7, a prefix of the replies, of the upgraded capture or of the snapshot
 that the run writes with ample memory, and no report; or it ends as with ample memory, where the program can do
 without. Then it counts the requests of 64 GETs of one file, with the cache of pages and without: each page that the
 cache spares is a request less, so a staged engine that goes round its cache shows. It needs a C compiler (CC, or cc)
@@ -16,9 +17,14 @@ import subprocess
 import sys
 import tempfile
 
+# The folder stays as it is.
+sys.dont_write_bytecode = True
+import devices
+
 SECONDS = 20
 # So many runs that meet no refusal end a sweep.
 MISSED = 5
+MOST, STRIDE = 300, 31
 TOP = os.path.dirname(os.path.dirname(os.path.abspath(__file__)))
 SITE = os.path.join(TOP, "examples", "site.snapshot")
 BURST = os.path.join(TOP, "examples", "burst.capture")
@@ -32,7 +38,7 @@ REPLAY = ["replay", "--snapshot", SITE, "--capture", BURST, "--replies", "writte
 RUNS = [
     ("the first run", [], FIRST_RUN),
     ("a replay on one thread", REPLAY + ["--settings", TIGHT, "--engine", "plain"], os.devnull),
-    ("a replay on many threads", REPLAY + ["--settings", TIGHT], os.devnull),
+    ("a replay by the staged engine", REPLAY + ["--settings", TIGHT], os.devnull),
     ("a fault of the settings", REPLAY + ["--settings", SITE], os.devnull),
     ("a fault of the capture", ["replay", "--snapshot", SITE, "--capture", SITE, "--replies", "written"], os.devnull),
     ("too few words", ["replay", "--snapshot", SITE], os.devnull),
@@ -45,6 +51,9 @@ RUNS = [
     ("a snapshot, some left out", ["snapshot", "--folder", "tree", "--output", "written", "--skip"], os.devnull),
     ("a snapshot of no folder", ["snapshot", "--folder", "none", "--output", "written"], os.devnull),
 ]
+# A replay that makes so many requests that only some are refused, with the files of `make_shared`.
+SHARED = ["replay", "--snapshot", "shared/snapshot", "--capture", "shared/capture", "--settings", "shared/settings"]
+SHARED_RUN = ("a replay whose work is shared by threads", SHARED + ["--replies", "written"], os.devnull)
 
 
 class Ending:
@@ -80,19 +89,19 @@ def run(program, words, given, folder, refuser, number):
         return Ending(ran, file.read()), was_refused
 
 
-def sweep(program, title, words, given, folder, refuser):
-    """Refuses each request of a run in turn; how many of these runs ended otherwise than they may. (Runs on many
-    threads make some requests more or less.)"""
+def sweep(program, title, words, given, folder, refuser, stride=1):
+    """Refuses each request of a run in turn, and above MOST one of so many; how many of these runs ended otherwise than
+    they may. (Runs on many threads make some requests more or less.)"""
     ample, _ = run(program, words, given, folder, refuser, 0)
-    number, missed, wrong = 0, 0, 0
+    number, refused, missed, wrong = 0, 0, 0, 0
     while missed < MISSED:
-        number += 1
+        number += 1 if number < MOST else stride
         ending, was_refused = run(program, words, given, folder, refuser, number)
-        missed = 0 if was_refused else missed + 1
+        refused, missed = (refused + 1, 0) if was_refused else (refused, missed + 1)
         if not ending.is_same(ample) and not ending.is_out_of_memory(ample, bool(words)):
             wrong += 1
             print("WRONG: %s, request %d: %d %r" % (title, number, ending.status, ending.line))
-    print("%-26s status %d, %d requests refused, %d wrong" % (title, ample.status, number - missed, wrong))
+    print("%-40s status %d, %d requests refused, %d wrong" % (title, ample.status, refused, wrong), flush=True)
     return wrong
 
 
@@ -121,7 +130,7 @@ def builds_each_page(program, folder, refuser):
     """Whether the cache spares no pages: 64 GETs of one file build it once with a cache, and 64 times without."""
     with_cache = requests_made(program, 1 << 26, folder, refuser)
     without = requests_made(program, 0, folder, refuser)
-    print("64 requests for one file   %d requests with a cache, %d without" % (with_cache, without))
+    print("%-40s %d requests with a cache, %d without" % ("64 requests for one file", with_cache, without))
     return with_cache + 32 > without
 
 
@@ -132,6 +141,15 @@ def make_tree(tree):
         with open(os.path.join(tree, name), "w", encoding="utf-8") as file:
             file.write(name * 1000)
     os.symlink("a", os.path.join(tree, "c"))
+
+
+def make_shared(shared):
+    """The files of a replay that is worth threads: the large batch of devices.py, which sees that some are started."""
+    os.mkdir(shared)
+    capture = devices.capture_of(devices.LARGE, devices.LARGE_REQUEST)
+    for name, text in (("snapshot", devices.SNAPSHOT), ("capture", capture), ("settings", devices.LARGE_SETTINGS)):
+        with open(os.path.join(shared, name), "wb") as file:
+            file.write(text)
 
 
 def main():
@@ -149,7 +167,9 @@ def main():
         make_tree(os.path.join(folder, "tree"))
         with open(TIERS, "rb") as whole, open(os.path.join(folder, CUT), "wb") as cut:
             cut.writelines(whole.readlines()[:-1])
+        make_shared(os.path.join(folder, "shared"))
         wrong = sum(sweep(program, *it, folder, refuser) for it in RUNS)
+        wrong += sweep(program, *SHARED_RUN, folder, refuser, STRIDE)
         wrong += builds_each_page(program, folder, refuser)
         return int(wrong != 0)
 

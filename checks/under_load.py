@@ -4,11 +4,11 @@
     checks/under_load.py [--first SEED] [--seconds N] [--busy N] PROGRAM [COUNT]
 
 COUNT replays (1,000 without it) are drawn at random as those of compare_replays.py are, with their cuts, workers,
-capacities, batches and caches; a fourth has a fault in its capture. As many other processes as there are cores
-(--busy) do nothing but count meanwhile, so that threads lose their core at any place. A run that takes longer than
---seconds (300 without it) counts as hung: with a batch of one piece the program starts up to 80 threads for each piece,
-which takes half a minute on busy cores. Prints each such run, and each that differs, with its seed, and then how many
-there were. Exits with 1 where there was one.
+capacities, batches and caches; a fourth has a fault in its capture. Each tenth seed gives a heavy one besides, whose
+work is shared among threads. As many other processes as there are cores (--busy) do nothing but count meanwhile, so
+that threads lose their core at any place. A run that takes longer than --seconds (300 without it) counts as hung.
+Prints each such run, and each that differs, with its seed, and then how many there were. Exits with 1 where there was
+one.
 """
 import argparse
 import multiprocessing
@@ -21,6 +21,8 @@ import compare_replays
 
 FAULTS = ("", "", "", "capture")
 TURNS = 10**6
+# One seed in so many gives a heavy replay besides.
+HEAVY_EACH = 10
 
 
 def count_on(parent):
@@ -30,17 +32,24 @@ def count_on(parent):
             pass
 
 
-def is_same(program, seed, seconds):
+def replays(seeds):
+    """Name and texts of each replay."""
+    for seed in seeds:
+        yield "seed %d" % seed, compare_replays.random_replay(seed, FAULTS)
+        if seed % HEAVY_EACH == 0:
+            yield "heavy seed %d" % seed, compare_replays.heavy_replay(seed, FAULTS)
+
+
+def is_same(program, name, texts, seconds):
     """Whether the staged engine answers as the plain one; None where it hangs."""
-    texts = compare_replays.random_replay(seed, FAULTS)
     plain = compare_replays.run_replay(program, ["--engine", "plain"], *texts)
     staged = compare_replays.run_replay(program, ["--engine", "staged"], *texts, seconds)
     if staged[0] == compare_replays.HANGS:
-        print("seed %d: HUNG" % seed, flush=True)
+        print("%s: HUNG" % name, flush=True)
         return None
     found = compare_replays.difference(compare_replays.PARTS["replay"], plain, staged)
     if found:
-        print("seed %d: DIFFERS: %s" % (seed, found), flush=True)
+        print("%s: DIFFERS: %s" % (name, found), flush=True)
     return not found
 
 
@@ -57,7 +66,7 @@ def main():
     for process in busy:
         process.start()
     seeds = range(options.first, options.first + options.count)
-    results = [is_same(program, seed, options.seconds) for seed in seeds]
+    results = [is_same(program, name, texts, options.seconds) for name, texts in replays(seeds)]
     hung, differing = results.count(None), results.count(False)
     print("%d runs with %d busy processes: %d hung, %d differing" % (len(results), options.busy, hung, differing))
     return int(hung + differing > 0)
