@@ -1,7 +1,10 @@
 -- The lines of a name among the first headers, and one more.
-use Rattle.std.proofs.Common.{◌≡◌, ℕ, ◌+◌, ◌<◌, Bool, true, false, ◌||◌, if◌then◌else◌, List, [], ◌∷◌, ◌++◌, length, get_or, take, drop, map, refl, sym, ◌∙◌, ap, arith, append_assoc, append-nil, length-append}
+use Rattle.std.proofs.Common.{◌≡◌, ℕ, inl, inr, ◌+◌, ◌<◌, Bool, true, false, ◌||◌, if◌then◌else◌, List, [], ◌∷◌, ◌++◌, length, get_or, take, drop, map, refl, sym, ◌∙◌, ap, arith, append_assoc, append-nil, length-append}
 use Rattle.std.proofs.lemmas.Grind.{common_steps}
-use Rattle.std.proofs.lemmas.List.{take-append-drop}
+use Rattle.std.proofs.lemmas.Bool.{cases_Bool}
+use Rattle.std.proofs.lemmas.Slice.Eq.{bytes_eq-Decides}
+use Rattle.std.proofs.lemmas.List.{take-append-drop, length-map}
+use Rattle.std.specs.Char.{to_ascii_lowercase}
 use Rattle.std.proofs.lemmas.List.Folds.{list_any-append}
 use Rattle.std.specs.Prelude.{◌&&◌, ◌==◌, codes}
 use Rattle.std.specs.List.{list_any, slice_split}
@@ -182,3 +185,23 @@ option_once option block lines span are =
 
 pub option_absent : (option block : List ℕ) (lines : List FieldLine) → AreLines block (values_of (codes "connection") lines) Absent → has_option option lines ≡ false
 option_absent option block lines are = ap (λ values. list_any (λ given. same_text given option) (options_of values)) are
+
+-- texts of other lengths aren't the same
+pub other_length : (a b : List ℕ) → (length a ≡ length b → ⊥) → same_text a b ≡ false
+other_length a b other = elim (cases_Bool (same_text a b)) [
+  | inl same ↦ absurd (other (sym (length-map a to_ascii_lowercase) ∙ ap length ((bytes_eq-Decides (map to_ascii_lowercase a) (map to_ascii_lowercase b)).0 same) ∙ length-map b to_ascii_lowercase))
+  | inr differs ↦ differs
+]
+
+-- no line is added where the text isn't the name
+pub kept_line : (lines : Lines) (name text : List ℕ) (value : Span) → (length text ≡ length name → ⊥) → lines ≡ and_if lines (same_text text name) value
+kept_line lines name text value other = rw (other_length text name other) refl
+
+-- the lines of a name among the first headers, and the next one's
+pub named_more : (name block : List ℕ) (headers : List HeaderSpan) (i : ℕ) (text : List ℕ) (lines after : Lines) → i < length headers
+    → IsWithin (length block) (get_or headers i no_header).value → text ≡ span_bytes block (get_or headers i no_header).name
+    → AreLines block (values_of name (lines_from block (take i headers))) lines
+    → after ≡ and_if lines (same_text text name) (get_or headers i no_header).value
+    → AreLines block (values_of name (lines_from block (take (i + 1) headers))) after
+named_more name block headers i text lines after h within is are and_is =
+    noted_more name block headers i text lines after (same_text text name) h within is are refl and_is

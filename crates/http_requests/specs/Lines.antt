@@ -2,7 +2,7 @@
 use Rattle.std.specs.Prelude.{◌≡◌, ℕ, ◌≤◌, Bool, true, false, List, [], ◌∷◌, length, map, All, codes}
 use Rattle.httparse.specs.declared.spans.Span.{Span}
 use Rattle.httparse.specs.Spans.{header_bytes, span_bytes, IsWithin, IsHeaderWithin}
-use Rattle.http_requests.specs.Heads.{FieldLine, PartsSay, values_of}
+use Rattle.http_requests.specs.Heads.{FieldLine, PartsSay, same_text, values_of}
 use Rattle.http_requests.specs.declared.heads.Verdict.{Verdict}
 use Rattle.http_requests.specs.declared.heads.Head.{Head}
 use Rattle.http_requests.specs.declared.heads.Lines.{Lines}
@@ -44,11 +44,18 @@ is_there Absent = false
 is_there (Once value) = true
 is_there Repeated = true
 
--- the lines of each name that counts
+-- the lines of each name that counts besides Host
 pub record AreNoted (block : List ℕ) (lines : List FieldLine) (noted : Noted) : Type 0 where
-  pub host : AreLines block (values_of (codes "host") lines) noted.host
   pub coding : AreLines block (values_of (codes "transfer-encoding") lines) noted.coding
   pub length : AreLines block (values_of (codes "content-length") lines) noted.length
   pub connection : AreLines block (values_of (codes "connection") lines) noted.connection
   pub none_match : AreLines block (values_of (codes "if-none-match") lines) noted.none_match
   pub since : AreLines block (values_of (codes "if-modified-since") lines) noted.since
+
+-- a line with this value was added to those of its name
+pub record AddsLine (name : List ℕ) (value : Span) (old new : Noted) : Type 0 where
+  pub coding : new.coding ≡ and_if old.coding (same_text name (codes "transfer-encoding")) value
+  pub length : new.length ≡ and_if old.length (same_text name (codes "content-length")) value
+  pub connection : new.connection ≡ and_if old.connection (same_text name (codes "connection")) value
+  pub none_match : new.none_match ≡ and_if old.none_match (same_text name (codes "if-none-match")) value
+  pub since : new.since ≡ and_if old.since (same_text name (codes "if-modified-since")) value

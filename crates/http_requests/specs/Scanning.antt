@@ -1,6 +1,7 @@
 -- What stands at the start of a text.
-use Rattle.std.specs.Prelude.{◌≡◌, ℕ, ◌+◌, ◌<◌, ◌≤◌, ◌==◌, ◌||◌, Bool, true, List, length, drop, slice_index}
-use Rattle.http_requests.specs.Limits.{line_feed, carriage_return, max_block_bytes}
+use Rattle.std.specs.Prelude.{◌≡◌, ◌↔◌, ℕ, ◌+◌, ◌<◌, ◌≤◌, List, length, drop, slice_index}
+use Rattle.std.specs.Int.{bit_at}
+use Rattle.http_requests.specs.Limits.{line_feed, max_block_bytes}
 use Rattle.http_requests.specs.declared.scanning.Found.{Found}
 use Rattle.http_requests.specs.declared.scanning.Found.TheVariants.{Wait, Over, Whole}
 use Rattle.http_requests.specs.Framing.{EndsAt, NoBlock, IsBlock, blank_len}
@@ -9,14 +10,9 @@ use Rattle.http_requests.specs.Framing.{EndsAt, NoBlock, IsBlock, blank_len}
 abbrev pub NoEndIn : ℕ → List ℕ → Type 0
 NoEndIn n s = (e : ℕ) → e ≤ n → EndsAt s e → ⊥
 
--- a line feed or a carriage return
-abbrev pub is_break : ℕ → Bool
-is_break b = b == line_feed || b == carriage_return
-
--- none of the n bytes from k on is a line feed with a line feed or a carriage return after it
-abbrev pub IsQuiet : List ℕ → ℕ → ℕ → Type 0
-IsQuiet s k n =
-    (p : ℕ) → k ≤ p → p < k + n → slice_index s p ≡ line_feed → is_break (slice_index s (p + 1)) ≡ true → ⊥
+-- the bits of the marks of the 64 bytes from place k on are the line feeds
+abbrev pub MarksFeeds : List ℕ → ℕ → ℕ → Type 0
+MarksFeeds s k marks = (i : ℕ) → i < 64 → (bit_at marks i ≡ 1) ↔ (slice_index s (k + i) ≡ line_feed)
 
 -- what was found at the start of a text
 abbrev pub IsFound : List ℕ → Found → Type 0

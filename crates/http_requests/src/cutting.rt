@@ -113,12 +113,17 @@ fn take_block(
     }
 }
 
-/// Puts a message behind the others. The first gets no more room than it takes, since most pieces end one message.
-fn push_message(out: &mut Vec<Message>, message: Message) -> Result<(), AllocError>
+/// Puts a message behind the others. The first gets no more room than it takes where nothing follows it in its piece, as
+/// in most pieces.
+fn push_message(
+    out: &mut Vec<Message>,
+    message: Message,
+    ends_piece: bool,
+) -> Result<(), AllocError>
     ensures ok { OnOk result (out.new.items ≡ out.old.items ++ message ∷ []) }
     ensures err { OnErr result (out.new.items ≡ out.old.items) }
 {
-    if out.capacity() == 0 {
+    if ends_piece && out.capacity() == 0 {
         out.reserve_exact(1)?;
     }
     out.push(message)?;
@@ -153,8 +158,14 @@ impl State {
         }
     }
 
-    /// Goes on after a block: with its body, or by adding the message that ends here.
-    fn enter(&mut self, what: Meaning, left: u64, out: &mut Vec<Message>) -> Result<(), AllocError>
+    /// Goes on after a block: with its body, or by adding the message that ends here, which may end the piece.
+    fn enter(
+        &mut self,
+        what: Meaning,
+        left: u64,
+        out: &mut Vec<Message>,
+        ends_piece: bool,
+    ) -> Result<(), AllocError>
         requires empty { self.old.held.items ≡ [] }
         requires small { left ≤ max_body_bytes }
         ensures sound { OnOk result (IsSound (progress self.new)) }
@@ -174,7 +185,7 @@ impl State {
             Stage::Seeking
         };
         let end = self.read;
-        push_message(out, Message { end, what })?;
+        push_message(out, Message { end, what }, ends_piece)?;
         self.stage = stage;
         Ok(())
     }
@@ -199,7 +210,7 @@ impl State {
             Stage::Body(what, left) => {
                 let n = text.len().min(left as usize);
                 self.read += n as u64;
-                self.enter(what, left - n as u64, out)?;
+                self.enter(what, left - n as u64, out, n == text.len())?;
                 Ok(n)
             }
             Stage::Seeking => {
@@ -207,7 +218,9 @@ impl State {
                 self.read += n as u64;
                 match begun {
                     None => self.stage = Stage::Seeking,
-                    Some(Verdict { what, length }) => self.enter(what, length, out)?,
+                    Some(Verdict { what, length }) => {
+                        self.enter(what, length, out, n == text.len())?;
+                    }
                 }
                 Ok(n)
             }

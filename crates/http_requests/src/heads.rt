@@ -9,7 +9,8 @@ ghost use Rattle.http_requests.specs.Limits.{max_body_bytes};
 ghost use Rattle.http_requests.specs.Heads.{IsVerdict, same_text, values_of, is_host_byte, is_host_fault};
 ghost use Rattle.http_requests.specs.Heads.{is_numeral, body_length, head_fault, has_option, is_closing};
 ghost use Rattle.http_requests.specs.Heads.{is_get_or_head, IsModifiedSince, bad};
-ghost use Rattle.http_requests.specs.Lines.{LiesWithin, lines_at, Says, AreNoted, and_if, is_there};
+ghost use Rattle.http_requests.specs.Lines.{LiesWithin, lines_at, Says, AreLines, AreNoted, and_if, is_there};
+ghost use Rattle.http_requests.specs.Lines.{AddsLine};
 ghost use Rattle.http_requests.specs.Counting.{IsExtent};
 ghost use Rattle.http_requests.specs.declared.heads.Verdict.{Verdict as AVerdict};
 ghost use Rattle.http_requests.specs.declared.messages.Fault.TheVariants.{Block};
@@ -77,15 +78,39 @@ impl Lines {
     }
 }
 
-/// The lines of each name that counts, as one pass over the fields finds them.
+/// The lines of each name that counts besides Host, as one pass over the fields finds them.
 #[derive(Clone, Copy)]
 struct Noted {
-    host: Lines,
     coding: Lines,
     length: Lines,
     connection: Lines,
     none_match: Lines,
     since: Lines,
+}
+
+impl Noted {
+    /// Adds a line to those of its name. Its length tells which names it may be.
+    #[inline(always)]
+    fn add(&mut self, name: &[u8], value: Span)
+        ensures { AddsLine name.now value self.old self.new }
+    {
+        let len = name.len();
+        if len == 10 {
+            self.connection
+                .add_if(same_text(name, b"connection"), value);
+        } else if len == 13 {
+            self.none_match
+                .add_if(same_text(name, b"if-none-match"), value);
+        } else if len == 14 {
+            self.length
+                .add_if(same_text(name, b"content-length"), value);
+        } else if len == 17 {
+            self.coding
+                .add_if(same_text(name, b"transfer-encoding"), value);
+            self.since
+                .add_if(same_text(name, b"if-modified-since"), value);
+        }
+    }
 }
 
 /// Whether the texts are equal but for the case of ASCII letters.
@@ -223,13 +248,25 @@ impl<'a> Head<'a> {
         }
     }
 
-    /// The lines of each name that counts.
+    /// The lines of Host.
+    fn host_lines(&self) -> Lines
+        requires { LiesWithin self.now }
+        ensures { AreLines self.now.block.now (values_of (codes "host") (lines_at self.now)) result }
+    {
+        let mut lines = Lines::Absent;
+        for header in self.headers {
+            let name = header.name.of(self.block);
+            lines.add_if(same_text(name, b"host"), header.value);
+        }
+        lines
+    }
+
+    /// The lines of each other name that counts.
     fn note(&self) -> Noted
         requires { LiesWithin self.now }
         ensures { AreNoted self.now.block.now (lines_at self.now) result }
     {
         let mut noted = Noted {
-            host: Lines::Absent,
             coding: Lines::Absent,
             length: Lines::Absent,
             connection: Lines::Absent,
@@ -237,61 +274,45 @@ impl<'a> Head<'a> {
             since: Lines::Absent,
         };
         for header in self.headers {
-            let name = header.name.of(self.block);
-            let value = header.value;
-            noted.host.add_if(same_text(name, b"host"), value);
-            noted
-                .coding
-                .add_if(same_text(name, b"transfer-encoding"), value);
-            noted
-                .length
-                .add_if(same_text(name, b"content-length"), value);
-            noted
-                .connection
-                .add_if(same_text(name, b"connection"), value);
-            noted
-                .none_match
-                .add_if(same_text(name, b"if-none-match"), value);
-            noted
-                .since
-                .add_if(same_text(name, b"if-modified-since"), value);
+            noted.add(header.name.of(self.block), header.value);
         }
         noted
     }
 
     /// Whether Host is missing where it must stand, is repeated, or has a wrong byte (RFC 9112, section 3.2).
-    fn is_host_fault(&self, noted: &Noted) -> bool
-        requires within { LiesWithin self.now }
-        requires noted { AreNoted self.now.block.now (lines_at self.now) noted.now }
+    fn is_host_fault(&self) -> bool
+        requires { LiesWithin self.now }
         ensures { result ≡ is_host_fault self.now.minor (values_of (codes "host") (lines_at self.now)) }
     {
-        match noted.host {
+        match self.host_lines() {
             Lines::Absent => self.minor == 1,
             Lines::Once(value) => !is_host(value.of(self.block)),
             Lines::Repeated => true,
         }
     }
 
-    /// The length of the body (RFC 9112, section 6.3), or the first fault of the head.
-    fn body_length(&self, noted: &Noted) -> Result<u64, Fault>
-        requires within { LiesWithin self.now }
-        requires noted { AreNoted self.now.block.now (lines_at self.now) noted.now }
+    /// The length of the body (RFC 9112, section 6.3), and the lines that tell the rest; or the first fault of the head.
+    /// A head with a fault of Host is read no further.
+    fn body_length(&self) -> Result<(u64, Noted), Fault>
+        requires { LiesWithin self.now }
         ensures cases { MatchResult result
-            (λ n. (head_fault self.now.minor (lines_at self.now) ≡ None)
-            × (n ≡ body_length (values_of (codes "content-length") (lines_at self.now))))
+            (λ found. (head_fault self.now.minor (lines_at self.now) ≡ None)
+            × (found.0 ≡ body_length (values_of (codes "content-length") (lines_at self.now))))
             (λ fault. head_fault self.now.minor (lines_at self.now) ≡ Some fault) }
-        ensures small { IfOk result (λ n. n ≤ max_body_bytes) }
+        ensures noted { IfOk result (λ found. AreNoted self.now.block.now (lines_at self.now) found.1) }
+        ensures small { IfOk result (λ found. found.0 ≤ max_body_bytes) }
     {
-        if self.is_host_fault(noted) {
+        if self.is_host_fault() {
             return Err(Fault::Host);
         }
+        let noted = self.note();
         if noted.coding.is_there() {
             return Err(Fault::Coding);
         }
         match noted.length {
-            Lines::Absent => Ok(0),
+            Lines::Absent => Ok((0, noted)),
             Lines::Once(value) => match number(value.of(self.block)) {
-                Some(n) if n <= MAX_BODY_BYTES => Ok(n),
+                Some(n) if n <= MAX_BODY_BYTES => Ok((n, noted)),
                 Some(_) => Err(Fault::BodySize),
                 None => Err(Fault::Length),
             },
@@ -362,9 +383,8 @@ impl<'a> Head<'a> {
         ensures says { IfOk result (Says self.now) }
         ensures small { IfOk result (λ verdict. verdict.length ≤ max_body_bytes) }
     {
-        let noted = self.note();
-        let length = match self.body_length(&noted) {
-            Ok(length) => length,
+        let (length, noted) = match self.body_length() {
+            Ok(found) => found,
             Err(fault) => return Ok(bad(fault)),
         };
         Ok(Verdict {
@@ -389,9 +409,8 @@ impl<'a> Head<'a> {
         ensures says { (verdict : AVerdict) × Says self.now verdict × IsExtent verdict result }
         ensures small { result.length ≤ max_body_bytes }
     {
-        let noted = self.note();
-        match self.body_length(&noted) {
-            Ok(length) => {
+        match self.body_length() {
+            Ok((length, noted)) => {
                 // A verdict tells this as well, and so it is there.
                 let _since = self.modified_since(&noted);
                 Extent {

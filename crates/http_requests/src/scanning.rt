@@ -1,16 +1,18 @@
 //! The empty lines and the block at the start of a text.
-ghost use Rattle.std.specs.Prelude.{◌≡◌, ◌+◌, ◌<◌, ◌≤◌, length, IfSome, IfNone, IsTrue};
-ghost use Rattle.http_requests.specs.Limits.{max_block_bytes};
+ghost use Rattle.std.specs.Prelude.{◌≡◌, ◌≢◌, ◌+◌, ◌<◌, ◌≤◌, ℕ, length, slice_index, IfSome, IfNone};
+ghost use Rattle.std.specs.Int.{bit_at};
+ghost use Rattle.http_requests.specs.Limits.{line_feed, max_block_bytes};
 ghost use Rattle.http_requests.specs.Framing.{ends_at, NoBlock, IsBlock, blank_len};
-ghost use Rattle.http_requests.specs.Scanning.{IsFound, IsQuiet, NoEndIn};
+ghost use Rattle.http_requests.specs.Scanning.{IsFound, NoEndIn, MarksFeeds};
 
+use memchr::{memchr, memchr_iter};
 use std::simd::prelude::*;
 
 /// The most bytes that a block may have. A longer one is a fault.
 pub const MAX_BLOCK_BYTES: usize = 8192;
 
 /// How many bytes are looked at together.
-const LANES: usize = 32;
+const LANES: usize = 64;
 
 /// What stands at the start of a text.
 #[derive(Clone, Copy)]
@@ -23,14 +25,17 @@ pub enum Found {
     Whole(usize, usize),
 }
 
-/// Whether a block's end, LF LF or LF CR LF, stands before this place.
+/// Whether a block ends with the line feed at this place: whether LF, or LF CR, stands before it.
+#[inline(always)]
 #[tactic(auto, unfolding(crate::specs::Framing::ends_at))]
-fn ends_at(s: &[u8], e: usize) -> bool
-    requires two { 2 ≤ e }
-    requires within { e ≤ length s.now }
-    ensures { result ≡ ends_at s.now e }
+fn ends_with(s: &[u8], feed: usize) -> bool
+    requires two { 2 ≤ feed }
+    requires within { feed < length s.now }
+    requires feed { slice_index s.now feed ≡ line_feed }
+    ensures { result ≡ ends_at s.now (feed + 1) }
 {
-    s[e - 1] == b'\n' && (s[e - 2] == b'\n' || (e >= 3 && s[e - 2] == b'\r' && s[e - 3] == b'\n'))
+    let before = s[feed - 1];
+    before == b'\n' || (before == b'\r' && s[feed - 2] == b'\n')
 }
 
 /// How many bytes the empty lines take with which a text begins (RFC 9112, section 2.2).
@@ -48,30 +53,83 @@ fn blanks(s: &[u8]) -> usize
     i
 }
 
-/// How many of the `LANES` bytes from `at` on stand before the first line feed that has a line feed or a carriage
-/// return after it; all, where there is none. In a head there is none up to the empty line.
+/// A mark for each line feed among the `LANES` bytes from `at` on, that of the first in the lowest bit.
 #[inline(always)]
-fn quiet_len(s: &[u8], at: usize) -> usize
-    requires { at + LANES < length s.now }
-    ensures bound { result ≤ LANES }
-    ensures quiet { IsQuiet s.now at result }
+fn feeds_at(s: &[u8], at: usize) -> u64
+    requires { at + LANES ≤ length s.now }
+    ensures { MarksFeeds s.now at result }
 {
-    let feeds = u8x32::from_slice(&s[at..]).simd_eq(u8x32::splat(b'\n'));
-    let after = u8x32::from_slice(&s[at + 1..]);
-    let breaks = after.simd_eq(u8x32::splat(b'\n')) | after.simd_eq(u8x32::splat(b'\r'));
-    let found = (feeds & breaks).to_bitmask();
-    if found == 0 {
-        LANES
-    } else {
-        found.trailing_zeros() as usize
-    }
+    let bytes = u8x64::from_slice(&s[at..]);
+    bytes.simd_eq(u8x64::splat(b'\n')).to_bitmask()
 }
 
-/// A place up to which no block ends, where none ends up to `at`: `last`, or a place before the first end or before
-/// what looks like one, at most two bytes before it where more than `LANES` bytes are there.
+/// The place of the lowest bit.
 #[inline(always)]
-fn skip_lines(s: &[u8], at: usize, last: usize) -> usize
+fn lowest(marks: u64) -> usize
+    requires { marks ≢ 0 }
+    ensures bound { result < 64 }
+    ensures set { bit_at marks result ≡ 1 }
+    ensures below { (k : ℕ) → k < result → bit_at marks k ≡ 0 }
+{
+    marks.trailing_zeros() as usize
+}
+
+/// The other bits.
+#[inline(always)]
+fn without(marks: u64, bit: usize) -> u64
+    requires bound { bit < 64 }
+    requires set { bit_at marks bit ≡ 1 }
+    ensures smaller { result < marks }
+    ensures kept { (k : ℕ) → k < 64 → k ≢ bit → bit_at result k ≡ bit_at marks k }
+    ensures no_more { (k : ℕ) → bit_at result k ≡ 1 → bit_at marks k ≡ 1 }
+{
+    marks & !(1 << bit)
+}
+
+/// The first end of a block among the `LANES` bytes from `at` on, whose line feeds are marked. No other byte is looked
+/// at, but for the two before each of them.
+#[inline(always)]
+fn end_among(s: &[u8], at: usize, feeds: u64) -> Option<usize>
     requires two { 2 ≤ at }
+    requires within { at + LANES ≤ length s.now }
+    requires limit { at + LANES ≤ max_block_bytes }
+    requires feeds { MarksFeeds s.now at feeds }
+    requires none { NoEndIn at s.now }
+    ensures some { IfSome result (λ e. IsBlock s.now e) }
+    ensures none { IfNone result (NoEndIn (at + LANES) s.now) }
+{
+    let mut left = feeds;
+    while left != 0 {
+        let feed = lowest(left);
+        if ends_with(s, at + feed) {
+            return Some(at + feed + 1);
+        }
+        left = without(left, feed);
+    }
+    None
+}
+
+/// The first end of a block up to `last`, where none stands up to `at`.
+fn end_up_to(s: &[u8], at: usize, last: usize) -> Option<usize>
+    requires two { 2 ≤ at }
+    requires ordered { at ≤ last }
+    requires within { last ≤ length s.now }
+    requires limit { last ≤ max_block_bytes }
+    requires none { NoEndIn at s.now }
+    ensures some { IfSome result (λ e. IsBlock s.now e) }
+    ensures none { IfNone result (NoEndIn last s.now) }
+{
+    for found in memchr_iter(b'\n', &s[at..last]) {
+        let feed = at + found;
+        if ends_with(s, feed) {
+            return Some(feed + 1);
+        }
+    }
+    None
+}
+
+/// The place of the next line feed up to `last`, or `last`.
+fn next_feed(s: &[u8], at: usize, last: usize) -> usize
     requires ordered { at ≤ last }
     requires within { last ≤ length s.now }
     requires none { NoEndIn at s.now }
@@ -79,43 +137,14 @@ fn skip_lines(s: &[u8], at: usize, last: usize) -> usize
     ensures high { result ≤ last }
     ensures none { NoEndIn result s.now }
 {
-    let mut end = at;
-    while last - end >= LANES - 1 {
-        let quiet = quiet_len(s, end - 2);
-        if quiet < LANES {
-            return end.max(end + quiet - 1);
-        }
-        end += LANES - 1;
+    match memchr(b'\n', &s[at..last]) {
+        Some(found) => at + found,
+        None => last,
     }
-    if end == last || last <= LANES {
-        return end;
-    }
-    // The last look overlaps the one before.
-    let quiet = quiet_len(s, last - LANES - 1);
-    end.max(last - LANES + quiet)
-}
-
-/// The first end of a block up to `to`, where none stands up to `at`. Each place is looked at.
-fn end_up_to(s: &[u8], at: usize, to: usize) -> Option<usize>
-    requires two { 2 ≤ at }
-    requires within { to ≤ length s.now }
-    requires limit { to ≤ max_block_bytes }
-    requires none { NoEndIn at s.now }
-    ensures some { IfSome result (λ e. IsBlock s.now e) }
-    ensures none { IfNone result (NoEndIn to s.now) }
-{
-    let mut end = at;
-    while end < to {
-        if ends_at(s, end + 1) {
-            return Some(end + 1);
-        }
-        end += 1;
-    }
-    None
 }
 
 /// The first end of a block within the limit, where none stands in the first `seen` bytes of a text that doesn't begin
-/// with an empty line. Only the bytes after those are looked at, and a few before.
+/// with an empty line. Only the line feeds after those are looked at. A long line is passed over by larger steps.
 fn block_end(s: &[u8], seen: usize) -> Option<usize>
     requires begins { blank_len s.now ≡ 0 }
     requires none { NoEndIn seen s.now }
@@ -123,16 +152,22 @@ fn block_end(s: &[u8], seen: usize) -> Option<usize>
     ensures none { IfNone result (NoBlock s.now) }
 {
     let last = s.len().min(MAX_BLOCK_BYTES);
+    // No block ends up to the second byte.
     let mut at = seen.max(2);
-    while at < last {
-        let from = skip_lines(s, at, last);
-        let to = last.min(from + LANES);
-        if let Some(end) = end_up_to(s, from, to) {
+    if at >= last {
+        return None;
+    }
+    while last - at >= LANES {
+        let feeds = feeds_at(s, at);
+        if let Some(end) = end_among(s, at, feeds) {
             return Some(end);
         }
-        at = to;
+        at += LANES;
+        if feeds == 0 {
+            at = next_feed(s, at, last);
+        }
     }
-    None
+    end_up_to(s, at, last)
 }
 
 /// What stands at the start of a text, where no block ends in its first `seen` bytes. Only the bytes

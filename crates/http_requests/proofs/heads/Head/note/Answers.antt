@@ -1,9 +1,5 @@
-use Rattle.std.proofs.Common.{◌≡◌, ℕ, Bool, List, ◌+◌, get_or, take}
 use Rattle.std.specs.Prelude.{codes}
-use Rattle.http_requests.specs.declared.heads.Lines.{Lines}
-use Rattle.http_requests.specs.Heads.{values_of, same_text}
-use Rattle.http_requests.specs.Lines.{AreLines, and_if}
-use Rattle.http_requests.proofs.HeadLemmas.{lines_from, no_header, noted_more}
+use Rattle.http_requests.proofs.HeadLemmas.{no_header, named_more}
 use Rattle.http_requests.proofs.heads.Head.note.Goals as goal
 
 pub loop-header-preserved : goal.loop-header-preserved
@@ -11,15 +7,18 @@ loop-header-preserved c =
     let block = c.args.self.now.block.now in
     let headers = c.args.self.now.headers.now in
     let i = c.loop-header.header-index in
-    let more : (name : List ℕ) (lines after : Lines) (b : Bool) → AreLines block (values_of name (lines_from block (take i headers))) lines
-    → b ≡ same_text c.of-name.result.now name → after ≡ and_if lines b (get_or headers i no_header).value
-    → AreLines block (values_of name (lines_from block (take (i + 1) headers))) after =
-    λ name lines after b. noted_more name block headers i c.of-name.result.now lines after b c.loop-header-test.true (c.requires.headers i no_header c.loop-header-test.true).1 c.of-name.ensures in
+    let text = c.of.result.now in
+    let below = c.loop-header-test.true in
+    let within = (c.requires.headers i no_header below).1 in
+    let old = c.loop-header.noted in
+    let new = c.add.new.self in
+    let is = c.of.ensures in
+    let were = c.loop-header.invariant in
+    let adds = c.add.ensures in
     record {
-      host = more (codes "host") c.loop-header.noted.host c.add_if.new.self c.same_text.result c.loop-header.invariant.host c.same_text.ensures c.add_if.ensures;
-      coding = more (codes "transfer-encoding") c.loop-header.noted.coding c.add_if-in-loop-header.new.self c.same_text-in-loop-header.result c.loop-header.invariant.coding c.same_text-in-loop-header.ensures c.add_if-in-loop-header.ensures;
-      length = more (codes "content-length") c.loop-header.noted.length c.add_if-in-loop-header-2.new.self c.same_text-in-loop-header-2.result c.loop-header.invariant.length c.same_text-in-loop-header-2.ensures c.add_if-in-loop-header-2.ensures;
-      connection = more (codes "connection") c.loop-header.noted.connection c.add_if-in-loop-header-3.new.self c.same_text-in-loop-header-3.result c.loop-header.invariant.connection c.same_text-in-loop-header-3.ensures c.add_if-in-loop-header-3.ensures;
-      none_match = more (codes "if-none-match") c.loop-header.noted.none_match c.add_if-in-loop-header-4.new.self c.same_text-in-loop-header-4.result c.loop-header.invariant.none_match c.same_text-in-loop-header-4.ensures c.add_if-in-loop-header-4.ensures;
-      since = more (codes "if-modified-since") c.loop-header.noted.since c.add_if-in-loop-header-5.new.self c.same_text-in-loop-header-5.result c.loop-header.invariant.since c.same_text-in-loop-header-5.ensures c.add_if-in-loop-header-5.ensures;
+      coding = named_more (codes "transfer-encoding") block headers i text old.coding new.coding below within is were.coding adds.coding;
+      length = named_more (codes "content-length") block headers i text old.length new.length below within is were.length adds.length;
+      connection = named_more (codes "connection") block headers i text old.connection new.connection below within is were.connection adds.connection;
+      none_match = named_more (codes "if-none-match") block headers i text old.none_match new.none_match below within is were.none_match adds.none_match;
+      since = named_more (codes "if-modified-since") block headers i text old.since new.since below within is were.since adds.since;
     }
