@@ -23,6 +23,7 @@ import datetime
 import os
 import random
 import re
+import string
 import subprocess
 import sys
 import tempfile
@@ -97,7 +98,16 @@ LAST_PARTS = [
 # What targets of many segments begin with, again and again.
 UNITS = [b"/a", b"/.", b"/", b"/%2e", b"/x/..", b"/%C3%A9/%2E.", b"/docs/a%20b"]
 # The kinds of a heavy replay's requests, and how often each comes: most leave their connection open.
-HEAVY_KINDS = {"plain": 500, "odd": 1, "target": 60, "segments": 100, "line": 100, "body": 100, "date": 100}
+HEAVY_KINDS = {
+    "plain": 500,
+    "odd": 1,
+    "target": 60,
+    "segments": 100,
+    "line": 100,
+    "fields": 60,
+    "body": 100,
+    "date": 100,
+}
 METHODS = (
     [b"GET"] * 30
     + [b"HEAD"] * 8
@@ -327,7 +337,15 @@ def random_target(chance, names):
     after = chance.choice(
         [b""] * 20 + [b"?q", b"?a/b?%", b"/", b"/", b"/.", b"/..", b"/x/..", b"#x", b"x", b"%2f", b"%00"]
     )
+    if chance.random() < 0.04:
+        after += long_end(chance)
     return before + escaped(chance, path) + after
+
+
+def long_end(chance):
+    """What makes a target one of up to 6,000 bytes."""
+    unit = chance.choice((b"/a.txt", b"n", b"/./x/..", b"%41", b"?q"))
+    return (unit * 6000)[: chance.randint(500, 5900)]
 
 
 def random_date(chance, seconds):
@@ -356,8 +374,30 @@ def changed(chance, text):
     )
 
 
+def long_line(chance):
+    """A field line of 1,000 to 7,900 bytes."""
+    unit = chance.choice((b"x", b"name=value; ", b"a b\t\xe9"))
+    return b"Cookie: " + (unit * 7900)[: chance.randint(992, 7892)]
+
+
+def paired_line(chance):
+    """A field line with line feeds before carriage returns, one in each 36 or 64 bytes. None of them ends a head."""
+    unit = b"x" * (chance.choice((36, 64)) - 2) + b"\n\r"
+    return b"X: " + b"y" * chance.randrange(64) + unit * chance.randint(1, 7900 // len(unit)) + b"x"
+
+
+def many_fields(chance, times):
+    """Field lines of one name, so many that few others have room."""
+    date = b"If-Modified-Since: " + random_date(chance, chance.choice(times))
+    name = "".join(chance.choices(string.ascii_letters, k=17)).encode()
+    return chance.choice(([date] * 58, [name + b": 1"] * 61))
+
+
 def random_lines(chance, times):
-    """The field lines of a head, in any order."""
+    """The field lines of a head, in any order; where very many have one name, the host comes before them."""
+    if chance.random() < 0.04:
+        host = chance.choice(([], [b"Host: a"], [b"Host: a b"]))
+        return host + chance.choice((many_fields(chance, times), [b"Transfer-Encoding: chunked"] * 62))
     lines = chance.choice(HOST_LINES) + chance.choice(CONNECTION_LINES)
     if chance.random() < 0.04:
         lines = lines + chance.choice(LENGTH_LINES)
@@ -366,6 +406,10 @@ def random_lines(chance, times):
         lines = lines + chance.choice([[date]] * 8 + [[date, date], [date, b"If-None-Match: *"]])
     if chance.random() < 0.1:
         lines = lines + [chance.choice(ODD_LINES)]
+    if chance.random() < 0.05:
+        lines = lines + [long_line(chance)]
+    if chance.random() < 0.03:
+        lines = lines + [paired_line(chance)]
     if chance.random() < 0.02:
         lines = lines + [b"X: 1"] * chance.randint(60, 64)
     return chance.sample(lines, len(lines))
@@ -402,8 +446,9 @@ def random_text(chance, names, times, count):
         kind = chance.random()
         if kind < 0.015:
             parts.append(bytes(chance.choices(b"\r\nGE /:\x00\xff", k=chance.choice((3, 30, 300)))))
-        elif kind < 0.025:
-            parts.append(b"GET /" + b"y" * chance.choice((8100, 8187, 8192, 20000)))
+        elif kind < 0.035:
+            begin = chance.choice((b"", b"GET /", b"GET / HTTP/1.1\r\nHost: a\r\nCookie: "))
+            parts.append(begin.ljust(chance.choice((8100, 8191, 8192, 8193, 8197, 20_000)), b"y"))
         else:
             parts.append(random_request(chance, names, times))
     return b"".join(parts)
@@ -699,7 +744,9 @@ def heavy_request(chance, names, times, most):
     elif kind == "segments":
         target = many_segments(chance, name)
     elif kind == "line":
-        lines.append(b"Padding: " + b"x" * chance.choice((500, 2000, 7900)))
+        lines.append(long_line(chance))
+    elif kind == "fields":
+        lines += many_fields(chance, times)
     elif kind == "body":
         body = (REQUEST * (most // len(REQUEST) + 1))[: chance.randint(0, most)]
         lines.append(b"Content-Length: %d" % len(body))

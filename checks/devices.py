@@ -8,8 +8,10 @@ byte; the replies go into a pipe that is read byte by byte, or into one whose re
 into a file that may have only so many bytes, and replies onto a disk with little room (where one can be mounted: a
 user's own tmpfs). With a C compiler (CC, or cc) besides: each read gives one byte, each write takes one byte; each read
 fails in turn, then each write, by an error and by an interruption; and each thread in turn can't be started, in small
-batches and in a large one, which has to start some where there is more than one processor. What stands at a device is
-always a prefix of what is right, all of it where the status is 0, and a file that is full has all that it may have.
+batches and in large ones. Of these one has work for all threads, and three for those that cut pieces alone, for those
+of the front floor alone and for those of the back floor alone: each has to start some. (Whatever the machine has, the
+program is told of PROCESSORS processors.) What stands at a device is always a prefix of what is right, all of it where
+the status is 0, and a file that is full has all that it may have.
 """
 import errno
 import os
@@ -34,6 +36,14 @@ SETTINGS = b"[policy]\ndepth = 50\n[floor]\nbatch = 100\n"
 LARGE = 6000
 LARGE_REQUEST = REQUEST[:-2] + b"Padding: %b\r\n\r\n" % (b"x" * 457)
 LARGE_SETTINGS = b"[policy]\ndepth = 50\n[floor]\nbatch = 8192\n"
+# Batches that are worth threads of one kind alone: one connection's pieces aren't shared by threads, nor is the work of
+# a floor with one worker. Without a cache each page is built anew.
+ALONE = b"[policy]\ndepth = 1000000\n[floor]\nbatch = 8192\ncache = 0\n"
+NARROW_FRONT = b"front_cuts = [3]\nfront_workers = [1]\nfront_capacities = [64]\n"
+NARROW_BACK = b"back_cuts = [2]\nback_workers = [1]\nback_capacities = [64]\n"
+LONG_TARGET = b"GET /%b HTTP/1.1\r\nHost: a\r\n\r\n" % (b"a.txt/" * 250)
+LARGE_FILE = b"haboob-snapshot 1\nfile 784111777 5 1048576\na.txt\n%b\nend 1\n" % (b"hi" * 2**19)
+PROCESSORS = 4
 ENGINES = (["--engine", "plain"], ["--engine", "staged"])
 # The places where a file is full: in the first line, in a reply, at the end of the program's buffer, in a later one.
 PLACES = (0, 1, 16, 17, 100, 4096, 65_535, 65_536, 65_537, 100_000)
@@ -43,9 +53,9 @@ REPORT = 6, b"haboob: write: report\n"
 MEMORY = 7, b"haboob: memory\n"
 
 
-def capture_of(count, request):
-    """A capture of so many of a request, one to a piece, on 50 connections."""
-    lines = (b"piece %d %d %d\n" % (100 * number, number % 50, len(request)) for number in range(count))
+def capture_of(count, request, connections=50):
+    """A capture of so many of a request, one to a piece, on so many connections."""
+    lines = (b"piece %d %d %d\n" % (100 * number, number % connections, len(request)) for number in range(count))
     pieces = b"".join(line + request + b"\n" for line in lines)
     return b"haboob-capture 1 784111777\n%bstop %d\n" % (pieces, count)
 
@@ -53,13 +63,13 @@ def capture_of(count, request):
 class Replay:
     """The files of a replay, and what it is to write."""
 
-    def __init__(self, count, settings=SETTINGS, request=REQUEST):
-        self.capture, self.settings = capture_of(count, request), settings
-        status, line, self.replies, self.report = reference.replay(SNAPSHOT, self.capture, settings)
+    def __init__(self, count, settings=SETTINGS, request=REQUEST, connections=50, snapshot=SNAPSHOT):
+        self.snapshot, self.capture, self.settings = snapshot, capture_of(count, request, connections), settings
+        status, line, self.replies, self.report = reference.replay(snapshot, self.capture, settings)
         assert (status, line) == (0, b"")
 
     def put(self, folder):
-        files = ("snapshot", SNAPSHOT), ("capture", self.capture), ("settings", self.settings), ("replies", b"")
+        files = ("snapshot", self.snapshot), ("capture", self.capture), ("settings", self.settings), ("replies", b"")
         for name, data in files:
             with open(os.path.join(folder, name), "wb") as file:
                 file.write(data)
@@ -123,7 +133,7 @@ def by_pipes(program, replay, engine, most):
         for name in ("pipe_in", "pipe_too", "pipe_out"):
             os.mkfifo(os.path.join(folder, name))
         got = bytearray()
-        helpers = [threading.Thread(target=feed, args=(os.path.join(folder, "pipe_in"), SNAPSHOT)),
+        helpers = [threading.Thread(target=feed, args=(os.path.join(folder, "pipe_in"), replay.snapshot)),
                    threading.Thread(target=feed, args=(os.path.join(folder, "pipe_too"), replay.capture)),
                    threading.Thread(target=drain, args=(os.path.join(folder, "pipe_out"), most, got))]
         for helper in helpers:
@@ -221,7 +231,8 @@ def run_poorly(program, replay, task, shim, **poor):
         with open(os.path.join(folder, "in"), "rb") as given, open(os.path.join(folder, "out"), "wb") as out, \
                 open(os.path.join(folder, "failed"), "wb") as failed:
             told = failed.fileno()
-            world = {**os.environ, "LD_PRELOAD": shim, "FAILED": str(told), **{name: str(poor[name]) for name in poor}}
+            poor = {"FAILED": told, "PROCESSORS": PROCESSORS, **poor}
+            world = {**os.environ, "LD_PRELOAD": shim, **{name: str(poor[name]) for name in poor}}
             how = {"env": world, "stdin": given, "stdout": out, "pass_fds": [told]}
             status, line, _ = run(program, task.words, folder, **how)
         return status, line, {name: contents(folder, name) for name in task.wanted}, contents(folder, "failed") != b""
@@ -261,30 +272,22 @@ def check_threads(checks, program, replay, task, shim):
     return number - 1
 
 
-def processors():
-    """How many processors a process may use at a time; 1 where that isn't told (it is by cgroups of version 2)."""
-    count = len(os.sched_getaffinity(0))
-    try:
-        with open("/proc/self/cgroup", encoding="ascii") as file:
-            place = next(line[3:].strip() for line in file if line.startswith("0::"))
-        while place:
-            limit = "/sys/fs/cgroup" + place.rstrip("/") + "/cpu.max"
-            if os.path.exists(limit):
-                with open(limit, encoding="ascii") as file:
-                    quota, period = file.read().split()
-                count = count if quota == "max" else min(count, int(quota) // int(period))
-            place = "" if place == "/" else os.path.dirname(place)
-        return count
-    except (OSError, StopIteration, ValueError):
-        return 1
+def staged_replays():
+    """Replays of the staged engine: what they have work for, and how many threads they start at least."""
+    yield "small batches", Replay(300), 0
+    yield "a large batch", Replay(LARGE, LARGE_SETTINGS, LARGE_REQUEST), 1
+    yield "cutting alone", Replay(LARGE, ALONE + NARROW_FRONT + NARROW_BACK, LARGE_REQUEST), 1
+    yield "the front floor alone", Replay(1500, ALONE + NARROW_BACK, LONG_TARGET, 1), 1
+    yield "the back floor alone", Replay(8, ALONE + NARROW_FRONT, REQUEST, 1, LARGE_FILE), 1
 
 
-def check_staged_threads(checks, program, name, replay, shim):
-    """Refuses each thread of a staged replay in turn, and says how many there were."""
-    task = Task("staged, " + name, words(ENGINES[1]), b"", {"replies": replay.replies, "out": replay.report})
-    count = check_threads(checks, program, replay, task, shim)
-    print("%s: %d threads were refused in turn" % (name, count))
-    return count
+def check_staged_threads(checks, program, shim):
+    """Refuses each thread of some staged replays in turn."""
+    for name, replay, least in staged_replays():
+        task = Task("staged, " + name, words(ENGINES[1]), b"", {"replies": replay.replies, "out": replay.report})
+        count = check_threads(checks, program, replay, task, shim)
+        print("%s: %d threads were refused in turn" % (name, count))
+        checks.see("threads of " + name, count >= least, count)
 
 
 def check_poor(checks, program):
@@ -303,10 +306,7 @@ def check_poor(checks, program):
             for calls in ("READ", "WRITE"):
                 for error in (errno.EIO, errno.EINTR):
                     check_failing(checks, program, replay, task, shim, calls, error)
-        check_staged_threads(checks, program, "small batches", Replay(300), shim)
-        large = Replay(LARGE, LARGE_SETTINGS, LARGE_REQUEST)
-        count = check_staged_threads(checks, program, "a large batch", large, shim)
-        checks.see("a large batch starts threads", count > 0 or processors() < 2, count)
+        check_staged_threads(checks, program, shim)
     return True
 
 

@@ -60,6 +60,7 @@ LIMITS = (
 WORDS = (
     b"\n",
     b"\r\n",
+    b"\n\r",
     b" ",
     b"\0",
     b"\xff",

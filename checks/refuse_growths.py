@@ -5,9 +5,10 @@ usage: refuse_growths.py [CRATE..]
 
 It takes the tests that `rt ci` has built (crates/*/out/*) and that have `growth` in their names. For N = 1, 2,
 .. the Nth request of such a test is refused, until some runs make fewer: the test has to pass each time, for it looks
-at what is answered and what stands then. (Above MOST requests only each STRIDEth is refused, after the first MOST.) It
-needs a C compiler (CC, or cc) and the C library of GNU; without a compiler nothing is tried. Exits with 1 where a test
-fails, or where no test is found.
+at what is answered and what stands then. Of a test with `twice` in its name the next request is refused as well, in
+runs of its own. (Above MOST requests only each STRIDEth is refused, after the first MOST.) It needs a C compiler (CC,
+or cc) and the C library of GNU; without a compiler nothing is tried. Exits with 1 where a test fails, or where no test
+is found.
 """
 import concurrent.futures
 import glob
@@ -41,12 +42,13 @@ def build(folder):
     return shim
 
 
-def is_refused(binary, test, shim, number):
-    """Whether the request of this number came, and whether the test passed."""
+def is_refused(binary, test, shim, number, times):
+    """Whether the request of this number came, and whether the test passed; so many are refused from it on."""
     read, write = os.pipe()
     with os.fdopen(read, "rb") as told:
         with os.fdopen(write, "wb") as end:
-            more = {"LD_PRELOAD": shim, "REFUSE_AT": str(number), "REFUSED": str(end.fileno())}
+            numbers = {"REFUSE_AT": number, "REFUSE_TIMES": times, "REFUSED": end.fileno()}
+            more = {"LD_PRELOAD": shim, **{name: str(value) for name, value in numbers.items()}}
             ran = subprocess.run(
                 [binary, test], env={**os.environ, **more}, pass_fds=[end.fileno()], timeout=SECONDS, check=False,
                 stdin=subprocess.DEVNULL, stdout=subprocess.PIPE, stderr=subprocess.STDOUT,
@@ -56,10 +58,10 @@ def is_refused(binary, test, shim, number):
 
 def sweep(job):
     """Refuses each request of a test: how many there were, and what went wrong."""
-    binary, test, shim = job
+    binary, test, shim, times = job
     number, missed, refused, wrong = 1, 0, 0, []
     while missed < MISSED:
-        came, ran = is_refused(binary, test, shim, number)
+        came, ran = is_refused(binary, test, shim, number, times)
         refused, missed = (refused + 1, 0) if came else (refused, missed + 1)
         if ran.returncode != 0:
             wrong.append((number, ran.returncode, ran.stdout.decode(errors="replace")))
@@ -77,10 +79,11 @@ def main():
         binaries = sorted(glob.glob(os.path.join(TOP, "crates", "*", "out", "*_tests")))
         crates = {binary: binary.split(os.sep)[-3] for binary in binaries if os.access(binary, os.X_OK)}
         jobs = [
-            (binary, test, shim)
+            (binary, test, shim, times)
             for binary, crate in crates.items()
             if os.path.isfile(binary) and (not wanted or crate in wanted)
             for test in tests_of(binary)
+            for times in ((1, 2) if "twice" in test else (1,))
         ]
         failed = total = 0
         with concurrent.futures.ThreadPoolExecutor(os.cpu_count()) as pool:
@@ -89,7 +92,7 @@ def main():
                 total, failed = total + refused, failed + len(wrong)
                 for number, status, text in wrong[:3]:
                     print("  at request %d: status %d\n%s" % (number, status, text))
-        print("%d tests, %d growths refused, %d wrong" % (len(jobs), total, failed))
+        print("%d sweeps, %d growths refused, %d wrong" % (len(jobs), total, failed))
         return int(failed > 0 or not jobs)
 
 

@@ -1,6 +1,7 @@
 /* Loaded in front of the C library, it refuses the request for memory whose number REFUSE_AT gives, counted from 1 over
-   all threads, and then writes a byte to the file descriptor REFUSED. How many there were so far stands in the file
-   COUNTED, where that is set, as a number in the machine's own form. */
+   all threads, and those after it up to so many as REFUSE_TIMES says, where that is set. For each it writes a byte to
+   the file descriptor REFUSED. How many there were so far stands in the file COUNTED, where that is set, as a number in
+   the machine's own form. */
 #include <errno.h>
 #include <fcntl.h>
 #include <stdatomic.h>
@@ -32,9 +33,10 @@ __attribute__((constructor)) static void share_count(void)
 static int is_refused(void)
 {
     const char *at = getenv("REFUSE_AT");
+    const char *times = getenv("REFUSE_TIMES");
     const char *told = getenv("REFUSED");
     long number = atomic_fetch_add(requests, 1) + 1;
-    if (at == NULL || told == NULL || atol(at) != number) {
+    if (at == NULL || told == NULL || number < atol(at) || number >= atol(at) + (times ? atol(times) : 1)) {
         return 0;
     }
     (void)!write(atoi(told), "x", 1);

@@ -1,12 +1,13 @@
 -- Seats that are noted, taken out of the list, cut, and put back.
-use Rattle.std.proofs.Common.{◌≡◌, ◌≢◌, ℕ, zero, suc, ◌<◌, ◌≤◌, ◌⊎◌, inl, inr, List, [], ◌∷◌, ◌++◌, length, set, take, refl, sym, ap, ◌∙◌, arith}
+use Rattle.std.proofs.Common.{◌≡◌, ◌≢◌, ℕ, zero, suc, Bool, true, false, ◌↔◌, ◌<◌, ◌≤◌, ◌⊎◌, inl, inr, List, [], ◌∷◌, ◌++◌, length, set, take, refl, sym, ap, ◌∙◌, arith}
 use Rattle.std.specs.List.{All, AllZip, Contains}
 use Rattle.std.proofs.lemmas.Bool.{cases_eq, cases_lt}
 use Rattle.std.proofs.lemmas.List.{length-set, get_or-set_same, get_or-set_other, get_or_past, map-append, take_at}
 use Rattle.std.proofs.lemmas.List.Elements.{All-nil, All-head, All-tail, All-cons, All-push, All-weaker, All-get_or, Contains-append_left, Contains-push, Contains-push_cases}
 use Rattle.std.proofs.lemmas.Map.Made.{Contains-tail}
+use Rattle.std.specs.Prelude.{IsTrue}
 use Rattle.arrivals.specs.Places.{Place, place_at, empty_place, IsReady, IsCutOf}
-use Rattle.arrivals.specs.Noted.{AreNoted}
+use Rattle.arrivals.specs.Noted.{AreNoted, with_noted}
 use Rattle.arrivals.specs.Picking.{IsPickedOf, picks_of, TakesOut, IsCut, with_picked}
 use Rattle.arrivals.specs.declared.picked.Picked.{Picked}
 use Rattle.arrivals.proofs.CutBatches.{nothing_cut, no_items}
@@ -211,10 +212,15 @@ none_wait (p ∷ old) [] c h = absurd h
 none_wait (p ∷ old) (q ∷ cut) zero h = h.0.done
 none_wait (p ∷ old) (q ∷ cut) (suc c) h = none_wait old cut c h.1
 
+-- pieces wait at a place
+abbrev Waits : List Place → ℕ → Type 0
+Waits places k = 0 < length (place_at places k).pieces
+
 -- nothing waits at seats that were cut
 pub none_noted : (old cut : List Place) → AllZip IsCutOf old cut → AreNoted [] cut
 none_noted old cut h = record {
   below = All-nil (λ (k : ℕ). k < length cut);
+  waits = All-nil (Waits cut);
   each = λ c. inr (none_wait old cut c h);
 }
 
@@ -222,25 +228,64 @@ none_noted old cut h = record {
 pub noted_longer : (noted : List ℕ) (old new : List Place) → length old ≤ length new → ((c : ℕ) → place_at new c ≡ place_at old c) → AreNoted noted old → AreNoted noted new
 noted_longer noted old new le same are = record {
   below = All-weaker (λ (k : ℕ). k < length old) (λ (k : ℕ). k < length new) (λ k lt. omega (arith, lt, le)) noted are.below;
+  waits = All-weaker (Waits old) (Waits new) (λ k some. rw (same k) some) noted are.waits;
   each = λ c. elim (are.each c) [ inl m ↦ inl m | inr none ↦ inr (ap (λ (p : Place). p.pieces) (same c) ∙ none) ];
 }
 
--- one more is noted
-pub noted_more : (noted : List ℕ) (places : List Place) (k : ℕ) → k < length places → AreNoted noted places → AreNoted (noted ++ k ∷ []) places
-noted_more noted places k lt are = record {
-  below = All-push (λ (i : ℕ). i < length places) noted k are.below lt;
-  each = λ c. elim (are.each c) [ inl m ↦ inl (Contains-append_left noted (k ∷ []) c m) | inr none ↦ inr none ];
-}
+below_set : (noted : List ℕ) (places : List Place) (k : ℕ) (p : Place) → All (λ (i : ℕ). i < length places) noted → All (λ (i : ℕ). i < length (set places k p)) noted
+below_set noted places k p below =
+    All-weaker (λ (i : ℕ). i < length places) (λ (i : ℕ). i < length (set places k p)) (λ i small. rw (length-set places k p) small) noted below
 
--- a noted seat changes
-pub noted_set : (noted : List ℕ) (places : List Place) (k : ℕ) (p : Place) → k < length places → Contains noted k → AreNoted noted places → AreNoted noted (set places k p)
-noted_set noted places k p lt m are = record {
-  below = All-weaker (λ (i : ℕ). i < length places) (λ (i : ℕ). i < length (set places k p)) (λ i small. rw (length-set places k p) small) noted are.below;
+waits_set : (noted : List ℕ) (places : List Place) (k : ℕ) (p : Place) → k < length places → 0 < length p.pieces → All (Waits places) noted → All (Waits (set places k p)) noted
+waits_set noted places k p lt some waits = All-weaker (Waits places) (Waits (set places k p)) (λ c own. elim (at_set places k p c lt) [
+  | inl e ↦ rw e.1 some
+  | inr e ↦ rw e.1 own
+]) noted waits
+
+-- a piece came to a seat that is noted
+pub noted_set : (noted : List ℕ) (places : List Place) (k : ℕ) (p : Place) → k < length places → 0 < length p.pieces → Contains noted k → AreNoted noted places → AreNoted noted (set places k p)
+noted_set noted places k p lt some m are = record {
+  below = below_set noted places k p are.below;
+  waits = waits_set noted places k p lt some are.waits;
   each = λ c. elim (at_set places k p c lt) [
     | inl e ↦ inl (rw e.0 m)
     | inr e ↦ elim (are.each c) [ inl h ↦ inl h | inr none ↦ inr (ap (λ (q : Place). q.pieces) e.1 ∙ none) ]
   ];
 }
+
+-- a piece came to a seat, which was noted then
+pub noted_new : (noted : List ℕ) (places : List Place) (k : ℕ) (p : Place) → k < length places → 0 < length p.pieces → AreNoted noted places → AreNoted (noted ++ k ∷ []) (set places k p)
+noted_new noted places k p lt some are = record {
+  below = All-push (λ (i : ℕ). i < length (set places k p)) noted k (below_set noted places k p are.below) (rw (length-set places k p) lt);
+  waits = All-push (Waits (set places k p)) noted k (waits_set noted places k p lt some are.waits) (rw (get_or-set_same places k p empty_place lt) some);
+  each = λ c. elim (at_set places k p c lt) [
+    | inl e ↦ inl (rw e.0 (Contains-push noted k))
+    | inr e ↦ elim (are.each c) [
+      | inl h ↦ inl (Contains-append_left noted (k ∷ []) c h)
+      | inr none ↦ inr (ap (λ (q : Place). q.pieces) e.1 ∙ none)
+    ]
+  ];
+}
+
+-- the same pieces wait at a seat
+pub noted_kept : (noted : List ℕ) (places : List Place) (k : ℕ) (p : Place) → k < length places → (place_at places k).pieces ≡ p.pieces → AreNoted noted places → AreNoted noted (set places k p)
+noted_kept noted places k p lt same are = record {
+  below = below_set noted places k p are.below;
+  waits = All-weaker (Waits places) (Waits (set places k p)) kept noted are.waits;
+  each = λ c. elim (at_set places k p c lt) [
+    | inl e ↦ elim (are.each c) [
+      | inl h ↦ inl h
+      | inr none ↦ inr (ap (λ (q : Place). q.pieces) e.1 ∙ sym same ∙ ap (λ (i : ℕ). (place_at places i).pieces) (sym e.0) ∙ none)
+    ]
+    | inr e ↦ elim (are.each c) [ inl h ↦ inl h | inr none ↦ inr (ap (λ (q : Place). q.pieces) e.1 ∙ none) ]
+  ];
+}
+  where
+    kept : (c : ℕ) → Waits places c → Waits (set places k p) c
+    kept c some = elim (at_set places k p c lt) [
+      | inl e ↦ rw (e.1, ← same, ← e.0) some
+      | inr e ↦ rw e.1 some
+    ]
 
 -- a seat at which pieces wait is noted already
 pub is_noted : (noted : List ℕ) (places : List Place) (k : ℕ) → 0 < length (place_at places k).pieces → AreNoted noted places → Contains noted k
@@ -248,3 +293,9 @@ is_noted noted places k some are = elim (are.each k) [
   | inl m ↦ m
   | inr none ↦ absurd (let z : length (place_at places k).pieces ≡ 0 = ap length none in omega (arith, some, z))
 ]
+
+-- a piece came to a seat, which is noted from then on
+pub noted_piece : (noted : List ℕ) (places : List Place) (k : ℕ) (p : Place) (waited : Bool) → k < length places → 0 < length p.pieces
+    → (IsTrue waited ↔ (0 < length (place_at places k).pieces)) → AreNoted noted places → AreNoted (with_noted k waited noted) (set places k p)
+noted_piece noted places k p true lt some is are = noted_set noted places k p lt some (is_noted noted places k (is.0 refl) are) are
+noted_piece noted places k p false lt some is are = noted_new noted places k p lt some are

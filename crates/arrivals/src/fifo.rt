@@ -1,6 +1,6 @@
 //! A queue of which one item takes no memory.
 
-ghost use Rattle.std.specs.Prelude.{◌≡◌, ◌↔◌, ◌++◌, [], ◌∷◌, IsTrue, OnOk, IfSome, IfNone};
+ghost use Rattle.std.specs.Prelude.{◌≡◌, ◌↔◌, ◌++◌, [], ◌∷◌, IsTrue, OnOk, OnErr, IfSome, IfNone};
 
 use std::alloc::{AllocError, Global};
 use std::collections::VecDeque;
@@ -45,7 +45,8 @@ impl<T: Drop> Fifo<T> {
 
     /// Puts an item behind the others.
     pub(crate) fn push(&mut self, alloc: Global, item: T) -> Result<(), AllocError>
-        ensures { OnOk result (self.new ≡ self.old ++ item ∷ []) }
+        ensures ok { OnOk result (self.new ≡ self.old ++ item ∷ []) }
+        ensures err { OnErr result (self.new ≡ self.old) }
     {
         if self.is_empty() {
             self.first = Some(item);

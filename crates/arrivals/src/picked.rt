@@ -63,7 +63,8 @@ pub(crate) fn pick(
 }
 
 /// How many seats a part has at least, of those that so many threads cut. A list is halved while each half has so many:
-/// there are as many parts as threads, or as the next power of two.
+/// where there are two seats for each of them, there are as many parts as threads, or as the next power of two; else
+/// fewer, of two seats or three.
 fn part_len(seats: usize, threads: usize) -> usize {
     match threads.checked_next_power_of_two() {
         Some(parts) => seats.checked_div(parts).unwrap_or(seats).max(2),

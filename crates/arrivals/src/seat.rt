@@ -1,6 +1,6 @@
 //! The pieces of one connection in a batch, and their cutting into messages.
 
-ghost use Rattle.std.specs.Prelude.{◌≡◌, ◌<◌, ◌↔◌, [], ◌∷◌, length, IsTrue, IfOk, OnOk};
+ghost use Rattle.std.specs.Prelude.{◌≡◌, ◌<◌, ◌↔◌, [], ◌∷◌, length, IsTrue, IfOk, OnOk, OnErr};
 ghost use Rattle.arrivals.specs.Batches.{ReadsOn};
 ghost use Rattle.arrivals.specs.Places.{empty_place, with_piece, with_lists, CanRead, IsReady, IsCutOf};
 
@@ -44,7 +44,8 @@ impl Taken {
 
     /// A piece came.
     fn add(&mut self, alloc: Global, piece: Bytes) -> Result<(), AllocError>
-        ensures { OnOk result (self.new ≡ with_piece piece self.old) }
+        ensures ok { OnOk result (self.new ≡ with_piece piece self.old) }
+        ensures err { OnErr result (self.new ≡ self.old) }
     {
         self.pieces.push(alloc, piece)
     }
@@ -121,7 +122,8 @@ impl Seat {
 
     /// A piece came.
     pub(crate) fn add(&mut self, alloc: Global, piece: Bytes) -> Result<(), AllocError>
-        ensures { OnOk result (self.new ≡ with_piece piece self.old) }
+        ensures ok { OnOk result (self.new ≡ with_piece piece self.old) }
+        ensures err { OnErr result (self.new ≡ self.old) }
     {
         match &mut self.taken {
             Some(taken) => taken.add(alloc, piece),

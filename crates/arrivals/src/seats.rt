@@ -1,9 +1,10 @@
 //! All seats of a batch, cut side by side, and their messages merged in the order of the pieces.
 
-ghost use Rattle.std.specs.Prelude.{◌≡◌, ◌≢◌, ◌<◌, ◌≤◌, ◌∷◌, [], ℕ, length, map, All, IfOk, OnOk};
-ghost use Rattle.std.specs.List.{AllZip, Contains};
+ghost use Rattle.std.specs.Prelude.{◌≡◌, ◌≢◌, ◌<◌, ◌≤◌, ◌∷◌, [], ℕ, length, map, All, IfOk, OnOk, OnErr};
+ghost use Rattle.std.specs.Prelude.{vec_len, vec_capacity};
+ghost use Rattle.std.specs.List.{AllZip};
 ghost use Rattle.arrivals.specs.Batches.{lists_to};
-ghost use Rattle.arrivals.specs.Noted.{AreNoted};
+ghost use Rattle.arrivals.specs.Noted.{with_noted};
 ghost use Rattle.arrivals.specs.Places.{place_at, with_piece, with_lists, IsReady, IsCutOf, count_to};
 
 use crate::Series;
@@ -59,17 +60,14 @@ fn reach(list: &mut Vec<Seat>, conn: usize) -> Result<(), AllocError>
     Ok(())
 }
 
-/// Notes a seat, where no piece waits at it yet.
-fn note(list: &[Seat], noted: &mut Vec<usize>, conn: usize) -> Result<(), AllocError>
-    requires below { conn < length list.now }
-    requires noted { AreNoted noted.old.items list.now }
-    ensures noted { AreNoted noted.new.items list.now }
-    ensures own { OnOk result (Contains noted.new.items conn) }
+/// Notes a seat, where no piece waited at it before.
+fn note(noted: &mut Vec<usize>, conn: usize, waited: bool)
+    requires { vec_len noted.old < vec_capacity noted.old }
+    ensures { noted.new.items ≡ with_noted conn waited noted.old.items }
 {
-    if !list[conn].waits() {
-        noted.push(conn)?;
+    if !waited {
+        noted.push_reserved(conn);
     }
-    Ok(())
 }
 
 impl Seats {
@@ -85,15 +83,18 @@ impl Seats {
         }
     }
 
-    /// A piece came on a connection.
+    /// A piece came on a connection. It is noted once the piece waits there.
     pub fn add(&mut self, alloc: Global, conn: usize, piece: Bytes) -> Result<(), AllocError>
         ensures own { OnOk result (place_at self.new conn ≡ with_piece piece (place_at self.old conn)) }
         ensures others { OnOk result ((c : ℕ) → c ≢ conn → place_at self.new c ≡ place_at self.old c) }
+        ensures err { OnErr result ((c : ℕ) → place_at self.new c ≡ place_at self.old c) }
     {
         reach(&mut self.list, conn)?;
-        note(&self.list, &mut self.noted, conn)?;
+        self.noted.reserve(1)?;
         let bytes = piece.as_slice().len().saturating_add(PIECE);
+        let waited = self.list[conn].waits();
         self.list[conn].add(alloc, piece)?;
+        note(&mut self.noted, conn, waited);
         self.waiting = self.waiting.saturating_add(bytes);
         Ok(())
     }
@@ -156,3 +157,6 @@ impl Seats {
         Ok(found)
     }
 }
+
+#[cfg(test)]
+mod tests;

@@ -3,11 +3,14 @@
 ghost use Rattle.std.specs.Prelude.{◌≡◌, ◌<◌, ◌≤◌, ◌^◌, length, IfSome};
 ghost use Rattle.paths.specs.Snapshots.{file_of};
 
-use crate::{File, MAX_NAME_BYTES};
+use crate::File;
 use std::alloc::{AllocError, Global};
 
 /// How many slots are tried for a name, from that of its hash on.
 const TRIED: usize = 8;
+
+/// How many files have no slots: one or two comparisons find one of so few, in less time than a hash of its name takes.
+const FEW: usize = 2;
 
 /// The fewest slots for each file.
 const SLOTS_PER_FILE: usize = 2;
@@ -47,6 +50,8 @@ fn hash_of(name: &[u8]) -> u64 {
 pub(crate) struct NameIndex {
     /// In each slot one more than the number of a file, or 0. Their number is 0 or a power of two.
     slots: Vec<u32>,
+    /// How many bytes the longest name has of those that were put into slots, or 0.
+    longest: usize,
 }
 
 impl NameIndex {
@@ -54,13 +59,14 @@ impl NameIndex {
     pub(crate) fn empty(alloc: Global) -> NameIndex {
         NameIndex {
             slots: Vec::new(alloc),
+            longest: 0,
         }
     }
 
-    /// The index of these files. Where memory for it is refused, nothing is found in it.
+    /// The index of these files. Where they are few, or memory for it is refused, nothing is found in it.
     pub(crate) fn of(alloc: Global, files: &[File]) -> NameIndex {
         let mut index = NameIndex::empty(alloc);
-        if index.make_slots(files.len()).is_ok() {
+        if files.len() > FEW && index.make_slots(files.len()).is_ok() {
             for (number, file) in files.iter().enumerate() {
                 index.note(file.name.as_slice(), number);
             }
@@ -89,6 +95,7 @@ impl NameIndex {
         let Ok(number) = u32::try_from(number) else {
             return;
         };
+        self.longest = self.longest.max(name.len());
         let hash = hash_of(name);
         for tried in 0..TRIED {
             let place = self.place(hash, tried);
@@ -101,11 +108,11 @@ impl NameIndex {
         }
     }
 
-    /// The number of the file of a name, where it is found.
+    /// The number of the file of a name, where it is found. A name that is longer than each of them isn't hashed.
     pub(crate) fn find(&self, files: &[File], name: &[u8]) -> Option<usize>
         ensures { IfSome result (λ i. (i < length files.now) × ((file_of files.now i).name ≡ name.now)) }
     {
-        if name.len() as u64 > MAX_NAME_BYTES {
+        if name.len() > self.longest {
             return None;
         }
         let hash = hash_of(name);

@@ -1,4 +1,5 @@
 //! Out of memory: `checks/refuse_growths.py` refuses each growth in turn.
+use super::names::{found, text_of};
 use crate::tests::{fault, fault_of};
 use paths::{Input, Outcome, Snapshot, SnapshotFault, SnapshotFaultKind as Kind, resolve};
 use test_devices::Flaky;
@@ -26,6 +27,36 @@ fn each_growth_refused(rt: HostRuntime) {
             _ => false,
         };
         assert!(rt; is_right, "no redirect");
+    }
+}
+
+/// The names of so many files that they are found by a hash.
+static MANY: [&str; 12] = ["a", "b", "c", "d", "e", "f", "g", "h", "i", "j", "k/l", "m"];
+
+/// A snapshot that found no memory for its index has the same files.
+#[test]
+fn each_growth_refused_of_many_files(rt: HostRuntime) {
+    let alloc = rt.alloc();
+    let Ok(text) = text_of(alloc, &MANY) else {
+        return;
+    };
+    let mut input = Input::new(text.as_bytes());
+    let files = match Snapshot::read(alloc, &mut input) {
+        Ok(files) => files,
+        Err(found) => {
+            assert_eq!(rt; found.kind, Kind::Memory);
+            return;
+        }
+    };
+    for (number, name) in MANY.iter().enumerate() {
+        if let Ok(is) = found(alloc, &files, name) {
+            assert_eq!(rt; is, Some(number), "{name}");
+        }
+    }
+    for name in ["", "k", "k/", "k/l/", "no file has so long a name"] {
+        if let Ok(is) = found(alloc, &files, name) {
+            assert_eq!(rt; is, None, "{name}");
+        }
     }
 }
 

@@ -6,7 +6,7 @@ use std::process::Abort;
 use std::test::Fail;
 
 /// The text of a snapshot of empty files with these names, which rise.
-fn text_of(alloc: Global, names: &[&str]) -> Result<String, AllocError> {
+pub fn text_of(alloc: Global, names: &[&str]) -> Result<String, AllocError> {
     let mut text = String::from_str(alloc, "haboob-snapshot 1\n")?;
     for name in names {
         let file = format!(in alloc; "file 0 {} 0\n{name}\n\n", name.len())?;
@@ -18,7 +18,7 @@ fn text_of(alloc: Global, names: &[&str]) -> Result<String, AllocError> {
 }
 
 /// The number of the file of a name.
-fn found(alloc: Global, files: &Snapshot, name: &str) -> Result<Option<usize>, AllocError> {
+pub fn found(alloc: Global, files: &Snapshot, name: &str) -> Result<Option<usize>, AllocError> {
     let target = format!(in alloc; "/{name}")?;
     Ok(find_plain(files, b"GET", target.as_bytes()))
 }
@@ -99,7 +99,7 @@ fn check_many(rt: &(impl Abort + AllocGlobal), count: usize) -> Result<(), Fail>
     Ok(())
 }
 
-/// The counts stand on both sides of those at which an index has more slots.
+/// The counts stand on both sides of that from which on there is an index, and of those at which it has more slots.
 #[test]
 fn each_name_of_many(rt: HostRuntime) -> Result<(), Fail> {
     for count in [0, 1, 2, 3, 4, 5, 8, 9, 500, 4_096, 4_097, 20_000] {
@@ -119,6 +119,56 @@ fn longest_names(rt: HostRuntime) -> Result<(), Fail> {
     for count in [1023, 1025, 8000] {
         let name = "n".repeat(alloc, count)?;
         assert_eq!(rt; found(alloc, &files, &name)?, None, "{count}");
+    }
+    Ok(())
+}
+
+/// How many bytes the longest name has in `check_longest`.
+const LONGEST: usize = 40;
+
+/// Of so many files with short names and one with a longer, each is found, and none whose name has as many bytes as the
+/// longest, fewer or more.
+fn check_longest(rt: &(impl Abort + AllocGlobal), count: usize) -> Result<(), Fail> {
+    let alloc = rt.alloc();
+    let mut text = String::from_str(alloc, "haboob-snapshot 1\n")?;
+    for n in 0..count {
+        let file = format!(in alloc; "file 0 4 0\nd{n:03}\n\n")?;
+        text.push_str(file.as_str())?;
+    }
+    let longest = "m".repeat(alloc, LONGEST)?;
+    let end = format!(in alloc;
+        "file 0 {LONGEST} 0\n{longest}\n\nend {}\n",
+        count.saturating_add(1)
+    )?;
+    text.push_str(end.as_str())?;
+    let files = snapshot(alloc, text.as_bytes())?;
+    for n in 0..count {
+        let name = format!(in alloc; "d{n:03}")?;
+        assert_eq!(rt; found(alloc, &files, &name)?, Some(n), "{name} of {count}");
+    }
+    for bytes in [0, 1, 4, 39, 40, 41, 42, 48, 1000, 1023, 1024, 1025, 8000] {
+        let name = "m".repeat(alloc, bytes)?;
+        let want = (bytes == LONGEST).then_some(count);
+        assert_eq!(rt;
+            found(alloc, &files, &name)?,
+            want,
+            "{bytes} bytes, {count} files"
+        );
+        let other = format!(in alloc; "{name}n")?;
+        assert_eq!(rt;
+            found(alloc, &files, &other)?,
+            None,
+            "{bytes} bytes and one, {count} files"
+        );
+    }
+    Ok(())
+}
+
+/// Names as long as the longest of a snapshot, longer and shorter, among few files and among many.
+#[test]
+fn names_beside_the_longest(rt: HostRuntime) -> Result<(), Fail> {
+    for count in [0, 1, 2, 3, 8, 100] {
+        check_longest(&rt, count)?;
     }
     Ok(())
 }

@@ -23,7 +23,7 @@ loop-piece-preserved c =
     let reads : Reads c.loop-piece.connection p c.from_vec.result c.in_ok-connection.connection = rw (← c.as_slice.ensures, c.from_vec.ensures) c.in_ok-connection.ensures in (
       inv.0 ++ p ∷ [],
       inv.1 ∙ (ap (λ v. inv.0 ++ v) c.in-Some.ensures.some ∙ sym (append_assoc inv.0 (p ∷ []) following)),
-      rw c.in_ok-push.ensures (reads_push c.args.connection c.loop-piece.connection c.in_ok-connection.connection inv.0 p c.loop-piece.lists c.from_vec.result inv.2 reads),
+      rw c.in_ok-push.ensures.ok (reads_push c.args.connection c.loop-piece.connection c.in_ok-connection.connection inv.0 p c.loop-piece.lists c.from_vec.result inv.2 reads),
       can_read_more c.loop-piece.connection c.in_ok-connection.connection p following c.from_vec.result (rw c.in-Some.ensures.some at inv.3) reads,
     )
 
