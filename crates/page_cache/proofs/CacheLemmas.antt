@@ -1,7 +1,7 @@
 -- A look and a promotion, on the list of files.
 use Rattle.std.proofs.Common.{◌≡◌, ℕ, ◌+◌, ◌-◌, ◌<◌, ◌≤◌, true, false, List, [], ◌∷◌, Contains, length, take, nat_eq, zero, suc, refl, sym, ap, ◌∙◌, arith, Option, Some, None, IfSome, inl, inr, ◌⊎◌, if◌then◌else◌}
 use Rattle.std.specs.List.{IsDistinct, AllByRecursion}
-use Rattle.std.specs.Option.{option_map}
+use Rattle.std.specs.Option.{option_map, is_some}
 use Rattle.std.specs.Map.{keys_of, lookup, lookup_entry, remove_entry}
 use Rattle.std.proofs.lemmas.Bool.Decides.{eqb_tells}
 use Rattle.std.proofs.lemmas.List.Sums.{sum_by-cons}
@@ -67,6 +67,13 @@ pub there_is : {X : Type 0} (k : ℕ) (es : List (ℕ × X)) (v : X) → lookup 
 there_is k es v found = elim (by_entry k es) [
   | inl none ↦ cc
   | inr one ↦ one.3
+]
+
+-- a look-up finds one just where the file is there
+pub found_there : {X : Type 0} (k : ℕ) (es : List (ℕ × X)) → is_some (lookup (nat_eq k) es) ≡ has k (keys_of es)
+found_there k es = elim (by_entry k es) [
+  | inl none ↦ rw (none.1, none.2) refl
+  | inr one ↦ rw (one.2, one.3) refl
 ]
 
 -- and of no other, whatever is there

@@ -95,6 +95,13 @@ impl<F: Tree> PageCache<F> {
         self.pages.promote(&file);
     }
 
+    /// Whether the page of a file is there. Nothing changes, not even which was used last.
+    pub fn holds(&self, file: usize) -> bool
+        ensures { result ≡ has file self.now.pages }
+    {
+        self.pages.contains(&file)
+    }
+
     /// How many bytes the pages have together.
     pub fn bytes(&self) -> usize
         ensures sum { result ≡ sizes F.files self.now.pages }

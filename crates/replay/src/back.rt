@@ -1,25 +1,31 @@
-//! The back floor: a ticket becomes a reply, with its page from the shelf.
+//! The back floor: a ticket becomes a reply, with its page out of the cache.
 
-ghost use Rattle.std.specs.Prelude.{◌≡◌, ◌<◌, ◌++◌, true, ℕ, List, length, map, flat_map, IfOk, OnOk, IfErr};
+ghost use Rattle.std.specs.Prelude.{◌≡◌, ◌<◌, ◌++◌, [], ◌∷◌, true, ℕ, List, length, map, flat_map, IfOk, OnOk};
+ghost use Rattle.std.specs.Prelude.{IfErr};
 ghost use Rattle.std.specs.List.{list_all, range_with_len};
 ghost use Rattle.stage_graph.specs.After.{last_cut, with_steps};
+ghost use Rattle.stage_graph.specs.Through.{HasGoneThrough};
+ghost use Rattle.stage_graph.specs.declared.event.Event.{Event};
 ghost use Rattle.replay.specs.declared.back.BackState.TheVariants.{Due as Waits};
 ghost use Rattle.std.specs.Arc.{arc_value};
 ghost use Rattle.stage_graph.specs.Steps.{value_of};
 ghost use Rattle.replay.specs.Backs.{slip_of_ticket, back_step, is_back, can_render, is_due, due_at, reply_in};
 ghost use Rattle.replay.specs.Backs.{reply_to, back_after, elsewhere, ticket_elsewhere};
 
+use crate::groups::page_len;
 use crate::server::Server;
-use crate::shelf::{Shelf, page_at};
 use crate::ticket::{Due, Ticket};
-use page_cache::Page;
+use page_cache::{Page, PageCache};
 use paths::{Snapshot, Tree};
 use responses::{Given, Reply, SharedPage, Slip, try_render};
 use stage_graph::{Chain, Gate, Lotted, Named, Plan, Unrun, run_through};
 use std::alloc::{AllocError, Global};
 use std::marker::{Brand, PhantomData};
-use std::sync::{Arc, Wait};
+use std::sync::{Arc, Mutex, Wait};
 use std::thread::Threads;
+
+/// A page of more bytes than these is the last of its lot: to build it takes longer than to hand a lot on.
+const LARGE: usize = 16_384;
 
 /// Stands for a tree in a type where none is named.
 #[derive(Drop)]
@@ -81,34 +87,30 @@ impl<F: Tree, K: Backs> Named for BackItem<F, K> {
     }
 }
 
-/// The steps after the decision: the page is fetched from a shelf that all workers share, and the reply is
+/// The steps after the decision: the page is fetched through a cache that all workers share, and the reply is
 /// rendered.
 #[derive(Drop)]
 pub struct Back<'a, F: Tree, K: Backs, R: Wait> {
     rt: &'a R,
     alloc: Global,
     snapshot: &'a Snapshot,
-    shelf: &'a Shelf<F>,
+    cache: &'a Mutex<PageCache<F>>,
     of: PhantomData<K>,
     pub ghost files: { snapshot.now ≡ F.files },
 }
 
 impl<'a, F: Tree, K: Backs, R: Wait> Back<'a, F, K, R> {
-    /// The page of a file: from the shelf, or built and kept there.
+    /// The page of a file: from the cache, or built and kept there.
     fn page(&self, file: usize) -> Result<SharedPage<F>, AllocError>
         requires { file < length F.files }
         ensures { IfOk result (λ p. p ≡ file) }
     {
-        let cache = match self.shelf {
-            Shelf::Whole(places) => return page_at(places, self.alloc, self.snapshot, file),
-            Shelf::Recent(cache) => cache,
-        };
-        let found = cache.lock(self.rt).look(file)?;
+        let found = self.cache.lock(self.rt).look(file)?;
         if let Some(page) = found {
             return Ok(SharedPage::new(page));
         }
         let page = Page::build(self.alloc, self.snapshot, file)?;
-        let _kept = cache.lock(self.rt).keep(Arc::try_clone(&page)?);
+        let _kept = self.cache.lock(self.rt).keep(Arc::try_clone(&page)?);
         Ok(SharedPage::new(page))
     }
 
@@ -229,22 +231,42 @@ fn back_item<F: Tree, K: Backs>(number: usize, ticket: Ticket<F>) -> BackItem<F,
     }
 }
 
-/// The items of the tickets, with no step done, in lots for a plan.
+/// Puts an item behind the others, and may end its lot.
+fn add_item<T: Drop>(
+    alloc: Global,
+    items: &mut Lotted<T>,
+    item: T,
+    ends_lot: bool,
+) -> Result<(), AllocError>
+    ensures ok { OnOk result (items.new.items ≡ items.old.items ++ item ∷ []) }
+    ensures plan { items.new.plan ≡ items.old.plan }
+{
+    items.push(alloc, item)?;
+    if ends_lot {
+        items.end_lot(alloc)?;
+    }
+    Ok(())
+}
+
+/// The items of the tickets, with no step done, in lots for a plan. A large page is the last of its lot.
 fn back_items<F: Tree, K: Backs>(
     alloc: Global,
-    plan: &Plan,
+    snapshot: &Snapshot,
+    plan: Plan,
     tickets: Vec<Ticket<F>>,
 ) -> Result<Lotted<BackItem<F, K>>, AllocError>
     requires named { map ticket_elsewhere tickets.items ≡ K.tickets }
     requires ready { list_all (λ t. is_back F.files (Waits t)) tickets.items ≡ true }
-    ensures fresh { IfOk result (λ v. map (λ x. (x.number, x.done)) v
+    ensures fresh { IfOk result (λ v. map (λ x. (x.number, x.done)) v.items
         ≡ map (with_steps 0) (range_with_len 0 (length tickets.items))) }
-    ensures len { IfOk result (λ v. length v ≡ length tickets.items) }
+    ensures len { IfOk result (λ v. length v.items ≡ length tickets.items) }
+    ensures plan { IfOk result (λ v. v.plan ≡ plan) }
 {
     let mut items = Lotted::new(alloc, plan, tickets.len())?;
     let mut number = 0;
     for ticket in tickets {
-        items.push(alloc, back_item(number, ticket))?;
+        let is_large = page_len(snapshot, &ticket) > LARGE;
+        add_item(alloc, &mut items, back_item(number, ticket), is_large)?;
         number += 1;
     }
     Ok(items)
@@ -291,42 +313,45 @@ fn run_back_with<
     rt: &T,
     threads: usize,
     plan: Plan,
-    shelf: &Shelf<F>,
+    cache: &Mutex<PageCache<F>>,
     tickets: Vec<Ticket<F>>,
     gate: &G,
 ) -> Result<Vec<Reply<F>>, Unrun>
     requires named { map ticket_elsewhere tickets.items ≡ K.tickets }
     requires ready { list_all (λ t. is_back F.files (Waits t)) tickets.items ≡ true }
     requires cut { last_cut plan ≡ 2 }
-    ensures { IfOk result (λ v. v.items ≡ map (λ t. reply_to F.files (slip_of_ticket t)) tickets.items) }
+    ensures replies { IfOk result (λ v. v.items ≡ map (λ t. reply_to F.files (slip_of_ticket t)) tickets.items) }
+    ensures ran { IfOk result (λ _. (h : List Event) × HasGoneThrough plan (length tickets.items) h) }
 {
     let alloc = server.alloc;
     let count = tickets.len();
-    let items = back_items::<F, K>(alloc, &plan, tickets)?;
+    let items = back_items::<F, K>(alloc, server.snapshot, plan, tickets)?;
     let chain = Back::<F, K, T> {
         rt,
         alloc,
         snapshot: server.snapshot,
-        shelf,
+        cache,
         of: PhantomData,
     };
-    let lots = run_through::<Back<F, K, T>, G, T>(rt, alloc, threads, plan, &chain, items, gate)?;
-    Ok(replies_of(alloc, count, lots)?)
+    let carried = run_through::<Back<F, K, T>, G, T>(rt, alloc, threads, &chain, items, gate)?;
+    Ok(replies_of(alloc, count, carried.lots)?)
 }
 
-/// The replies to the tickets, by a floor of so many threads that share a shelf of pages.
+/// The replies to the tickets, by the back floor of the settings and so many threads, which share a cache of pages.
 pub(crate) fn run_back<F: Tree + Send + Sync, G: Gate + Sync, T: Threads + Wait + Sync>(
     server: &Server<'_, F>,
     rt: &T,
     threads: usize,
-    shelf: &Shelf<F>,
+    cache: &Mutex<PageCache<F>>,
     tickets: Vec<Ticket<F>>,
     gate: &G,
 ) -> Result<Vec<Reply<F>>, Unrun>
     requires ready { list_all (λ t. is_back F.files (Waits t)) tickets.items ≡ true }
-    ensures { IfOk result (λ v. v.items ≡ map (λ t. reply_to F.files (slip_of_ticket t)) tickets.items) }
+    ensures replies { IfOk result (λ v. v.items ≡ map (λ t. reply_to F.files (slip_of_ticket t)) tickets.items) }
+    ensures ran { IfOk result
+        (λ _. (h : List Event) × HasGoneThrough server.now.back (length tickets.items) h) }
 {
     let settings = server.settings;
     let plan = settings.back.try_clone(server.alloc)?;
-    run_back_with::<F, Brand, G, T>(server, rt, threads, plan, shelf, tickets, gate)
+    run_back_with::<F, Brand, G, T>(server, rt, threads, plan, cache, tickets, gate)
 }

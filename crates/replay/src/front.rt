@@ -3,6 +3,8 @@
 ghost use Rattle.std.specs.Prelude.{◌≡◌, ◌++◌, ℕ, List, IfOk, OnOk, IfErr, length, map, flat_map, slice_index_or};
 ghost use Rattle.std.specs.List.{range_with_len};
 ghost use Rattle.stage_graph.specs.After.{last_cut, with_steps};
+ghost use Rattle.stage_graph.specs.Through.{HasGoneThrough};
+ghost use Rattle.stage_graph.specs.declared.event.Event.{Event};
 ghost use Rattle.replay.specs.Fronts.{front_value};
 ghost use Rattle.stage_graph.specs.Steps.{value_of};
 ghost use Rattle.paths.specs.Targets.{asked};
@@ -217,11 +219,13 @@ fn front_item<F: Tree, K: Fronts>(number: usize) -> FrontItem<F, K>
 /// The items of so many messages, with no step done, in lots for a plan.
 fn front_items<F: Tree, K: Fronts>(
     alloc: Global,
-    plan: &Plan,
+    plan: Plan,
     count: usize,
 ) -> Result<Lotted<FrontItem<F, K>>, AllocError>
-    ensures fresh { IfOk result (λ v. map (λ x. (x.number, x.done)) v ≡ map (with_steps 0) (range_with_len 0 count)) }
-    ensures len { IfOk result (λ v. length v ≡ count) }
+    ensures fresh { IfOk result
+        (λ v. map (λ x. (x.number, x.done)) v.items ≡ map (with_steps 0) (range_with_len 0 count)) }
+    ensures len { IfOk result (λ v. length v.items ≡ count) }
+    ensures plan { IfOk result (λ v. v.plan ≡ plan) }
 {
     let mut items = Lotted::new(alloc, plan, count)?;
     for number in 0..count {
@@ -294,12 +298,13 @@ fn run_front_with<
     requires costs { server.now.costs ≡ K.costs }
     requires messages { messages.items ≡ K.messages }
     requires cut { last_cut plan ≡ 3 }
-    ensures { IfOk result (λ v. v.items ≡ map (front_value F.files server.now.costs) messages.items) }
+    ensures seen { IfOk result (λ v. v.items ≡ map (front_value F.files server.now.costs) messages.items) }
+    ensures ran { IfOk result (λ _. (h : List Event) × HasGoneThrough plan (length messages.items) h) }
 {
     let alloc = server.alloc;
     let settings = server.settings;
     let count = messages.len();
-    let items = front_items::<F, K>(alloc, &plan, count)?;
+    let items = front_items::<F, K>(alloc, plan, count)?;
     let chain = Front::<F, K> {
         alloc,
         snapshot: server.snapshot,
@@ -308,12 +313,12 @@ fn run_front_with<
         tree: PhantomData,
         of: PhantomData,
     };
-    let lots = run_through::<Front<F, K>, G, T>(rt, alloc, threads, plan, &chain, items, gate)?;
-    let sights = sights_of(alloc, count, lots)?;
+    let carried = run_through::<Front<F, K>, G, T>(rt, alloc, threads, &chain, items, gate)?;
+    let sights = sights_of(alloc, count, carried.lots)?;
     Ok(with_sights(alloc, messages, sights)?)
 }
 
-/// What is known of each message before it is decided on, by a floor of so many threads.
+/// What is known of each message before it is decided on, by the front floor of the settings and so many threads.
 pub(crate) fn run_front<F: Tree + Send + Sync, G: Gate + Sync, T: Threads + Wait + Sync>(
     server: &Server<'_, F>,
     rt: &T,
@@ -321,7 +326,9 @@ pub(crate) fn run_front<F: Tree + Send + Sync, G: Gate + Sync, T: Threads + Wait
     messages: Vec<Incoming>,
     gate: &G,
 ) -> Result<Vec<Sighted>, Unrun>
-    ensures { IfOk result (λ v. v.items ≡ map (front_value F.files server.now.costs) messages.items) }
+    ensures seen { IfOk result (λ v. v.items ≡ map (front_value F.files server.now.costs) messages.items) }
+    ensures ran { IfOk result
+        (λ _. (h : List Event) × HasGoneThrough server.now.front (length messages.items) h) }
 {
     let settings = server.settings;
     let plan = settings.front.try_clone(server.alloc)?;

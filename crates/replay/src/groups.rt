@@ -3,11 +3,12 @@
 ghost use Rattle.std.specs.Prelude.{◌≡◌, ◌++◌, IfOk};
 ghost use Rattle.replay.specs.Groups.{all_of};
 
-use crate::shelf::Shelf;
 use crate::ticket::{Due, Ticket};
 use arrivals::Series;
+use page_cache::PageCache;
 use paths::{Snapshot, Tree};
 use std::alloc::{AllocError, Global};
+use std::sync::{Mutex, Wait};
 
 /// How many bytes of pages the replies of a group hold at most, where the cache can't hold the pages of all files.
 const MAX_HELD: usize = 33_554_432;
@@ -21,41 +22,24 @@ const REPLY: usize = 512;
 /// The pages that all workers share.
 #[derive(Drop)]
 pub struct Pages<F: Tree> {
-    pub shelf: Shelf<F>,
+    pub cache: Mutex<PageCache<F>>,
     /// How many bytes of pages the replies of a group may hold, each counted as often as it is due.
     pub room: usize,
 }
 
-/// Whether so many bytes have room for the pages of all files.
-fn all_fit(snapshot: &Snapshot, bytes: usize) -> bool {
+/// How many bytes of pages the replies of a group may hold. Where the cache has room for the pages of all files, each
+/// stands in memory once, however many replies share it.
+pub(crate) fn room_for_pages(snapshot: &Snapshot, cache: usize) -> usize {
     let mut all: usize = 0;
     for file in 0..snapshot.len() {
         let page = snapshot.bytes(file).len().saturating_add(FIELDS);
         all = all.saturating_add(page);
     }
-    all <= bytes
-}
-
-impl<F: Tree> Pages<F> {
-    /// No page yet, and room for so many bytes of them. Where these are enough for the pages of all files, each stands
-    /// in memory once, however many replies share it.
-    pub(crate) fn new(
-        alloc: Global,
-        snapshot: &Snapshot,
-        bytes: usize,
-    ) -> Result<Pages<F>, AllocError>
-        requires { snapshot.now ≡ F.files }
-    {
-        let all_fit = all_fit(snapshot, bytes);
-        Ok(Pages {
-            shelf: Shelf::new(alloc, snapshot.len(), all_fit, bytes)?,
-            room: if all_fit { usize::MAX } else { MAX_HELD },
-        })
-    }
+    if all <= cache { usize::MAX } else { MAX_HELD }
 }
 
 /// How many bytes of a file the page of a ticket holds.
-fn page_len<F: Tree>(snapshot: &Snapshot, ticket: &Ticket<F>) -> usize {
+pub(crate) fn page_len<F: Tree>(snapshot: &Snapshot, ticket: &Ticket<F>) -> usize {
     match &ticket.due {
         Due::Page { file, .. } if *file < snapshot.len() => snapshot.bytes(*file).len(),
         _ => 0,
@@ -88,17 +72,19 @@ fn held_by<F: Tree>(snapshot: &Snapshot, tickets: &[Ticket<F>]) -> usize {
 }
 
 /// How much work a group is, in bytes that are copied: what its replies cost besides their pages, and the pages that
-/// may have to be built.
-pub(crate) fn work_of<F: Tree>(
+/// aren't in the cache when the group is begun, each counted as often as it is due.
+pub(crate) fn work_of<F: Tree, R: Wait>(
+    rt: &R,
     snapshot: &Snapshot,
-    shelf: &Shelf<F>,
+    cache: &Mutex<PageCache<F>>,
     tickets: &[Ticket<F>],
 ) -> usize {
+    let pages = cache.lock(rt);
     let mut work: usize = 0;
     for ticket in tickets {
         work = work.saturating_add(REPLY);
         if let Due::Page { file, .. } = &ticket.due {
-            if !shelf.has(*file) {
+            if !pages.holds(*file) {
                 work = work.saturating_add(page_len(snapshot, ticket));
             }
         }

@@ -19,7 +19,6 @@ mod server;
 mod service_time;
 mod serving;
 mod settings;
-mod shelf;
 mod shifted;
 mod sight;
 mod staged;

@@ -111,13 +111,13 @@ fn answer_group<F: Tree + Send + Sync, G: Gate + Sync, T: Threads + Wait + Sync,
         stages: settings.front.stages(),
         first,
     };
-    let shelf = &floors.pages.shelf;
-    let work = work_of(server.snapshot, shelf, &group);
+    let cache = &floors.pages.cache;
+    let work = work_of(floors.rt, server.snapshot, cache, &group);
     let replies = run_back::<F, Shifted<G>, T>(
         server,
         floors.rt,
         floors.threads.min(work / WORTH_ANSWERING),
-        shelf,
+        cache,
         group,
         &following,
     )?;

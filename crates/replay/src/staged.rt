@@ -13,7 +13,7 @@ ghost use Rattle.replay.specs.Steps.{AnswersBatch, FillsWithBatch, AnswersBatchI
 ghost use Rattle.replay.specs.Waiting.{ComeNext, Waiting};
 
 use crate::desk::Desk;
-use crate::groups::Pages;
+use crate::groups::{Pages, room_for_pages};
 use crate::plain::{outcome_of, write_first_line, write_last_line};
 use crate::server::Server;
 use crate::serving::{Floors, serve_parts};
@@ -23,12 +23,13 @@ use crate::{MAX_MESSAGES, ReplayFault, Settings};
 use admission::Controller;
 use arrivals::{Ending, Origin, Seats, Tiers, parts_of, read_batch};
 use captures::CaptureReader;
+use page_cache::PageCache;
 use paths::{Input, Output, Snapshot, Tree};
 use stage_graph::Gate;
 use std::alloc::Global;
 use std::io::{Read, Write};
 use std::marker::PhantomData;
-use std::sync::Wait;
+use std::sync::{Mutex, Wait};
 use std::thread::{Threads, available_parallelism};
 
 /// Serves a batch whose pieces wait at the seats: the connections are cut in parallel, and their messages answered in
@@ -129,7 +130,10 @@ pub fn staged_replay<
         controller: Controller::new(alloc, settings.policies)?,
         totals: Totals::new(alloc),
     };
-    let pages = Pages::<F>::new(alloc, snapshot, settings.cache)?;
+    let pages = Pages {
+        cache: Mutex::new(PageCache::<F>::new(alloc, settings.cache, snapshot.len())?),
+        room: room_for_pages(snapshot, settings.cache),
+    };
     let server = Server::<F> {
         alloc,
         snapshot,

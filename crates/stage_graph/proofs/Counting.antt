@@ -20,6 +20,8 @@ use Rattle.stage_graph.proofs.Leaving.{all_true-get}
 use Rattle.stage_graph.proofs.Histories.{and_left, and_right, legal-take}
 use Rattle.stage_graph.proofs.Capacities.{capacities_hold}
 use Rattle.std.proofs.Common.{take}
+use Rattle.stage_graph.specs.Floors.{all_left}
+use Rattle.stage_graph.specs.Through.{IsWhole}
 use Rattle.stage_graph.proofs.Sound.{short_enough, by_bool, lost, gained, total_after, total-opening, range_within, IsPlaced, IsPlaced-after, IsPlaced-opening}
 
 -- where each event takes from a total at least what it counts, all counts together are at most the first total
@@ -281,4 +283,17 @@ bounds_kept p n h plan legal = record {
   given = given_once p n h plan legal;
   short = short_enough p n h plan legal;
   queues = λ m. capacities_hold p n (take m h) plan (legal-take p n h m legal);
+}
+
+-- what a run's history is
+pub whole_run : (p : Layout) (n : ℕ) (h : List Event) → IsPlan p → is_legal_from_opening p n h ≡ true → all_left (standing p n h) ≡ true
+    → all_done (standing p n h) ≡ true → IsWhole p n h
+whole_run p n h plan legal left done = record {
+  legal = legal;
+  left = left;
+  done = done;
+  fed = fed_just_once p n h plan legal done;
+  taken = taken_just_once p n h plan legal done;
+  given = given_just_once p n h plan legal done;
+  bounds = bounds_kept p n h plan legal;
 }

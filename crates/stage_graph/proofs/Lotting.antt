@@ -1,10 +1,18 @@
 -- Items that travel in lots.
-use Rattle.std.proofs.Common.{◌≡◌, ℕ, zero, suc, ◌+◌, List, [], ◌∷◌, ◌++◌, drop, map, refl, sym, ap, ◌∙◌, arith, length, append_assoc}
+use Rattle.std.proofs.Common.{◌≡◌, ℕ, zero, suc, ◌+◌, ◌*◌, ◌<◌, ◌≤◌, List, [], ◌∷◌, ◌++◌, drop, map, refl, sym, ap, ◌∙◌, arith, length, append_assoc, slice_index, subst, Bool, false, nat_eq}
 use Rattle.std.specs.Prelude.{flat_map}
-use Rattle.std.proofs.lemmas.List.{map-append}
+use Rattle.std.proofs.lemmas.List.{map-append, length-map}
+use Rattle.std.proofs.lemmas.List.Elements.{All-map, All-weaker}
+use Rattle.std.proofs.lemmas.List.FromFn.{length-map-range_with_len}
 use Rattle.std.specs.List.{range_with_len}
 use Rattle.stage_graph.specs.After.{with_steps}
-use Rattle.stage_graph.specs.Layouts.{Layout, IsPlan, stages}
+use Rattle.stage_graph.specs.Layouts.{Layout, IsPlan, HasRoom, stages, capacity_at}
+use Rattle.stage_graph.specs.Loads.{IsLotSize, IsLot, AreLots}
+use Rattle.stage_graph.specs.Stopped.{IsStopped}
+use Rattle.stage_graph.specs.Through.{IsFloorInLots, AreLotsOf, IsWhole, HasGoneThrough, IsStoppedInLots}
+use Rattle.stage_graph.specs.declared.event.Event.{Event}
+use Rattle.stage_graph.specs.declared.unrun.Unrun.{Unrun}
+use Rattle.stage_graph.specs.declared.unrun.Unrun.TheVariants.{Memory, Stopped}
 use Rattle.stage_graph.specs.Steps.{value_of}
 use Rattle.stage_graph.proofs.ByNumber.{by_number}
 use Rattle.stage_graph.specs.Lots.{step_each, numbers_in, each_alone}
@@ -86,6 +94,11 @@ flat_numbers number items [] = refl
 flat_numbers number items (v ∷ lots) =
     ap (λ ns. map number (items v) ++ ns) (flat_numbers number items lots) ∙ sym (map-append number (items v) (flat_map items lots))
 
+-- there are some lots, and they have no more items than the capacity
+pub record FitIn (size capacity lots : ℕ) : Type 0 where
+  pub some : 0 < lots
+  pub room : lots * size ≤ capacity
+
 -- a plan with queues of other capacities
 pub resized : (p : Layout) (capacities : List ℕ) → IsPlan p → length capacities ≡ stages p → IsPlan (record { cuts = p.cuts; posts = p.posts; capacities = capacities })
 resized p capacities h e = record {
@@ -96,6 +109,31 @@ resized p capacities h e = record {
   bounded = h.bounded;
   rising = h.rising;
 }
+
+-- a queue of the plan has room for a lot
+pub lot_fits : (p : Layout) (size k : ℕ) (xs : List ℕ) → xs ≡ p.capacities → IsPlan p → IsLotSize p size → k < length xs → (0 < size) × (size ≤ slice_index xs k)
+lot_fits p size k xs same plan fit below =
+    let long = ap length same in
+    let all = plan.capacities in
+    (fit.some, rw same (fit.fits k (omega (arith, long, all, below))))
+
+-- the plan whose queues have room for as many lots as fit
+pub laid_in_lots : (p : Layout) (size : ℕ) (xs capacities : List ℕ) → xs ≡ p.capacities → IsPlan p → 0 < size → length capacities ≡ length xs
+    → ((k : ℕ) → k < length xs → FitIn size (slice_index xs k) (slice_index capacities k))
+    → (IsPlan (record { cuts = p.cuts; posts = p.posts; capacities = capacities }) × HasRoom (record { cuts = p.cuts; posts = p.posts; capacities = capacities }))
+    × IsFloorInLots p size (record { cuts = p.cuts; posts = p.posts; capacities = capacities })
+laid_in_lots p size xs capacities same plan some long fits =
+    let all : length xs ≡ stages p = ap length same ∙ plan.capacities in
+    let fit : (k : ℕ) → k < stages p → FitIn size (capacity_at p k) (slice_index capacities k) = λ k below. rw same at (fits k (omega (arith, all, below))) in (
+      (resized p capacities plan (long ∙ all), λ k below. (fit k below).some),
+      record {
+        lot = some;
+        cuts = refl;
+        posts = refl;
+        some = λ k below. (fit k below).some;
+        room = λ k below. (fit k below).room;
+      },
+    )
 
 -- the marks of the lots that follow the first
 pub rest_marks : {X B : Type 0} (f : X → B) (w : List ℕ → B) (xs ys : List X) (x : X) (lots : List (List ℕ)) (k : ℕ)
@@ -134,3 +172,67 @@ flat_map-mapped f items (v ∷ lots) =
 
 pub length-more : {X : Type 0} (xs ys : List X) (x : X) → xs ≡ x ∷ ys → length xs ≡ length ys + 1
 length-more xs ys x e = rw e (omega arith)
+
+-- a list that isn't empty
+pub some_left : (n m : ℕ) (b : Bool) → b ≡ nat_eq n 0 → b ≡ false → m ≡ n → 0 < m
+some_left zero m b is false_is e = absurd (let z : ⊥ = cc in z)
+some_left (suc n) m b is false_is e = omega arith
+
+-- lots, by the numbers of their items
+pub lots_of : {X L : Type 0} (number done : X → ℕ) (items : L → List X) (size n : ℕ) (lots : List L)
+    → map {B = ℕ × ℕ} (λ x. (number x, done x)) (flat_map items lots) ≡ map (with_steps 0) (range_with_len 0 n) → AreLots items size lots
+    → AreLotsOf size n (map (λ v. map number (items v)) lots)
+lots_of number done items size n lots fresh sized = record {
+  in_order = flat_numbers number items lots ∙ numbers_are number done 0 (flat_map items lots) (range_with_len 0 n) fresh;
+  small = All-map (IsLot size) (λ v. map number (items v)) lots (All-weaker (λ v. IsLot size (items v)) (λ v. IsLot size (map number (items v))) (λ v is. as_long number (items v) size is) lots sized);
+}
+  where
+    as_long : {X : Type 0} (number : X → ℕ) (xs : List X) (size : ℕ) → IsLot size xs → IsLot size (map number xs)
+    as_long number xs size is = let e = length-map xs number in (omega (arith, e, is.0), omega (arith, e, is.1))
+
+-- each item is a lot of its own
+pub each_a_lot : (n : ℕ) → AreLotsOf 1 n (map (λ k. k ∷ []) (range_with_len 0 n))
+each_a_lot n = record {
+  in_order = flat (range_with_len 0 n);
+  small = All-map (IsLot 1) (λ k. k ∷ []) (range_with_len 0 n) (λ k d below. (omega arith, omega arith));
+}
+  where
+    flat : (ns : List ℕ) → flat_map (λ ns. ns) (map (λ k. k ∷ []) ns) ≡ ns
+    flat [] = refl
+    flat (n ∷ ns) = ap (λ ms. n ∷ ms) (flat ns)
+
+pub length-each : (n : ℕ) → n ≡ length (map {B = List ℕ} (λ k. k ∷ []) (range_with_len 0 n))
+length-each n = sym (length-map-range_with_len (λ k. k ∷ []) 0 n)
+
+-- the plan itself, on which each item travels for itself
+pub plain_floor : (p : Layout) (size : ℕ) → IsLotSize p size → IsFloorInLots p 1 p
+plain_floor p size fit = record {
+  lot = omega arith;
+  cuts = refl;
+  posts = refl;
+  some = λ k below. let one = fit.some in let room = fit.fits k below in omega (arith, one, room);
+  room = λ k below. omega arith;
+}
+
+pub gone_through : (p floor : Layout) (size n count : ℕ) (lots : List (List ℕ)) (h : List Event) → IsFloorInLots p size floor → AreLotsOf size n lots
+    → count ≡ length lots → IsWhole floor count h → HasGoneThrough p n h
+gone_through p floor size n count lots h laid are long whole = record {
+  size = size;
+  floor = floor;
+  lots = lots;
+  laid = laid;
+  are = are;
+  whole = let P : ℕ → Type 0 = λ m. IsWhole floor m h in subst P long whole;
+}
+
+pub stopped_in_lots : (p floor : Layout) (size n count : ℕ) (lots : List (List ℕ)) (u : Unrun) → IsFloorInLots p size floor → AreLotsOf size n lots
+    → count ≡ length lots → IsStopped floor count u → IsStoppedInLots p n u
+stopped_in_lots p floor size n count lots Memory laid are long is = tt
+stopped_in_lots p floor size n count lots (Stopped h) laid are long is = record {
+  size = size;
+  floor = floor;
+  lots = lots;
+  laid = laid;
+  are = are;
+  stopped = let P : ℕ → Type 0 = λ m. IsStopped floor m (Stopped h) in subst P long is;
+}

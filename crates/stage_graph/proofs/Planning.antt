@@ -1,11 +1,12 @@
 -- A plan's lists.
-use Rattle.std.proofs.Common.{◌≡◌, ℕ, zero, suc, ◌+◌, ◌-◌, ◌<◌, ◌≤◌, Bool, true, false, cond, ◌&&◌, List, [], ◌∷◌, ◌++◌, length, get_or, take, replicate, nat_lt, nat_le, refl, sym, ap, ◌∙◌, subst, arith, Option, Some, None, length-append, append_assoc}
+use Rattle.std.proofs.Common.{◌≡◌, ℕ, zero, suc, ◌+◌, ◌-◌, ◌<◌, ◌≤◌, Bool, true, false, cond, ◌&&◌, List, [], ◌∷◌, ◌++◌, length, get_or, take, replicate, nat_lt, nat_le, nat_eq, refl, sym, ap, ◌∙◌, subst, arith, Option, Some, None, length-append, append_assoc}
 use Rattle.std.proofs.lemmas.Bool.{ltb-true, ltb-false, eqb-true}
 use Rattle.std.proofs.lemmas.List.{append-nil, take_more, get_or-replicate, length-replicate, length-take-le, get_or_append_left, get_or-append-add}
-use Rattle.stage_graph.specs.Layouts.{Layout, IsPlan, cut_at, cut_before, posts_of, layout_of, is_rising, are_within}
+use Rattle.stage_graph.specs.Layouts.{Layout, IsPlan, HasRoom, cut_at, cut_before, posts_of, layout_of, is_rising, are_within}
 use Rattle.stage_graph.specs.Floors.{is_nil}
 use Rattle.stage_graph.specs.PlanFaults.{plan_fault}
 use Rattle.stage_graph.specs.declared.plan.PlanFault.{PlanFault}
+use Rattle.stage_graph.specs.declared.plan.PlanFault.TheVariants.{Empty, Order, Workers, Capacity}
 use Rattle.stage_graph.proofs.Histories.{and_left, and_right}
 use Rattle.stage_graph.proofs.Sound.{by_bool}
 use Rattle.stage_graph.proofs.Moves.{cut_before-next}
@@ -109,3 +110,19 @@ plan_from cuts crews capacities h =
         let e : suc k ≡ k + 1 = omega arith in
         let P : ℕ → Type 0 = λ j. cut_before p j < cut_at p j in
         subst P (sym e) (rw (cut_before-next p k) (rises 0 p.cuts k r (omega arith)))
+
+-- and each of its queues has room
+pub room_from : (cuts crews capacities : List ℕ) → plan_fault cuts crews capacities ≡ None → HasRoom (layout_of cuts crews capacities)
+room_from cuts crews capacities h =
+    let a = cond_not (is_nil cuts) _ Empty h in
+    let b = cond_only (is_rising 0 cuts) _ Order a.1 in
+    let c = cond_only (nat_eq (length crews) (length cuts) && are_within 16 crews) _ Workers b.1 in
+    let d = cond_only (nat_eq (length capacities) (length cuts) && are_within 4096 capacities) None Capacity c.1 in
+    let long : length capacities ≡ length cuts = eqb-true (length capacities) (length cuts) (and_left (nat_eq (length capacities) (length cuts)) (are_within 4096 capacities) d.0) in
+    let within = and_right (nat_eq (length capacities) (length cuts)) (are_within 4096 capacities) d.0 in
+    λ k i. above_none capacities k within (omega (arith, long, i))
+  where
+    above_none : (xs : List ℕ) (k : ℕ) → are_within 4096 xs ≡ true → k < length xs → 0 < get_or xs k 0
+    above_none [] k h i = absurd (omega arith)
+    above_none (x ∷ xs) zero h i = ltb-true 0 x (and_left (nat_lt 0 x) (nat_le x 4096) (and_left (nat_lt 0 x && nat_le x 4096) (are_within 4096 xs) h))
+    above_none (x ∷ xs) (suc k) h i = above_none xs k (and_right (nat_lt 0 x && nat_le x 4096) (are_within 4096 xs) h) (omega arith)

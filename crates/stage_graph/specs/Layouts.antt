@@ -1,5 +1,5 @@
 -- The layout of a plan: stages with their cuts, workers and capacities.
-use Rattle.std.specs.Prelude.{◌≡◌, ℕ, ◌+◌, ◌-◌, ◌*◌, ◌<◌, ◌≤◌, Bool, List, [], ◌∷◌, length, slice_index, nat_eq, nat_lt}
+use Rattle.std.specs.Prelude.{◌≡◌, ℕ, ◌+◌, ◌-◌, ◌<◌, ◌≤◌, Bool, List, [], ◌∷◌, length, slice_index, nat_eq, nat_lt}
 use Rattle.std.specs.Prelude.{if◌then◌else◌, true, ◌&&◌, ◌++◌, replicate, nat_le}
 use Rattle.std.specs.List.{list_all}
 use Rattle.std.proofs.Common.{suc}
@@ -34,13 +34,9 @@ cut_before p k = if nat_eq k 0 then 0 else cut_at p (k - 1)
 abbrev pub capacity_at : Layout → ℕ → ℕ
 capacity_at p k = slice_index p.capacities k
 
--- so many lots of this size hold no more items than there is room for, if one lot holds no more
-abbrev pub FitInLots : ℕ → ℕ → ℕ → Type 0
-FitInLots size capacity lots = size ≤ capacity → lots * size ≤ capacity
-
--- each queue of the plan for lots holds no more items than that of the plan
-abbrev pub HasRoomInLots : ℕ → Layout → Layout → Type 0
-HasRoomInLots size plan lots = (k : ℕ) → k < stages plan → FitInLots size (capacity_at plan k) (capacity_at lots k)
+-- each queue has room for an item at least
+abbrev pub HasRoom : Layout → Type 0
+HasRoom p = (k : ℕ) → k < stages p → 0 < capacity_at p k
 
 -- whether k is the last stage
 abbrev pub is_last : Layout → ℕ → Bool

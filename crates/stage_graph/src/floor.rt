@@ -14,6 +14,7 @@ ghost use Rattle.stage_graph.specs.Floors.{standing, queue_at, hand_at, has_left
 ghost use Rattle.stage_graph.specs.Floors.{is_at, first, is_allowed, feed_cause, take_cause, give_cause, back_cause};
 ghost use Rattle.stage_graph.specs.Floors.{leave_cause, halt_cause, is_legal_from_opening, all_left, all_done, left_on};
 ghost use Rattle.stage_graph.specs.Floors.{has_stop};
+ghost use Rattle.stage_graph.specs.Through.{IsWhole};
 
 mod causes;
 mod events;
@@ -249,6 +250,17 @@ impl<C: Chain, N: RunName> Run<C, N> {
     {
         let Run { items, .. } = self;
         items
+    }
+
+    // The items by number, and the accepted events.
+    pub(crate) fn into_parts(self) -> (Vec<C::Item>, History)
+        ensures values { map C.content result.0.items
+            ≡ map (λ k. value_of C.step (last_cut N.plan) (C.input_at k)) (range_with_len 0 N.count) }
+        ensures history { result.1 ≡ self }
+        ensures whole { IsWhole N.plan N.count result.1 }
+    {
+        let Run { items, history, .. } = self;
+        (items, History::from(history))
     }
 }
 

@@ -1,28 +1,21 @@
 //! A floor on which items travel in lots: several of them are given on at once.
 
-ghost use Rattle.std.specs.Prelude.{◌≡◌, ◌+◌, ◌<◌, ◌≤◌, ◌++◌, [], ◌∷◌, ℕ, List, true, map, flat_map, length};
-ghost use Rattle.std.specs.Prelude.{IfOk, IfErr, OnOk, IfSome};
+ghost use Rattle.std.specs.Prelude.{◌≡◌, ◌+◌, ◌<◌, ℕ, List, true, map, flat_map, length, IfOk, IfErr, IfSome};
 ghost use Rattle.std.specs.List.{range_with_len};
 ghost use Rattle.stage_graph.specs.After.{with_steps, last_cut};
 ghost use Rattle.stage_graph.specs.Lots.{step_each, inputs_in, numbers_in, lot_content, lot_value, lot_holds};
-ghost use Rattle.stage_graph.specs.Layouts.{Layout, stages, capacity_at};
 ghost use Rattle.stage_graph.specs.Steps.{value_of};
 ghost use Rattle.stage_graph.specs.Stopped.{IsStopped};
+ghost use Rattle.stage_graph.specs.Through.{IsWhole, HasGoneThrough, IsStoppedInLots};
 
+use crate::lot_gate::LotGate;
+use crate::lotted::Packed;
 use crate::run::pool::run_pool;
-use crate::{Chain, Gate, Named, Plan, RunName, Unrun, run_floor};
-use stage_queue::Memory;
+use crate::{Chain, Gate, History, Lotted, Named, Plan, RunName, Unrun, run_floor};
 use std::alloc::{AllocError, Global};
 use std::marker::{Brand, PhantomData};
-use std::mem;
 use std::sync::Wait;
 use std::thread::Threads;
-
-/// The most items in a lot.
-const MOST: usize = 32;
-
-/// How many lots there are at least, so that each worker finds some.
-const LOTS: usize = 32;
 
 /// Names the lots: the numbers of the items in each.
 pub trait LotName {
@@ -169,112 +162,13 @@ fn spoiled<C: Chain, K: LotName>(alloc: Global, number: usize, done: usize) -> L
     }
 }
 
-/// A gate that sees the items of each lot.
+/// Items that went through a floor, and the floor's history.
 #[derive(Drop)]
-struct LotGate<'a, G> {
-    gate: &'a G,
-    /// How many items each lot has, but the last, which may have fewer.
-    size: usize,
-    /// How many items there are.
-    count: usize,
-}
-
-impl<'a, G> LotGate<'a, G> {
-    /// The numbers of the items in a lot: the first, and the one after the last.
-    fn range(&self, lot: usize) -> (usize, usize) {
-        let first = lot.saturating_mul(self.size);
-        (first, first.saturating_add(self.size).min(self.count))
-    }
-}
-
-impl<'a, G: Gate> Gate for LotGate<'a, G> {
-    fn enter(&self, stage: usize, lot: usize) {
-        let (first, end) = self.range(lot);
-        for number in first..end {
-            self.gate.enter(stage, number);
-        }
-    }
-
-    fn left(&self, stage: usize, lot: usize) {
-        let (first, end) = self.range(lot);
-        for number in first..end {
-            self.gate.left(stage, number);
-        }
-    }
-}
-
-/// How many items go into a lot: as many as the queue of each stage has room for, and few enough that there are lots
-/// for all workers.
-fn lot_size(plan: &Plan, count: usize) -> usize
-    ensures { (k : ℕ) → k < stages plan.now → result ≤ capacity_at plan.now k }
-{
-    let mut size = MOST.min(count / LOTS).max(1);
-    for stage in 0..plan.stages() {
-        size = size.min(plan.capacity(stage));
-    }
-    size
-}
-
-/// Items in lots for the queues of a plan: as many in each lot, but the last, which may have fewer. Contracts see the
-/// items, one after another.
-#[derive(Drop)]
-pub struct Lotted<T> {
-    /// How many items a lot has.
-    size: usize,
-    full: Vec<Vec<T>>,
-    last: Vec<T>,
-}
-
-impl<T> std::marker::Model for Lotted<T> {
-    ghost use Rattle.std.specs.Prelude.{List, ◌++◌, flat_map};
-
-    ghost Value = { List T };
-
-    ghost view = { λ l. flat_map (λ v. v.items) l.full.items ++ l.last.items };
-}
-
-impl<T: Drop> Lotted<T> {
-    /// No item yet, of so many that are to come.
-    pub fn new(alloc: Global, plan: &Plan, count: usize) -> Result<Lotted<T>, AllocError>
-        ensures { IfOk result (λ l. l ≡ []) }
-    {
-        let size = lot_size(plan, count);
-        Ok(Lotted {
-            size,
-            full: Vec::with_capacity(alloc, count.checked_div(size).unwrap_or(0))?,
-            last: Vec::with_capacity(alloc, size)?,
-        })
-    }
-
-    /// Puts an item behind the others.
-    pub fn push(&mut self, alloc: Global, item: T) -> Result<(), AllocError>
-        ensures { OnOk result (self.new ≡ self.old ++ item ∷ []) }
-    {
-        if self.last.len() >= self.size {
-            let empty = Vec::with_capacity(alloc, self.size)?;
-            self.full.reserve(1)?;
-            let full = mem::replace(&mut self.last, empty);
-            self.full.push_reserved(full);
-        }
-        self.last.push(item)?;
-        Ok(())
-    }
-
-    /// How many items there are.
-    fn len(&self) -> usize {
-        let full = self.full.len().saturating_mul(self.size);
-        full.saturating_add(self.last.len())
-    }
-
-    /// The lots.
-    fn into_lots(self) -> Result<Vec<Vec<T>>, AllocError>
-        ensures { IfOk result (λ lots. flat_map (λ v. v.items) lots.items ≡ self) }
-    {
-        let Lotted { full, last, .. } = self;
-        let mut lots = full;
-        lots.push(last)?;
-        Ok(lots)
-    }
+pub struct Carried<T> {
+    /// The items by number, some of them in each vector.
+    pub lots: Vec<Vec<T>>,
+    /// The accepted events. Where items travelled in lots, an event's number is that of a lot.
+    pub history: History,
 }
 
 /// The items of these lots, one after another.
@@ -365,7 +259,7 @@ fn run_lots<
     chain: &C,
     lots: Vec<Vec<C::Item>>,
     gate: &LotGate<'_, G>,
-) -> Result<Vec<Vec<C::Item>>, Unrun>
+) -> Result<Carried<C::Item>, Unrun>
 where
     C::Item: Send,
     requires fresh { map (λ v. map (λ x. (C.Item.number_of x, C.Item.done_of x)) v.items) lots.items
@@ -373,8 +267,9 @@ where
     requires count { length lots.items ≡ K.count }
     requires plan { plan ≡ K.plan }
     requires cut { last_cut plan ≡ C.steps }
-    ensures values { IfOk result (λ v. flat_map (λ own. map C.content own.items) v.items
+    ensures values { IfOk result (λ r. flat_map (λ own. map C.content own.items) r.lots.items
         ≡ map (λ n. value_of C.step C.steps (C.input_at n)) (flat_map (λ ns. ns) K.lots)) }
+    ensures history { IfOk result (λ r. IsWhole K.plan K.count r.history) }
     ensures stopped { IfErr result (IsStopped K.plan K.count) }
 {
     let items = lot_items::<C, K>(alloc, lots)?;
@@ -386,7 +281,11 @@ where
     let run = run_pool::<Lots<C, K>, K, LotGate<G>, R>(
         rt, alloc, threads, plan, &chain, items, gate,
     )?;
-    Ok(items_of(alloc, run.into_items())?)
+    let (items, history) = run.into_parts();
+    Ok(Carried {
+        lots: items_of(alloc, items)?,
+        history,
+    })
 }
 
 /// Runs a floor of items, each for itself.
@@ -397,58 +296,62 @@ fn run_each<C: Chain + Sync, N: RunName + Send + Sync, G: Gate + Sync, R: Thread
     chain: &C,
     lots: Vec<Vec<C::Item>>,
     gate: &G,
-) -> Result<Vec<Vec<C::Item>>, Unrun>
+) -> Result<Carried<C::Item>, Unrun>
 where
     C::Item: Send,
     requires plan { plan ≡ N.plan }
     requires fresh { map (λ x. (C.Item.number_of x, C.Item.done_of x)) (flat_map (λ v. v.items) lots.items)
         ≡ map (with_steps 0) (range_with_len 0 N.count) }
     requires cut { last_cut plan ≡ C.steps }
-    ensures values { IfOk result (λ v. map C.content (flat_map (λ own. own.items) v.items)
+    ensures values { IfOk result (λ r. map C.content (flat_map (λ own. own.items) r.lots.items)
         ≡ map (λ n. value_of C.step C.steps (C.input_at n)) (range_with_len 0 N.count)) }
+    ensures history { IfOk result (λ r. IsWhole N.plan N.count r.history) }
     ensures stopped { IfErr result (IsStopped N.plan N.count) }
 {
     let items = flat(alloc, lots)?;
     let run = run_floor::<C, N, G, R>(rt, alloc, plan, chain, items, gate)?;
-    Ok(one_lot(alloc, run.into_items())?)
+    let (items, history) = run.into_parts();
+    Ok(Carried {
+        lots: one_lot(alloc, items)?,
+        history,
+    })
 }
 
-/// Runs a floor to its end, as [`run_floor`] does, and gives the items by number, some of them in each vector, each
-/// with the chain's value of its own input. Where the gate never holds an item, so many threads at most work, each for
-/// any worker that is free, and items travel in the lots that they are in: where these were made for this plan, each
-/// queue has room for as many items as the plan says all the same. The gate sees each item, one after another where
-/// they enter or leave together. It may wait.
+/// Runs the floor of the plan to its end, as [`run_floor`] does, and gives the items by number, each with the chain's
+/// value of its own input, and the floor's history.
+///
+/// Where the gate never holds an item, so many threads at most work, each for any worker that is free, and items travel
+/// in the lots that they are in, each lot as one item of the floor: each queue has room for as many lots as have no
+/// more items than the plan's queue has room for. The gate sees each item, one after another where they enter or leave
+/// together. Where the gate may hold an item, each item travels for itself on the plan as it is. It may wait.
 ///
 /// # Errors
 ///
-/// `Memory`, also where a thread can't be started after others have worked, and `Stopped` with the history of the floor
-/// that was stopped, whose items may be lots.
+/// `Memory`, also where memory runs out or a thread can't be started after others have worked, and `Stopped` with the
+/// history of that floor.
 pub fn run_through<C: Chain + Sync, G: Gate + Sync, R: Threads + Wait + Sync>(
     rt: &R,
     alloc: Global,
     threads: usize,
-    plan: Plan,
     chain: &C,
     items: Lotted<C::Item>,
     gate: &G,
-) -> Result<Vec<Vec<C::Item>>, Unrun>
+) -> Result<Carried<C::Item>, Unrun>
 where
     C::Item: Send,
-    requires fresh { map (λ x. (C.Item.number_of x, C.Item.done_of x)) items
-        ≡ map (with_steps 0) (range_with_len 0 (length items)) }
-    requires cut { last_cut plan ≡ C.steps }
-    ensures values { IfOk result (λ v. flat_map (λ own. map C.content own.items) v.items
-        ≡ map (λ n. value_of C.step C.steps (C.input_at n)) (range_with_len 0 (length items))) }
-    // The history is that of a floor which was stopped, and which all had left.
-    ensures stopped { IfErr result (λ u. (floor : Layout) × (count : ℕ) × IsStopped floor count u) }
+    requires fresh { map (λ x. (C.Item.number_of x, C.Item.done_of x)) items.items
+        ≡ map (with_steps 0) (range_with_len 0 (length items.items)) }
+    requires cut { last_cut items.plan ≡ C.steps }
+    ensures values { IfOk result (λ r. flat_map (λ own. map C.content own.items) r.lots.items
+        ≡ map (λ n. value_of C.step C.steps (C.input_at n)) (range_with_len 0 (length items.items))) }
+    ensures history { IfOk result (λ r. HasGoneThrough items.plan (length items.items) r.history) }
+    ensures stopped { IfErr result (IsStoppedInLots items.plan (length items.items)) }
 {
-    let size = items.size;
-    let count = items.len();
-    let lots = items.into_lots()?;
+    let Packed { plan, size, lots } = items.into_lots()?;
     if !gate.is_open() {
-        return Ok(run_each::<C, Brand, G, R>(rt, alloc, plan, chain, lots, gate)?);
+        return run_each::<C, Brand, G, R>(rt, alloc, plan, chain, lots, gate);
     }
-    let plan = plan.in_lots(alloc, size)?;
-    let gate = LotGate { gate, size, count };
-    Ok(run_lots::<C, Brand, G, R>(rt, alloc, threads, plan, chain, lots, &gate)?)
+    let floor = plan.in_lots(alloc, size)?;
+    let gate = LotGate::new(alloc, gate, &lots)?;
+    run_lots::<C, Brand, G, R>(rt, alloc, threads, floor, chain, lots, &gate)
 }

@@ -1,11 +1,14 @@
 //! A plan: how steps are cut into stages, with their workers and the capacities of their queues.
 
-ghost use Rattle.std.specs.Prelude.{◌≡◌, ◌<◌, length, nat_le, nat_eq, ◌&&◌, ◌||◌, IfOk, OnOk, ◌++◌, replicate, None};
+ghost use Rattle.std.specs.Prelude.{◌≡◌, ℕ, ◌*◌, ◌<◌, ◌≤◌, length, nat_le, nat_eq, ◌&&◌, ◌||◌, IfOk, OnOk, ◌++◌};
+ghost use Rattle.std.specs.Prelude.{replicate, None};
 ghost use Rattle.stage_graph.specs.Floors.{idle_before};
 ghost use Rattle.stage_graph.specs.After.{last_cut};
 ghost use Rattle.stage_graph.specs.PlanFaults.{plan_fault, AnswersFault};
 ghost use Rattle.stage_graph.specs.Layouts.{layout_of, is_rising, are_within, posts_of, IsPlan, stages, workers};
-ghost use Rattle.stage_graph.specs.Layouts.{stage_at, cut_at, capacity_at, FitInLots, HasRoomInLots};
+ghost use Rattle.stage_graph.specs.Layouts.{stage_at, cut_at, capacity_at};
+ghost use Rattle.stage_graph.specs.Loads.{IsLotSize};
+ghost use Rattle.stage_graph.specs.Through.{IsFloorInLots};
 
 use stage_queue::Memory;
 use std::alloc::{AllocError, Global};
@@ -22,14 +25,15 @@ pub struct Plan {
 }
 
 impl Model for Plan {
-    ghost use Rattle.stage_graph.specs.Layouts.{Layout, IsPlan};
+    ghost use Rattle.stage_graph.specs.Layouts.{Layout, IsPlan, HasRoom};
 
     ghost Value = { Layout };
 
     ghost view = { λ p. record { cuts = p.cuts.items; posts = p.posts.items; capacities = p.capacities.items } };
 
     ghost invariant = { λ p. IsPlan
-        (record { cuts = p.cuts.items; posts = p.posts.items; capacities = p.capacities.items }) };
+        (record { cuts = p.cuts.items; posts = p.posts.items; capacities = p.capacities.items })
+        × HasRoom (record { cuts = p.cuts.items; posts = p.posts.items; capacities = p.capacities.items }) };
 }
 
 /// Why there is no plan: the first of these, in this order.
@@ -87,10 +91,11 @@ impl Plan {
         })
     }
 
-    // The same plan for lots of so many items: each queue has room for no more items than before, and for one lot.
+    // The plan of the floor on which items travel in lots of at most so many: each queue has room for one lot at
+    // least, and for no more items than before.
     pub(crate) fn in_lots(&self, alloc: Global, size: usize) -> Result<Plan, Memory>
-        ensures same { IfOk result (λ p. (p.cuts ≡ self.now.cuts) × (p.posts ≡ self.now.posts)) }
-        ensures room { IfOk result (HasRoomInLots size self.now) }
+        requires { IsLotSize self.now size }
+        ensures { IfOk result (IsFloorInLots self.now size) }
     {
         let cuts = Vec::from_slice(alloc, &self.cuts)?;
         let posts = Vec::from_slice(alloc, &self.posts)?;
@@ -103,6 +108,18 @@ impl Plan {
             posts,
             capacities,
         })
+    }
+
+    // The least capacity of a queue, or this number if that is less.
+    pub(crate) fn least_capacity(&self, most: usize) -> usize
+        requires { 0 < most }
+        ensures { IsLotSize self.now result }
+    {
+        let mut least = most;
+        for stage in 0..self.capacities.len() {
+            least = least.min(self.capacities[stage]);
+        }
+        least
     }
 
     /// How many stages there are.
@@ -255,12 +272,11 @@ fn add_crew(posts: &mut Vec<usize>, stage: usize, crew: usize) -> Result<(), All
     Ok(())
 }
 
-// How many lots of this size have no more items than that, and one at least.
+// How many lots of this size have no more items than that.
 fn lots_within(capacity: usize, size: usize) -> usize
-    ensures { FitInLots size capacity result }
+    requires { (0 < size) × (size ≤ capacity) }
+    ensures some { 0 < result }
+    ensures room { result * size ≤ capacity }
 {
-    if size == 0 || size > capacity {
-        return 1;
-    }
     capacity / size
 }

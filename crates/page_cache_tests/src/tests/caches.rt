@@ -20,12 +20,14 @@ enum Step {
     Keep(usize, Keeping),
     /// A look at this file finds a page, or none.
     Look(usize, bool),
+    /// The page of this file is there, or isn't.
+    There(usize, bool),
     /// The pages have n bytes, and there are n.
     Holds(usize, usize),
 }
 
 /// Limits of a cache over three files, and what is done to it.
-static STEPS: [(usize, &[Step]); 4] = [
+static STEPS: [(usize, &[Step]); 5] = [
     // A page larger than the limit.
     (47, &[Step::Keep(0, Keeping::TooBig), Step::Holds(0, 0)]),
     // Room for one page.
@@ -66,6 +68,25 @@ static STEPS: [(usize, &[Step]); 4] = [
             Step::Look(2, true),
         ],
     ),
+    // To ask whether a page is there is no use of it: the one that was asked for goes.
+    (
+        96,
+        &[
+            Step::There(0, false),
+            Step::Keep(0, Keeping::Kept),
+            Step::Keep(1, Keeping::Kept),
+            Step::There(0, true),
+            Step::There(1, true),
+            Step::There(2, false),
+            Step::There(0, true),
+            Step::Keep(2, Keeping::Kept),
+            Step::There(0, false),
+            Step::There(1, true),
+            Step::There(2, true),
+            Step::There(3, false),
+            Step::Holds(96, 2),
+        ],
+    ),
 ];
 
 /// Builds the page of a file, and keeps it.
@@ -97,6 +118,7 @@ fn check_step<F: Tree, R: Abort>(
     match step {
         Step::Keep(file, want) => check_keep(rt, alloc, files, cache, *file, *want)?,
         Step::Look(file, want) => assert_eq!(rt; cache.look(*file)?.is_some(), *want),
+        Step::There(file, want) => assert_eq!(rt; cache.holds(*file), *want),
         Step::Holds(bytes, pages) => {
             assert_eq!(rt; (cache.bytes(), cache.len()), (*bytes, *pages));
         }

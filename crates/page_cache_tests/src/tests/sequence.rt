@@ -114,6 +114,13 @@ fn check_keep<F: Tree, R: Abort>(
     Ok(())
 }
 
+/// The pages that are there are those of the list.
+fn check_there<F: Tree, R: Abort>(rt: &R, cache: &PageCache<F>, list: &[usize]) {
+    for file in 0..6usize {
+        assert_eq!(rt; cache.holds(file), list.contains(&file));
+    }
+}
+
 /// Makes looks and keeps of files by turns that a generator picks, and compares.
 fn check_sequence<F: Tree, R: Abort>(
     rt: &R,
@@ -137,6 +144,7 @@ fn check_sequence<F: Tree, R: Abort>(
             check_keep(rt, alloc, &mut cache, &mut list, page, limit)?;
         }
         assert_eq!(rt; (cache.len(), cache.bytes()), (list.len(), total(&list)));
+        check_there(rt, &cache, &list);
     }
     Ok(())
 }

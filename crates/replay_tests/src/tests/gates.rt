@@ -1,19 +1,19 @@
 //! What a gate sees of a replay, and when replies are written.
 use super::running::{
-    A, DEFAULT_SHAPE, Engine, FILES, Shape, capture_of, default_costs, default_policy, outline,
-    run_devices, run_engine, shaped,
+    A, DEFAULT_SHAPE, Engine, FILES, Shape, capture_of, default_costs, default_policy, is_same,
+    outline, run_devices, run_engine, shaped,
 };
 use paths::{Input, Output};
 use replay::Settings;
 use stage_graph::{Gate, NoGate};
-use std::alloc::AllocGlobal;
+use std::alloc::{AllocError, AllocGlobal, Global};
 use std::io;
 use std::io::{Read, Write};
 use std::process::Abort;
-use std::sync::Wait;
-use std::sync::atomic::{AtomicU64, Ordering};
+use std::sync::atomic::{AtomicBool, AtomicU64, Ordering};
+use std::sync::{Mutex, Wait};
 use std::test::Fail;
-use std::thread::Threads;
+use std::thread::{Threads, available_parallelism};
 use std::time::{Clock, Duration};
 
 /// Settings of the default stages with batches of n pieces.
@@ -120,6 +120,210 @@ fn two_workers_overlap(rt: HostRuntime) -> Result<(), Fail> {
 #[test]
 fn numbers_in_batches(rt: HostRuntime) -> Result<(), Fail> {
     check(&rt, rt.clone()?, false, 1)
+}
+
+/// Whether two threads are at work on a floor at once. The first item that enters waits for another, which only another
+/// thread can have taken, for at most 2,000 turns of a millisecond; nobody waits after that.
+#[derive(Drop)]
+struct Meeting {
+    entered: AtomicU64,
+    /// Whether another item entered while the first waited.
+    met: AtomicBool,
+}
+
+impl Meeting {
+    fn new() -> Meeting {
+        Meeting {
+            entered: AtomicU64::new(0),
+            met: AtomicBool::new(false),
+        }
+    }
+
+    fn enter<R: Clock>(&self, rt: &R) {
+        if self.entered.fetch_add(1, Ordering::SeqCst) != 0 {
+            return;
+        }
+        for _ in 0..2000 {
+            if self.entered.load(Ordering::SeqCst) > 1 {
+                self.met.store(true, Ordering::SeqCst);
+                return;
+            }
+            let _ = std::thread::sleep(rt, Duration::from_millis(1));
+        }
+    }
+}
+
+/// A gate whose calls end by themselves, with a meeting on each floor.
+#[derive(Drop)]
+struct Meetings<R: Clock + Drop> {
+    rt: R,
+    front: Meeting,
+    back: Meeting,
+}
+
+impl<R: Clock + Drop> Gate for Meetings<R> {
+    fn enter(&self, stage: usize, _number: usize) {
+        if stage < DEFAULT_SHAPE.front.len() {
+            self.front.enter(&self.rt);
+        } else {
+            self.back.enter(&self.rt);
+        }
+    }
+
+    fn left(&self, _stage: usize, _number: usize) {}
+
+    fn is_open(&self) -> bool {
+        true
+    }
+}
+
+/// Whether there are two processors for threads, or more: the engine uses no more threads than there are processors.
+fn has_two_processors<R: Threads>(rt: &R) -> bool {
+    match available_parallelism(rt) {
+        Ok(count) => count.get() > 1,
+        Err(_) => true,
+    }
+}
+
+/// The capture of 96 requests for `a`, with queries of 7,000 bytes: more than two threads' worth of targets.
+fn long_requests(alloc: Global) -> Result<String, AllocError> {
+    let query = "x".repeat(alloc, 7_000)?;
+    let request = format!(in alloc; "GET /a?{query} HTTP/1.1\r\nHost: a\r\n\r\n")?;
+    let mut capture = String::from_str(alloc, "haboob-capture 1 784111777\n")?;
+    for conn in 0..96usize {
+        write!(capture, "piece 0 {conn} {}\n{request}\n", request.len())?;
+    }
+    capture.push_str("stop 96\n")?;
+    Ok(capture)
+}
+
+/// Replays these requests for a file of 65,536 bytes, with a meeting on each floor. The engines are to write and answer
+/// the same.
+fn check_meetings<R: Abort + AllocGlobal + Threads + Wait + Sync + Clock + Drop>(
+    rt: &R,
+    clock: R,
+) -> Result<(), Fail> {
+    let alloc = rt.alloc();
+    let gate = Meetings {
+        rt: clock,
+        front: Meeting::new(),
+        back: Meeting::new(),
+    };
+    let file = "b".repeat(alloc, 65_536)?;
+    let files = format!(in alloc; "haboob-snapshot 1\nfile 0 1 65536\na\n{file}\nend 1\n")?;
+    let capture = long_requests(alloc)?;
+    let bytes = capture.as_bytes();
+    let settings = in_batches(rt, 96);
+    let plain = run_engine(rt, alloc, Engine::Plain, &files, &settings, &NoGate, bytes).expect(
+        rt,
+        "a snapshot",
+    );
+    let staged = run_engine(rt, alloc, Engine::Staged, &files, &settings, &gate, bytes).expect(
+        rt,
+        "a snapshot",
+    );
+    assert!(rt; is_same(&staged, &plain));
+    // Each reply gives the file.
+    assert!(rt; staged.text.len() > 96 * 65_536);
+    if has_two_processors(rt) {
+        let front = gate.front.met.load(Ordering::SeqCst);
+        let back = gate.back.met.load(Ordering::SeqCst);
+        assert_eq!(rt;
+            (front, back),
+            (true, true),
+            "the front floor and the back floor"
+        );
+    }
+    Ok(())
+}
+
+/// Two threads work side by side on the front floor, and on the back floor, where the gate is open and there is work
+/// for two.
+#[test]
+fn two_threads_overlap_on_both_floors(rt: HostRuntime) -> Result<(), Fail> {
+    check_meetings(&rt, rt.clone()?)
+}
+
+/// A gate that notes how many messages enter the back floor together: until one of them leaves its first stage.
+#[derive(Drop)]
+struct Together<R: Wait + Drop> {
+    rt: R,
+    counts: Mutex<Vec<usize>>,
+    entered: AtomicU64,
+}
+
+impl<R: Wait + Drop> Gate for Together<R> {
+    fn enter(&self, stage: usize, _number: usize) {
+        if stage == DEFAULT_SHAPE.front.len() {
+            self.entered.fetch_add(1, Ordering::SeqCst);
+        }
+    }
+
+    fn left(&self, stage: usize, _number: usize) {
+        let entered = self.entered.load(Ordering::SeqCst);
+        if stage == DEFAULT_SHAPE.front.len() && entered > 0 {
+            self.entered.store(0, Ordering::SeqCst);
+            let _refused = self.counts.lock(&self.rt).push(entered as usize);
+        }
+    }
+
+    fn is_open(&self) -> bool {
+        true
+    }
+}
+
+/// How many messages travel together over the back floor, of 64 by one thread: all for a small file, but the messages 10
+/// and 12, which are for a file of so many bytes.
+fn travelling<R: Abort + AllocGlobal + Threads + Wait + Sync + Drop>(
+    rt: &R,
+    waiting: R,
+    bytes: usize,
+) -> Result<Vec<usize>, Fail> {
+    let alloc = rt.alloc();
+    let gate = Together {
+        rt: waiting,
+        counts: Mutex::new(Vec::new(alloc)),
+        entered: AtomicU64::new(0),
+    };
+    let file = "b".repeat(alloc, bytes)?;
+    let files = format!(in alloc;
+        "haboob-snapshot 1\nfile 0 1 1\na\nb\nfile 0 1 {bytes}\nb\n{file}\nend 2\n"
+    )?;
+    let mut capture = String::from_str(alloc, "haboob-capture 1 784111777\n")?;
+    for number in 0..64usize {
+        let name = if number == 10 || number == 12 {
+            "b"
+        } else {
+            "a"
+        };
+        write!(
+            capture,
+            "piece 0 {number} 28\nGET /{name} HTTP/1.1\r\nHost: a\r\n\r\n\n"
+        )?;
+    }
+    capture.push_str("stop 64\n")?;
+    let settings = in_batches(rt, 64);
+    let read = capture.as_bytes();
+    let ran = run_engine(rt, alloc, Engine::Staged, &files, &settings, &gate, read).expect(
+        rt,
+        "a snapshot",
+    );
+    assert!(rt; ran.text.len() > bytes.saturating_mul(2));
+    Ok(gate.counts.into_inner())
+}
+
+/// Two messages travel together, since there are 32 lots of 64; but a page of more than 16,384 bytes is the last of its
+/// lot.
+#[test]
+fn large_pages_travel_alone(rt: HostRuntime) -> Result<(), Fail> {
+    let small = travelling(&rt, rt.clone()?, 16_384)?;
+    assert_eq!(rt; small.as_slice(), [2usize; 32].as_slice());
+    let large = travelling(&rt, rt.clone()?, 16_385)?;
+    let mut want = vec![in rt.alloc(); 2usize; 33]?;
+    want[5] = 1;
+    want[32] = 1;
+    assert_eq!(rt; large.as_slice(), want.as_slice());
+    Ok(())
 }
 
 /// Gives one record a read, and notes how much was written when the last line is asked for.

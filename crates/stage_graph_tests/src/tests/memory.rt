@@ -1,11 +1,15 @@
 //! Out of memory: `checks/refuse_growths.py` refuses each growth of these tests in turn.
 
+use super::adding::Packing;
 use super::floors::{Course, history_of};
-use super::lots::{check_sums, through};
+use super::lots::{carried, check_sums};
+use super::plan_of;
 use super::threads::{is_legal, sums};
-use stage_graph::{Checked, Event, NoGate, Plan, PlanFault, Unrun, replay_history};
+use stage_graph::{Checked, Event, History, NoGate, Plan, PlanFault, Unrun, replay_history};
 use std::alloc::Global;
 use std::process::Abort;
+
+type Lists = (&'static [usize], &'static [usize], &'static [usize]);
 
 /// A plan that lacks memory says so.
 fn check_plan<R: Abort>(rt: &R, alloc: Global) {
@@ -65,18 +69,37 @@ fn each_growth_refused_of_threads(rt: HostRuntime) {
     }
 }
 
-/// The same with items in lots: they are given with their sums, or memory ran out, or the floor was stopped by a step
-/// that was refused it.
+/// A history that lacks no memory to be checked is legal.
+fn check_legal<R: Abort>(rt: &R, alloc: Global, lists: Lists, count: usize, history: &History) {
+    let Some(plan) = plan_of(alloc, lists.0, lists.1, lists.2) else {
+        return;
+    };
+    if let Ok(checked) = replay_history(alloc, plan, count, history.as_slice()) {
+        assert_eq!(rt; checked, Checked::Legal);
+    }
+}
+
+/// The same with items in lots, two of which are ended early: they are given with their sums and a legal history, or
+/// memory ran out, or the floor was stopped by a step that was refused it.
 #[test]
 fn each_growth_refused_of_lots(rt: HostRuntime) {
     let alloc = rt.alloc();
-    let lists: (&[usize], &[usize], &[usize]) = (&[1, 3], &[2, 2], &[64, 64]);
+    let lists: Lists = (&[1, 3], &[2, 2], &[64, 64]);
     let mut inputs = [0u64; 200];
     for number in 0..200usize {
         inputs[number] = number as u64;
     }
-    match through(&rt, alloc, 4, lists, None, &inputs, &NoGate) {
-        Ok(sums) => check_sums(&rt, &sums, &inputs),
+    let packing = Packing {
+        count: 200,
+        ends: &[0, 9],
+    };
+    // lots of 1, 6 and 3, then 31 of 6 and one of 4, of which a queue of 64 has room for ten
+    let by_hand: Lists = (&[1, 3], &[2, 2], &[10, 10]);
+    match carried(&rt, alloc, 4, lists, None, packing, &inputs, &NoGate) {
+        Ok((sums, history)) => {
+            check_sums(&rt, &sums, &inputs);
+            check_legal(&rt, alloc, by_hand, 35, &history);
+        }
         Err(Unrun::Memory) => {}
         Err(Unrun::Stopped(history)) => {
             let backs = history
@@ -85,6 +108,7 @@ fn each_growth_refused_of_lots(rt: HostRuntime) {
                 .filter(|e| matches!(e, Event::Back(_, _)))
                 .count();
             assert!(rt; 0 < backs);
+            check_legal(&rt, alloc, by_hand, 35, &history);
         }
     }
 }

@@ -10,7 +10,8 @@ loop-number-preserved g c =
     let inv = c.loop-number.invariant in
     let long = inv.1 in
     let new : ◌≡◌ {A = ℕ × ℕ} (c.front_item.result.number, c.front_item.result.done) (k, 0) = cc in (
-      rw c.in_ok-push.ensures (map-append (λ x. (x.number, x.done)) c.loop-number.items (c.front_item.result ∷ [])
+      rw c.in_ok-push.ensures.ok (map-append (λ x. (x.number, x.done)) c.loop-number.items.items (c.front_item.result ∷ [])
           ∙ (rw (inv.0, new) (sym (map-range_with_len_more (with_steps 0) 0 k k (omega arith))))),
-      rw c.in_ok-push.ensures (omega (arith, long, length-append c.loop-number.items (c.front_item.result ∷ []))),
+      rw c.in_ok-push.ensures.ok (omega (arith, long, length-append c.loop-number.items.items (c.front_item.result ∷ []))),
+      c.in_ok-push.ensures.plan ∙ inv.2,
     )

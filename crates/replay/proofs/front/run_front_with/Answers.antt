@@ -8,15 +8,21 @@ use Rattle.replay.proofs.front.run_front_with.Goals as goal
 pub run_through-requires-clause-fresh : goal.run_through-requires-clause-fresh
 run_through-requires-clause-fresh g c κs within = rw c.in_ok-items.ensures.len c.in_ok-items.ensures.fresh
 
-pub returns : goal.returns
-returns g c =
+pub returns-clause-ran : goal.returns-clause-ran
+returns-clause-ran g c =
+    let h = rw (c.in_ok-items.ensures.len, c.in_ok-items.ensures.plan) at c.in_ok-carried.ensures.history in
+    let count : c.len-count.result ≡ length c.args.messages.items = search rules in
+    (c.in_ok-carried.carried.history, rw count at h)
+
+pub returns-clause-seen : goal.returns-clause-seen
+returns-clause-seen g c =
     let xs = c.args.messages.items in
     let files = g.F.Tree.files in
     let costs = c.args.server.now.costs in
-    let lots = c.in_ok-lots.lots.items in
+    let lots = c.in_ok-carried.carried.lots.items in
     let count : c.len-count.result ≡ length xs = search rules in
     let values = sym (flat_map-mapped (λ x. sighted (message_at g.K.Fronts.messages x.number) (seen_as files x.sight)) (λ lot. lot.items) lots)
-    ∙ (rw (c.in_ok-items.ensures.len, count) at c.in_ok-lots.ensures.values) in
+    ∙ (rw (c.in_ok-items.ensures.len, count) at c.in_ok-carried.ensures.values) in
     let found = values
     ∙ (rw (← c.requires.messages, ← c.requires.costs)
     (by_number (λ m. value_of (floor_step files costs) 3 (unseen m)) xs no_message ∙ same_values files costs xs)) in

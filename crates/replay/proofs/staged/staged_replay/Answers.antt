@@ -21,8 +21,8 @@ returns-in-Err-clause-part g c = rw c.from.ensures (told_short _ (IsCutShort (te
 pub returns-in_err-new-clause-part : goal.returns-in_err-new-clause-part
 returns-in_err-new-clause-part g c = cut_short c.from_residual-in_err-new.result _ (inl (prefix_all c.args.writer.now.bytes c.write_first_line.new.writer.bytes _ c.in_ok-write_first_line.ensures.written))
 
-pub returns-in_err-pages-clause-part : goal.returns-in_err-pages-clause-part
-returns-in_err-pages-clause-part g c = cut_short c.from_residual-in_err-pages.result _ (inl (prefix_all c.args.writer.now.bytes c.write_first_line.new.writer.bytes _ c.in_ok-write_first_line.ensures.written))
+pub returns-in_err-new-2-clause-part : goal.returns-in_err-new-2-clause-part
+returns-in_err-new-2-clause-part g c = cut_short c.from_residual-in_err-new-2.result _ (inl (prefix_all c.args.writer.now.bytes c.write_first_line.new.writer.bytes _ c.in_ok-write_first_line.ensures.written))
 
 pub loop-floors-init : goal.loop-floors-init
 loop-floors-init g c =

@@ -15,8 +15,8 @@ returns-clause-values g c =
     let d = g.C.Chain.steps in
     let cut : last_cut g.K.RunName.plan ≡ d = ap last_cut (sym c.requires.plan) ∙ c.requires.cut in
     let count : g.K.RunName.count ≡ length lots = sym c.requires.count ∙ (sym (length-map c.args.lots.items _) ∙ (ap length c.requires.fresh ∙ length-map lots _)) in
-    let values = rw (cut, count) at c.into_items.ensures.values in
+    let values = rw (cut, count) at c.into_parts-items.ensures.values in
     c.in_ok-items_of.ensures.values
-    ∙ (flat_map-seen (λ vs. vs) (λ x. lot_content g.C.Chain.content step input lots x.whole x.items.items x.done x.number) c.into_items.result.items
+    ∙ (flat_map-seen (λ vs. vs) (λ x. lot_content g.C.Chain.content step input lots x.whole x.items.items x.done x.number) c.into_parts-items.result.0.items
     ∙ (ap (flat_map (λ vs. vs)) (values ∙ lots_by_number (λ ns. value_of (step_each step) d (map input ns)) lots)
     ∙ all_alone step input d lots))

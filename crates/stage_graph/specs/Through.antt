@@ -1,0 +1,60 @@
+-- That items went through a floor of a plan, in lots.
+use Rattle.std.specs.Prelude.{◌≡◌, ℕ, ◌*◌, ◌<◌, ◌≤◌, List, length, flat_map, true}
+use Rattle.std.specs.List.{range_with_len}
+use Rattle.stage_graph.specs.Layouts.{Layout, stages, capacity_at}
+use Rattle.stage_graph.specs.Floors.{standing, is_legal_from_opening, all_left, all_done}
+use Rattle.stage_graph.specs.Counts.{KeepsBounds, takes_of, feeds_of, gives_of}
+use Rattle.stage_graph.specs.Loads.{AreLots}
+use Rattle.stage_graph.specs.Stopped.{IsStopped}
+use Rattle.stage_graph.specs.declared.event.Event.{Event}
+use Rattle.stage_graph.specs.declared.unrun.Unrun.{Unrun}
+use Rattle.stage_graph.specs.declared.unrun.Unrun.TheVariants.{Memory, Stopped}
+
+-- The floor of a plan on which items travel in lots of at most this size: the plan's own steps, stages and workers,
+-- and in each queue room for one lot at least, and for so many that their items are no more than the plan's queue has
+-- room for.
+pub record IsFloorInLots (plan : Layout) (size : ℕ) (floor : Layout) : Type 0 where
+  pub lot : 0 < size
+  pub cuts : floor.cuts ≡ plan.cuts
+  pub posts : floor.posts ≡ plan.posts
+  pub some : (k : ℕ) → k < stages plan → 0 < capacity_at floor k
+  pub room : (k : ℕ) → k < stages plan → capacity_at floor k * size ≤ capacity_at plan k
+
+-- Lots that are n items in their order, each in exactly one, none of them empty.
+pub record AreLotsOf (size n : ℕ) (lots : List (List ℕ)) : Type 0 where
+  pub in_order : flat_map (λ ns. ns) lots ≡ range_with_len 0 n
+  pub small : AreLots (λ ns. ns) size lots
+
+-- A history of so many numbers on a floor: legal from the opening floor, after which all workers have left and every
+-- number is done. Each number was fed once, and taken and given once at each stage, and all bounds are kept.
+pub record IsWhole (floor : Layout) (count : ℕ) (history : List Event) : Type 0 where
+  pub legal : is_legal_from_opening floor count history ≡ true
+  pub left : all_left (standing floor count history) ≡ true
+  pub done : all_done (standing floor count history) ≡ true
+  pub fed : (x : ℕ) → x < count → feeds_of x history ≡ 1
+  pub taken : (k x : ℕ) → k < stages floor → x < count → takes_of floor k x history ≡ 1
+  pub given : (k x : ℕ) → k < stages floor → x < count → gives_of floor k x history ≡ 1
+  pub bounds : KeepsBounds floor count history
+
+-- All n items went through the floor of a plan in lots, each lot as one number of the history.
+pub record HasGoneThrough (plan : Layout) (n : ℕ) (history : List Event) : Type 0 where
+  pub size : ℕ
+  pub floor : Layout
+  pub lots : List (List ℕ)
+  pub laid : IsFloorInLots plan size floor
+  pub are : AreLotsOf size n lots
+  pub whole : IsWhole floor (length lots) history
+
+-- The floor of a plan on which n items travelled in lots was stopped.
+pub record WasStoppedInLots (plan : Layout) (n : ℕ) (unrun : Unrun) : Type 0 where
+  pub size : ℕ
+  pub floor : Layout
+  pub lots : List (List ℕ)
+  pub laid : IsFloorInLots plan size floor
+  pub are : AreLotsOf size n lots
+  pub stopped : IsStopped floor (length lots) unrun
+
+-- What is known where there is no run: of a stopped floor, that it was that of the plan in lots of the items.
+abbrev pub IsStoppedInLots : Layout → ℕ → Unrun → Type 0
+IsStoppedInLots plan n Memory = Unit {0}
+IsStoppedInLots plan n (Stopped history) = WasStoppedInLots plan n (Stopped history)
