@@ -113,8 +113,8 @@ fn take_block(
     }
 }
 
-/// Puts a message behind the others. The first gets no more room than it takes where nothing follows it in its piece, as
-/// in most pieces.
+/// Puts a message behind the others. The first gets no more room than it takes where nothing follows it in its
+/// piece, as in most pieces.
 fn push_message(
     out: &mut Vec<Message>,
     message: Message,

@@ -291,8 +291,8 @@ impl<'a> Head<'a> {
         }
     }
 
-    /// The length of the body (RFC 9112, section 6.3), and the lines that tell the rest; or the first fault of the head.
-    /// A head with a fault of Host is read no further.
+    /// The length of the body (RFC 9112, section 6.3), and the lines that tell the rest; or the first fault of the
+    /// head. A head with a fault of Host is read no further.
     fn body_length(&self) -> Result<(u64, Noted), Fault>
         requires { LiesWithin self.now }
         ensures cases { MatchResult result

@@ -272,8 +272,8 @@ impl<R: Wait + Drop> Gate for Together<R> {
     }
 }
 
-/// How many messages travel together over the back floor, of 64 by one thread: all for a small file, but the messages 10
-/// and 12, which are for a file of these bytes.
+/// How many messages travel together over the back floor, of 64 by one thread: all for a small file, but the messages
+/// 10 and 12, which are for a file of these bytes.
 fn travelling<R: Abort + AllocGlobal + Threads + Wait + Sync + Drop>(
     rt: &R,
     waiting: R,
