@@ -854,7 +854,7 @@ def limit_replays():
         ], 1, START, records, None
         yield "settings", FILES, 1, START, records, b"#" * (reference.SETTINGS_LIMIT + past)
     # So many bytes are worth more threads than there are connections; of 300 pieces the first batch has 16 MiB.
-    for count, connections in (60, 1), (300, 1), (60, 3):
+    for count, connections in (60, 1), (300, 1), (100, 3):
         yield "few connections", FILES, 1, START, few_connections(count, connections), open_policy
 
 

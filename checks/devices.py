@@ -34,7 +34,7 @@ REQUEST = b"GET /a.txt HTTP/1.1\r\nHost: a\r\n\r\n"
 SETTINGS = b"[policy]\ndepth = 50\n[floor]\nbatch = 100\n"
 # A batch that is worth threads: for its cutting, 3,000,000 bytes, and for both floors, more than 4,096 messages.
 LARGE = 6000
-LARGE_REQUEST = REQUEST[:-2] + b"Padding: %b\r\n\r\n" % (b"x" * 457)
+LARGE_REQUEST = REQUEST[:-2] + b"Padding: %b\r\n\r\n" % (b"x" * 2005)
 LARGE_SETTINGS = b"[policy]\ndepth = 50\n[floor]\nbatch = 8192\n"
 # Batches that are worth threads of one kind alone: one connection's pieces aren't shared by threads, nor is the work of
 # a floor with one worker. Without a cache each page is built anew.

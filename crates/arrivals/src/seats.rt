@@ -20,10 +20,10 @@ use std::thread::Threads;
 
 /// How many bytes of pieces are worth a thread. To cut fewer takes no longer than to start one, and to give back memory
 /// that another thread took.
-const WORTH: usize = 524_288;
+const WORTH: usize = 1_048_576;
 
-/// How many bytes a piece counts for besides its own.
-const PIECE: usize = 256;
+/// How many bytes of a piece don't count: to give a piece to another thread takes about as long as to cut so many.
+const HANDING: usize = 1024;
 
 /// The connections of a capture, by their numbers, and which of them have pieces that wait to be cut.
 #[derive(Drop)]
@@ -91,7 +91,7 @@ impl Seats {
     {
         reach(&mut self.list, conn)?;
         self.noted.reserve(1)?;
-        let bytes = piece.as_slice().len().saturating_add(PIECE);
+        let bytes = piece.as_slice().len().saturating_sub(HANDING);
         let waited = self.list[conn].waits();
         self.list[conn].add(alloc, piece)?;
         note(&mut self.noted, conn, waited);
