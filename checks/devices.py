@@ -32,7 +32,8 @@ TOP = os.path.dirname(os.path.dirname(os.path.abspath(__file__)))
 SNAPSHOT = b"haboob-snapshot 1\nfile 784111777 5 3\na.txt\nhi\n\nend 1\n"
 REQUEST = b"GET /a.txt HTTP/1.1\r\nHost: a\r\n\r\n"
 SETTINGS = b"[policy]\ndepth = 50\n[floor]\nbatch = 100\n"
-# A batch that is worth threads: for its cutting, 3,000,000 bytes, and for both floors, more than 4,096 messages.
+# A batch that is worth threads: for its cutting, 6,000,000 bytes without the first 1,024 of each piece, and for both
+# floors, more than 4,096 messages.
 LARGE = 6000
 LARGE_REQUEST = REQUEST[:-2] + b"Padding: %b\r\n\r\n" % (b"x" * 2005)
 LARGE_SETTINGS = b"[policy]\ndepth = 50\n[floor]\nbatch = 8192\n"
