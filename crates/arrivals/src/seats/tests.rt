@@ -12,12 +12,12 @@ static FIRST: [bool; 12] = [
     true, false, true, false, false, true, false, false, false, false, true, false,
 ];
 
-/// A piece of three bytes, so many times.
+/// A piece of 1,027 bytes, of which three count, so many times.
 fn alike(alloc: Global, count: usize) -> Result<Vec<Bytes>, AllocError> {
     let mut pieces = Vec::with_capacity(alloc, count)?;
     for _ in 0..count {
         let mut bytes = Vec::new(alloc);
-        bytes.extend_from_slice(b"GET")?;
+        bytes.resize(1_027, b'x')?;
         pieces.push(Bytes::from_vec(bytes))?;
     }
     Ok(pieces)
@@ -53,7 +53,7 @@ fn each_growth_refused_twice(rt: HostRuntime) {
         assert!(rt; refused < 3, "{conn}");
         let more = if *first { 1 } else { 0 };
         assert_eq!(rt; seats.noted.len(), noted.saturating_add(more), "{conn}");
-        assert_eq!(rt; seats.waiting, waiting.saturating_add(259), "{conn}");
+        assert_eq!(rt; seats.waiting, waiting.saturating_add(3), "{conn}");
     }
     assert_eq!(rt; seats.noted.as_slice(), [3, 0, 40, 1].as_slice());
 }
