@@ -1,56 +1,73 @@
 #!/usr/bin/python3
-"""Turns recorded packets (pcap or pcapng, IPv4 or IPv6) into a capture that Haboob replays."""
-import argparse
+"""Turns recorded packets (pcap, pcapng) of plain HTTP into a capture that Haboob replays.
+
+Exits with 0; with 1 at a fault, which is one line on standard error and leaves an older output as it was; with 2 where
+the words are wrong; with 130 at Ctrl-C.
+"""
+import tool_run  # first, for Ctrl-C while the others are read
+
 import collections
 import heapq
+import operator
+import re
 import struct
 import sys
 
 import capture_writer
-from capture_writer import Fault
+import command_line
+import input_files
+import output_file
+import packet_files
+from packet_files import dpkt
+from tool_run import Fault
 
 TOOL = "capture_from_pcap"
-try:
-    import dpkt
-    import tqdm
-except ImportError:
-    print(TOOL + ": needs dpkt and tqdm: apt-get install python3-dpkt python3-tqdm", file=sys.stderr)
-    sys.exit(2)
 
 EXPLANATION = """\
 The capture holds the bytes from clients to the given server ports, in the order of their sequence
 numbers. Bytes that are out of order wait for those before them, and come with their tick; bytes sent
-twice count once. Where bytes are missing for good (the server has acknowledged them, the connection
-or the file ends, or 1 MiB waits), the connection ends there. Ticks are microseconds from the first
-packet to a server port. A connection gets the next number when its first bytes come, and ends at the
-client's FIN or at a RST from either side.
+twice count once, also where the connection has ended. Where bytes are missing for good (the server
+has acknowledged them, the connection or the file ends, or 1 MiB waits), the connection ends there.
+Ticks are microseconds from the first packet to a server port. A connection gets the next number when
+its first bytes come, and ends at the client's FIN or at a RST from either side. Only packets to the
+server are needed.
+
+Files may be several, whose packets are taken by their times, and compressed (gzip, bzip2, xz;
+Zstandard where Python reads it); - is standard input.
 
 Left out, and counted: connections whose first bytes are those of TLS (record them where TLS is
-already taken off); those with bytes before --from; those beyond 65,536 (--sample chooses among more);
-records beyond 1,048,576 messages or 1 GiB; fragments of IP packets. In a pcapng the first
-interface's kind of link and clock stand for all. Where the file is cut or broken, the capture holds
-what is before that place, and the status is 1.
+already taken off, or take a log: docs/WALK.md); those with bytes before --from; of connections whose
+begin isn't there what comes before a packet that begins with a request line; fragments of IP packets.
 
-""" + capture_writer.TIERS_EXPLAINED + """\
+It is a fault, and --lenient writes the capture of what is there, where packets were cut when they
+were recorded (each connection ends at its first cut packet: record whole ones, tcpdump -s 0); where
+a file is cut or broken (it is taken up to that place); where there is more than a capture holds
+(65,536 connections, 1,048,576 messages, 1 GiB).
+
+""" + capture_writer.SAMPLE_EXPLAINED + capture_writer.TIERS_EXPLAINED + """\
 A connection's target is that of its first request; where the request line isn't whole in the
 connection's first bytes, no pattern of a target fits, and the connection is counted.
 
 examples:
-  tcpdump -i eth0 -s 0 -w site.pcap 'tcp port 80'
+  tcpdump -i eth0 -s 0 -w site.pcap 'tcp dst port 80'
   tools/capture_from_pcap.py --port 80 --output site.capture site.pcap
+  tools/capture_from_pcap.py --port 80 --output site.capture site.pcap0 site.pcap1.gz
   tools/capture_from_pcap.py --port 80 --tier 10.1.0.0/16=1 --tier /api/=2 --output site.capture site.pcap
 """
 
-BLOCK_LIMIT = 16_777_216  # bytes; no packet of a sound file is longer
 WAITING_LIMIT = 1_048_576  # bytes of one connection that may wait for those before them
 CLOSED_LIMIT = 65_536  # closed connections that are remembered, so that what is sent again doesn't seem new
 SEQUENCES = 2**32
-PCAPNG_BEGIN = b"\x0a\x0d\x0d\x0a"
 TLS_BEGIN = b"\x16\x03"
 LEFT_OUT = -1  # in the place of a connection's number
-MIDDLE = "connections whose begin isn't in the file"
+UNREADABLE = "packets that can't be read"
+BEFORE = "connections begun before --from"
+MIDDLE = "connections whose begin isn't in the file, taken from a packet that begins with a request line"
+NO_BEGIN = "connections whose begin isn't in the file, and of which no packet begins with a request line"
 LOST = "connections ended by lost bytes"
+CUT = "connections ended by packets that were cut when they were recorded"
 NO_TARGET = "connections whose first bytes hold no whole request line, for --tier"
+REQUEST_LINE = re.compile(rb"[!#$%&'*+\-.^_`|~0-9A-Za-z]+ [^ \r\n]+ HTTP/[0-9]\.[0-9]\r?\n")
 
 # How the packets of each kind of link are read (the numbers of www.tcpdump.org/linktypes.html).
 LINKS = {
@@ -58,31 +75,11 @@ LINKS = {
     276: dpkt.sll2.SLL2, 228: dpkt.ip.IP, 229: dpkt.ip6.IP6,
 }
 RAW_LINKS = (12, 14, 101)  # IPv4 or IPv6 without anything before it
-
-# Source and destination are pairs of address and port; sequence and acknowledgment are those of RFC 9293, 3.1.
-Segment = collections.namedtuple("Segment", "source destination sequence acknowledgment flags data")
-
-
-class PacketFile:
-    """A file that is read from its begin, with a bar; refuses to be read where it is cut or has a packet too long."""
-
-    def __init__(self, file, bar):
-        self.file = file
-        self.bar = bar
-        self.ended = False
-        self.place = 0  # bytes read
-
-    def read(self, count):
-        """The next bytes: so many, or none at the file's end."""
-        if not 0 <= count <= BLOCK_LIMIT:
-            raise Fault(1, "broken before byte %d" % self.place)
-        data = self.file.read(count)
-        self.place += len(data)
-        self.bar.update(len(data))
-        if len(data) < count and (data or self.ended):
-            raise Fault(1, "cut at byte %d" % self.place)
-        self.ended = len(data) < count
-        return data
+COOKED = (dpkt.sll.SLL, dpkt.sll2.SLL2)
+TAGS = (dpkt.ethernet.ETH_TYPE_8021Q, dpkt.ethernet.ETH_TYPE_8021AD)
+# Source and destination are pairs of address and port; sequence and acknowledgment are those of RFC 9293, 3.1; cut are
+# the bytes at the end of the data that aren't in the file.
+Segment = collections.namedtuple("Segment", "source destination sequence acknowledgment flags data cut")
 
 
 class Stream:
@@ -91,9 +88,12 @@ class Stream:
     A byte's place is its distance from the first byte. So sequence numbers may wrap (RFC 9293, 3.4).
     """
 
-    def __init__(self, sequence, middle):
-        self.first = sequence % SEQUENCES  # of the byte at place 0
-        self.middle = middle  # whether the connection's begin was not seen
+    def __init__(self, sequence, middle, remover):
+        """Takes the first byte's sequence number, whether the connection's begin isn't there, and what takes fields
+        out of its requests, if any."""
+        self.first = sequence % SEQUENCES
+        self.middle = middle
+        self.remover = remover
         self.place = 0  # of the next byte in order
         self.waiting = []  # a heap of places and bytes after the next byte
         self.waiting_bytes = 0
@@ -104,6 +104,10 @@ class Stream:
         """The place of a sequence number: of all places it may have, the one nearest to the next byte."""
         distance = (sequence - self.first - self.place) % SEQUENCES
         return self.place + (distance - SEQUENCES if distance >= SEQUENCES // 2 else distance)
+
+    def holds(self, sequence):
+        """Whether a sequence number is of this connection: among those that came, or not far from them."""
+        return -WAITING_LIMIT <= self.place_of(sequence) <= self.place + WAITING_LIMIT
 
     def take(self, place, data):
         """Takes a segment's bytes, and returns those that are now in order."""
@@ -126,14 +130,15 @@ class Stream:
 class Conversion:
     """Turns segments, one after another, into the records of a capture."""
 
-    def __init__(self, options):
+    def __init__(self, options, file):
+        """Takes the words of the command line, and the file of bytes that the capture is written to."""
         self.options = options
+        self.file = file
         self.ports = frozenset(options.port)
         self.streams = {}  # the open connections by client and server
         self.closed = collections.OrderedDict()  # the last that were closed, the oldest first
         self.seen = 0  # connections with bytes, out of which each Nth is taken
-        self.first = None  # the time of tick 0, in microseconds since 1970
-        self.last = None  # the time of the last packet
+        self.last = None  # the time of the last packet, in microseconds since 1970
         self.writer = None
         self.left_out = collections.Counter()
         self.remarks = collections.Counter()
@@ -143,8 +148,7 @@ class Conversion:
         self.last = time
         if segment.destination[1] in self.ports:
             if self.writer is None and time >= self.options.begin:
-                self.first = time
-                self.writer = capture_writer.start_capture(self.options.output, time)
+                self.writer = capture_writer.CaptureWriter(self.file, time)
             self.from_client(time, segment)
         elif segment.source[1] in self.ports:
             self.from_server(time, segment)
@@ -160,8 +164,10 @@ class Conversion:
         if data:
             self.send(time, stream, data, segment.source[0])
         if segment.flags & dpkt.tcp.TH_FIN:
-            stream.end = place + len(segment.data)
-        if segment.flags & dpkt.tcp.TH_RST or stream.place == stream.end or stream.waiting_bytes > WAITING_LIMIT:
+            stream.end = place + len(segment.data) + segment.cut
+        if segment.cut and place + len(segment.data) + segment.cut > stream.place:
+            self.close(time, key, CUT)
+        elif segment.flags & dpkt.tcp.TH_RST or stream.place == stream.end or stream.waiting_bytes > WAITING_LIMIT:
             self.close(time, key)
 
     def from_server(self, time, segment):
@@ -175,29 +181,45 @@ class Conversion:
             self.close(time, key)
 
     def stream_of(self, time, key, segment):
-        """The stream that a client's segment belongs to, opened where the segment begins one; None for no stream."""
-        stream = self.streams.get(key)
-        begins = segment.flags & dpkt.tcp.TH_SYN
+        """The stream that a client's segment belongs to, opened where the segment begins one; None for no stream.
+
+        What is of the connection that was closed before, or of the begin of the open one, was sent again.
+        """
+        stream, older = self.streams.get(key), self.closed.get(key)
         first = (segment.sequence + 1) % SEQUENCES
-        if begins and (stream is None or stream.first != first):
-            if stream is not None:
-                self.close(time, key)
-            self.streams[key] = Stream(first, False)
-        elif stream is None and segment.data and key not in self.closed:
-            self.streams[key] = Stream(segment.sequence, True)
+        if segment.flags & dpkt.tcp.TH_SYN:
+            if older is not None and older.first == first:
+                return None
+            if stream is None or stream.first != first:
+                if stream is not None:
+                    self.close(time, key)
+                self.streams[key] = self.new_stream(first, False)
+        elif older is not None and older.holds(segment.sequence) and not (stream and stream.holds(segment.sequence)):
+            return None
+        elif stream is None and segment.data:
+            self.streams[key] = self.new_stream(segment.sequence, True)
         return self.streams.get(key)
+
+    def new_stream(self, sequence, middle):
+        """The stream of a connection whose first byte has this sequence number."""
+        remover = capture_writer.FieldRemover(self.options.without) if self.options.without else None
+        return Stream(sequence, middle, remover)
 
     def send(self, time, stream, data, client):
         """Writes bytes that are in order; the first ones decide whether the connection is taken, and its tier."""
         if stream.number is None:
-            reason = self.reason_against(time, data)
+            reason = self.reason_against(time, stream, data)
+            if reason == NO_BEGIN:
+                return
             if reason:
                 self.left_out[reason] += 1
-            number = None if reason else self.writer.connect(self.tier_of(client, data))
+            tick = 0 if reason else time - self.writer.first
+            number = None if reason else self.writer.connect(tick, self.tier_of(client, data))
             stream.number = LEFT_OUT if number is None else number
             self.remarks[MIDDLE] += stream.middle and number is not None
         if stream.number != LEFT_OUT:
-            self.writer.piece(time - self.first, stream.number, data)
+            data = stream.remover.feed(data) if stream.remover else data
+            self.writer.piece(time - self.writer.first, stream.number, data)
 
     def tier_of(self, client, data):
         """The tier of a connection with these first bytes."""
@@ -205,32 +227,54 @@ class Conversion:
         self.remarks[NO_TARGET] += target is None and any(rule.about == "target" for rule in rules)
         return capture_writer.tier_of(rules, capture_writer.client_of(client), target)
 
-    def reason_against(self, time, data):
-        """Why a connection with these first bytes is left out, or None."""
+    def reason_against(self, time, stream, data):
+        """Why a connection with these first bytes is left out, or None; NO_BEGIN where it may begin with later ones."""
         if time < self.options.begin:
-            return "connections begun before --from"
+            return BEFORE
         if data.startswith(TLS_BEGIN) or data == TLS_BEGIN[:1]:
             return "connections of TLS"
+        if stream.middle and not REQUEST_LINE.match(data):
+            return NO_BEGIN
         self.seen += 1
         return "connections between the sampled ones" if (self.seen - 1) % self.options.sample else None
 
-    def close(self, time, key):
-        """Ends a connection."""
+    def close(self, time, key, reason=LOST):
+        """Ends a connection; counts it by a reason where bytes of it are lost."""
         stream = self.streams.pop(key)
-        self.closed[key] = None
+        self.closed.pop(key, None)
+        self.closed[key] = stream
         if len(self.closed) > CLOSED_LIMIT:
             self.closed.popitem(last=False)
-        self.remarks[LOST] += stream.has_hole() and stream.number != LEFT_OUT
+        self.count_begin(stream)
+        self.remarks[reason] += (reason == CUT or stream.has_hole()) and stream.number != LEFT_OUT
+        stream.waiting, stream.remover = [], None
         if stream.number not in (None, LEFT_OUT):
-            self.writer.end(time - self.first, stream.number)
+            self.writer.end(time - self.writer.first, stream.number)
+
+    def count_begin(self, stream):
+        """Counts a connection, no more bytes of which come, where none of its packets began with a request line."""
+        self.left_out[NO_BEGIN] += stream.middle and stream.number is None
 
     def finish(self):
         """Ends the connections that still wait for lost bytes, and writes the last line."""
         if self.writer is None:
-            raise Fault(1, "no packet to a given port in the given time")
+            raise Fault("%s: no packet to a given port in the given time" % ", ".join(self.options.inputs))
         for key in [key for key, stream in self.streams.items() if stream.has_hole()]:
             self.close(self.last, key)
+        for stream in self.streams.values():
+            self.count_begin(stream)
         self.writer.stop()
+
+    def faults(self):
+        """What makes the capture less than the packets that were sent, in words; a list of texts."""
+        cut = ["%d %s; record whole packets: tcpdump -s 0" % (self.remarks[CUT], CUT)] if self.remarks[CUT] else []
+        return cut + self.writer.faults()
+
+
+def check_link(link):
+    """Raises Fault where packets of a kind of link can't be read."""
+    if link not in LINKS and link not in RAW_LINKS:
+        raise Fault("packets of a kind of link that isn't known, %d" % link)
 
 
 def decode(link, data):
@@ -238,6 +282,8 @@ def decode(link, data):
     if link in RAW_LINKS:
         return (dpkt.ip6.IP6 if data[:1] >= b"\x60" else dpkt.ip.IP)(data)
     packet = LINKS[link](data)
+    if isinstance(packet, COOKED) and packet.ethtype in TAGS:  # as an Ethernet frame has it after its addresses
+        packet = dpkt.ethernet.Ethernet(bytes(12) + struct.pack(">H", packet.ethtype) + packet.data)
     return packet if isinstance(packet, (dpkt.ip.IP, dpkt.ip6.IP6)) else packet.data
 
 
@@ -249,62 +295,71 @@ def is_fragment(packet):
     return header is not None and bool(header.frag_off or header.m_flag)
 
 
-def segment_of(link, data, left_out):
+def payload_length(packet):
+    """The bytes that follow an IP packet's headers, by its own length; None where it tells none (RFC 2675)."""
+    if isinstance(packet, dpkt.ip.IP):
+        return packet.len - 4 * packet.hl if packet.len else None
+    return packet.plen - sum(header.length for header in packet.all_extension_headers) if packet.plen else None
+
+
+def cut_of(packet, missing):
+    """How many of its segment's bytes an IP packet has lost, of so many bytes of the packet that aren't in the file."""
+    whole = payload_length(packet)
+    if whole is None:
+        return missing
+    return max(0, whole - 4 * packet.data.off - len(packet.data.data))
+
+
+def segment_of(packet, left_out):
     """The TCP segment that a packet holds; None where there is none, counted where it can't be read."""
     try:
-        packet = decode(link, data)
-        if not isinstance(packet, (dpkt.ip.IP, dpkt.ip6.IP6)):
+        decoded = decode(packet.link, packet.data)
+        if not isinstance(decoded, (dpkt.ip.IP, dpkt.ip6.IP6)):
             return None
-        if is_fragment(packet):
+        if is_fragment(decoded):
             left_out["fragments of IP packets"] += 1
             return None
-    except (dpkt.Error, struct.error, IndexError, ValueError, AttributeError, RecursionError):
-        left_out["packets that can't be read"] += 1
+        tcp = decoded.data
+        if not isinstance(tcp, dpkt.tcp.TCP):
+            left_out[UNREADABLE] += decoded.p == dpkt.ip.IP_PROTO_TCP
+            return None
+        cut = cut_of(decoded, max(0, packet.length - len(packet.data)))
+        return Segment((decoded.src, tcp.sport), (decoded.dst, tcp.dport), tcp.seq, tcp.ack, tcp.flags,
+                       bytes(tcp.data), cut)
+    except (*packet_files.BROKEN, AttributeError, TypeError, RecursionError):
+        left_out[UNREADABLE] += 1
         return None
-    tcp = packet.data
-    if not isinstance(tcp, dpkt.tcp.TCP):
-        return None
-    source, destination = (packet.src, tcp.sport), (packet.dst, tcp.dport)
-    return Segment(source, destination, tcp.seq, tcp.ack, tcp.flags, bytes(tcp.data))
 
 
-def packets(file, is_pcapng):
-    """The kind of link, the time in microseconds since 1970 and the bytes of each packet of a file."""
+def packets_of(one, faults):
+    """The packets of an input up to where it is cut or broken; that is added to the faults."""
     try:
-        reader = (dpkt.pcapng.Reader if is_pcapng else dpkt.pcap.Reader)(file)
-    except (dpkt.Error, struct.error, ValueError):
-        raise Fault(1, "no pcap and no pcapng") from None
-    link = reader.datalink()
-    if link not in LINKS and link not in RAW_LINKS:
-        raise Fault(1, "packets of a kind of link that isn't known, %d" % link)
-    try:
-        for seconds, data in reader:
-            yield link, round(seconds * capture_writer.TICKS_IN_SECOND), data
-    except (dpkt.Error, struct.error, ValueError):
-        raise Fault(1, "broken before byte %d" % file.place) from None
-
-
-def convert_all(file, is_pcapng, conversion):
-    """Takes all packets before --to; returns the fault of a file that is cut or broken, or None."""
-    try:
-        for link, time, data in packets(file, is_pcapng):
-            if conversion.options.end is not None and time >= conversion.options.end:
-                break
-            segment = segment_of(link, data, conversion.left_out)
-            if segment is not None:
-                conversion.segment(time, segment)
+        yield from packet_files.packets(one, check_link)
     except Fault as fault:
-        if conversion.writer is None:
-            raise Fault(fault.status, "%s: %s" % (conversion.options.input, fault)) from None
-        return fault
-    return None
+        kind = input_files.kind_of(one.first)
+        known = kind and str(fault).startswith("no pcap")
+        faults.append(one.name + (": this is %s" % kind if known else ": %s" % fault))
+
+
+def convert_all(conversion, inputs):
+    """Takes all packets before --to, and ends the capture; returns the faults, in words."""
+    faults, end = [], conversion.options.end
+    for packet in heapq.merge(*(packets_of(one, faults) for one in inputs), key=operator.attrgetter("time")):
+        if end is not None and packet.time >= end:
+            break
+        segment = segment_of(packet, conversion.left_out)
+        if segment is not None:
+            conversion.segment(packet.time, segment)
+    if conversion.writer is None and faults:
+        raise Fault("; ".join(faults))
+    conversion.finish()
+    return faults + conversion.faults()
 
 
 def arguments():
     """The words of the command line."""
-    parser = argparse.ArgumentParser(
-        description=__doc__, epilog=EXPLANATION, formatter_class=argparse.RawDescriptionHelpFormatter)
-    parser.add_argument("input", help="the recorded packets; /dev/stdin reads a pipe")
+    parser = command_line.Parser(description=__doc__, epilog=EXPLANATION)
+    parser.add_argument("inputs", nargs="+", metavar="PACKETS", help="the recorded packets; - reads standard input")
     parser.add_argument("--port", type=capture_writer.count, action="append", required=True,
                         help="a port of the server; may be given several times")
     capture_writer.add_common_options(parser)
@@ -314,21 +369,17 @@ def arguments():
 def convert():
     """Does what the command line says."""
     options = arguments()
-    with capture_writer.open_input(options.input, options.output) as file:
-        conversion = Conversion(options)
-        size = capture_writer.size_of(file)
-        with tqdm.tqdm(total=size, unit="B", unit_scale=True, disable=None) as bar:
-            is_pcapng = file.peek(4)[:4] == PCAPNG_BEGIN
-            fault = convert_all(PacketFile(file, bar), is_pcapng, conversion)
-    try:
-        conversion.finish()
-    except Fault as nothing:
-        raise Fault(nothing.status, "%s: %s" % (options.input, nothing)) from None
+    output_file.refuse_same([options.output], input_files.descriptors(options.inputs))
+    with output_file.replacing(options.output) as file:
+        conversion = Conversion(options, file)
+        with tool_run.progress(TOOL, input_files.size_of(options.inputs), "B") as bar:
+            with input_files.opened(options.inputs, bar.update) as inputs:
+                faults = convert_all(conversion, inputs)
+        capture_writer.end_at_faults(faults, options.lenient)
     written = capture_writer.summary(conversion.writer, conversion.left_out, conversion.remarks)
-    print("%s: %s" % (TOOL, written), file=sys.stderr)
-    if fault:
-        raise Fault(fault.status, "%s: %s; the capture holds what is before" % (options.input, fault))
+    for line in [written, *faults, *[capture_writer.SAMPLE_NOTE] * (options.sample > 1)]:
+        tool_run.say("%s: %s" % (TOOL, line))
 
 
 if __name__ == "__main__":
-    capture_writer.run(TOOL, convert)
+    sys.exit(tool_run.run(TOOL, convert))

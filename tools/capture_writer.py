@@ -1,16 +1,11 @@
-"""Writes captures (docs/FORMATS.md, Capture), and holds what the command lines of the tools beside it share.
-
-The tools exit with 0; with 1 where the input is broken or holds nothing to write; with 2 where words, files or
-libraries are wrong. Each such fault is one line on standard error.
-"""
+"""Writes captures (docs/FORMATS.md, Capture), and holds what the command lines of the capture tools share."""
 import argparse
 import collections
-import contextlib
 import datetime
 import ipaddress
-import os
 import re
-import sys
+
+from tool_run import Fault
 
 START_LIMIT = 4_102_444_800  # seconds since 1970
 TICK_LIMIT = 10**15  # ticks, which are microseconds
@@ -22,19 +17,12 @@ STOP_ROOM = 32  # bytes that are kept free for the last line
 BLOCK_LIMIT = 8_192  # bytes of a head
 BODY_DIGITS = 5  # digits of the longest body that is read, 65,536 bytes
 TICKS_IN_SECOND = 10**6
+NEEDED_FIELDS = ("host", "content-length", "transfer-encoding", "connection")
 
 EMPTY_LINES = re.compile(rb"(?:\r?\n)*")
 BLOCK_END = re.compile(rb"\n\r?\n")
 TARGET = re.compile(rb"(?:\r?\n)*[^ \r\n]+ ([^ \r\n]+)[ \r\n]")
 CONTENT_LENGTH = re.compile(rb"^content-length:[ \t]*([0-9]+)[ \t]*\r?$", re.IGNORECASE | re.MULTILINE)
-
-
-class Fault(Exception):
-    """What ends a tool: one line for standard error, and its status."""
-
-    def __init__(self, status, line):
-        super().__init__(line)
-        self.status = status
 
 
 class MessageCounter:
@@ -72,6 +60,52 @@ def body_length(block):
     return int(digits) if 0 < len(digits) <= BODY_DIGITS else 0
 
 
+class FieldRemover:
+    """Takes fields out of the heads of one connection's text, and leaves its bodies as they are.
+
+    The begin of a line is held until the line ends; so each head ends in the same piece as without this.
+    """
+
+    def __init__(self, names):
+        """Takes the names of the fields, of which there is at least one."""
+        self.field = re.compile(b"(?:%b)[ \t]*:" % b"|".join(map(re.escape, names)), re.IGNORECASE)
+        self.line = b""  # the begin of a line that hasn't ended
+        self.head = b""  # the lines so far of a head that hasn't ended
+        self.body = 0  # bytes of a body that are still to come
+        self.removes = False  # whether the last line was taken out, and so the lines that continue it are
+
+    def feed(self, data):
+        """Takes the connection's next bytes, and returns those that stay."""
+        text, at, kept = self.line + data, 0, []
+        self.line = b""
+        while at < len(text):
+            if self.body:
+                end = at + min(self.body, len(text) - at)
+                self.body -= end - at
+                kept.append(text[at:end])
+            else:
+                end = text.find(b"\n", at) + 1 or len(text)
+                kept.append(self._take(text[at:end]))
+            at = end
+        return b"".join(kept)
+
+    def _take(self, line):
+        """Takes a line of a head, or the begin of one; returns what stays of it."""
+        if len(self.head) + len(line) > BLOCK_LIMIT:  # the server closes the connection here
+            return line
+        if not line.endswith(b"\n"):
+            self.line = line
+            return b""
+        if not line.rstrip(b"\r\n"):
+            self.body = body_length(self.head + line) if self.head else 0
+            self.head, self.removes = b"", False
+            return line
+        if self.head and line[:1] not in (b" ", b"\t"):
+            self.removes = self.field.match(line) is not None
+        self.head += line
+        return b"" if self.removes else line
+
+
 class CaptureWriter:
     """Writes one capture, record by record, so that its rules hold (docs/FORMATS.md, Capture; docs/RULES.md, Limits).
 
@@ -79,86 +113,122 @@ class CaptureWriter:
     it are left out and counted.
     """
 
-    def __init__(self, file, start):
-        """Writes the first line to a file of bytes: the start in seconds since 1970, from 0 to START_LIMIT."""
+    def __init__(self, file, first):
+        """Takes a file of bytes, and the time of tick 0 in microseconds since 1970; writes the first line."""
+        start = first // TICKS_IN_SECOND
+        if start > START_LIMIT:
+            raise Fault("the first time, %s, is above %d seconds since 1970" % (time_of_day(first), START_LIMIT))
         self.file = file
+        self.first = first
         self.tick = 0  # that of the last record
         self.records = 0
         self.raised = 0  # records whose ticks fell, and were raised to that of the record before
         self.connections = 0
         self.messages = 0
         self.bytes = 0  # of the pieces
-        self.counters = {}  # a MessageCounter for each connection that hasn't ended
+        self.counters = {}  # a MessageCounter for each connection that hasn't ended, and sent pieces
         self.full = None  # the limit that was met
+        self.cut = None  # the first limit that left something out, and the tick of that
         self.left_out = collections.Counter()
         first_line = b"haboob-capture 2 %d\n" % start
         self.size = len(first_line)
         self.file.write(first_line)
 
-    def connect(self, tier=0):
+    def connect(self, tick, tier=0):
         """The number of the next connection, from 0, which gets this tier; None, counted as left out, where all numbers
-        are given."""
+        are given. It is wanted for a record at this tick."""
         if self.connections == CONNECTIONS_LIMIT:
-            self.left_out["connections beyond %d" % CONNECTIONS_LIMIT] += 1
+            self._leave_out("connections", "%d connections" % CONNECTIONS_LIMIT, tick)
             return None
         number = self.connections
         self.connections += 1
-        self.counters[number] = MessageCounter()
         if tier:
-            self._write(None, b"tier", (number, tier), 0)
+            self._write(None, b"tier %d %d\n" % (number, tier), 0)
         return number
 
     def piece(self, tick, number, data):
         """Writes what a connection that hasn't ended sends at a tick, in pieces of at most PIECE_LIMIT bytes."""
-        counter = self.counters[number]
+        counter = self.counters.setdefault(number, MessageCounter())
         for at in range(0, len(data), PIECE_LIMIT):
             part = data[at:at + PIECE_LIMIT]
-            written = self._write(tick, b"piece", (number, len(part)), counter.feed(part), part + b"\n")
-            self.bytes += len(part) if written else 0
+            self._write_piece(tick, number, part, counter.feed(part))
+
+    def message(self, tick, number, head):
+        """Writes a whole message, a head without a body, of a connection that sends nothing but such."""
+        self._write_piece(tick, number, head, 1)
+
+    def _write_piece(self, tick, number, part, messages):
+        """Writes a piece that ends so many messages."""
+        raised = tick if tick > self.tick else self.tick
+        if self._write(tick, b"piece %d %d %d\n%b\n" % (raised, number, len(part), part), messages):
+            self.bytes += len(part)
 
     def end(self, tick, number):
         """Writes that a connection, which hasn't ended, ends at a tick."""
-        del self.counters[number]
-        self._write(tick, b"end", (number,), 0)
+        self.counters.pop(number, None)
+        self._write(tick, b"end %d %d\n" % (max(tick, self.tick), number), 0)
 
     def stop(self):
-        """Writes the last line, and closes the file."""
+        """Writes the last line."""
         self.file.write(b"stop %d\n" % self.records)
-        self.file.close()
 
-    def _write(self, tick, kind, numbers, messages, data=b""):
+    def _write(self, tick, text, messages):
         """Writes a record that ends so many messages, and tells whether it was written. A tier has no tick."""
-        if tick is None:
-            tick = raised = self.tick
-        else:
-            raised = max(tick, self.tick)
-            numbers = (raised, *numbers)
-        text = kind + b"".join(b" %d" % number for number in numbers) + b"\n" + data
-        self.full = self.full or self._limit(raised, len(text), messages)
-        if self.full:
-            self.left_out["records beyond %s" % self.full] += 1
+        raised = tick if tick is not None and tick > self.tick else self.tick
+        size, messages = self.size + len(text), self.messages + messages
+        if self.full or raised > TICK_LIMIT or messages > MESSAGES_LIMIT or size + STOP_ROOM > TEXT_LIMIT:
+            self.full = self.full or self._limit(raised, messages)
+            self._leave_out("records", self.full, raised)
             return False
-        self.raised += raised > tick
-        self.tick = raised
+        self.raised += tick is not None and raised > tick
+        self.tick, self.messages, self.size = raised, messages, size
         self.records += 1
-        self.messages += messages
-        self.size += len(text)
         self.file.write(text)
         return True
 
-    def _limit(self, tick, size, messages):
-        """The limit that a record of so many bytes and messages would pass, or None."""
+    @staticmethod
+    def _limit(tick, messages):
+        """The limit that a record passes after which there were so many messages."""
         if tick > TICK_LIMIT:
             return "tick %d" % TICK_LIMIT
-        if self.messages + messages > MESSAGES_LIMIT:
+        if messages > MESSAGES_LIMIT:
             return "%d messages" % MESSAGES_LIMIT
-        if self.size + size + STOP_ROOM > TEXT_LIMIT:
-            return "%d bytes of text" % TEXT_LIMIT
-        return None
+        return "%d bytes of text" % TEXT_LIMIT
+
+    def _leave_out(self, what, limit, tick):
+        """Counts what a limit leaves out."""
+        self.left_out["%s beyond %s" % (what, limit)] += 1
+        self.cut = self.cut or (limit, tick)
+
+    def faults(self):
+        """What makes the capture less than the input, in words that say what to do about it; a list of texts."""
+        if self.cut is None:
+            return []
+        limit, tick = self.cut
+        return ["a capture ends at %s: cut at tick %d, %s (%s); take a part of the time by --from and --to" % (
+            limit, tick, time_of_day(self.first + tick), listed(self.left_out))]
 
 
-# What a connection's client or target (about) has to be for its tier.
-TierRule = collections.namedtuple("TierRule", "about fits tier")
+def time_of_day(time):
+    """A time in microseconds since 1970 as 2026-11-23T05:50:00.000000Z; as a number after the year 9999."""
+    try:
+        moment = datetime.datetime(1970, 1, 1) + datetime.timedelta(microseconds=time)
+    except OverflowError:
+        return "%d microseconds since 1970" % time
+    return moment.isoformat(timespec="microseconds") + "Z"
+
+
+class TierRule:
+    """A tier, 0 to 3, and the clients or targets that it is for: a network, a prefix, or a pattern of targets."""
+
+    def __init__(self, about, wanted, tier):
+        self.about, self.wanted, self.tier = about, wanted, tier
+
+    def fits(self, value):
+        """Whether a connection's client or target, by what the rule is about, is one that it is for."""
+        if self.about == "client":
+            return value in self.wanted
+        return value.startswith(self.wanted) if isinstance(self.wanted, bytes) else self.wanted.search(value)
 
 
 def tier_rule(text):
@@ -168,13 +238,11 @@ def tier_rule(text):
         raise argparse.ArgumentTypeError("%r is no PATTERN=N with N from 0 to 3" % text)
     try:
         if pattern.startswith("/"):
-            prefix = pattern.encode()
-            return TierRule("target", lambda target: target.startswith(prefix), int(tier))
+            return TierRule("target", pattern.encode(), int(tier))
         if pattern.startswith("~"):
-            return TierRule("target", re.compile(pattern[1:].encode()).search, int(tier))
-        network = ipaddress.ip_network(pattern, strict=False)
-        return TierRule("client", lambda client: client in network, int(tier))
-    except (ValueError, re.error) as error:
+            return TierRule("target", re.compile(pattern[1:].encode()), int(tier))
+        return TierRule("client", ipaddress.ip_network(pattern, strict=False), int(tier))
+    except (ValueError, RecursionError, OverflowError, re.error) as error:
         raise argparse.ArgumentTypeError("%r: %s" % (text, error)) from None
 
 
@@ -218,17 +286,42 @@ def count(text):
     return int(text)
 
 
+def field_name(text):
+    """The name of a field of the command line, as bytes."""
+    if not re.fullmatch(r"[!#$%&'*+\-.^_`|~0-9A-Za-z]+", text):
+        raise argparse.ArgumentTypeError("%r is no name of a field" % text)
+    if text.lower() in NEEDED_FIELDS:
+        raise argparse.ArgumentTypeError("%r: a request isn't the same message without it" % text)
+    return text.encode()
+
+
 def add_common_options(parser):
     """The options that choose a part of the input, and name the capture."""
     parser.add_argument("--from", dest="begin", type=moment, default=0, metavar="TIME",
                         help="leave out what is before this time: 2026-11-23T05:50:00Z, or seconds since 1970")
     parser.add_argument("--to", dest="end", type=moment, default=None, metavar="TIME",
                         help="leave out what is at this time or after it")
-    parser.add_argument("--sample", type=count, default=1, metavar="N", help="take each Nth connection only")
+    parser.add_argument("--sample", type=count, default=1, metavar="N",
+                        help="take each Nth connection only, to see what is asked: such a capture is no measure of "
+                        "admission (see below)")
     parser.add_argument("--tier", type=tier_rule, action="append", default=[], metavar="PATTERN=N",
                         help="the tier, 0 to 3, of connections that fit (see below); may be given several times")
+    parser.add_argument("--without", type=field_name, action="append", default=[], metavar="FIELD",
+                        help="take this field out of the requests, such as If-None-Match; may be given several times")
+    parser.add_argument("--lenient", action="store_true",
+                        help="write the capture also where it is less than the input, and exit with 0")
     parser.add_argument("--output", required=True, metavar="FILE", help="the capture that is written")
 
+
+SAMPLE_EXPLAINED = """\
+--sample N shows what is asked, by whom and how often, in a capture that is small enough. It is never
+for admission: the fewer requests meet one another less often. A fifth of some traffic turned 8% away
+where all of it turned 44% away behind the same settings. For admission take a part of the time by
+--from and --to.
+
+"""
+SAMPLE_NOTE = ("--sample shows what is asked, and nothing of admission: a fifth of the traffic is turned away far less "
+               "than all of it; for that take a part of the time by --from and --to")
 
 TIERS_EXPLAINED = """\
 --tier PATTERN=N gives connections the tier N. The first that fits a connection counts; one that
@@ -239,28 +332,9 @@ none fits is of tier 0. PATTERN is
 """
 
 
-@contextlib.contextmanager
-def open_input(path, output):
-    """Opens the input for reading bytes; refuses an output that is the same file, and an empty input."""
-    with open(path, "rb") as file:
-        if os.path.exists(output) and os.path.samestat(os.fstat(file.fileno()), os.stat(output)):
-            raise Fault(2, "%s: the output is the input" % output)
-        if not file.peek(1):
-            raise Fault(1, "%s: empty" % path)
-        yield file
-
-
-def size_of(file):
-    """The bytes of a file, for its bar; None where it has no size, as a pipe."""
-    return os.fstat(file.fileno()).st_size or None
-
-
-def start_capture(path, first):
-    """Opens the output, and writes a capture's first line, whose start is the second of a time in microseconds."""
-    start = first // TICKS_IN_SECOND
-    if start > START_LIMIT:
-        raise Fault(1, "the first time is above %d seconds since 1970" % START_LIMIT)
-    return CaptureWriter(open(path, "wb"), start)
+def listed(counts):
+    """Counts by their names, in words; "nothing" of none."""
+    return ", ".join("%d %s" % (number, name) for name, number in counts.items() if number) or "nothing"
 
 
 def summary(writer, left_out, remarks):
@@ -268,18 +342,12 @@ def summary(writer, left_out, remarks):
     parts = ["%d records, %d connections, %d bytes" % (writer.records, writer.connections, writer.bytes)]
     remarks = collections.Counter(remarks, **({"records came late: ticks raised": writer.raised}))
     for title, counts in (("left out", writer.left_out + left_out), ("note", remarks)):
-        listed = ["%d %s" % (number, name) for name, number in counts.items() if number]
-        parts += [title + ": " + ", ".join(listed)] if listed else []
+        if any(counts.values()):
+            parts.append("%s: %s" % (title, listed(counts)))
     return "; ".join(parts)
 
 
-def run(tool, convert):
-    """Runs a tool; says its fault, if any, in one line, and exits with its status."""
-    try:
-        convert()
-    except Fault as fault:
-        print("%s: %s" % (tool, fault), file=sys.stderr)
-        sys.exit(fault.status)
-    except OSError as error:
-        print("%s: %s: %s" % (tool, error.filename or "output", error.strerror), file=sys.stderr)
-        sys.exit(2)
+def end_at_faults(faults, lenient):
+    """Raises Fault for what makes a capture less than its input, so that it isn't written; unless it is let pass."""
+    if faults and not lenient:
+        raise Fault("; ".join(faults) + "; nothing is written: --lenient writes what there is")

@@ -2,15 +2,23 @@
 
 Nothing but Python's own library is used: a worker of a cluster is sent this file alone.
 """
-import csv
+import array
+import collections
 import hashlib
+import heapq
+import io
+import itertools
 import os
 import pathlib
+import re
 import shutil
 import subprocess
 import tempfile
 
 HEADING = "number connection tick tier status decision service credit rate start finish waited method target".split()
+TIERS = 4
+LINE_ROOM = 65_536  # characters; no sound row is as long, since a request's head has at most 8,192 bytes
+PERCENTS = (50, 90, 99)
 REPORT_BEGIN = "haboob-report 1\n"
 REPORT_END = "end\n"
 REPORTED = ("admitted", "rejected", "p50", "p90", "p99")
@@ -18,53 +26,141 @@ REFUSED = 3  # the program's status where the settings are at fault
 LINE_LIMIT = 1_000  # bytes that are read of what the program says
 DIGEST = "sha256"
 
+# A row of a table: numbers as such (None where there is none), the others as text.
+Row = collections.namedtuple("Row", HEADING)
+NUMBER = "([0-9]{1,18})"
+MAY_BE_ABSENT = "([0-9]{1,18}|)"
+VISIBLE = r"([!-+\--~]*)"  # visible ASCII but a comma; other bytes stand as escapes
+PARTS = {**dict.fromkeys(HEADING[:5], NUMBER), **dict.fromkeys(HEADING[6:12], MAY_BE_ABSENT), "tier": "([0-3])",
+         "decision": "(admitted|rejected|bypassed)", "method": VISIBLE, "target": VISIBLE}
+PATTERN = re.compile(",".join(PARTS[name] for name in HEADING) + "\n")
+NEEDED = {"bypassed": (), "rejected": ("service", "credit", "rate", "waited"), "admitted": tuple(HEADING[6:12])}
+SHOWN = 20  # characters of what is wrong
+
 
 class Fault(Exception):
-    """What ends a tool: one line for standard error, and its status."""
-
-    def __init__(self, line, status=1):
-        super().__init__(line)
-        self.status = status
+    """What ends a run: one line for standard error."""
 
 
-def rows_of(lines):
-    """The rows of a table of decisions, by the names of its columns."""
-    reader = csv.DictReader(lines)
-    if reader.fieldnames != HEADING:
+def lines_of(file):
+    """The lines of a file of bytes after the heading with their numbers, in bounded room; a fault where one is too long
+    or cut."""
+    for number in itertools.count(2):
+        line = file.readline(LINE_ROOM)
+        if not line:
+            return
+        if len(line) == LINE_ROOM:
+            raise Fault("row %d: longer than %d bytes" % (number, LINE_ROOM))
+        if not line.endswith(b"\n"):
+            raise Fault("row %d: cut, or not as many fields as the heading has" % number)
+        yield number, line.decode("ascii", errors="surrogateescape")
+
+
+def fault_of(line, number):
+    """What is wrong with a line that is no row."""
+    fields = line.rstrip("\n").split(",")
+    if len(fields) != len(HEADING):
+        return Fault("row %d: not as many fields as the heading has" % number)
+    wrong = next(pair for pair in zip(HEADING, fields) if not re.fullmatch(PARTS[pair[0]], pair[1]))
+    return Fault("row %d: %s: %s isn't one" % (number, wrong[0], ascii(wrong[1][:SHOWN])))
+
+
+def row_of(line, number):
+    """The row of a line; a fault where it is none."""
+    found = PATTERN.fullmatch(line)
+    if not found:
+        raise fault_of(line, number)
+    texts = found.groups()
+    row = Row(*map(int, texts[:5]), texts[5], *(int(text) if text else None for text in texts[6:12]), *texts[12:])
+    absent = next((name for name in NEEDED[row.decision] if getattr(row, name) is None), None)
+    if absent:
+        raise Fault("row %d: %s: isn't there" % (number, absent))
+    if row.decision == "admitted" and not row.tick <= row.start <= row.finish:
+        raise Fault("row %d: tick, start and finish don't rise" % number)
+    return row
+
+
+def rows_of(file):
+    """The rows of a table of decisions in a file of bytes; a fault, with the row (the heading is 1), where it is
+    damaged."""
+    if file.readline(LINE_ROOM).decode("ascii", errors="replace") != ",".join(HEADING) + "\n":
         raise Fault("this is no table of decisions")
-    for row in reader:
-        if None in row or None in row.values():
-            raise Fault("line %d: not as many fields as the heading has" % reader.line_num)
+    tick = 0
+    for number, line in lines_of(file):
+        row = row_of(line, number)
+        if row.tick < tick:
+            raise Fault("row %d: the tick is lower than that of the row before" % number)
+        tick = row.tick
         yield row
 
 
-class Tally:
-    """What is counted over the rows of a table. Times are in ticks, which are microseconds."""
+def ranked(samples, percent):
+    """The sample at rank ceil(percent * m / 100) of m sorted ones, as in the report; None of none."""
+    return samples[-(-percent * len(samples) // 100) - 1] if samples else None
+
+
+class Queue:
+    """The admitted requests that aren't answered yet."""
 
     def __init__(self):
+        self.finishes = []  # a heap
+
+    def admit(self, tick, finish):
+        """How many there are with a request that comes at a tick, and is answered at its finish."""
+        while self.finishes and self.finishes[0] <= tick:
+            heapq.heappop(self.finishes)
+        heapq.heappush(self.finishes, finish)
+        return len(self.finishes)
+
+
+class TierTally:
+    """What is counted of one tier's requests. Times are in ticks, which are microseconds."""
+
+    def __init__(self):
+        self.samples = array.array("q")  # the response times of the admitted requests
+        self.rejected = 0
         self.idle = 0  # requests that were turned away while the virtual server was idle
-        self.greatest = None  # the longest response time
+
+    def figures(self):
+        """The figures by their names."""
+        samples = sorted(self.samples)
+        return {"admitted": len(samples), "rejected": self.rejected, "rejected_while_idle": self.idle,
+                **{"p%d" % percent: ranked(samples, percent) for percent in PERCENTS},
+                "greatest": samples[-1] if samples else None}
+
+
+class Tally:
+    """What is counted over the rows of a table."""
+
+    def __init__(self):
+        self.tiers = collections.defaultdict(TierTally)
+        self.queue = Queue()
+        self.inside = 0  # the most requests that were admitted and not yet answered
         self.busy = 0  # for how long the virtual server worked
         self.first = None  # the tick of the first request
         self.last = 0  # when the last service ended
 
     def take(self, row):
         """Takes a row; one that was bypassed isn't offered, and doesn't count."""
-        if row["decision"] == "bypassed":
+        if row.decision == "bypassed":
             return
-        tick = int(row["tick"])
-        self.first = tick if self.first is None else self.first
-        if row["decision"] == "admitted":
-            self.last = int(row["finish"])
-            self.busy += self.last - int(row["start"])
-            self.greatest = max(self.greatest or 0, self.last - tick)
-        elif int(row["waited"]) == 0:
-            self.idle += 1
+        tier = self.tiers[row.tier]
+        self.first = row.tick if self.first is None else self.first
+        if row.decision == "admitted":
+            self.last = max(self.last, row.finish)
+            self.busy += row.finish - row.start
+            tier.samples.append(row.finish - row.tick)
+            self.inside = max(self.inside, self.queue.admit(row.tick, row.finish))
+            return
+        tier.rejected += 1
+        tier.idle += row.waited == 0
 
     def figures(self):
         """The figures by their names; `span` is the time from the first request to the end of the last service."""
-        return {"rejected_while_idle": self.idle, "greatest": self.greatest, "busy": self.busy,
-                "span": self.last - self.first if self.busy else 0}
+        greatest = max((max(tier.samples) for tier in self.tiers.values() if tier.samples), default=None)
+        return {"rejected_while_idle": sum(tier.idle for tier in self.tiers.values()), "greatest": greatest,
+                "most_inside": self.inside, "busy": self.busy, "span": self.last - self.first if self.busy else 0,
+                "tiers": {str(number): tier.figures() for number, tier in sorted(self.tiers.items())}}
 
 
 def report_figures(lines):
@@ -81,7 +177,7 @@ def report_figures(lines):
 
 
 def tally_of(table):
-    """What is counted over a table, of which one row is held at a time."""
+    """What is counted over a table in a file of bytes, of which one row is held at a time."""
     tally = Tally()
     for row in rows_of(table):
         tally.take(row)
@@ -92,11 +188,17 @@ def tally_or_fault(table):
     """What is counted over a table, and None; or None and the fault of a text that ended too early."""
     try:
         return tally_of(table), None
-    except (Fault, ValueError) as error:
+    except Fault as error:
         fault = Fault("no table of haboob explain: %s" % error)
     if table.read(1):
         raise fault
     return None, fault
+
+
+def said_by(errors):
+    """The first line that the program wrote to a file of errors."""
+    errors.seek(0)
+    return errors.readline(LINE_LIMIT).decode(errors="replace").strip()
 
 
 def run(program, snapshot, capture, settings):
@@ -107,7 +209,7 @@ def run(program, snapshot, capture, settings):
     table_end, program_end = os.pipe()
     words = [program, "explain", "--snapshot", snapshot, "--capture", capture, "--settings", settings,
              "--messages", "/dev/fd/%d" % program_end]
-    with open(table_end, encoding="ascii", errors="replace") as table, tempfile.TemporaryFile() as errors, \
+    with open(table_end, "rb") as table, tempfile.TemporaryFile() as errors, \
             tempfile.TemporaryFile("w+", encoding="ascii", errors="replace") as report:
         try:
             process = subprocess.Popen(
@@ -116,8 +218,7 @@ def run(program, snapshot, capture, settings):
             os.close(program_end)
         with process, table:
             tally, fault = tally_or_fault(table)
-        errors.seek(0)
-        said = errors.readline(LINE_LIMIT).decode(errors="replace").strip()
+        said = said_by(errors)
         if process.returncode == REFUSED:
             return {"fault": said}
         if process.returncode:
@@ -131,11 +232,21 @@ def run(program, snapshot, capture, settings):
             raise Fault("no report of haboob explain: %s" % error) from None
 
 
+def default_settings(name):
+    """The document of all settings with their defaults, as a program that is found by its name writes it."""
+    program = find_program(name)
+    ran = subprocess.run([program, "settings"], stdin=subprocess.DEVNULL, capture_output=True)
+    if ran.returncode:
+        said = said_by(io.BytesIO(ran.stderr))
+        raise Fault(said or "%s: ended with status %d" % (program, ran.returncode))
+    return ran.stdout.decode("ascii", errors="replace")
+
+
 def find_program(name):
     """The file of a program that is named by a path or found on the PATH."""
     path = shutil.which(name)
     if path is None:
-        raise Fault("%s: no such program; put it on the PATH, or name it with --program" % name, 2)
+        raise Fault("%s: no such program; put it on the PATH, or name it with --program" % name)
     return path
 
 
@@ -154,7 +265,7 @@ def run_bytes(name, digest, snapshot, capture, settings):
     """The same on a worker of a cluster: of bytes, and by its own program, which has to have this digest."""
     program = find_program(name)
     if digest_of(program) != digest:
-        raise Fault("%s: not the same program on all workers" % name, 2)
+        raise Fault("%s: not the same program on all workers" % name)
     with tempfile.TemporaryDirectory(prefix="haboob-sweep-") as folder:
         paths = [pathlib.Path(folder, name) for name in ("snapshot", "capture", "settings")]
         for path, data in zip(paths, (snapshot, capture, settings)):

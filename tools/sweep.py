@@ -1,64 +1,62 @@
 #!/usr/bin/python3
-"""Replays a capture under a grid of settings, and shows which of them turn few requests away and answer soon."""
+"""Replays captures under many settings, and shows which of them turn few requests away and answer soon.
+
+Exits with 0; with 1 at a fault, which is one line on standard error, and where no combination is within --at-most; with
+2 where the words are wrong; with 130 at Ctrl-C.
+"""
+import tool_run  # first, for Ctrl-C while the others are read
+
 import argparse
 import collections
 import concurrent.futures
 import contextlib
-import csv
 import hashlib
-import html
-import io
 import itertools
 import json
 import logging
+import math
 import multiprocessing
 import os
 import pathlib
 import re
 import signal
 import stat
-import statistics
 import sys
 import textwrap
 import threading
+import tomllib
 
-import capture_writer
+import command_line
 import decision_tables
-from decision_tables import Fault
+import input_files
+import output_file
+import server_lines
+import settings_documents
+import spreadsheets
+import standard_output
+import sweep_figures
+import sweep_page
+from sweep_figures import Combination
+from tool_run import Fault
 
 TOOL = "sweep"
-try:
-    import matplotlib  # which timeline needs
-    import tomllib
-    import tqdm
-except ImportError as missing:
-    print("%s: needs %s: apt-get install python3-matplotlib python3-tqdm, and Python 3.11" % (TOOL, missing.name),
-          file=sys.stderr)
-    sys.exit(2)
-import timeline
-from timeline import pyplot
-
-DEFINITIONS = (
-    ("turned away", "the rejected requests, in percent of those that were offered (all but the bypassed ones)"),
-    ("p50, p90, p99", "percentiles of the response times of the admitted requests, as in the report"),
-    ("greatest", "the longest response time of an admitted request"),
-    ("while idle", "the requests that were turned away while the virtual server was idle"),
-    ("busy", "for how long the virtual server worked, as a part of the time from the first request to the end of "
-             "the last service"),
-    ("unbeaten", "no other combination turns no more away and has no greater p99, with one of both less"),
-)
 
 EXPLANATION = """\
-Each combination of the values is a run of `haboob explain`, with the settings of --settings and the
-values in their place. A key is any one of the settings that is a single integer: policy.depth,
-tier1.rate, costs.kib. (The program refuses a rate outside rate_min and rate_max.) FOLDER gets
+Each combination of the values is a run of `haboob explain` for each capture, with the settings of
+--settings and the values in their place. A key is any one of the settings that is a single integer:
+policy.depth, tier1.rate, costs.kib. Rates are in thousandths a second, or with /s in requests a
+second: policy.rate=1000000 is policy.rate=1000/s. policy.fixed_rate is no key of the program: it sets
+rate, rate_min and rate_max alike, as servers do that have no controller. (The program refuses a rate
+outside rate_min and rate_max.) FOLDER gets
 
   sweep.html      the combinations by requests turned away and p99, what each key changes, and the
                   combinations that no other beats
   sweep.csv       a row for each combination, the last key's values changing first: the values;
                   admitted, rejected, rejected_while_idle; p50, p90, p99, greatest (microseconds);
-                  busy_share (0 to 1); unbeaten (1 or 0); fault: what the program says where it
-                  refuses the settings, and there are no figures then; the file of the settings
+                  busy_share (0 to 1); unbeaten and chosen (1 or 0); turned_away (percent);
+                  most_inside; row; capture; the figures of each tier, where there are several;
+                  fault: what the program says where it refuses the settings, and there are no
+                  figures then; the file of the settings
   settings/       the settings of each combination, to be taken as they are
   results/        the figures of each run. After an interruption the same command goes on; and any
                   sweep into this folder takes a result again where snapshot, capture, program and
@@ -66,50 +64,83 @@ tier1.rate, costs.kib. (The program refuses a rate outside rate_min and rate_max
 
 %s
 
+Where all values of a key give the same figures, they are one row, with `any` in the key's place. Of
+several captures the worst figure counts; sweep.csv has a row `worst` and then one for each.
+
+--at-most FIGURE=N chooses, of the combinations within it (several times: within all), the one that
+turns fewest away, and prints its settings and lines for nginx, HAProxy and Envoy on standard output.
+FIGURE is %s;
+tier1.p99 is that of tier 1. N is in microseconds for times, in percent for turned_away.
+
+--search N tries N combinations in the place of all: --set then gives ranges, and an optimiser (SciPy's
+differential evolution) looks for the one to choose.
+
 Each run holds the snapshot in memory. A table of decisions is read while it is written, and takes no
 room on the disk.
 
 --cluster ADDRESS runs the combinations on a Dask cluster whose scheduler has this address. Snapshot
-and capture are sent to each worker once; there each run writes them to a temporary folder, which is
+and captures are sent to each worker once; there each run writes them to a temporary folder, which is
 then removed. A worker needs Python 3.11 and the program, the same on all of them, on its PATH or as
 --program says. --jobs doesn't count: as many run at once as the workers have threads, and a worker
 with one thread is best (dask-worker --nthreads 1).
 
-example:
+examples:
   tools/sweep.py --snapshot site.snapshot --capture day.capture --output day.sweep \\
-    --set policy.rate=500000,1000000,2000000 --set policy.depth=10,100,1000
-""" % "\n".join(textwrap.fill(meaning, 100, initial_indent="  %-16s" % name, subsequent_indent=18 * " ")
-                for name, meaning in DEFINITIONS)
+    --set policy.rate=500/s,1000/s,2000/s --set policy.depth=10,100,1000 --at-most p99=50000
+  tools/sweep.py --snapshot site.snapshot --capture friday.capture --capture sunday.capture --output both.sweep \\
+    --set policy.fixed_rate=100/s..2000/s --set policy.depth=1..1000 --search 60 --at-most tier0.p99=50000
+""" % ("\n".join(textwrap.fill(meaning, 100, initial_indent="  %-16s" % name, subsequent_indent=18 * " ")
+                 for name, meaning in sweep_figures.DEFINITIONS),
+       textwrap.fill(", ".join(sweep_figures.LIMITED), 88).replace("\n", "\n  "))
 
-KIND = "haboob-sweep 1"  # to be raised where the figures of a result get another meaning
+KIND = "haboob-sweep 2"  # to be raised where the figures of a result get another meaning
 DIGITS = 16  # hexadecimal ones of a file's name
+RESULT_ROOM = 65_536  # bytes that are read of a result; a sound one has some hundreds
 SETTING = re.compile(r"([A-Za-z0-9_-]+[.][A-Za-z0-9_-]+)=(.*)")
-NAME = re.compile(r"[A-Za-z0-9_-]+")
+RANGE = re.compile(r"([^.,]+)[.][.]([^.,]+)")
 ADDRESS = re.compile(r"(?:(?:tcp|tls)://)?[^/]+:[0-9]+")
-INTEGER = re.compile(r"-?[0-9]{1,19}")
-COUNTED = ("admitted", "rejected", "rejected_while_idle", "p50", "p90", "p99", "greatest")
-TICKS_IN_MILLISECOND = 1000
-MOST_LABELS = 3  # rows that are named beside one mark
-MOST_FAULTS = 10  # that the page lists
-WIDE = 40  # characters of values beside one another under a picture
+INTEGER = re.compile(r"(-?[0-9]{1,15})(/s)?")
+LIMIT = re.compile(r"(?:(tier[0-3])[.])?([a-z0-9_]+)=([0-9]{1,15}(?:[.][0-9]{1,6})?)")
+LEAST_SEARCH, MOST_COMBINATIONS = 10, 100_000  # runs
+NO_CAPTURE = "haboob: capture: record 0: Header"  # what the program says of a file that is no capture
 
-# A combination that was run: its row in the table from 1, its values, the file of its settings, and what came of it.
-Combination = collections.namedtuple("Combination", "row values settings result")
+# A key of --set, its values in their order, and whether they are the ends of a range.
+Setting = collections.namedtuple("Setting", "key values is_range")
+# A figure of --at-most, by its name; the tier it is of, or None; and what it may be at most.
+Limit = collections.namedtuple("Limit", "name tier figure most")
+
+
+def value_of(key, word):
+    """The value of a word of the command line for a key."""
+    found = INTEGER.fullmatch(word)
+    if not found:
+        raise argparse.ArgumentTypeError("%s: %s" % (key, "%r is no integer" % word if word else "no value"))
+    if found[2] and not settings_documents.is_rate(key):
+        raise argparse.ArgumentTypeError("%s: %r: it is no rate" % (key, word))
+    return int(found[1]) * (1000 if found[2] else 1)
 
 
 def setting(text):
-    """The key and the values of a word TABLE.KEY=VALUE,VALUE of the command line."""
+    """The key and the values of a word TABLE.KEY=VALUE,VALUE or TABLE.KEY=LEAST..GREATEST of the command line."""
     found = SETTING.fullmatch(text)
     if not found:
         raise argparse.ArgumentTypeError("%r is no TABLE.KEY=VALUE,VALUE.." % text)
-    words = found[2].split(",")
-    wrong = next((word for word in words if not INTEGER.fullmatch(word)), None)
-    if wrong is not None:
-        raise argparse.ArgumentTypeError("%s: %s" % (found[1], "%r is no integer" % wrong if wrong else "no value"))
-    values = [int(word) for word in words]
+    ends = RANGE.fullmatch(found[2])
+    values = [value_of(found[1], word) for word in (ends.groups() if ends else found[2].split(","))]
     if len(set(values)) < len(values):
         raise argparse.ArgumentTypeError("%s: a value comes twice" % found[1])
-    return found[1], values
+    if ends and values[0] > values[1]:
+        raise argparse.ArgumentTypeError("%s: the range falls" % found[1])
+    return Setting(found[1], values, bool(ends))
+
+
+def limit(text):
+    """The figure and what it may be at most, of a word FIGURE=N of the command line."""
+    found = LIMIT.fullmatch(text)
+    if not found or found[2] not in sweep_figures.LIMITED or (found[1] and found[2] not in sweep_figures.OF_TIER):
+        raise argparse.ArgumentTypeError("%r is no FIGURE=N; FIGURE is one of %s; of a tier, as tier1.p99, %s" % (
+            text, ", ".join(sweep_figures.LIMITED), ", ".join(sweep_figures.OF_TIER)))
+    return Limit(text.partition("=")[0], found[1] and found[1][-1], found[2], float(found[3]))
 
 
 def address(text):
@@ -119,59 +150,52 @@ def address(text):
     return text
 
 
+def count(text):
+    """A whole number from 1 of the command line."""
+    if not re.fullmatch(r"[1-9][0-9]{0,8}", text):
+        raise argparse.ArgumentTypeError("%r is no number from 1" % text)
+    return int(text)
+
+
 def arguments(words):
     """The words of the command line."""
-    parser = argparse.ArgumentParser(prog="tools/sweep.py", description=__doc__, epilog=EXPLANATION,
-                                     formatter_class=argparse.RawDescriptionHelpFormatter)
+    parser = command_line.Parser(prog="tools/sweep.py", description=__doc__, epilog=EXPLANATION)
     parser.add_argument("--snapshot", required=True, metavar="FILE", help="the files of the site")
-    parser.add_argument("--capture", required=True, metavar="FILE", help="the recorded requests")
+    parser.add_argument("--capture", required=True, action="append", dest="captures", metavar="FILE",
+                        help="the recorded requests; several times: the worst figure over all counts")
     parser.add_argument("--settings", metavar="FILE", help="the settings that hold for all; without it the defaults")
     parser.add_argument("--set", required=True, type=setting, action="append", dest="grid",
                         metavar="TABLE.KEY=VALUE,VALUE..", help="a key and its values; may be given several times")
+    parser.add_argument("--at-most", type=limit, action="append", default=[], dest="limits", metavar="FIGURE=N",
+                        help="choose the combination that turns fewest away within it; may be given several times")
+    parser.add_argument("--search", type=count, metavar="N", help="try N combinations, chosen by an optimiser, of "
+                        "the ranges that --set gives as TABLE.KEY=LEAST..GREATEST")
     parser.add_argument("--output", required=True, metavar="FOLDER", help="where the results go; is made if need be")
     parser.add_argument("--program", default="haboob", help="the program; without it haboob, found on the PATH")
-    parser.add_argument("--jobs", type=capture_writer.count, default=len(os.sched_getaffinity(0)), metavar="N",
+    parser.add_argument("--jobs", type=count, default=len(os.sched_getaffinity(0)), metavar="N",
                         help="how many runs at once; without it as many as there are cores")
     parser.add_argument("--cluster", type=address, metavar="ADDRESS",
                         help="run on a Dask cluster (needs python3-distributed)")
     options = parser.parse_args(words)
-    keys = [key for key, _ in options.grid]
-    if len(set(keys)) < len(keys):
-        parser.error("argument --set: a key comes twice")
+    check_together(parser, options)
     return options
 
 
-def checked(path, name, table):
-    """A table of settings, where it holds nothing but integers and lists of integers."""
-    if not NAME.fullmatch(name) or type(table) is not dict:
-        raise Fault("%s: %s: no table of settings" % (path, name))
-    for key, value in table.items():
-        values = value if type(value) is list else [value]
-        if not NAME.fullmatch(key) or any(type(value) is not int for value in values):
-            raise Fault("%s: %s.%s: neither an integer nor a list of integers" % (path, name, key))
-    return table
-
-
-def base_of(path):
-    """The tables of a document of settings; none without one."""
-    if path is None:
-        return {}
-    with open(path, "rb") as file:
-        try:
-            tables = tomllib.load(file)
-        except (tomllib.TOMLDecodeError, UnicodeDecodeError) as error:
-            raise Fault("%s: no TOML document: %s" % (path, error)) from None
-    return {name: checked(path, name, table) for name, table in tables.items()}
-
-
-def document_of(base, keys, values):
-    """The settings of a base with values in the place of its own, as TOML: tables and keys by rising names."""
-    tables = collections.defaultdict(dict, {name: dict(table) for name, table in base.items()})
-    for key, value in zip(keys, values):
-        table, _, name = key.partition(".")
-        tables[table][name] = value
-    return "\n".join("[%s]\n" % table + "".join("%s = %s\n" % entry for entry in sorted(entries.items()))
-                     for table, entries in sorted(tables.items()))
+def check_together(parser, options):
+    """Refuses words that don't go together."""
+    keys = [one.key for one in options.grid]
+    if len(set(keys)) < len(keys):
+        parser.error("argument --set: a key comes twice")
+    other = next((one.key for one in options.grid if one.is_range != bool(options.search)), None)
+    if other:
+        parser.error("argument --set: %s: %s" % (
+            other, "--search needs a range, LEAST..GREATEST" if options.search else "a range needs --search"))
+    if math.prod(len(one.values) for one in options.grid) > MOST_COMBINATIONS:
+        parser.error("argument --set: more than %d combinations" % MOST_COMBINATIONS)
+    if options.search and not options.limits:
+        parser.error("argument --search: needs --at-most, which says what is looked for")
+    if options.search and not LEAST_SEARCH <= options.search <= MOST_COMBINATIONS:
+        parser.error("argument --search: from %d to %d" % (LEAST_SEARCH, MOST_COMBINATIONS))
 
 
 def name_of(*texts):
@@ -179,12 +203,19 @@ def name_of(*texts):
     return hashlib.sha256("\n".join(texts).encode()).hexdigest()[:2 * DIGITS]
 
 
-def write_whole(path, text):
-    """Writes a file under another name and renames it, so that under its own there is never a part of it."""
-    part = path.with_name("%s.%d.part" % (path.name, os.getpid()))
-    with open(part, "w", encoding="utf-8", newline="") as file:
+def write_whole(path, text, inputs=()):
+    """Writes a file in the place of an older one, which is none of the inputs; one that holds the same is left
+    alone."""
+    if path.is_file() and path.read_bytes() == text.encode():
+        return
+    output_file.refuse_same([path], inputs)
+    with output_file.replacing_text(path) as file:
         file.write(text)
-    part.replace(path)
+
+
+def inputs_of(options):
+    """The paths of all inputs."""
+    return [options.snapshot, *options.captures, *([options.settings] if options.settings else [])]
 
 
 class Inputs:
@@ -199,7 +230,7 @@ class Inputs:
         """What differs once a file was changed."""
         status = os.stat(path)
         if not stat.S_ISREG(status.st_mode):
-            raise Fault("%s: no regular file" % path, 2)
+            raise Fault("%s: no regular file" % path)
         return status.st_ino, status.st_size, status.st_mtime_ns
 
     def check(self):
@@ -212,28 +243,35 @@ class Inputs:
 class Results:
     """The results of runs in a folder, each under a name made of all that it follows from."""
 
-    def __init__(self, folder, digests):
+    def __init__(self, folder, runner):
         self.folder = folder
-        self.digests = digests
+        self.snapshot, *self.captures = runner.inputs.digests
+        self.program = runner.program_digest
 
-    def path(self, document):
-        return self.folder / (name_of(KIND, *self.digests, document) + ".json")
+    def path(self, document, capture):
+        """The file of the result of a document's text on the capture at a place of the command line."""
+        digests = (self.snapshot, self.captures[capture], self.program)
+        return self.folder / (name_of(KIND, *digests, document) + ".json")
 
-    def read(self, document):
-        """The result of a document; None where there is none."""
+    def read(self, document, capture):
+        """The result; None where there is none, or a damaged one."""
         try:
-            return json.loads(self.path(document).read_text(encoding="utf-8"))
-        except (FileNotFoundError, ValueError):
+            with open(self.path(document, capture), "rb") as file:
+                result = json.loads(file.read(RESULT_ROOM).decode())
+        except (FileNotFoundError, ValueError, RecursionError):
             return None
+        return result if sweep_figures.is_result(result) else None
 
-    def write(self, document, result):
-        write_whole(self.path(document), json.dumps(result) + "\n")
+    def write(self, document, capture, result):
+        write_whole(self.path(document, capture), json.dumps(result) + "\n")
 
 
 def begin_worker():
     """Makes a process for runs a group with the program that it runs: an interruption isn't theirs, and both end with
     the process that began them."""
     os.setpgid(0, 0)
+    for asked in (signal.SIGTERM, signal.SIGHUP):
+        signal.signal(asked, signal.SIG_DFL)
     parent = multiprocessing.parent_process()
 
     def end_with_parent():
@@ -259,16 +297,26 @@ class Machine:
     def __init__(self, options):
         self.options = options
         self.program = decision_tables.find_program(options.program)
-        self.inputs = Inputs((options.snapshot, options.capture, self.program))
-        self.digests = self.inputs.digests
+        self.inputs = Inputs((options.snapshot, *options.captures))
+        self.of_program = Inputs((self.program,))
+        self.program_digest = self.of_program.digests[0]
+
+    def check(self):
+        """Refuses an input, or a program, that was changed."""
+        self.inputs.check()
+        self.of_program.check()
+
+    def default_settings(self):
+        """The document of all keys."""
+        return decision_tables.default_settings(self.program)
 
     @contextlib.contextmanager
     def beginner(self):
-        """A function that begins a run of settings: of their file, and of the text in it."""
+        """A function that begins a run: of the file of settings, the text in it, and the capture by its place."""
         with concurrent.futures.ProcessPoolExecutor(self.options.jobs, initializer=begin_worker) as pool:
             try:
-                yield lambda path, document: pool.submit(
-                    decision_tables.run, self.program, self.options.snapshot, self.options.capture, path)
+                yield lambda path, document, capture: pool.submit(
+                    decision_tables.run, self.program, self.options.snapshot, self.options.captures[capture], path)
             except BaseException:
                 # Else the pool waits for the runs that it began, and for as many that stand in its queue.
                 collections.deque(map(end_worker, multiprocessing.active_children()), maxlen=0)
@@ -282,23 +330,32 @@ class Cluster:
         self.failures = (distributed.scheduler.KilledWorker, concurrent.futures.CancelledError)
         self.options = options
         self.client = client
-        self.inputs = Inputs((options.snapshot, options.capture))
+        self.inputs = Inputs((options.snapshot, *options.captures))
         client.upload_file(decision_tables.__file__)
-        self.programs = set(client.run(decision_tables.digest_of_program, options.program).values())
-        if len(self.programs) != 1:
-            raise Fault("%s: %s" % (options.cluster, "not the same program on all workers" if self.programs
-                                    else "no worker is there"), 2)
-        self.digests = [*self.inputs.digests, *self.programs]
+        digests = set(client.run(decision_tables.digest_of_program, options.program).values())
+        if len(digests) != 1:
+            raise Fault("%s: %s" % (options.cluster, "not the same program on all workers" if digests
+                                    else "no worker is there"))
+        self.program_digest = digests.pop()
+
+    def check(self):
+        """Refuses an input that was changed."""
+        self.inputs.check()
+
+    def default_settings(self):
+        """The document of all keys."""
+        return self.client.submit(decision_tables.default_settings, self.options.program, pure=False).result()
 
     @contextlib.contextmanager
     def beginner(self):
         """As above; the bytes of the inputs are sent before the first run."""
-        data = [pathlib.Path(path).read_bytes() for path in (self.options.snapshot, self.options.capture)]
+        paths = (self.options.snapshot, *self.options.captures)
+        snapshot, *captures = self.client.scatter([pathlib.Path(path).read_bytes() for path in paths], broadcast=True)
         self.inputs.check()
-        sent = self.client.scatter(data, broadcast=True)
         executor = self.client.get_executor(pure=False)
-        yield lambda path, document: executor.submit(
-            decision_tables.run_bytes, self.options.program, *self.programs, *sent, document.encode())
+        yield lambda path, document, capture: executor.submit(
+            decision_tables.run_bytes, self.options.program, self.program_digest, snapshot, captures[capture],
+            document.encode())
 
 
 @contextlib.contextmanager
@@ -315,225 +372,170 @@ def runner_of(options):
     try:
         client = distributed.Client(options.cluster, set_as_default=False)
     except OSError as error:
-        raise Fault("%s: no scheduler answers: %s" % (options.cluster, error), 2) from None
+        raise Fault("%s: no scheduler answers: %s" % (options.cluster, error)) from None
     with client:
         yield Cluster(options, distributed, client)
 
 
-def run_missing(runner, results, missing):
-    """Runs settings, whose texts are given by the files that hold them, and keeps each result once it is there."""
-    with runner.beginner() as begin:
-        futures = {begin(str(path), document): document for path, document in missing.items()}
-        ended = concurrent.futures.as_completed(futures)
+def as_they_end(futures, bar):
+    """Futures as they end; while none does, the bar is told so, and says how far it is."""
+    running = set(futures)
+    while running:
+        ended, running = concurrent.futures.wait(
+            running, tool_run.WAITING_STEP, return_when=concurrent.futures.FIRST_COMPLETED)
+        bar.update(0)
+        yield from ended
+
+
+class Sweep:
+    """Runs combinations, and keeps their results in a folder."""
+
+    def __init__(self, options, runner, base):
+        self.options = options
+        self.runner = runner
+        self.base = base
+        self.keys = [one.key for one in options.grid]
+        self.folder = pathlib.Path(options.output)
+        self.results = Results(self.folder / "results", runner)
+        self.begin = None  # the function that begins a run; None before the first
+        self.taken = 0  # combinations whose results were all there before
+
+    def combinations(self, points, resources):
+        """The combinations of these values, each once it was run for each capture."""
+        texts = [settings_documents.text_of(self.base, self.keys, point) for point in points]
+        paths = [self.folder / "settings" / (name_of(text)[:DIGITS] + ".toml") for text in texts]
+        for path, text in zip(paths, texts):
+            write_whole(path, text, inputs_of(self.options))
+        places = range(len(self.options.captures))
+        runs = [(path, text, place) for path, text in zip(paths, texts) for place in places]
+        missing = [run for run in runs if self.results.read(*run[1:]) is None]
+        self.taken += len(texts) - len({text for _, text, _ in missing})
+        if missing:
+            self.begin = self.begin or resources.enter_context(self.runner.beginner())
+            self.run(missing)
+        return [Combination(0, tuple(point), str(path.relative_to(self.folder)),
+                            [self.results.read(text, place) for place in places])
+                for point, path, text in zip(points, paths, texts)]
+
+    def run(self, runs):
+        """Runs settings, each given by file, text and capture, and keeps each result once it is there."""
+        futures = {self.begin(str(path), text, place): (text, place) for path, text, place in runs}
         try:
-            for future in tqdm.tqdm(ended, total=len(futures), unit="run", disable=None):
-                result = future.result()
-                runner.inputs.check()
-                results.write(futures[future], result)
-        except runner.failures as error:
+            with tool_run.progress(TOOL, len(futures), "run") as bar:
+                for future in as_they_end(futures, bar):
+                    result = future.result()
+                    self.runner.check()
+                    self.results.write(*futures[future], result)
+                    bar.update()
+        except self.runner.failures as error:
             raise Fault("a run was lost (%s); the same command goes on" % type(error).__name__) from None
         finally:
             collections.deque(map(concurrent.futures.Future.cancel, futures), maxlen=0)
 
 
-def results_of(options, folder, documents):
-    """The result of each document, from a run or from before; `documents` are the texts by their files."""
-    with runner_of(options) as runner:
-        results = Results(folder / "results", runner.digests)
-        missing = {path: document for path, document in documents.items() if results.read(document) is None}
-        taken = len(documents) - len(missing)
-        print("%s: %d combinations, %d of them taken from before" % (TOOL, len(documents), taken), file=sys.stderr)
-        if missing:
-            run_missing(runner, results, missing)
-        return [results.read(document) for document in documents.values()]
+def tried(options, sweep, resources):
+    """All combinations: of the grid, or those that a search looked at."""
+    if options.search:
+        import sweep_search
+        return sweep_search.search([one.values for one in options.grid], options.search,
+                                   lambda points: sweep.combinations(points, resources),
+                                   lambda combination: sweep_figures.cost(combination.figures, options.limits))
+    return sweep.combinations(list(itertools.product(*(one.values for one in options.grid))), resources)
 
 
-def turned_away(result):
-    """The share of the offered requests that was rejected, in percent."""
-    return 100 * result["rejected"] / (result["admitted"] + result["rejected"])
+def checked_base(options, runner):
+    """The tables of --settings and those of the defaults; refuses keys that the program doesn't have."""
+    defaults = settings_documents.parsed(runner.default_settings().encode(), "haboob settings")
+    known = settings_documents.keys_of(defaults)
+    base = settings_documents.read(options.settings)
+    for key in (one.key for one in options.grid):
+        settings_documents.refuse_unknown(key, known, "--set: ")
+    for key in ("%s.%s" % (table, name) for table, entries in base.items() for name in entries):
+        settings_documents.refuse_unknown(key, known[:-len(settings_documents.TIERS)], "%s: " % options.settings)
+    return base, defaults
 
 
-def comparable(combinations):
-    """Those that were run and had an answer to time."""
-    return [combination for combination in combinations if combination.result.get("p99") is not None]
+def write_outputs(options, combinations):
+    """Writes table and page of all combinations; returns the rows, those that no other beats, and the chosen one (None
+    where there is none)."""
+    rows = sweep_figures.rows_of(combinations, [one.values for one in options.grid], not options.search)
+    unbeaten = sweep_figures.unbeaten_of(rows)
+    chosen = sweep_figures.chosen_of(rows, options.limits)
+    folder = pathlib.Path(options.output)
+    keys = [one.key for one in options.grid]
+    table = sweep_figures.table_of(keys, options.captures, rows, unbeaten, chosen)
+    page = sweep_page.page_of(options, combinations, rows, unbeaten, chosen)
+    output_file.replace_all([(folder / "sweep.csv", lambda file: spreadsheets.write(file, *table)),
+                             (folder / "sweep.html", lambda file: file.write(page))])
+    return rows, unbeaten, chosen
 
 
-def unbeaten_of(combinations):
-    """Those that no other beats, by rising requests turned away and falling p99. All have the same requests."""
-    kept = []
-
-    def figures(combination):
-        return combination.result["rejected"], combination.result["p99"]
-
-    for combination in sorted(comparable(combinations), key=figures):
-        if not kept or figures(combination) == figures(kept[-1]) or figures(combination)[1] < figures(kept[-1])[1]:
-            kept.append(combination)
-    return kept
-
-
-def write_table(path, keys, combinations, unbeaten):
-    """Writes the table of all combinations as CSV; a figure that there isn't is an empty field."""
-    text = io.StringIO()
-    writer = csv.writer(text, lineterminator="\n")
-    writer.writerow([*keys, *COUNTED, "busy_share", "unbeaten", "fault", "settings"])
-    for combination in combinations:
-        result = combination.result
-        share = "%.6f" % (result["busy"] / result["span"]) if result.get("span") else None
-        writer.writerow([*combination.values, *map(result.get, COUNTED), share, int(combination in unbeaten),
-                         result.get("fault"), combination.settings])
-    write_whole(path, text.getvalue())
-
-
-def milliseconds(ticks):
-    """A time for the page."""
-    return ticks / TICKS_IN_MILLISECOND
-
-
-def labels_of(combinations):
-    """The points of combinations, each with the rows that lie on it as one label."""
-    points = collections.defaultdict(list)
-    for combination in combinations:
-        result = combination.result
-        points[turned_away(result), milliseconds(result["p99"])].append(str(combination.row))
-    return {point: ", ".join(rows[:MOST_LABELS]) + (", .." if len(rows) > MOST_LABELS else "")
-            for point, rows in points.items()}
-
-
-def coordinates(points):
-    """The points' places along the axes."""
-    return [[point[axis] for point in points] for axis in (0, 1)]
-
-
-def trade_picture(combinations, unbeaten):
-    """The picture of all combinations by requests turned away and p99. The unbeaten have a shape and labels."""
-    figure, axes = pyplot.subplots(figsize=(10, 5))
-    beaten = labels_of(combination for combination in comparable(combinations) if combination not in unbeaten)
-    labels = labels_of(unbeaten)
-    axes.scatter(*coordinates(beaten), marker="o", s=30, facecolors="none", edgecolors="0.4", clip_on=False,
-                 label="beaten by another")
-    axes.step(*coordinates(labels), where="post", color="0.6", linewidth=1, linestyle=":")
-    axes.scatter(*coordinates(labels), marker="D", s=45, color="black", clip_on=False, zorder=3,
-                 label="unbeaten, with its row")
-    for point, label in labels.items():
-        axes.annotate(label, point, textcoords="offset points", xytext=(6, 6))
-    axes.set_title("Requests turned away, and how long the slowest of the others wait")
-    axes.set_xlabel("turned away, percent")
-    axes.set_ylabel("p99, milliseconds")
-    axes.margins(0.1)
-    axes.set_xlim(left=0)
-    axes.set_ylim(bottom=0)
-    axes.legend(loc="upper right")
-    return timeline.svg_of(figure, bbox_inches="tight")
-
-
-def draw_effect(axes, values, samples, unit):
-    """Draws the median of the samples of each value, and a stroke from the least to the greatest."""
-    places = range(len(values))
-    axes.vlines(places, [min(of, default=0) for of in samples], [max(of, default=0) for of in samples], color="0.6")
-    axes.plot(places, [statistics.median(of) if of else float("nan") for of in samples], "o-", color="black")
-    axes.set_xticks(places, values, rotation=30 if len("".join(map(str, values))) > WIDE else 0)
-    axes.set_ylabel(unit)
-    axes.set_ylim(bottom=0)
-
-
-def effect_picture(key, place, combinations):
-    """What a key, the one at this place of the values, changes: over its rising values, and all other keys' values."""
-    values = sorted({combination.values[place] for combination in combinations})
-    results = [[combination.result for combination in comparable(combinations) if combination.values[place] == value]
-               for value in values]
-    figure, (left, right) = pyplot.subplots(1, 2, figsize=(10, 2.6))
-    draw_effect(left, values, [list(map(turned_away, of)) for of in results], "turned away, percent")
-    draw_effect(right, values, [[milliseconds(result["p99"]) for result in of] for of in results], "p99, milliseconds")
-    figure.suptitle(key)
-    return timeline.svg_of(figure, bbox_inches="tight")
-
-
-def pictures_of(keys, combinations, unbeaten):
-    """The pictures, from the top: all combinations, and then each key that has several values."""
-    yield trade_picture(combinations, unbeaten)
-    for place, key in enumerate(keys):
-        if len({combination.values[place] for combination in combinations}) > 1:
-            yield effect_picture(key, place, combinations)
-
-
-def row_of_page(combination):
-    """The cells of an unbeaten combination."""
-    result = combination.result
-    times = ["%.3f" % milliseconds(result[name]) for name in ("p50", "p90", "p99", "greatest")]
-    link = '<a href="%s">%s</a>' % (combination.settings, pathlib.PurePath(combination.settings).name)
-    return [combination.row, *combination.values, "%.2f" % turned_away(result), *times, result["rejected_while_idle"],
-            "%.3f" % (result["busy"] / result["span"]), link]
-
-
-def table_of_page(heading, rows):
-    """A table, of cells of HTML."""
-    lines = ["<tr>%s</tr>\n" % "".join("<th>%s</th>" % cell for cell in heading)]
-    lines += ["<tr>%s</tr>\n" % "".join("<td>%s</td>" % cell for cell in row) for row in rows]
-    return "<table>\n%s</table>\n" % "".join(lines)
-
-
-def page_of(options, combinations, unbeaten):
-    """The page."""
-    keys = [key for key, _ in options.grid]
-    refused = [combination for combination in combinations if "fault" in combination.result]
-    inputs = "%s, %s, %s" % (options.snapshot, options.capture, options.settings or "the default settings")
-    trade, *effects = pictures_of(keys, combinations, unbeaten)
-    heading = ["row", *keys, "turned away, %", "p50, ms", "p90, ms", "p99, ms", "greatest, ms", "while idle", "busy",
-               "settings"]
-    parts = [
-        "<p>%s: %d combinations, %d unbeaten, %d refused by the program.</p>\n" % (
-            html.escape(inputs), len(combinations), len(unbeaten), len(refused)),
-        trade,
-        "<h2>Combinations that no other beats</h2>\n", table_of_page(heading, map(row_of_page, unbeaten)),
-        "<dl>%s</dl>\n" % "".join("<dt>%s</dt><dd>%s</dd>\n" % pair for pair in DEFINITIONS),
-        "<h2>What each key changes</h2>\n<p>The median over all values of the other keys, and a stroke from the least "
-        "to the greatest.</p>\n", *effects,
-    ]
-    if refused:
-        more = "<p>The first %d; sweep.csv has all.</p>\n" % MOST_FAULTS if len(refused) > MOST_FAULTS else ""
-        parts += ["<h2>Refused by the program</h2>\n", more, table_of_page(
-            ["row", *keys, "fault"],
-            [[one.row, *one.values, html.escape(one.result["fault"])] for one in refused[:MOST_FAULTS]])]
-    return timeline.html_page("Settings for " + options.capture, "".join(parts))
+def print_chosen(options, chosen, defaults):
+    """Prints the chosen settings, and lines for servers."""
+    path = pathlib.Path(options.output, chosen.settings)
+    text = path.read_text(encoding="utf-8")
+    tables = tomllib.loads(text)
+    tiers = [int(tier) for tier in chosen.figures["tiers"]] or [0]
+    policies = {tier: settings_documents.policy_of(tier, tables, defaults) for tier in tiers}
+    values = ", ".join("%s %s" % (settings_documents.titled(one.key), settings_documents.shown(one.key, value))
+                       for one, value in zip(options.grid, chosen.values))
+    lines = [
+        "# row %d: %s: %.2f%% turned away, p99 %s" % (
+            chosen.row, values, chosen.figures["turned_away"], sweep_figures.milliseconds(chosen.figures["p99"])),
+        "# the settings, which stand in %s:" % path, text, *server_lines.lines_of(policies)]
+    standard_output.write("\n".join(lines) + "\n")
 
 
 def sweep(options):
     """Does what the command line says."""
-    keys, values = zip(*options.grid)
-    base = base_of(options.settings)
+    tool_run.library(TOOL, "tqdm", "python3-tqdm")
     folder = pathlib.Path(options.output)
-    for name in ("settings", "results"):
-        (folder / name).mkdir(parents=True, exist_ok=True)
-    points = list(itertools.product(*values))
-    texts = [document_of(base, keys, point) for point in points]
-    documents = {folder / "settings" / (name_of(text)[:DIGITS] + ".toml"): text for text in texts}
-    collections.deque(itertools.starmap(write_whole, documents.items()), maxlen=0)
-    results = results_of(options, folder, documents)
-    combinations = [
-        Combination(row, point, str(path.relative_to(folder)), result)
-        for row, (point, path, result) in enumerate(zip(points, documents, results), 1)]
-    unbeaten = unbeaten_of(combinations)
-    write_table(folder / "sweep.csv", keys, combinations, unbeaten)
-    write_whole(folder / "sweep.html", page_of(options, combinations, unbeaten))
-    faults = [combination.result["fault"] for combination in combinations if "fault" in combination.result]
+    with runner_of(options) as runner, contextlib.ExitStack() as resources:
+        base, defaults = checked_base(options, runner)
+        for name in ("settings", "results"):
+            (folder / name).mkdir(parents=True, exist_ok=True)
+        output_file.refuse_same([folder / "sweep.csv", folder / "sweep.html"], inputs_of(options))
+        sweep_of = Sweep(options, runner, base)
+        combinations = tried(options, sweep_of, resources)
+    tool_run.say("%s: %d combinations, %d of them taken from before" % (TOOL, len(combinations), sweep_of.taken))
+    rows, unbeaten, chosen = write_outputs(options, combinations)
+    faults = [row.figures["fault"] for row in rows if "fault" in row.figures]
     refused = ", %d refused (the first: %s)" % (len(faults), faults[0]) if faults else ""
-    print("%s: %d unbeaten%s; see %s" % (TOOL, len(unbeaten), refused, folder / "sweep.html"), file=sys.stderr)
+    tool_run.say("%s: %d unbeaten%s; see %s" % (TOOL, len(unbeaten), refused, folder / "sweep.html"))
+    if chosen:
+        print_chosen(options, chosen, defaults)
+    elif options.limits:
+        raise Fault("no combination is within %s%s" % (
+            " and ".join("%s=%g" % (one.name, one.most) for one in options.limits),
+            sweep_figures.nearest_in_words(rows, options.limits)))
+
+
+def kinds_in_words(paths):
+    """What files are that were given as captures and are none, and which tool reads them."""
+    words = ""
+    for path in paths:
+        with open(path, "rb") as file:
+            first = file.read(input_files.FIRST_BYTES)
+        kind = None if first.startswith(input_files.CAPTURE) else input_files.kind_of(first)
+        words += "; %s is %s" % (path, kind) if kind else ""
+    return words
+
+
+def work(options):
+    """The same, with the faults of runs as the tool's own."""
+    try:
+        sweep(options)
+    except decision_tables.Fault as fault:
+        is_other = str(fault) == NO_CAPTURE
+        raise Fault(str(fault) + (kinds_in_words(options.captures) if is_other else "")) from None
 
 
 def main(words=None):
-    options = arguments(words)
-    try:
-        sweep(options)
-    except Fault as fault:
-        print("%s: %s" % (TOOL, fault), file=sys.stderr)
-        return fault.status
-    except OSError as error:
-        print("%s: %s: %s" % (TOOL, error.filename or options.output, error.strerror or error), file=sys.stderr)
-        return 2
-    except KeyboardInterrupt:
-        print("%s: interrupted; the same command goes on" % TOOL, file=sys.stderr)
-        return 130
-    return 0
+    """Does what the words of the command line say, or those of the process; returns the status."""
+    status = tool_run.run(TOOL, lambda: work(arguments(words)))
+    if status == 130:
+        tool_run.say("%s: interrupted; the same command goes on" % TOOL)
+    return status
 
 
 if __name__ == "__main__":

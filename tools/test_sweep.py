@@ -11,8 +11,10 @@ import csv
 import importlib.util
 import io
 import json
+import math
 import os
 import pathlib
+import random
 import re
 import signal
 import subprocess
@@ -29,9 +31,17 @@ PROGRAM = TOP / "crates" / "haboob" / "out" / "haboob"
 EXAMPLES = TOP / "examples"
 sys.path.insert(0, str(TOOLS))
 import decision_tables
+import server_lines
+import settings_documents
+import spreadsheets
 import sweep
+import sweep_figures
+import sweep_page
+import sweep_search
+import tool_run
 
-SECONDS = 20  # that a test waits at most
+SECONDS = 60  # that a test waits at most
+MUTATIONS = int(os.environ.get("MUTATIONS", 25))  # damaged files that are tried
 HEADING = "number,connection,tick,tier,status,decision,service,credit,rate,start,finish,waited,method,target\n"
 # All but number 2 are offered. Admitted are number 0, from 1,000 to 1,300; number 1, which comes at 1,100, is begun at
 # 1,300 and ends at 1,500, after 400; and number 5, from 5,000 to 5,200. So the server is busy for 300 + 200 + 200 of
@@ -54,20 +64,53 @@ ANSWERS = {
     "10 1": (3, 7, 500), "10 2": (4, 6, 500), "10 3": (6, 4, 400),
     "20 1": (8, 2, 900), "20 2": (7, 3, 950), "20 3": (8, 2, 900),
 }
-TABLE = """\
-policy.rate,policy.depth,admitted,rejected,rejected_while_idle,p50,p90,p99,greatest,busy_share,unbeaten,fault,settings
-10,1,3,7,2,300,400,500,400,0.166667,0,,
-10,2,4,6,2,300,400,500,400,0.166667,0,,
-10,3,6,4,2,300,400,400,400,0.166667,1,,
-20,1,8,2,2,300,400,900,400,0.166667,1,,
-20,2,7,3,2,300,400,950,400,0.166667,0,,
-20,3,8,2,2,300,400,900,400,0.166667,1,,
+# Of tier 0 three are admitted, two are turned away, one of them while the server is idle; of tier 1 one is, while it is
+# idle. Most inside: number 1 comes while number 0 is served.
+HEADING_OF_TABLE = (
+    "policy.rate,policy.depth,admitted,rejected,rejected_while_idle,p50,p90,p99,greatest,busy_share,unbeaten,chosen,"
+    "turned_away,most_inside,row,capture,"
+    "tier0.admitted,tier0.turned_away,tier0.rejected,tier0.rejected_while_idle,tier0.p50,tier0.p90,tier0.p99,"
+    "tier0.greatest,tier1.admitted,tier1.turned_away,tier1.rejected,tier1.rejected_while_idle,tier1.p50,tier1.p90,"
+    "tier1.p99,tier1.greatest,fault,settings\n")
+TIERS = "3,40.0,2,1,300,400,400,400,0,100.0,1,1,,,,"
+TABLE = HEADING_OF_TABLE + """\
+10,1,3,7,2,300,400,500,400,0.166667,0,0,70.0000,2,1,capture,TIERS,,
+10,2,4,6,2,300,400,500,400,0.166667,0,0,60.0000,2,2,capture,TIERS,,
+10,3,6,4,2,300,400,400,400,0.166667,1,0,40.0000,2,3,capture,TIERS,,
+20,1,8,2,2,300,400,900,400,0.166667,1,0,20.0000,2,4,capture,TIERS,,
+20,2,7,3,2,300,400,950,400,0.166667,0,0,30.0000,2,5,capture,TIERS,,
+20,3,8,2,2,300,400,900,400,0.166667,1,0,20.0000,2,6,capture,TIERS,,
+""".replace("TIERS", TIERS)
+# The keys of the stub.
+DEFAULTS = """\
+[floor]
+front_cuts = [1, 2, 3]
+
+[costs]
+kib = 10
+
+[policy]
+every = 100
+rate = 1000000
+rate_min = 50000
+rate_max = 5000000
+depth = 100
+
+[tier1]
+every = 100
+rate = 1000000
+rate_min = 50000
+rate_max = 5000000
+depth = 100
 """
 GRID = ("--set", "policy.rate=10,20", "--set", "policy.depth=1,2,3")
 NO_PROGRAM = "no-such: no such program; put it on the PATH, or name it with --program"
 STUB = """\
 #!/usr/bin/python3
 import json, os, sys, time, tomllib
+if sys.argv[1] == "settings":
+    sys.stdout.write('''DEFAULTS''')
+    sys.exit(0)
 words = dict(zip(sys.argv[2::2], sys.argv[3::2]))
 folder = os.path.dirname(os.path.realpath(__file__))
 with open(words["--settings"], "rb") as file:
@@ -89,7 +132,7 @@ if status == 0:
     sys.stdout.write(plan["report"].format(*answer))
 sys.stderr.write(line and line + "\\n")
 sys.exit(status)
-"""
+""".replace("DEFAULTS", DEFAULTS)
 
 
 class Folder:
@@ -108,7 +151,8 @@ class Folder:
 
     def plan(self, **changes):
         """What the stub does."""
-        faults = {"snapshot broken": (5, "haboob: capture: record 9: Kind")}
+        faults = {"snapshot broken": (5, "haboob: capture: record 9: Kind"),
+                  "snapshot a log\n": (5, "haboob: capture: record 0: Header")}
         plan = {"table": HEADING + ROWS, "report": REPORT, "answers": ANSWERS, "inputs": faults, "seconds": 0}
         (self.path / "plan").write_text(json.dumps({**plan, **changes}))
 
@@ -126,7 +170,7 @@ class Folder:
 
     def table(self):
         """The table of the sweep, without the names of the settings."""
-        text = (self.path / "swept" / "sweep.csv").read_text()
+        text = (self.path / "swept" / "sweep.csv").read_text().replace(str(self.path) + "/", "")
         return re.sub(r"settings/[0-9a-f]{16}[.]toml$", "", text, flags=re.MULTILINE)
 
     def page(self):
@@ -135,13 +179,18 @@ class Folder:
 
 def swept(words):
     """The status and the lines of a sweep."""
-    errors = io.StringIO()
-    with contextlib.redirect_stderr(errors):
+    return swept_and_said(words)[:2]
+
+
+def swept_and_said(words):
+    """The status and the lines of a sweep, and what it printed."""
+    errors, output = io.StringIO(), io.StringIO()
+    with contextlib.redirect_stderr(errors), contextlib.redirect_stdout(output):
         try:
             status = sweep.main(words)
         except SystemExit as end:
             status = end.code
-    return status, errors.getvalue()
+    return status, errors.getvalue(), output.getvalue()
 
 
 def wait_for(condition):
@@ -161,7 +210,11 @@ class Base(unittest.TestCase):
         folder = tempfile.TemporaryDirectory()
         self.addCleanup(folder.cleanup)
         self.folder = Folder(folder.name)
-        undrawn = unittest.mock.patch.object(sweep, "page_of", lambda *_: "")
+        # On a busy machine there would be lines of progress.
+        quiet = unittest.mock.patch.object(tool_run, "PROGRESS_STEP", float("inf"))
+        quiet.start()
+        self.addCleanup(quiet.stop)
+        undrawn = unittest.mock.patch.object(sweep_page, "page_of", lambda *_: "")
         undrawn.start()
         self.addCleanup(undrawn.stop)
         self.draw = undrawn.stop
@@ -173,56 +226,61 @@ class Base(unittest.TestCase):
         self.assertEqual((ended, last), (status, line))
 
 
+def result_of(admitted, rejected, p99, **others):
+    """A result of a run, as the tool keeps it."""
+    return {"admitted": admitted, "rejected": rejected, "rejected_while_idle": 0, "p50": p99, "p90": p99, "p99": p99,
+            "greatest": p99, "most_inside": 1, "busy": 1, "span": 2, "tiers": {}, **others}
+
+
 class Figures(unittest.TestCase):
     def figures(self, rows, report=REPORT.format(3, 3, 400)):
-        tally = decision_tables.tally_of(io.StringIO(HEADING + rows))
+        tally = decision_tables.tally_of(io.BytesIO((HEADING + rows).encode()))
         return {**decision_tables.report_figures(io.StringIO(report)), **tally.figures()}
 
     def test_rows(self):
         self.assertEqual(self.figures(ROWS), {
             "admitted": 3, "rejected": 3, "p50": 300, "p90": 400, "p99": 400, "rejected_while_idle": 2, "greatest": 400,
-            "busy": 700, "span": 4200})
+            "most_inside": 2, "busy": 700, "span": 4200, "tiers": {
+                "0": {"admitted": 3, "rejected": 2, "rejected_while_idle": 1, "p50": 300, "p90": 400, "p99": 400,
+                      "greatest": 400},
+                "1": {"admitted": 0, "rejected": 1, "rejected_while_idle": 1, "p50": None, "p90": None, "p99": None,
+                      "greatest": None}}})
 
     def test_no_request(self):
         report = REPORT.format(0, 0, "-").replace("300", "-").replace("p90 400", "p90 -")
         self.assertEqual(self.figures("0,0,1150,0,400,bypassed,,,,,,,,\n", report), {
             "admitted": 0, "rejected": 0, "p50": None, "p90": None, "p99": None, "rejected_while_idle": 0,
-            "greatest": None, "busy": 0, "span": 0})
+            "greatest": None, "most_inside": 0, "busy": 0, "span": 0, "tiers": {}})
 
     def test_cut(self):
         for report in ("", "haboob-report 1\n", REPORT[:-4].format(1, 1, 1), "haboob-report 1\nadmitted 1\nend\n"):
             with self.subTest(report), self.assertRaisesRegex(decision_tables.Fault, "the report isn't whole"):
                 self.figures(ROWS, report)
-        with self.assertRaisesRegex(decision_tables.Fault, "line 2: not as many fields"):
+        with self.assertRaisesRegex(decision_tables.Fault, "row 2: not as many fields"):
             self.figures("0,0,1000,0,200\n")
         with self.assertRaisesRegex(decision_tables.Fault, "no table"):
-            decision_tables.tally_of(io.StringIO(REPORT))
+            decision_tables.tally_of(io.BytesIO(REPORT.encode()))
 
 
 class Documents(unittest.TestCase):
     def test_document(self):
         base = {"policy": {"rate": 5, "every": 7}, "floor": {"front_cuts": [1, 3]}}
-        document = sweep.document_of(base, ("policy.rate", "tier1.depth"), (9, 2))
+        document = settings_documents.text_of(base, ("policy.rate", "tier1.depth"), (9, 2))
         self.assertEqual(
             document, "[floor]\nfront_cuts = [1, 3]\n\n[policy]\nevery = 7\nrate = 9\n\n[tier1]\ndepth = 2\n")
         self.assertEqual(base["policy"]["rate"], 5)
 
+    def test_fixed_rate(self):
+        self.assertEqual(settings_documents.text_of({}, ("policy.fixed_rate",), (9,)),
+                         "[policy]\nrate = 9\nrate_max = 9\nrate_min = 9\n")
+
     def test_unbeaten(self):
         figures = [(1, 50), (2, 40), (2, 41), (3, 40), (4, 39), (4, 39), (0, None)]
-        combinations = [sweep.Combination(row, (), "", {"rejected": rejected, "p99": p99})
+        combinations = [sweep_figures.Combination(row, (), "", [result_of(10 - rejected, rejected, p99)])
                         for row, (rejected, p99) in enumerate(figures, 1)]
-        combinations.append(sweep.Combination(8, (), "", {"fault": "refused"}))
-        self.assertEqual([combination.row for combination in sweep.unbeaten_of(combinations)], [1, 2, 5, 6])
-        self.assertEqual(sweep.unbeaten_of(combinations[6:]), [])
-
-
-    def test_write_whole(self):
-        with tempfile.TemporaryDirectory() as folder:
-            path = pathlib.Path(folder, "name")
-            sweep.write_whole(path, "whole")
-            with unittest.mock.patch.object(pathlib.Path, "replace", side_effect=OSError), self.assertRaises(OSError):
-                sweep.write_whole(path, "a part")
-            self.assertEqual(path.read_text(), "whole")
+        combinations.append(sweep_figures.Combination(8, (), "", [{"fault": "refused"}]))
+        self.assertEqual([combination.row for combination in sweep_figures.unbeaten_of(combinations)], [1, 2, 5, 6])
+        self.assertEqual(sweep_figures.unbeaten_of(combinations[6:]), [])
 
 
 class Sweep(Base):
@@ -249,12 +307,14 @@ class Sweep(Base):
         page = self.folder.page()
         self.assertEqual(page.count("<svg"), 3)
         self.assertIn("6 combinations, 3 unbeaten, 0 refused", page)
-        rows = [re.findall("<td>(.*?)</td>", line) for line in page.splitlines() if line.startswith("<tr><td>")]
+        rows = [re.findall("<td>(.*?)</td>", line) for line in page[:page.index("By tier")].splitlines()
+                if line.startswith("<tr><td>")]
         self.assertEqual([row[:-1] for row in rows], [
-            ["4", "20", "1", "20.00", "0.300", "0.400", "0.900", "0.400", "2", "0.167"],
-            ["6", "20", "3", "20.00", "0.300", "0.400", "0.900", "0.400", "2", "0.167"],
-            ["3", "10", "3", "40.00", "0.300", "0.400", "0.400", "0.400", "2", "0.167"]])
-        self.assertIn("<!-- 4, 6 -->", page)  # a label in the picture
+            ["4", "0.02", "1", "20.00", "0.300", "0.400", "0.900", "0.400", "2", "2", "0.167"],
+            ["6", "0.02", "3", "20.00", "0.300", "0.400", "0.900", "0.400", "2", "2", "0.167"],
+            ["3", "0.01", "3", "40.00", "0.300", "0.400", "0.400", "0.400", "2", "2", "0.167"]])
+        self.assertIn("<th>policy.rate, requests a second</th>", page)
+        self.assertIn(">4, 6</text>", page)  # a label in the picture
         self.assertNotIn("src=", page)
         self.assertIsNone(re.search('(href|url)="?[(]?https?:', page))
 
@@ -264,22 +324,23 @@ class Sweep(Base):
         self.assertEqual(status, 0)
         self.assertIn("1 refused (the first: haboob: settings: Range policy.rate)", errors)
         self.assertEqual(self.folder.table().splitlines()[1:], [
-            "3,10,6,4,2,300,400,400,400,0.166667,1,,", "3,99,,,,,,,,,0,haboob: settings: Range policy.rate,",
-            "3,20,8,2,2,300,400,900,400,0.166667,1,,"])
+            "3,10,6,4,2,300,400,400,400,0.166667,1,0,40.0000,2,1,capture,%s,," % TIERS,
+            "3,99,,,,,,,,,0,0,,,2,capture,,,,,,,,,,,,,,,,,haboob: settings: Range policy.rate,",
+            "3,20,8,2,2,300,400,900,400,0.166667,1,0,20.0000,2,3,capture,%s,," % TIERS])
         self.assertEqual(self.folder.page().count("<svg"), 2)
         self.assertIn("<td>haboob: settings: Range policy.rate</td>", self.folder.page())
 
     def test_all_refused(self):
         self.draw()
         status, _ = swept(self.folder.words(grid=("--set", "policy.depth=1", "--set", "policy.rate=98,99")))
-        self.assertEqual((status, self.folder.table().count("Range")), (0, 2))
+        self.assertEqual((status, self.folder.table().count("Range")), (0, 1))  # the same fault, so one row
 
     def test_no_request(self):
         self.draw()
         report = REPORT.replace("300", "-").replace("p90 400", "p90 -")
         self.folder.plan(table=HEADING, report=report, answers={"10 1": (0, 0, "-")})
         status, _ = swept(self.folder.words(grid=("--set", "policy.rate=10", "--set", "policy.depth=1")))
-        self.assertEqual((status, self.folder.table().splitlines()[1]), (0, "10,1,0,0,0,,,,,,0,,"))
+        self.assertEqual((status, self.folder.table().splitlines()[1]), (0, "10,1,0,0,0,,,,,,0,0,0.0000,0,1,capture,,"))
 
     def test_taken_from_before(self):
         def runs(*words, grid=GRID):
@@ -300,6 +361,13 @@ class Sweep(Base):
             path.write_text(text)
             self.assertEqual(runs(), 0, path)
 
+    def test_progress(self):
+        """Lines where standard error is no terminal, also while each run takes long."""
+        self.folder.plan(seconds=0.5)
+        with unittest.mock.patch.multiple(tool_run, PROGRESS_STEP=0.1, WAITING_STEP=0.1):
+            _, errors = swept(self.folder.words(grid=("--set", "policy.rate=20", "--set", "policy.depth=1")))
+        self.assertGreater(len(re.findall(r"^sweep: 0% .*\[\d\d:\d\d<.*run/s\]$", errors, re.MULTILINE)), 2, errors)
+
     def test_broken_result(self):
         swept(self.folder.words())
         path = sorted((self.folder.path / "swept" / "results").iterdir())[0]
@@ -307,6 +375,365 @@ class Sweep(Base):
         _, errors = swept(self.folder.words())
         self.assertIn("6 combinations, 5 of them taken from before", errors)
         self.assertEqual(self.folder.table(), TABLE)
+
+
+class Choice(Base):
+    """The answers of the stub: row 3 turns 40% away with a p99 of 400, 4 and 6 20% with 900, row 5 30% with 950."""
+
+    def chosen(self, *words, grid=GRID):
+        """What a sweep with limits prints, and the rows of its table that are marked as chosen."""
+        status, errors, output = swept_and_said(self.folder.words(*words, grid=grid))
+        self.assertEqual(status, 0, errors)
+        with open(self.folder.path / "swept" / "sweep.csv") as file:
+            return output, [row["row"] for row in csv.DictReader(file) if row["chosen"] == "1"]
+
+    def test_at_most(self):
+        for words, row in ((("p99=900",), "4"), (("p99=899",), "3"), (("p99=5000", "turned_away=25"), "4"),
+                           (("tier0.p99=400",), "4"), (("busy_share=0.5",), "4"), (("most_inside=2", "p99=400"), "3")):
+            with self.subTest(words):
+                limits = [word for limit in words for word in ("--at-most", limit)]
+                self.assertEqual(self.chosen(*limits)[1], [row])
+
+    def test_none_within(self):
+        self.check(self.folder.words("--at-most", "p99=399"), 1,
+                   "sweep: no combination is within p99=399: the least p99 is 400")
+        self.check(self.folder.words("--at-most", "tier1.p99=10"), 1,
+                   "sweep: no combination is within tier1.p99=10: nothing was answered")
+        self.assertTrue((self.folder.path / "swept" / "sweep.csv").exists())
+
+    def test_printed(self):
+        output, _ = self.chosen("--at-most", "p99=400")
+        self.assertIn("# row 3: policy.rate, requests a second 0.01, policy.depth 3: 40.00% turned away, "
+                      "p99 0.400 ms\n", output)
+        self.assertIn("[policy]\ndepth = 3\nrate = 10\n", output)
+        self.assertIn("# tier 0: a controller moves the rate from 50 to 5000 requests a second.", output)
+
+    def test_fixed_rate(self):
+        """The word that sets three keys alike; the stub knows the answer for a rate of 20 and a depth of 3."""
+        output, _ = self.chosen("--at-most", "p99=900", grid=(
+            "--set", "policy.fixed_rate=20", "--set", "policy.depth=3"))
+        self.assertIn("[policy]\ndepth = 3\nrate = 20\nrate_max = 20\nrate_min = 20\n", output)
+        self.assertIn("rate=1r/m;", output)
+        self.assertNotIn("a controller moves the rate from 0.02", output)
+
+    def test_rates_a_second(self):
+        self.folder.plan(answers={"20000 3": (8, 2, 900)})
+        output, _ = self.chosen("--at-most", "p99=900", grid=("--set", "policy.rate=20/s", "--set", "policy.depth=3"))
+        self.assertIn("policy.rate, requests a second 20,", output)
+        self.check(self.folder.words("--set", "costs.kib=3/s"), 2,
+                   "tools/sweep.py: error: argument --set: costs.kib: '3/s': it is no rate")
+
+    def test_marked(self):
+        self.draw()
+        self.chosen("--at-most", "p99=400")
+        page = self.folder.page()
+        self.assertEqual(page.count('<tr class="chosen"><td>3</td>'), 3)  # its row, and that of either tier
+        self.assertIn("chosen: row 3", page)
+        self.assertIn("p99 at most 0.4 ms", page)
+
+    def test_words(self):
+        for text in ("p98=5", "p99", "p99=", "p99=-1", "p99=1e9", "admitted=4", "tier4.p99=1", "tier1.busy_share=1"):
+            with self.subTest(text):
+                status, errors = swept(self.folder.words("--at-most", text))
+                self.assertEqual(status, 2)
+                self.assertIn("is no FIGURE=N; FIGURE is one of turned_away, rejected", errors)
+
+
+class Captures(Base):
+    """Several captures, of which the worst figure counts."""
+
+    def setUp(self):
+        super().setUp()
+        self.weekend = self.folder.path / "weekend"
+        self.weekend.write_text("weekend")
+        stub = self.folder.program.read_text()
+        # On the weekend twice as many are turned away, and all are answered in half the time.
+        self.folder.program.write_text(stub.replace(
+            "status, line = plan[", "weekend, status_and_line = 'weekend' in words['--capture'], plan[").replace(
+            'get(snapshot.read() + capture.read(), (0, ""))',
+            'get("", (0, ""))\nstatus, line = status_and_line').replace(
+            "if status == 0:",
+            "if weekend and answer: answer = (answer[0], 2 * answer[1], answer[2] // 2)\nif status == 0:"))
+
+    def test_worst(self):
+        status, errors = swept(self.folder.words("--capture", str(self.weekend), "--at-most", "p99=450"))
+        self.assertEqual(status, 0, errors)
+        rows = [line.split(",") for line in self.folder.table().splitlines()]
+        self.assertEqual(len(rows), 1 + 3 * 6)
+        places = [rows[0].index(name) for name in ("admitted", "rejected", "p99", "turned_away", "row", "capture",
+                                                   "chosen")]
+        third = [[row[place] for place in places] for row in rows if row[places[4]] == "3"]
+        # 4 of 10 and 8 of 14 are turned away: 57.1429% is the worst.
+        self.assertEqual(third, [["6", "8", "400", "57.1429", "3", "worst", "1"],
+                                 ["6", "4", "400", "40.0000", "3", "capture", "1"],
+                                 ["6", "8", "200", "57.1429", "3", "weekend", "1"]])
+
+    def test_page(self):
+        self.draw()
+        swept(self.folder.words("--capture", str(self.weekend)))
+        page = self.folder.page()
+        cells = ["<td>%s</td>" % cell for cell in ("worst", self.weekend, self.folder.capture)]
+        for cell in ("<th>capture</th>", *cells):
+            self.assertIn(cell, page)
+
+
+class Equal(Base):
+    def test_any(self):
+        """A key whose values all give the same: it is `any`, and another key, of which only some do, is not."""
+        answers = {"10 1": (3, 7, 500), "10 2": (3, 7, 500), "20 1": (8, 2, 900), "20 2": (9, 1, 900)}
+        self.folder.plan(answers=answers)
+        grid = ("--set", "policy.rate=10,20", "--set", "policy.depth=1,2")
+        status, errors = swept(self.folder.words(grid=grid))
+        self.assertEqual(status, 0, errors)
+        rows = [line.split(",")[:4] for line in self.folder.table().splitlines()[1:]]
+        self.assertEqual(rows, [["10", "any", "3", "7"], ["20", "1", "8", "2"], ["20", "2", "9", "1"]])
+
+    def test_all_equal(self):
+        self.folder.plan(answers={"%d %d" % (rate, depth): (3, 7, 500) for rate in (10, 20) for depth in (1, 2)})
+        self.draw()
+        swept(self.folder.words(grid=("--set", "policy.rate=10,20", "--set", "policy.depth=1,2")))
+        self.assertEqual([line.split(",")[:3] for line in self.folder.table().splitlines()[1:]], [["any", "any", "3"]])
+        self.assertIn("3 give the same as another, and share its row", self.folder.page())
+
+
+class Search(Base):
+    def searched(self, runs, limit=700):
+        """The rows of a search in a landscape of our own: a rate of r turns |r - 300| / 10 percent away and has a p99
+        of depth; so within p99 <= 700 the best is a rate of 300 with any depth up to 700."""
+        def answer(point):
+            rate, depth = point
+            rejected = min(1000, abs(rate - 300))
+            return sweep_figures.Combination(0, point, str(point), [result_of(1000 - rejected, rejected, depth)])
+
+        limits = [sweep.limit("p99=%d" % limit)]
+        asked = []
+
+        def run(points):
+            asked.append(points)
+            return [answer(point) for point in points]
+
+        found = sweep_search.search([(10, 1000), (1, 10_000)], runs, run,
+                                    lambda one: sweep_figures.cost(one.figures, limits))
+        return found, asked, sweep_figures.chosen_of(sweep_figures.rows_of(found, [(), ()], False), limits)
+
+    def test_bounded(self):
+        for runs in (10, 37, 120):
+            found, asked, _ = self.searched(runs)
+            self.assertLessEqual(len(found), runs)
+            self.assertEqual(sum(map(len, asked)), len(found))
+            self.assertEqual(len({one.values for one in found}), len(found))
+
+    def test_finds(self):
+        _, _, chosen = self.searched(120)
+        self.assertLess(abs(chosen.values[0] - 300), 30)
+        self.assertLessEqual(chosen.values[1], 700)
+
+    def test_same(self):
+        self.assertEqual([one.values for one in self.searched(60)[0]], [one.values for one in self.searched(60)[0]])
+
+    def test_command(self):
+        answers = {"%d %d" % (rate, depth): (10, rate, 10 * depth) for rate in range(1, 6) for depth in range(1, 6)}
+        self.folder.plan(answers=answers)
+        words = self.folder.words("--search", "12", "--at-most", "p99=30", grid=(
+            "--set", "policy.rate=1..5", "--set", "policy.depth=1..5"))
+        status, errors, output = swept_and_said(words)
+        self.assertEqual(status, 0, errors)
+        self.assertLessEqual(len(self.folder.calls()), 12)
+        first = self.folder.table()
+        before = len(self.folder.calls())
+        self.assertEqual(swept_and_said(words)[2], output)  # all taken from before
+        self.assertEqual((len(self.folder.calls()), self.folder.table()), (before, first))
+
+    def test_words(self):
+        for words, line in (
+            (("--search", "20"), "argument --set: policy.rate: --search needs a range, LEAST..GREATEST"),
+            (("--set", "costs.kib=1..5"), "argument --set: costs.kib: a range needs --search"),
+        ):
+            self.check(self.folder.words(*words), 2, "tools/sweep.py: error: " + line)
+        ranges = ("--set", "policy.rate=1..5")
+        self.check(self.folder.words("--search", "20", grid=ranges), 2,
+                   "tools/sweep.py: error: argument --search: needs --at-most, which says what is looked for")
+        self.check(self.folder.words("--search", "9", "--at-most", "p99=1", grid=ranges), 2,
+                   "tools/sweep.py: error: argument --search: from 10 to 100000")
+        self.check(self.folder.words("--set", "costs.kib=5..1"), 2,
+                   "tools/sweep.py: error: argument --set: costs.kib: the range falls")
+
+
+class Lines(unittest.TestCase):
+    """Lines for servers, worked by hand."""
+
+    def lines(self, rate, depth, **others):
+        policy = settings_documents.Policy(rate, others.get("least", rate), others.get("most", rate), depth)
+        return "\n".join(server_lines.lines_of({0: policy}))
+
+    def test_nginx(self):
+        text = self.lines(500_000, 30)
+        self.assertIn("limit_req_zone all zone=tier0:1m rate=500r/s;\n", text)
+        self.assertIn("limit_req zone=tier0 burst=29 nodelay;\n", text)
+        self.assertNotIn("controller", text)
+        self.assertIn("rate=30r/m;\n", self.lines(500, 2))
+        self.assertIn("rate=6017r/m;  # the nearest below", self.lines(100_299, 2))  # 6,017.94 a minute
+        self.assertIn("limit_req zone=tier0 nodelay;", self.lines(500_000, 1))
+
+    def test_envoy(self):
+        self.assertIn("{ max_tokens: 30, tokens_per_fill: 25, fill_interval: 0.050s }\n", self.lines(500_000, 30))
+        # 526 a second: 263 in half a second is the first whole number of tokens.
+        self.assertIn("{ max_tokens: 1, tokens_per_fill: 263, fill_interval: 0.500s }\n", self.lines(526_000, 1))
+
+    def test_haproxy(self):
+        # 30 tokens come back within 60 milliseconds.
+        self.assertIn("gpc0_rate(60ms)\n", self.lines(500_000, 30))
+        self.assertIn("{ sc_gpc0_rate(0) ge 30 }\n", self.lines(500_000, 30))
+
+    def test_controller(self):
+        text = self.lines(1_000_000, 100, least=50_000, most=5_000_000)
+        self.assertIn("# tier 0: a controller moves the rate from 50 to 5000 requests a second.", text)
+
+    def test_tiers(self):
+        policies = {tier: settings_documents.Policy(1000, 1000, 1000, 2) for tier in (0, 2)}
+        text = "\n".join(server_lines.lines_of(policies))
+        self.assertIn("limit_req_zone $tier2 zone=tier2:1m rate=1r/s;\n", text)
+        self.assertIn("limit_req zone=tier0 burst=1 nodelay;\nlimit_req zone=tier2 burst=1 nodelay;\n", text)
+
+    def test_policy_of_tier(self):
+        defaults = {"policy": {"rate": 1, "rate_min": 2, "rate_max": 3, "depth": 4}}
+        tables = {"policy": {"rate": 5, "depth": 6}, "tier1": {"depth": 7}}
+        self.assertEqual(settings_documents.policy_of(1, tables, defaults), (5, 2, 3, 7))
+
+
+class Axes(unittest.TestCase):
+    def test_times(self):
+        """Equal ratios of times are equal distances, with labels that people count in."""
+        figure, axes = sweep_page.pyplot.subplots()
+        self.addCleanup(sweep_page.pyplot.close, figure)
+        sweep_page.set_time_axis(axes, [0.4, 20.0, 200.0])
+        places = [axes.transData.transform((0, time))[1] for time in (1, 10, 100)]
+        self.assertAlmostEqual(places[1] - places[0], places[2] - places[1])
+        least, greatest = axes.get_ylim()
+        self.assertTrue(least < 0.4 and greatest > 200)
+        labels = [axes.yaxis.get_major_formatter()(mark) for mark in axes.get_yticks() if least <= mark <= greatest]
+        self.assertEqual(labels, ["0.5", "1", "2", "5", "10", "20", "50", "100", "200"])
+
+
+class Cells(unittest.TestCase):
+    def test_formulas(self):
+        self.assertEqual([spreadsheets.cell(text)
+                          for text in ("=1+1", "+a", "-a", "@a", "\ta", "\ra", "a=", "", -1, None)],
+                         ["'=1+1", "'+a", "'-a", "'@a", "'\ta", "'\ra", "a=", "", -1, None])
+
+
+class Damaged(Base):
+    def test_results(self):
+        """Damaged results are made anew, whatever they hold."""
+        swept(self.folder.words())
+        paths = sorted((self.folder.path / "swept" / "results").iterdir())
+        sound = json.loads(paths[0].read_text())
+        texts = [b"", b"{}", b"[" * 100_000, b"\xff\xfe", b"null", b'"a"', b"9" * 5000, json.dumps(
+            {**sound, "p99": "many"}).encode(), json.dumps({**sound, "tiers": {"7": {}}}).encode(), json.dumps(
+            {**sound, "tiers": {"0": {"p99": []}}}).encode(), json.dumps({**sound, "busy": None}).encode(),
+                 *(json.dumps({**sound, name: value}).encode() for name in ("p99", "busy", "span", "admitted")
+                   for value in (10**400, -1)), b" " * sweep.RESULT_ROOM + json.dumps(sound).encode()]
+        for text in texts:
+            with self.subTest(text[:20]):
+                paths[0].write_bytes(text)
+                status, errors = swept(self.folder.words())
+                self.assertEqual(status, 0, errors)
+                self.assertIn("6 combinations, 5 of them taken from before", errors)
+                self.assertEqual(self.folder.table(), TABLE)
+
+    def test_mutated_results(self):
+        """Bytes of a result are changed at random: the sweep ends with its table, or a line."""
+        random_ = random.Random(4242)
+        grid = ("--set", "policy.rate=10", "--set", "policy.depth=1")
+        swept(self.folder.words(grid=grid))
+        path, = (self.folder.path / "swept" / "results").iterdir()
+        sound = path.read_bytes()
+        for _ in range(MUTATIONS):
+            data = bytearray(sound)
+            for _ in range(random_.randint(1, 4)):
+                data[random_.randrange(len(data))] = random_.choice(b'{}[]",:0-9e.\x00\xffa')
+            path.write_bytes(data)
+            status, errors = swept(self.folder.words(grid=grid))
+            self.assertIn(status, (0, 1), (bytes(data), errors))
+            self.assertNotIn("Traceback", errors)
+
+    def test_one_that_cannot_be_written(self):
+        """Where the page can't be written, the older table stands."""
+        swept(self.folder.words())
+        folder = self.folder.path / "swept"
+        (folder / "sweep.csv").write_text("older")
+        (folder / "sweep.html").unlink()
+        (folder / "sweep.html").mkdir()
+        self.check(self.folder.words(), 1, "sweep: swept/sweep.html: Is a directory")
+        self.assertEqual((folder / "sweep.csv").read_text(), "older")
+        self.assertEqual(sorted(path.name for path in folder.iterdir()),
+                         ["results", "settings", "sweep.csv", "sweep.html"])
+
+    def test_settings(self):
+        for text, line in (
+            ("a = " + "[" * 5000, "no TOML document"),
+            ("[policy]\ndepht = 4\n", "policy.depht: no such key; the nearest is policy.depth"),
+            ("# " + "a" * 70_000, "more than 65536 bytes"),
+            ("[policy]\nfixed_rate = 4\n", "policy.fixed_rate: no such key"),):
+            with self.subTest(line):
+                self.folder.settings.write_text(text)
+                status, errors = swept(self.folder.words("--settings", str(self.folder.settings)))
+                self.assertEqual(status, 1)
+                self.assertIn(line, errors)
+                self.assertEqual(errors.count("\n"), 1)
+        self.folder.settings.write_bytes(b"\xff\xff")
+        status, errors = swept(self.folder.words("--settings", str(self.folder.settings)))
+        self.assertEqual((status, errors.count("\n")), (1, 1))
+
+    def test_unknown_key(self):
+        self.check(self.folder.words("--set", "policy.dept=1"), 1,
+                   "sweep: --set: policy.dept: no such key; the nearest is policy.depth")
+
+    def test_many(self):
+        values = ",".join(map(str, range(1, 1001)))
+        self.check(self.folder.words("--set", "policy.every=" + values, "--set", "policy.window=" + values), 2,
+                   "tools/sweep.py: error: argument --set: more than 100000 combinations")
+
+    def test_names(self):
+        """Names of files that are no text stand as escapes on the page, in the table and on standard output."""
+        self.draw()
+        path = os.fsdecode(os.fsencode(self.folder.path) + b"/\xff.capture")
+        pathlib.Path(path).write_text("capture")
+        status, errors, output = swept_and_said(self.folder.words("--capture", path, "--at-most", "p99=400"))
+        self.assertEqual(status, 0, errors)
+        self.assertIn("\\udcff.capture", self.folder.page())
+        self.assertIn("\\udcff.capture", self.folder.table())
+
+    def test_standard_output(self):
+        """What is printed can't be written: a line, and the table stands."""
+        for end, line in (("/dev/full", "sweep: standard output: No space left on device\n"),):
+            with open(end, "w") as full:
+                ran = subprocess.run([sys.executable, str(TOOLS / "sweep.py"),
+                                      *self.folder.words("--at-most", "p99=400")],
+                                     stdout=full, stderr=subprocess.PIPE, text=True)
+            self.assertEqual((ran.returncode, ran.stderr[-len(line):]), (1, line))
+            self.assertTrue((self.folder.path / "swept" / "sweep.csv").exists())
+
+    def test_same_file(self):
+        """An output that is an input is refused, and the input stays."""
+        swept(self.folder.words())
+        table = self.folder.path / "swept" / "sweep.csv"
+        before = table.read_bytes()
+        self.folder.capture = table
+        self.check(self.folder.words(), 2, "sweep: swept/sweep.csv: the output is the input; give it another name")
+        self.assertEqual(table.read_bytes(), before)
+
+    def test_settings_of_a_former_sweep(self):
+        """Settings that a sweep wrote may be those of another; where they were changed by hand, they stay so."""
+        swept(self.folder.words())
+        path = min((self.folder.path / "swept" / "settings").iterdir())
+        status, errors = swept(self.folder.words("--settings", str(path)))
+        self.assertEqual(status, 0, errors)
+        path.write_text("# taken on Friday\n" + path.read_text())
+        before = path.read_bytes()
+        self.check(self.folder.words("--settings", str(path)), 2,
+                   "sweep: swept/settings/%s: the output is the input; give it another name" % path.name)
+        self.assertEqual(path.read_bytes(), before)
 
 
 class Interrupted(Base):
@@ -321,6 +748,10 @@ class Interrupted(Base):
         results = self.folder.path / "swept" / "results"
         wait_for(lambda: results.is_dir() and len(list(results.glob("*.json"))) == 3 and len(self.folder.calls()) == 6)
         return process
+
+    def said(self, process):
+        """What a sweep said besides its progress, which a busy machine has."""
+        return [line for line in process.stderr.readlines() if "run]" not in line]
 
     def wait_for_ends(self):
         """Waits until no process for runs is there, and no stub."""
@@ -353,7 +784,7 @@ class Interrupted(Base):
         process = self.begin()
         os.killpg(process.pid, signal.SIGINT)
         self.assertEqual(process.wait(SECONDS), 130)
-        self.assertEqual(process.stderr.readlines()[1:], ["sweep: interrupted; the same command goes on\n"])
+        self.assertEqual(self.said(process), ["sweep: interrupted; the same command goes on\n"])
         self.wait_for_ends()
         self.go_on()
 
@@ -361,7 +792,7 @@ class Interrupted(Base):
         process = self.begin()
         os.kill(int(self.folder.calls()[-1][2]), signal.SIGKILL)
         self.assertEqual(process.wait(SECONDS), 1)
-        self.assertEqual(process.stderr.readlines()[1:], [
+        self.assertEqual(self.said(process), [
             "sweep: a run was lost (BrokenProcessPool); the same command goes on\n"])
         self.go_on()
 
@@ -386,11 +817,11 @@ class Faults(Base):
 
     def test_files(self):
         check, words = self.check, self.folder.words
-        check(words("--program", "no-such"), 2, "sweep: " + NO_PROGRAM)
-        check(words("--capture", str(self.folder.path / "absent")), 2, "sweep: absent: No such file or directory")
-        check(words("--snapshot", "/dev/null"), 2, "sweep: /dev/null: no regular file")
-        check(words("--settings", str(self.folder.path / "absent")), 2, "sweep: absent: No such file or directory")
-        check(words("--output", str(self.folder.capture)), 2, "sweep: capture/settings: Not a directory")
+        check(words("--program", "no-such"), 1, "sweep: " + NO_PROGRAM)
+        check(words("--capture", str(self.folder.path / "absent")), 1, "sweep: absent: No such file or directory")
+        check(words("--snapshot", "/dev/null"), 1, "sweep: /dev/null: no regular file")
+        check(words("--settings", str(self.folder.path / "absent")), 1, "sweep: absent: No such file or directory")
+        check(words("--output", str(self.folder.capture)), 1, "sweep: capture/settings: Not a directory")
         self.assertEqual(self.folder.calls(), [])
 
     def test_settings(self):
@@ -409,20 +840,31 @@ class Faults(Base):
         self.folder.capture.write_text("broken")
         self.check(self.folder.words(), 1, "sweep: haboob: capture: record 9: Kind")
         self.check(self.folder.words("--program", "/bin/echo"), 1,
-                   "sweep: no table of haboob explain: this is no table of decisions")
+                   "sweep: haboob settings: no TOML document: Expected '=' after a key in a key/value pair "
+                   "(at line 1, column 9)")
+        self.folder.plan(table="")
+        self.folder.capture.write_text("capture")
+        self.check(self.folder.words(), 1, "sweep: no table of haboob explain: this is no table of decisions")
+        self.folder.capture.write_text("a log\n")
+        self.check(
+            self.folder.words(),
+            1,
+            "sweep: haboob: capture: record 0: Header; capture is text; if it is an access "
+            "log, tools/capture_from_log.py reads it")
+        self.folder.capture.write_text("broken")
         self.check(self.folder.words("--program", "/bin/false"), 1, "sweep: /bin/false: ended with status 1")
         self.folder.capture.write_text("capture")
         self.folder.plan(report=REPORT[:-4])
         self.check(self.folder.words(), 1, "sweep: no report of haboob explain: the report isn't whole")
 
     def test_changed_input(self):
-        run_missing = sweep.run_missing
+        run = sweep.Sweep.run
 
         def changing(*words):
             self.folder.capture.write_text("another capture")
-            run_missing(*words)
+            run(*words)
 
-        with unittest.mock.patch.object(sweep, "run_missing", changing):
+        with unittest.mock.patch.object(sweep.Sweep, "run", changing):
             self.check(self.folder.words(), 1, "sweep: capture: changed during the sweep")
         self.assertEqual(list((self.folder.path / "swept" / "results").iterdir()), [])
 
@@ -430,11 +872,12 @@ class Faults(Base):
         with unittest.mock.patch.dict(sys.modules, {"distributed": None}):
             self.check(self.folder.words("--cluster", "127.0.0.1:1"), 2,
                        "sweep: --cluster needs distributed: apt-get install python3-distributed")
-        code = "import runpy, sys; sys.modules['tqdm'] = None; runpy.run_path(sys.argv[1], run_name='__main__')"
-        ran = subprocess.run([sys.executable, "-c", code, str(TOOLS / "sweep.py")], env={"PYTHONPATH": str(TOOLS)},
-                             capture_output=True, text=True)
+        code = ("import runpy, sys; del sys.argv[0]; sys.modules['tqdm'] = None; "
+                "runpy.run_path(sys.argv[0], run_name='__main__')")
+        ran = subprocess.run([sys.executable, "-c", code, str(TOOLS / "sweep.py"), *self.folder.words()],
+                             env={"PYTHONPATH": str(TOOLS)}, capture_output=True, text=True)
         self.assertEqual((ran.returncode, ran.stderr), (
-            2, "sweep: needs tqdm: apt-get install python3-matplotlib python3-tqdm, and Python 3.11\n"))
+            2, "sweep: needs tqdm: apt-get install python3-tqdm\n"))
 
 
 @unittest.skipUnless(importlib.util.find_spec("distributed"), "python3-distributed isn't installed")
@@ -460,7 +903,7 @@ class OnCluster(Base):
         self.begin("dask_scheduler", "--host", "127.0.0.1", "--port", "0")
         address = wait_for(self.address)
         words = self.folder.words("--cluster", address, "--program", "haboob")
-        self.check(words, 2, "sweep: %s: no worker is there" % address)
+        self.check(words, 1, "sweep: %s: no worker is there" % address)
         for _ in range(2):
             self.begin("dask_worker", "--nthreads", "1", "--no-nanny")
         with distributed.Client(address, set_as_default=False) as client:
@@ -470,15 +913,24 @@ class OnCluster(Base):
         self.assertEqual([call[:2] for call in self.folder.calls()], [key.split() for key in ANSWERS])
         # A sweep on this machine has the same results.
         self.assertIn("6 of them taken from before", swept(self.folder.words())[1])
+        # A search runs on it, too.
+        self.folder.plan(answers={"%d %d" % (rate, depth): (10, rate, 100) for rate in range(1, 9) for depth in (1, 2)})
+        search = self.folder.words(
+            "--cluster", address, "--program", "haboob", "--search", "10", "--at-most", "p99=100",
+            grid=("--set", "policy.rate=1..8", "--set", "policy.depth=1..2"))
+        status, errors, output = swept_and_said(search)
+        self.assertEqual(status, 0, errors)
+        self.assertIn("[policy]\ndepth = ", output)
+        self.folder.plan()
         self.folder.capture.write_text("broken")
         self.check(words, 1, "sweep: haboob: capture: record 9: Kind")
-        self.check([*words, "--program", "no-such"], 2, "sweep: " + NO_PROGRAM)
+        self.check([*words, "--program", "no-such"], 1, "sweep: " + NO_PROGRAM)
 
     def test_no_cluster(self):
         import dask
         with dask.config.set({"distributed.comm.timeouts.connect": "0.3s"}):
             status, errors = swept(self.folder.words("--cluster", "127.0.0.1:1"))
-        self.assertEqual(status, 2)
+        self.assertEqual(status, 1)
         self.assertRegex(errors.splitlines()[-1], "^sweep: 127.0.0.1:1: no scheduler answers")
 
 
@@ -496,6 +948,71 @@ class Program(Base):
         rows = self.rows("--set", "policy.rate=1000000,9000000")
         self.assertEqual(rows[0][:7], "1000000,143,105,45,3258,6470,7086".split(","))
         self.assertEqual(rows[1][-2], "haboob: settings: Range policy.rate")
+
+    def test_tiers(self):
+        """The figures of each tier are those of the rows of its own in the program's table."""
+        self.folder.program, self.folder.snapshot = PROGRAM, EXAMPLES / "site.snapshot"
+        self.folder.capture = EXAMPLES / "tiers.capture"
+        settings = EXAMPLES / "tiers.toml"
+        status, errors = swept(self.folder.words("--settings", str(settings), grid=("--set", "policy.depth=100")))
+        self.assertEqual(status, 0, errors)
+        table = self.folder.path / "table"
+        subprocess.run([PROGRAM, "explain", "--snapshot", self.folder.snapshot, "--capture", self.folder.capture,
+                        "--settings", settings, "--messages", table], check=True, stdout=subprocess.DEVNULL)
+        with open(table, newline="") as file:
+            rows = list(csv.DictReader(file))
+        with open(self.folder.path / "swept" / "sweep.csv", newline="") as file:
+            found, = csv.DictReader(file)
+        for tier in "01":
+            times = sorted(int(row["finish"]) - int(row["tick"]) for row in rows
+                           if (row["tier"], row["decision"]) == (tier, "admitted"))
+            away = sum((row["tier"], row["decision"]) == (tier, "rejected") for row in rows)
+            names = ("admitted", "rejected", "p99", "greatest")
+            self.assertEqual([found["tier%s.%s" % (tier, name)] for name in names],
+                             [str(len(times)), str(away), str(times[math.ceil(0.99 * len(times)) - 1]), str(times[-1])])
+        self.assertEqual((found["tier1.admitted"], found["tier1.rejected"]), ("81", "159"))  # as docs/WALK.md has them
+
+    def test_several_captures(self):
+        """Settings for a burst, tried on the burst among readers too: each capture has its figures, as docs/WALK.md
+        has them (105 of 248 and 140 of 276 are turned away), and the worst of each counts."""
+        self.folder.program, self.folder.snapshot = PROGRAM, EXAMPLES / "site.snapshot"
+        self.folder.capture = EXAMPLES / "burst.capture"
+        words = self.folder.words("--capture", str(EXAMPLES / "mixed.capture"), "--at-most", "p99=9076",
+                                  grid=("--set", "policy.depth=100",))
+        status, errors, output = swept_and_said(words)
+        self.assertEqual(status, 0, errors)
+        with open(self.folder.path / "swept" / "sweep.csv", newline="") as file:
+            rows = [(os.path.basename(row["capture"]), row["admitted"], row["rejected"], row["p99"])
+                    for row in csv.DictReader(file)]
+        self.assertEqual(rows, [("worst", "136", "140", "9076"), ("burst.capture", "143", "105", "7086"),
+                                ("mixed.capture", "136", "140", "9076")])
+        self.assertIn("50.72% turned away, p99 9.076 ms", output)
+        self.check([word.replace("9076", "9075") for word in words], 1,
+                   "sweep: no combination is within p99=9075: the least p99 is 9076")
+
+    def test_no_captures(self):
+        """Recorded packets and a log that are given as captures: which tool reads them."""
+        self.folder.program, self.folder.snapshot = PROGRAM, EXAMPLES / "site.snapshot"
+        for name, tool in (("loopback.pcap", "recorded packets, which tools/capture_from_pcap.py reads"),
+                           ("nginx.log", "text; if it is an access log, tools/capture_from_log.py reads it")):
+            self.folder.capture = TOOLS / "data" / name
+            words = self.folder.words(grid=("--set", "policy.depth=100"))
+            self.check(words, 1, "sweep: haboob: capture: record 0: Header; %s is %s" % (self.folder.capture, tool))
+
+    def test_search(self):
+        """The best fixed rate and depth that keep p99 within a limit: no point of a grid of the same ranges that does
+        turns fewer away."""
+        self.folder.program, self.folder.snapshot = PROGRAM, EXAMPLES / "site.snapshot"
+        self.folder.capture = EXAMPLES / "burst.capture"
+
+        def least(rates, depths, *words):
+            grid = ("--set", "policy.fixed_rate=" + rates, "--set", "policy.depth=" + depths)
+            status, errors, output = swept_and_said(self.folder.words("--at-most", "p99=4000", *words, grid=grid))
+            self.assertEqual(status, 0, errors)
+            return float(re.search("([0-9.]+)% turned away", output)[1])
+
+        found = least("100/s..9000/s", "1..300", "--search", "60")
+        self.assertLessEqual(found, least("100/s,300/s,1000/s,3000/s,9000/s", "1,3,10,30,100,300"))
 
     def test_base(self):
         rows = self.rows("--settings", str(EXAMPLES / "tight.toml"), "--set", "policy.depth=10,300")

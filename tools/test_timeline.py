@@ -1,22 +1,39 @@
 #!/usr/bin/python3
-"""Tests of timeline.py on a table that was written by hand.
+"""Tests of timeline.py on tables that were written by hand.
 
-    python3 tools/test_timeline.py
+    /usr/bin/python3 tools/test_timeline.py
+
+MUTATIONS=N in the environment tries N damaged tables.
 """
+import argparse
 import contextlib
+import csv
 import io
 import os
+import pathlib
+import random
+import re
+import resource
+import signal
+import subprocess
 import sys
 import tempfile
+import time
 import unittest
+import unittest.mock
 
-sys.path.insert(0, os.path.dirname(os.path.abspath(__file__)))
+TOOLS = pathlib.Path(__file__).resolve().parent
+sys.path.insert(0, str(TOOLS))
+import pages
+import steps
 import timeline
+import tool_run
 
+MUTATIONS = int(os.environ.get("MUTATIONS", 300))
 HEADING = "number,connection,tick,tier,status,decision,service,credit,rate,start,finish,waited,method,target\n"
 # Second 0: two admitted (response times 1,000 and 600,000), one turned away after them, one that breaks a rule.
 # Second 1: nothing comes, and the server works until tick 1,100,000. Second 2: one of tier 1 is turned away while the
-# server is idle.
+# server is idle. The rate of tier 0 falls once.
 TABLE = HEADING + (
     "0,0,0,0,200,admitted,1000,3000000000,4000,0,1000,0,GET,/a\n"
     "1,1,500000,0,200,admitted,600000,2000000000,4000,500000,1100000,0,GET,/b\n"
@@ -25,66 +42,381 @@ TABLE = HEADING + (
     "4,3,2000000,1,503,rejected,10,0,1000,,,0,GET,/<c>\n"
 )
 SECONDS = (
-    "second,offered,admitted,rejected,bypassed,rejected_while_idle,p50,p90,p99,busy_share,"
-    "rate_0,least_credit_0,rate_1,least_credit_1\n"
-    "0,3,2,1,1,0,1000,600000,600000,0.501,2000,999999999,,\n"
-    "1,0,0,0,0,0,,,,0.1,,,,\n"
-    "2,1,0,1,0,1,,,,0.0,,,1000,0\n"
+    "second,offered,admitted,rejected,bypassed,rejected_while_idle,p50,p90,p99,busy_share,most_inside,"
+    "rejected_0,rate_0,least_credit_0,raised_0,lowered_0,rejected_1,rate_1,least_credit_1,raised_1,lowered_1\n"
+    "0,3,2,1,1,0,1000,600000,600000,0.501,1,1,2000,999999999,0,1,0,,,0,0\n"
+    "1,0,0,0,0,0,,,,0.1,0,0,,,0,0,0,,,0,0\n"
+    "2,1,0,1,0,1,,,,0.0,0,0,,,0,0,1,1000,0,0,0\n"
 )
+CAPTURE = "haboob-capture 2 784111777\nstop 0\n"  # Sun, 06 Nov 1994 08:49:37 GMT
 
 
-class Timeline(unittest.TestCase):
-    def run_on(self, table, words=()):
+def admitted(number, tick, service, start=None, target="/", tier=0, rate=1000):
+    """A row of an admitted request."""
+    start = tick if start is None else start
+    return "%d,0,%d,%d,200,admitted,%d,1000000000,%d,%d,%d,%d,GET,%s\n" % (
+        number, tick, tier, service, rate, start, start + service, start - tick, target)
+
+
+def rejected(number, tick, target="/", tier=0, rate=1000):
+    """A row of a request that was turned away while the server was busy."""
+    return "%d,0,%d,%d,503,rejected,10,0,%d,,,5,GET,%s\n" % (number, tick, tier, rate, target)
+
+
+class Base(unittest.TestCase):
+    def setUp(self):
+        folder = tempfile.TemporaryDirectory()
+        self.addCleanup(folder.cleanup)
+        self.folder = pathlib.Path(folder.name)
+        self.table, self.page, self.seconds, self.targets, self.capture, self.settings = (
+            self.folder / name for name in ("table", "page", "seconds", "targets", "day.capture", "site.toml"))
+        self.capture.write_text(CAPTURE)
+        # On a busy machine there would be lines of progress.
+        quiet = unittest.mock.patch.object(tool_run, "PROGRESS_STEP", float("inf"))
+        quiet.start()
+        self.addCleanup(quiet.stop)
+
+    def run_on(self, table, *words):
         """The status, standard error, and the files of a run."""
-        with tempfile.TemporaryDirectory() as folder:
-            names = {name: os.path.join(folder, name) for name in ("table", "page", "seconds")}
-            with open(names["table"], "w", newline="") as file:
-                file.write(table)
-            error = io.StringIO()
-            with contextlib.redirect_stderr(error):
-                status = timeline.main(["--output", names["page"], "--csv", names["seconds"], names["table"], *words])
-            texts = {}
-            for name in ("page", "seconds"):
-                if os.path.exists(names[name]):
-                    with open(names[name], newline="") as file:
-                        texts[name] = file.read()
-            return status, error.getvalue(), texts
+        self.table.write_bytes(table if isinstance(table, bytes) else table.encode())
+        error = io.StringIO()
+        with contextlib.redirect_stderr(error):
+            status = timeline.main(["--output", str(self.page), "--csv", str(self.seconds), str(self.table), *words])
+        texts = {path.name: path.read_text() for path in (self.page, self.seconds, self.targets) if path.exists()}
+        return status, error.getvalue().replace(str(self.folder) + "/", ""), texts
 
+    def rows(self, table, *words):
+        """The rows of the table of steps."""
+        status, error, texts = self.run_on(table, *words)
+        self.assertEqual((status, error), (0, ""))
+        return list(csv.DictReader(io.StringIO(texts["seconds"])))
+
+
+class Figures(Base):
     def test_seconds(self):
-        status, error, texts = self.run_on(TABLE)
+        status, error, texts = self.run_on(TABLE, "--step", "1")
         self.assertEqual((status, error, texts["seconds"]), (0, "", SECONDS))
 
-    def test_page(self):
-        _, _, texts = self.run_on(TABLE)
-        page = texts["page"]
-        self.assertEqual(page.count("<svg"), 6)
-        self.assertIn("4 offered, 2 admitted, 2 rejected, 1 rejected while idle, 1 bypassed.", page)
-        self.assertIn("<tr><td>1</td><td>/&lt;c&gt;</td></tr>", page)
-        self.assertNotIn("src=", page)
+    def test_steps_by_the_length(self):
+        """Two messages so far apart: so many steps of a width that people count in, 300 at most."""
+        for apart, width in ((299_000, 1000), (10**6, 10_000), (3_600 * 10**6, 20 * 10**6),
+                             (86_400 * 10**6, 600 * 10**6)):
+            rows = self.rows(HEADING + admitted(0, 0, 100) + admitted(1, apart, 100))
+            self.assertEqual(len(rows), (apart + 99) // width + 1, apart)
+            self.assertLessEqual(len(rows), 300)
+            self.assertEqual([rows[0]["offered"], rows[-1]["offered"]], ["1", "1"])
+
+    def test_joined_steps(self):
+        """Steps that were joined hold what their parts held."""
+        texts = [admitted(0, 5, 10), admitted(1, 1_005, 300), rejected(2, 2_005, rate=900), admitted(3, 10**9, 10)]
+        rows = self.rows(HEADING + "".join(texts))
+        self.assertEqual([rows[0][name]
+                          for name in ("offered", "admitted", "rejected", "p50", "p99", "rate_0", "lowered_0")],
+                         ["3", "2", "1", "10", "300", "900", "1"])
+        self.assertAlmostEqual(float(rows[0]["busy_share"]), 310 / 10**7, 9)
+
+    def test_window(self):
+        rows = self.rows(TABLE, "--step", "1", "--from", "0.6", "--to", "2")
+        self.assertEqual([row["offered"] for row in rows], ["1", "0"])
+        self.assertEqual(rows[0]["busy_share"], "0.4")  # from 0.6 on
+        self.assertEqual(rows[0]["lowered_0"], "1")  # against the rate before the window
+        status, error, _ = self.run_on(TABLE, "--from", "2", "--to", "2")
+        self.assertEqual((status, error), (1, "timeline: --to isn't after --from\n"))
+
+    def test_time_of_day(self):
+        """The capture begins at 08:49:37; its third second is 08:49:39."""
+        for words in (("--from", "8:49:39"), ("--from", "1994-11-06T08:49:39"), ("--from", "1994-11-06T09:49:39+01:00"),
+                      ("--from", "2")):
+            rows = self.rows(TABLE, "--step", "1", "--capture", str(self.capture), *words)
+            self.assertEqual([(row["second"], row["offered"]) for row in rows], [("2", "1")], words)
+        rows = self.rows(TABLE, "--step", "1", "--from", "0:00:02")  # without the capture since its start
+        self.assertEqual([row["second"] for row in rows], ["2"])
+        status, error, _ = self.run_on(TABLE, "--from", "1994-11-06T08:49:39")
+        self.assertEqual(
+            (status, error),
+            (1, "timeline: a date for --from or --to needs --capture, which has the start\n"))
+
+    def test_in_line(self):
+        """Three come at once, and are served one after another for 100 each; a fourth comes as the second is served."""
+        texts = [admitted(number, 0, 100, 100 * number) for number in range(3)] + [admitted(3, 150, 100, 300)]
+        self.assertEqual(self.rows(HEADING + "".join(texts))[0]["most_inside"], "3")
+        self.assertEqual(self.rows(HEADING + "".join(texts[:2]))[0]["most_inside"], "2")
 
     def test_no_message(self):
         status, _, texts = self.run_on(HEADING)
         self.assertEqual((status, texts["seconds"].count("\n")), (0, 1))
 
+
+class Bounded(Base):
+    def test_thirty_years(self):
+        """Two messages thirty years apart, and one that takes as long: few steps, small files, little time."""
+        begin = time.monotonic()
+        years = 30 * 365 * 86_400 * 10**6
+        texts = [admitted(0, 0, 100), admitted(1, years, 100), admitted(2, years, years, years + 100)]
+        rows = self.rows(HEADING + "".join(texts))
+        self.assertLessEqual(len(rows), 300)
+        self.assertLess(self.page.stat().st_size, 2_000_000)
+        self.assertLess(time.monotonic() - begin, 60)
+
+    def test_greatest_numbers(self):
+        most = 10**18 - 1
+        rows = self.rows(HEADING + admitted(0, 0, 1) + admitted(1, most - 1, 1))
+        self.assertLessEqual(len(rows), 300)
+
+    def test_many_targets(self):
+        table = HEADING + "".join(rejected(number, number, "/%d" % number) for number in range(40))
+        with unittest.mock.patch.object(timeline, "MOST_KEPT", 10):
+            _, _, texts = self.run_on(table)
+        self.assertIn("<td>30</td><td>30</td><td>100.0</td><td>(all others)</td>", texts["page"])
+        with unittest.mock.patch.object(timeline, "TARGETS_ROOM", 22):  # ten of two characters
+            _, _, texts = self.run_on(table.replace("/39", "/9"))
+        self.assertIn("<td>29</td><td>29</td><td>100.0</td><td>(all others)</td>", texts["page"])
+
+    def test_given_step(self):
+        table = HEADING + admitted(0, 0, 100) + admitted(1, 10_001 * 10**6, 100)
+        status, error, _ = self.run_on(table, "--step", "1")
+        self.assertEqual((status, error), (
+            1, "timeline: table: more than 10000 steps of a second; take a longer --step, or --from and --to\n"))
+
+    def test_words(self):
+        for text in ("0", "-1", "1y", "", "0ms", "1e3", "9999999999"):
+            with self.assertRaises(argparse.ArgumentTypeError):
+                steps.width(text)
+        self.assertEqual([steps.width(text) for text in ("10", "0.5", "250ms", "5m", "1h", "2d")],
+                         [10**7, 500_000, 250_000, 3 * 10**8, 36 * 10**8, 2 * 864 * 10**8])
+        for text in ("x", "25:00:99", "1:60", "2026-13-01T00:00:00", ""):
+            with self.assertRaises(argparse.ArgumentTypeError):
+                steps.moment(text)
+
+
+class Page(Base):
+    def test_page(self):
+        _, _, texts = self.run_on(TABLE)
+        page = texts["page"]
+        self.assertEqual(page.count("<svg"), 8)
+        self.assertIn("4 offered, 2 admitted, 2 turned away, 1 bypassed, 1 turned away while idle; "
+                      "turned away of tier 0 1, tier 1 1.", page)
+        self.assertIn("<tr><td>1</td><td>1</td><td>100.0</td><td>0</td><td>1</td><td>/&lt;c&gt;</td></tr>", page)
+        self.assertNotIn("src=", page)
+        self.assertIsNone(re.search('(href|url)="?[(]?https?:', page))
+        self.assertIn("Turned away by tier, in ", page)
+        self.assertIn("lowered by a control", page)
+        self.assertIn('name="viewport"', page)
+
+    def test_one_tier(self):
+        _, _, texts = self.run_on(HEADING + admitted(0, 0, 100))
+        self.assertNotIn("by tier", texts["page"])
+        self.assertEqual(texts["page"].count("<svg"), 7)
+
+    def test_titles(self):
+        self.settings.write_text("[policy]\ntarget = 250000\n[tier1]\ntarget = 700000\n")
+        _, _, texts = self.run_on(TABLE, "--capture", str(self.capture), "--settings", str(self.settings))
+        self.assertIn("<title>day.capture with site.toml</title>", texts["page"])
+        self.assertIn("time of day (UTC)", texts["page"])
+        self.assertIn(">8:49:3", texts["page"])
+        self.assertIn("target of tier 0<", texts["page"])
+        self.assertIn("target of tier 1<", texts["page"])
+        self.settings.write_text("")
+        _, _, texts = self.run_on(TABLE, "--settings", str(self.settings))
+        self.assertIn(">target<", texts["page"])  # that of the defaults holds for both
+
+    def test_targets(self):
+        """The table escapes percent signs, quotes, commas and all but visible ASCII; the page shows what was sent."""
+        texts = [rejected(0, 0, "/a%2520b"), rejected(1, 0, "/caf%25C3%25A9?q=%22x%2Cy%22"), rejected(2, 0, "/%C3%A9"),
+                 rejected(3, 0, "/%FF%0A"), admitted(4, 0, 10, target="/a%2520b")]
+        _, _, texts = self.run_on(HEADING + "".join(texts), "--targets", str(self.targets))
+        for cell in ("/a%20b <small>(/a b)</small>",
+                     "/caf%C3%A9?q=&quot;x,y&quot; <small>(/café?q=&quot;x,y&quot;)</small>", "/é", "/%FF%0A"):
+            self.assertIn("<td>%s</td>" % cell, texts["page"])
+        self.assertIn("<tr><td>1</td><td>2</td><td>50.0</td><td>/a%20b", texts["page"])
+        rows = list(csv.DictReader(io.StringIO(texts["targets"])))
+        self.assertEqual([row["target"] for row in rows], ["/a%20b", "/%FF%0A", '/caf%C3%A9?q="x,y"', "/é"])
+        self.assertEqual([rows[0][name]
+                          for name in ("turned_away", "asked", "turned_away_percent", "asked_0", "asked_1")],
+                         ["1", "2", "50.0000", "2", "0"])
+
+    def test_formulas(self):
+        """A target that a spreadsheet would take for a formula has an apostrophe before it."""
+        sent = ["=cmd|' /C calc'!A0", "+1", "-1", "@SUM(A1)"]
+        texts = [rejected(number, 0, target.replace(" ", "%20")) for number, target in enumerate(sent)]
+        _, _, texts = self.run_on(HEADING + "".join(texts), "--targets", str(self.targets))
+        cells = [row[0] for row in csv.reader(io.StringIO(texts["targets"]))][1:]
+        self.assertEqual(sorted(cells), sorted("'" + target for target in sent))
+
+    def test_separators(self):
+        """Where a semicolon parts cells, as for spreadsheets of many countries, no cell within a target is one."""
+        _, _, texts = self.run_on(HEADING + rejected(0, 0, "/a;=1+1") + rejected(1, 0, "/%22;@b"),
+                                  "--targets", str(self.targets))
+        for separator in ",;":
+            rows = list(csv.reader(io.StringIO(texts["targets"]), delimiter=separator))
+            self.assertFalse([cell for row in rows for cell in row if cell.startswith(("=", "@"))])
+        self.assertEqual(sorted(row["target"] for row in csv.DictReader(io.StringIO(texts["targets"]))),
+                         ['/";@b', "/a;=1+1"])
+
     def test_marks(self):
-        nothing, many = float("nan"), timeline.FEW_SECONDS + 1
-        self.assertEqual(timeline.marked([1.0, nothing, 3.0]), [0, 1, 2])
-        self.assertEqual(timeline.marked([1.0] * many), [])
+        nothing, many = float("nan"), pages.FEW + 1
+        self.assertEqual(pages.marked([1.0, nothing, 3.0]), [0, 1, 2])
+        self.assertEqual(pages.marked([1.0] * many), [])
         alone = [5.0, nothing] + [1.0] * many + [nothing, 2.0, nothing, nothing, 4.0]
-        self.assertEqual(timeline.marked(alone), [0, many + 3, many + 6])
+        self.assertEqual(pages.marked(alone), [0, many + 3, many + 6])
 
     def test_same_page(self):
-        seconds, targets = timeline.gather(timeline.rows_of(TABLE.splitlines(keepends=True)))
-        pages = [timeline.page_of("a", timeline.columns_of(seconds), targets) for _ in range(2)]
-        self.assertEqual(pages[0], pages[1])
+        texts = [self.run_on(TABLE)[2]["page"] for _ in range(2)]
+        self.assertEqual(texts[0], texts[1])
 
-    def test_another_file(self):
-        status, error, texts = self.run_on("haboob-report 1\n")
-        self.assertEqual((status, error, texts), (1, "timeline: this is no table of decisions\n", {}))
+    def test_times_of_axes(self):
+        self.assertEqual(steps.marks_between(0, 10), [0, 2, 4, 6, 8, 10])
+        self.assertEqual(steps.marks_between(784111777, 784111777 + 3600),
+                         [784112400 + 900 * place for place in range(4)])
+        self.assertEqual(steps.time_in_words(784111777, 10, True), "8:49:37")
+        self.assertEqual(steps.time_in_words(784111777, 3 * 86_400, True), "Nov 06 8:49")
+        self.assertEqual(steps.time_in_words(784111777, 30 * 86_400, True), "1994-11-06")
+        self.assertEqual(steps.time_in_words(3_725, 10_000, False), "1:02")
+        self.assertEqual(steps.time_in_words(0.25, 1, False), "0:00:00.25")
 
-    def test_cut_row(self):
-        status, error, texts = self.run_on(TABLE[:-10])
-        self.assertEqual((status, error, texts), (1, "timeline: line 6: not as many fields as the heading has\n", {}))
+
+class Faults(Base):
+    def check(self, table, line, *words):
+        """A table that is damaged: a line, and no output."""
+        status, error, texts = self.run_on(table, *words)
+        self.assertEqual((status, error, texts), (1, "timeline: %s\n" % line, {}))
+
+    def test_damaged(self):
+        """The heading is row 1."""
+        self.check("haboob-report 1\n", "table: this is no table of decisions")
+        self.check("", "table: this is no table of decisions")
+        self.check(TABLE[:-10], "table: row 6: cut, or not as many fields as the heading has")
+        self.check(TABLE.replace("2000000,1,503", "2000000,4,503"), "table: row 6: tier: '4' isn't one")
+        self.check(TABLE.replace("3,2,700000,0,400", "3,2,seven,0,400"), "table: row 5: tick: 'seven' isn't one")
+        self.check(TABLE.replace("bypassed", "lost"), "table: row 5: decision: 'lost' isn't one")
+        self.check(TABLE.replace(",,500000,GET", ",500000,GET"), "table: row 4: not as many fields as the heading has")
+        self.check(TABLE.replace("4000,500000,1100000", "4000,500000,"), "table: row 3: finish: isn't there")
+        self.check(TABLE.replace("500000,1100000", "500000,400000"), "table: row 3: tick, start and finish don't rise")
+        self.check(TABLE.replace("600000,0,503", "400000,0,503"),
+                   "table: row 4: the tick is lower than that of the row before")
+        self.check(TABLE.replace("3,2,700000", "3,2," + "7" * 19), "table: row 5: tick: '%s' isn't one" % ("7" * 19))
+        self.check(TABLE.replace("/a\n", "/" + "a" * 70_000 + "\n"), "table: row 2: longer than 65536 bytes")
+        self.check(TABLE.encode().replace(b"GET,/b", b"GET,/\xa7"), "table: row 3: target: '/\\udca7' isn't one")
+        self.check(TABLE.replace("GET,/b", "G\x7fT,/b"), "table: row 3: method: 'G\\x7fT' isn't one")
+        self.check(TABLE.replace("GET,/b", "GET,\"/b").encode() + b"\xff\x00\n",
+                   "table: row 7: not as many fields as the heading has")
+
+    def test_files(self):
+        self.check(TABLE, "absent: No such file or directory", "--capture", str(self.folder / "absent"))
+        self.check(
+            TABLE, "table: this is no capture, but text; if it is an access log, tools/capture_from_log.py reads it",
+            "--capture", str(self.table))
+        self.capture.write_bytes(b"\xd4\xc3\xb2\xa1\x02")
+        self.check(
+            TABLE, "day.capture: this is no capture, but recorded packets, which tools/capture_from_pcap.py reads",
+            "--capture", str(self.capture))
+        self.settings.write_text("[policy]\ntarget = 0\n")
+        self.check(TABLE, "site.toml: target: not from 1 to 1000000000000 microseconds",
+                   "--settings", str(self.settings))
+        self.settings.write_text("a = " + "[" * 5000)
+        status, error, texts = self.run_on(TABLE, "--settings", str(self.settings))
+        self.assertEqual((status, error.count("\n"), texts), (1, 1, {}))
+
+    def test_same_file(self):
+        """An output that is the table, by whatever name, is refused, and the table stays."""
+        self.table.write_text(TABLE)
+        link, hard = self.folder / "link", self.folder / "hard"
+        link.symlink_to(self.table)
+        os.link(self.table, hard)
+        for path in (self.table, link, hard):
+            for words in (["--output", str(path)], ["--output", str(self.page), "--csv", str(path)]):
+                error = io.StringIO()
+                with contextlib.redirect_stderr(error):
+                    status = timeline.main([*words, str(self.table)])
+                self.assertEqual(status, 2)
+                self.assertIn("the output is the input; give it another name", error.getvalue())
+        self.assertEqual(self.table.read_text(), TABLE)
+        with contextlib.redirect_stderr(io.StringIO()):
+            status = timeline.main(["--output", str(self.page), "--csv", str(self.page), str(self.table)])
+        self.assertEqual((status, self.page.exists()), (2, False))
+
+    def test_older_output(self):
+        """After a fault the older outputs are as they were, and no part stays."""
+        self.page.write_text("older")
+        self.seconds.write_text("older")
+        self.assertEqual(self.run_on(TABLE[:-10])[2], {"page": "older", "seconds": "older"})
+        self.assertEqual(len(list(self.folder.iterdir())), 4)
+
+    def test_one_that_cannot_be_written(self):
+        """Where one of the outputs can't be made or written, all older ones are as they were."""
+        absent = str(self.folder / "absent" / "targets")
+        for path, reason in ((absent, "No such file or directory"), ("/dev/full", "No space left on device")):
+            self.page.write_text("older")
+            self.seconds.write_text("older")
+            status, error, texts = self.run_on(TABLE, "--targets", path)
+            path = path.replace(str(self.folder) + "/", "")
+            self.assertEqual((status, error, texts), (
+                1, "timeline: %s: %s\n" % (path, reason), {"page": "older", "seconds": "older"}))
+            self.assertEqual(len(list(self.folder.iterdir())), 4)
+
+    def test_full_disk(self):
+        """A file may have no more than 1,000 bytes: the page can't be written, and the older one stays."""
+        self.table.write_text(TABLE)
+        self.page.write_text("older")
+
+        def limit():
+            signal.signal(signal.SIGXFSZ, signal.SIG_IGN)
+            resource.setrlimit(resource.RLIMIT_FSIZE, (1000, 1000))
+
+        ran = subprocess.run([sys.executable, TOOLS / "timeline.py", "--output", self.page, self.table],
+                             preexec_fn=limit, capture_output=True, text=True,
+                             env={**os.environ, "PYTHONDONTWRITEBYTECODE": "1"})
+        self.assertEqual((ran.returncode, self.page.read_text()), (1, "older"))
+        self.assertIn("timeline: %s: File too large" % self.page, ran.stderr)
+
+    def test_interrupted(self):
+        """Ctrl-C while the table comes over a pipe: status 130, no traceback, and the older page stays."""
+        self.page.write_text("older")
+        signal.signal(signal.SIGINT, signal.default_int_handler)  # it is ignored where tests run in the background
+        os.mkfifo(self.table)
+        process = subprocess.Popen([sys.executable, TOOLS / "timeline.py", "--output", self.page, self.table],
+                                   stderr=subprocess.PIPE)
+        with open(self.table, "wb") as pipe:  # which waits until the tool reads
+            pipe.write((HEADING + admitted(0, 0, 1)).encode())
+            pipe.flush()
+            process.send_signal(signal.SIGINT)
+            _, errors = process.communicate(timeout=60)
+        self.assertEqual((process.returncode, self.page.read_text()), (130, "older"))
+        self.assertNotIn(b"Traceback", errors)
+
+    def test_progress(self):
+        """Lines where standard error is no terminal."""
+        table = HEADING + "".join(admitted(number, number, 1, target="/" + "a" * 4_000) for number in range(600))
+        with unittest.mock.patch("tool_run.PROGRESS_STEP", 0.0):
+            status, error, _ = self.run_on(table)
+        self.assertEqual(status, 0)
+        self.assertRegex(error, r"^timeline: \d+% .*/2[.]\d+M \[\d\d:\d\d<.*B/s\]\n")
+
+    def test_closed_errors(self):
+        """With standard error closed the statuses are the same."""
+        for words, status in (([], 2), (["--output", self.page, self.folder / "absent"], 1)):
+            ran = subprocess.run([sys.executable, TOOLS / "timeline.py", *words], preexec_fn=lambda: os.close(2),
+                                 stdout=subprocess.DEVNULL)
+            self.assertEqual(ran.returncode, status)
+
+    def test_mutated_tables(self):
+        """Bytes of a table are changed, left out or doubled at random: a page, or one line; never anything else."""
+        random_ = random.Random(1729)
+        sound = (TABLE + "".join(admitted(number, 3 * 10**6 + number, 10, target="/%2C")
+                 for number in range(5, 9))).encode()
+        statuses = {0: 0, 1: 0}
+        with unittest.mock.patch.object(timeline, "page_of", lambda *_: "page"):
+            for _ in range(MUTATIONS):
+                data = bytearray(sound)
+                for _ in range(random_.randint(1, 3)):
+                    place = random_.randrange(len(HEADING) - 2, len(data))
+                    data[place:place + random_.choice((0, 1, 1, 9))] = random_.choice(
+                        (b"", b"9", b",", b"\n", b"-", b"\x00", b"\xff", b'"', b"=", b"99999999999999999", b"e", b"\r"))
+                status, error, _ = self.run_on(bytes(data))
+                self.assertIn(status, (0, 1), bytes(data))
+                self.assertEqual(error.count("\n"), status, bytes(data))
+                statuses[status] += 1
+        self.assertGreater(min(statuses.values()), 0)
 
 
 if __name__ == "__main__":

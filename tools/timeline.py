@@ -1,131 +1,208 @@
 #!/usr/bin/python3
-"""Makes one HTML page of pictures over time from a table of decisions, as `haboob explain` writes it."""
-import argparse
-import collections
-import csv
-import html
-import io
-import math
-import sys
+"""Makes one HTML page of pictures over time from a table of decisions, as `haboob explain` writes it.
 
-from decision_tables import Fault, rows_of
+Exits with 0; with 1 at a fault, which is one line on standard error and leaves older outputs as they were; with 2 where
+the words are wrong; with 130 at Ctrl-C.
+"""
+import tool_run  # first, for Ctrl-C while the others are read
+
+import array
+import collections
+import html
+import math
+import os
+import re
+import sys
+import urllib.parse
+
+import command_line
+import counting
+import decision_tables
+import input_files
+import output_file
+import pages
+import settings_documents
+import spreadsheets
+import steps
+from decision_tables import PERCENTS, TIERS
+from matplotlib import ticker
+from steps import TICKS_IN_SECOND
+from tool_run import Fault
 
 TOOL = "timeline"
-try:
-    import matplotlib
-    matplotlib.use("svg")
-    matplotlib.rcParams["svg.hashsalt"] = TOOL  # so that ids within a page are the same each time
-    from matplotlib import pyplot, ticker
-except ImportError:
-    print(TOOL + ": needs matplotlib: apt-get install python3-matplotlib", file=sys.stderr)
-    sys.exit(2)
 
 EXPLANATION = """\
-The page needs no network, and reads without colour. It shows for each second of the capture (by the
+The page needs no network, and reads without colour. It shows for each step of the capture (by the
 ticks at which messages came):
 
-  requests          offered, admitted, rejected; messages that break a rule of HTTP (bypassed)
-  response times    of the admitted requests: median, 90th and 99th percentile, in milliseconds
-  rate and credit   the last rate in force and the least credit that a request found, of each tier
-  the server        which part of the second it was busy, and how many requests were turned away
-                    while it was idle
+  requests          offered, admitted, rejected; messages that break a rule of HTTP (bypassed);
+                    where there are several tiers, whose requests were turned away
+  response times    of the admitted requests: median, 90th and 99th percentile, in milliseconds; with
+                    --settings the target of each tier as a line
+  in line           the most requests that were admitted and not yet answered: the figure to choose a
+                    depth by
+  rate and credit   the last rate in force, with a mark where a control changed it, and the least
+                    credit that a request found, of each tier
+  the server        which part of the step it was busy, and how many requests were turned away while
+                    it was idle
 
-and then the targets that were most turned away. --csv writes the same figures as a table.
+and then the targets that were most turned away. They stand as they were sent; where that has escapes,
+what they say stands beside it. A step is the least of 1, 2, 10, 20, 100 milliseconds and so on, up to
+days and more, of which no more than 300 reach over all messages; or what --step says.
+
+--csv writes the same figures as a table, and --targets how often each target was asked for. In tables
+for spreadsheets a text that begins as a formula does (= + - @) has an apostrophe before it.
+
+Times are those from the capture's start; with --capture, which is read up to its first line, they are
+times of day (UTC). --from and --to take 90, 1:30 (as above, from the start or of the day), or
+2026-11-26T09:30:00 with --capture. Messages from --from to before --to are shown.
 
 example:
-  haboob explain --snapshot site.snapshot --capture day.capture --messages day.csv
-  tools/timeline.py --output day.html --csv day.seconds.csv day.csv
+  haboob explain --snapshot site.snapshot --capture day.capture --settings site.toml --messages day.csv
+  tools/timeline.py --capture day.capture --settings site.toml --output day.html --csv day.steps.csv day.csv
 """
 
-TICKS_IN_SECOND = 1_000_000
 UNITS_IN_TOKEN = 10**9
-PERCENTS = (50, 90, 99)
-TIERS = 4
+MOST_STEPS = 300
+MOST_GIVEN_STEPS = 10_000  # where --step is given
 MOST_TARGETS = 20
-STYLES = ("-", "--", ":", "-.")
-MARKERS = ("o", "s", "^", "x")
-FEW_SECONDS = 60  # so few have a mark each
-AXES = (0.08, 0.17, 0.74, 0.72)  # left, bottom, width and height within a picture; the legend stands at the right
-STYLE = """\
-body { font-family: sans-serif; max-width: 60em; margin: auto }
-svg { width: 100%; height: auto }
-table { border-collapse: collapse; display: block; overflow-x: auto; font-size: 85% }
-th { text-align: left; font-weight: normal; border-bottom: 1px solid }
-th, td { padding-right: 0.8em }
-"""
+MOST_KEPT = 200_000  # targets that are counted; those beyond are counted as one
+TARGETS_ROOM = 64_000_000  # characters that these have together
+OTHERS = "(all others)"
+DEFAULT_TARGET = 100_000  # microseconds: policy.target where the settings have none
+LONGEST_SHOWN = 120  # characters of a target
+FIRST_LINE = re.compile(rb"haboob-capture [0-9]+ ([0-9]{1,10})\n")
+ESCAPE = re.compile("%([0-9A-Fa-f]{2})")
+STROKES = ((0, (1, 1)), (0, (5, 1, 1, 1)), (0, (8, 2)), (0, (3, 3)))  # of the targets of up to four tiers
+NAMES = ("offered", "admitted", "rejected", "bypassed")
 
 
-class Second:
-    """What a second has: counts of messages, response times in ticks, and what requests of each tier found."""
+class Step:
+    """What a step has: counts of messages, response times in ticks, and what requests of each tier found."""
 
     def __init__(self):
         self.counts = collections.Counter()
-        self.samples = []
+        self.samples = array.array("q")
+        self.rejected = [0] * TIERS
         self.rates = [None] * TIERS
         self.credits = [None] * TIERS
+        self.rose = [0] * TIERS  # how often a control had raised the rate
+        self.fell = [0] * TIERS
+        self.inside = 0
         self.busy = 0
 
-    def offer(self, row):
-        """Takes a request."""
-        tier, credit = int(row["tier"]), int(row["credit"])
-        self.counts["offered"] += 1
-        self.counts[row["decision"]] += 1
-        self.rates[tier] = int(row["rate"])
-        self.credits[tier] = credit if self.credits[tier] is None else min(credit, self.credits[tier])
-        if row["decision"] == "admitted":
-            self.samples.append(int(row["finish"]) - int(row["tick"]))
-        elif int(row["waited"]) == 0:
-            self.counts["idle"] += 1
+    def join(self, later):
+        """Takes what a later step has."""
+        self.counts += later.counts
+        self.samples += later.samples
+        for tier in range(TIERS):
+            self.rejected[tier] += later.rejected[tier]
+            self.rose[tier] += later.rose[tier]
+            self.fell[tier] += later.fell[tier]
+            self.rates[tier] = self.rates[tier] if later.rates[tier] is None else later.rates[tier]
+            credits = [of.credits[tier] for of in (self, later) if of.credits[tier] is not None]
+            self.credits[tier] = min(credits, default=None)
+        self.inside = max(self.inside, later.inside)
+        self.busy += later.busy
 
 
-def ranked(samples, percent):
-    """The sample at rank ceil(percent * m / 100) of m sorted ones, as in the report; None of none."""
-    return samples[-(-percent * len(samples) // 100) - 1] if samples else None
+class Gathering:
+    """Takes the rows of a table, and keeps what each step and each target has."""
+
+    def __init__(self, window, width):
+        self.window = window  # the first tick, and the one after the last
+        self.steps = steps.Steps(Step, MOST_GIVEN_STEPS if width else MOST_STEPS, width)
+        self.queue = decision_tables.Queue()
+        self.rates = [None] * TIERS  # the last of each tier
+        self.room = TARGETS_ROOM
+        self.targets = collections.defaultdict(lambda: [0] * (2 * TIERS))  # asked, and turned away, of each tier
+
+    def take(self, row):
+        """Takes a row."""
+        if row.decision == "admitted":
+            inside = self.queue.admit(row.tick, row.finish)
+            self.note_service(row.start, row.finish)
+        if not self.window[0] <= row.tick < self.window[1]:
+            self.rates[row.tier] = self.rates[row.tier] if row.rate is None else row.rate
+            return
+        step = self.steps.at(row.tick)
+        if row.decision == "bypassed":
+            step.counts["bypassed"] += 1
+            return
+        self.offer(step, row)
+        if row.decision == "admitted":
+            step.samples.append(row.finish - row.tick)
+            step.inside = max(step.inside, inside)
+
+    def offer(self, step, row):
+        """Takes a request into its step."""
+        tier = row.tier
+        step.counts["offered"] += 1
+        step.counts[row.decision] += 1
+        step.rejected[tier] += row.decision == "rejected"
+        step.counts["idle"] += row.decision == "rejected" and row.waited == 0
+        if self.rates[tier] is not None and row.rate != self.rates[tier]:
+            (step.rose if row.rate > self.rates[tier] else step.fell)[tier] += 1
+        self.rates[tier] = step.rates[tier] = row.rate
+        step.credits[tier] = row.credit if step.credits[tier] is None else min(row.credit, step.credits[tier])
+        counts = self.targets[self.kept(row.target)]
+        counts[tier] += 1
+        counts[TIERS + tier] += row.decision == "rejected"
+
+    def kept(self, target):
+        """The target under which a request is counted: its own, where there is still room for it."""
+        if target in self.targets:
+            return target
+        if len(self.targets) >= MOST_KEPT or len(target) > self.room:
+            return OTHERS
+        self.room -= len(target)
+        return target
+
+    def note_service(self, start, finish):
+        """Adds the time of a service to the steps that it lies in."""
+        start, finish = max(start, self.window[0]), min(finish, self.window[1])
+        if start >= finish:
+            return
+        self.steps.at(start)
+        self.steps.at(finish - 1)  # so that the width of a step doesn't change below
+        while start < finish:
+            until = min(finish, (start // self.steps.width + 1) * self.steps.width)
+            self.steps.at(start).busy += until - start
+            start = until
 
 
-def note_service(seconds, start, finish):
-    """Adds the time of a service to the seconds that it lies in."""
-    while start < finish:
-        second = start // TICKS_IN_SECOND
-        until = min(finish, (second + 1) * TICKS_IN_SECOND)
-        seconds[second].busy += until - start
-        start = until
-
-
-def gather(rows):
-    """The seconds by their numbers, and how often each target was turned away."""
-    seconds, targets = collections.defaultdict(Second), collections.Counter()
-    for row in rows:
-        second = seconds[int(row["tick"]) // TICKS_IN_SECOND]
-        if row["decision"] == "bypassed":
-            second.counts["bypassed"] += 1
-            continue
-        second.offer(row)
-        if row["decision"] == "admitted":
-            note_service(seconds, int(row["start"]), int(row["finish"]))
-        else:
-            targets[row["target"]] += 1
-    for second in seconds.values():
-        second.samples.sort()
-    return seconds, targets
-
-
-def columns_of(seconds):
-    """The figures of each second from the first to the last: names, and a list of values for each."""
-    numbers = range(min(seconds, default=0), max(seconds, default=-1) + 1)
-    all_of = [seconds.get(number) or Second() for number in numbers]
-    columns = {"second": list(numbers)}
-    for name in ("offered", "admitted", "rejected", "bypassed"):
-        columns[name] = [second.counts[name] for second in all_of]
-    columns["rejected_while_idle"] = [second.counts["idle"] for second in all_of]
+def columns_of(gathered):
+    """The figures of each step from the first to the last: names, and a list of values for each."""
+    width = gathered.steps.width
+    all_of = [gathered.steps.get(number) for number in gathered.steps.numbers()]
+    columns = {"second": [number * width / TICKS_IN_SECOND for number in gathered.steps.numbers()]}
+    if width % TICKS_IN_SECOND == 0:
+        columns["second"] = [number * width // TICKS_IN_SECOND for number in gathered.steps.numbers()]
+    for name in NAMES:
+        columns[name] = [step.counts[name] for step in all_of]
+    columns["rejected_while_idle"] = [step.counts["idle"] for step in all_of]
+    samples = [sorted(step.samples) for step in all_of]
     for percent in PERCENTS:
-        columns["p%d" % percent] = [ranked(second.samples, percent) for second in all_of]
-    columns["busy_share"] = [second.busy / TICKS_IN_SECOND for second in all_of]
-    for tier in range(TIERS):
-        if any(second.rates[tier] is not None for second in all_of):
-            columns["rate_%d" % tier] = [second.rates[tier] for second in all_of]
-            columns["least_credit_%d" % tier] = [second.credits[tier] for second in all_of]
+        columns["p%d" % percent] = [decision_tables.ranked(of, percent) for of in samples]
+    columns["busy_share"] = [round(step.busy / width, 9) for step in all_of]
+    columns["most_inside"] = [step.inside for step in all_of]
+    for tier in tiers_of(all_of):
+        columns["rejected_%d" % tier] = [step.rejected[tier] for step in all_of]
+        columns["rate_%d" % tier] = [step.rates[tier] for step in all_of]
+        columns["least_credit_%d" % tier] = [step.credits[tier] for step in all_of]
+        columns["raised_%d" % tier] = [step.rose[tier] for step in all_of]
+        columns["lowered_%d" % tier] = [step.fell[tier] for step in all_of]
     return columns
+
+
+def tiers_of(all_of):
+    """The tiers of which a request was offered."""
+    return [tier for tier in range(TIERS) if any(step.rates[tier] is not None for step in all_of)]
+
+
+def tiers_in(columns):
+    """The same, of columns."""
+    return [tier for tier in range(TIERS) if "rate_%d" % tier in columns]
 
 
 def scaled(values, divisor):
@@ -133,121 +210,252 @@ def scaled(values, divisor):
     return [float("nan") if value is None else value / divisor for value in values]
 
 
-def svg_of(figure, **options):
-    """A figure, which is then closed, as SVG for a page; the same text for the same figure."""
-    text = io.StringIO()
-    figure.savefig(text, format="svg", metadata={"Date": None}, **options)
-    pyplot.close(figure)
-    return text.getvalue()[text.getvalue().index("<svg"):]
+class Pictures:
+    """Draws pictures over the same steps, so that a time stands below itself."""
+
+    def __init__(self, columns, start, width, targets):
+        self.columns = columns
+        self.places = columns["second"]
+        self.start = start  # seconds since 1970; None where it isn't known
+        self.width = width / TICKS_IN_SECOND
+        self.targets = targets  # ticks by tier; none where the settings aren't known
+        self.tiers = tiers_in(columns)
+
+    def picture(self, title, lines, top=None, draw=None, more=0):
+        """A picture of lines over the steps, as HTML. `draw` adds so many more entries of the legend to its axes."""
+        figure, axes = pages.axes_of(len(lines) + more)
+        pages.draw_lines(axes, self.places, lines)
+        values = [value for _, of in lines for value in of if not math.isnan(value)]
+        if draw:
+            draw(axes)
+        axes.set_ylim(0, top or 1.05 * max(values, default=0) or 1)
+        first, last = (min(self.places, default=0), max(self.places, default=0) + self.width)
+        axes.set_xlim(first - 0.02 * (last - first), last)
+        self.set_times(axes, first, last)
+        pages.add_legend(axes, len(lines) + more)
+        return "<h2>%s</h2>\n%s" % (title, pages.svg_of(figure))
+
+    def set_times(self, axes, first, last):
+        """Writes times below the axis, at whole minutes, hours or days where it is long."""
+        begin = self.start or 0
+        between = steps.marks_between(begin + first, begin + last)
+        axes.xaxis.set_major_locator(ticker.FixedLocator([mark - begin for mark in between]))
+        axes.xaxis.set_major_formatter(ticker.FuncFormatter(
+            lambda place, _: steps.time_in_words(begin + place, last - first, self.start is not None)))
+        axes.set_xlabel("time of day (UTC)" if self.start is not None else "time from the capture's start")
+
+    def of_tiers(self, name, divisor=1):
+        """The lines of a column of each tier."""
+        return [("tier %d" % tier, scaled(self.columns["%s_%d" % (name, tier)], divisor)) for tier in self.tiers]
+
+    def aims(self):
+        """The tiers of each target, in milliseconds, as text."""
+        by_time = collections.defaultdict(list)
+        for tier in self.tiers if self.targets else ():
+            by_time[self.targets[tier] / 1000].append(str(tier))
+        return by_time
+
+    def draw_aims(self, axes):
+        """Draws a line at each target."""
+        aims = self.aims()
+        for (time, tiers), stroke in zip(aims.items(), STROKES):
+            label = "target" if len(aims) == 1 else "target of tier " + ", ".join(tiers)
+            axes.axhline(time, color="0.3", linewidth=2, linestyle=stroke, label=label)
+
+    def control_points(self):
+        """The places and rates at which controls raised a rate, and at which they lowered one; no empty kind."""
+        points = {name: [(place, rate / 1000) for tier in self.tiers for place, rate, count in zip(
+            self.places, self.columns["rate_%d" % tier], self.columns["%s_%d" % (name, tier)]) if count]
+            for name in ("raised", "lowered")}
+        return {name: of for name, of in points.items() if of}
+
+    def draw_controls(self, axes):
+        """Draws a mark where controls changed a rate."""
+        for name, points in self.control_points().items():
+            axes.plot(*zip(*points), "^" if name == "raised" else "v", color="black", markersize=6, clip_on=False,
+                      linestyle="none", label="%s by a control" % name)
+
+    def all(self):
+        """The pictures, from the top."""
+        columns = self.columns
+        unit = "in %s" % steps.width_in_words(round(self.width * TICKS_IN_SECOND))
+        yield self.picture("Requests, " + unit, [(name, columns[name]) for name in NAMES])
+        if len(self.tiers) > 1:
+            yield self.picture("Turned away by tier, " + unit, self.of_tiers("rejected"))
+        titles = ("median", "90th percentile", "99th percentile")
+        times = [(title, scaled(columns["p%d" % percent], 1000)) for title, percent in zip(titles, PERCENTS)]
+        slowest = max((value for _, of in times for value in of if not math.isnan(value)), default=0)
+        top = 1.1 * max([slowest] + [aim for aim in self.aims() if aim <= 4 * slowest])
+        yield self.picture("Response times of admitted requests, milliseconds", times, top, self.draw_aims,
+                           len(self.aims()))
+        yield self.picture("In line: most requests that were admitted and not yet answered", [
+            ("in line", columns["most_inside"])])
+        yield self.picture("Rate in force, tokens a second", self.of_tiers("rate", 1000), None, self.draw_controls,
+                           len(self.control_points()))
+        yield self.picture("Least credit found, tokens", self.of_tiers("least_credit", UNITS_IN_TOKEN))
+        yield self.picture("How busy the server was, percent of the time", [
+            ("busy", scaled(columns["busy_share"], 0.01))])
+        yield self.picture("Turned away while the server was idle, " + unit,
+                           [("rejected while idle", columns["rejected_while_idle"])])
 
 
-def html_page(title, body):
-    """A page with a title, which isn't escaped yet, and a body of HTML."""
-    return (
-        "<!DOCTYPE html>\n<html lang=\"en\">\n<head><meta charset=\"utf-8\"><title>%s</title>\n"
-        "<style>\n%s</style>\n</head>\n<body>\n<h1>%s</h1>\n%s\n</body>\n</html>\n"
-    ) % (html.escape(title), STYLE, html.escape(title), body)
+def sent(target):
+    """A target as it was sent: in the table bytes outside visible ASCII, quotes, commas and percent signs are escapes.
 
-
-def greatest(lines):
-    """The greatest value of lines; 0 of none."""
-    return max((value for _, values in lines for value in values if not math.isnan(value)), default=0)
-
-
-def marked(values):
-    """The places that have a mark: all of few, of many those that no line shows since there is nothing beside them."""
-    if len(values) <= FEW_SECONDS:
-        return list(range(len(values)))
-    absent = [True, *map(math.isnan, values), True]
-    return [place for place in range(len(values)) if absent[place:place + 3] == [True, False, True]]
-
-
-def picture(seconds, title, unit, lines):
-    """A picture of lines over the seconds, as SVG. Lines differ by their strokes, not by colour alone.
-
-    All pictures have the same place for their axes, so that a second stands below itself.
+    What it can't show stays an escape.
     """
-    figure = pyplot.figure(figsize=(10, 3))
-    axes = figure.add_axes(AXES)
-    size, width = (6, 1.5) if len(seconds) <= FEW_SECONDS else (3, 0.8)
-    for (label, values), style, marker in zip(lines, STYLES, MARKERS):
-        axes.plot(seconds, values, style, label=label, marker=marker, markevery=marked(values), markersize=size,
-                  linewidth=width, clip_on=False)
-    axes.set_title(title)
-    axes.set_xlabel("second of the capture")
-    axes.set_ylabel(unit)
-    axes.set_ylim(0, 1.05 * greatest(lines) or 1)
-    axes.set_xlim(min(seconds, default=0) - 0.5, max(seconds, default=0) + 0.5)
-    axes.xaxis.set_major_locator(ticker.MaxNLocator(integer=True, min_n_ticks=1))
-    if len(lines) > 1:
-        axes.legend(loc="upper left", bbox_to_anchor=(1, 1))
-    return svg_of(figure)
+    data = urllib.parse.unquote_to_bytes(target)
+    text = data.decode("utf-8", errors="surrogateescape")
+    return "".join(letter if letter.isprintable() else "".join(
+        "%%%02X" % byte for byte in letter.encode("utf-8", errors="surrogateescape")) for letter in text)
 
 
-def pictures_of(columns):
-    """The pictures, from the top."""
-    seconds = columns["second"]
-    names = ("offered", "admitted", "rejected", "bypassed")
-    yield picture(seconds, "Requests", "requests a second", [(name, columns[name]) for name in names])
-    titles = ("median", "90th percentile", "99th percentile")
-    times = [(title, scaled(columns["p%d" % percent], 1000)) for title, percent in zip(titles, PERCENTS)]
-    yield picture(seconds, "Response times of admitted requests", "milliseconds", times)
-    tiers = [tier for tier in range(TIERS) if "rate_%d" % tier in columns]
-    rates = [("tier %d" % tier, scaled(columns["rate_%d" % tier], 1000)) for tier in tiers]
-    yield picture(seconds, "Rate in force", "tokens a second", rates)
-    credits = [("tier %d" % tier, scaled(columns["least_credit_%d" % tier], UNITS_IN_TOKEN)) for tier in tiers]
-    yield picture(seconds, "Least credit found", "tokens", credits)
-    yield picture(seconds, "How busy the server was", "part of the second", [("busy", columns["busy_share"])])
-    idle = ("rejected while idle", columns["rejected_while_idle"])
-    yield picture(seconds, "Turned away while the server was idle", "requests a second", [idle])
+def read_out(target):
+    """What a target says where its escapes are read, too; None where that is the same or can't be shown."""
+    text = urllib.parse.unquote(target, errors="surrogateescape")
+    return text if text != target and text.isprintable() else None
 
 
-def page_of(name, columns, targets):
+def shortened(text):
+    """A text for the page, cut where it is long, as HTML."""
+    return html.escape(text if len(text) <= LONGEST_SHOWN else text[:LONGEST_SHOWN] + "..")
+
+
+def rows_of_targets(targets):
+    """The targets most turned away first: the target, how often it was turned away and asked for, and by tier."""
+    rows = [(sent(target) if target != OTHERS else target, sum(counts[TIERS:]), sum(counts[:TIERS]), counts)
+            for target, counts in targets.items()]
+    return sorted(rows, key=lambda row: (-row[1], -row[2], row[0]))
+
+
+def table_of_targets(targets, tiers):
+    """The targets most turned away, as HTML."""
+    cells = []
+    for target, away, asked, counts in rows_of_targets(targets)[:MOST_TARGETS]:
+        if not away:
+            break
+        meant = read_out(target)
+        shown = shortened(target) + (" <small>(%s)</small>" % shortened(meant) if meant else "")
+        by_tier = [counts[TIERS + tier] for tier in tiers] if len(tiers) > 1 else []
+        cells.append([away, asked, "%.1f" % (100 * away / asked), *by_tier, shown])
+    of_tiers = ["of tier %d" % tier for tier in tiers] if len(tiers) > 1 else []
+    heading = ["turned away", "asked", "%", *of_tiers, "target"]
+    return "<h2>Targets most turned away</h2>\n" + pages.table(heading, cells)
+
+
+def write_targets(file, targets):
+    """Writes how often each target was asked for and turned away, of all tiers and of each, as CSV."""
+    heading = ["target", "turned_away", "asked", "turned_away_percent",
+               *("turned_away_%d" % tier for tier in range(TIERS)), *("asked_%d" % tier for tier in range(TIERS))]
+    spreadsheets.write(file, heading, (
+        [target, away, asked, "%.4f" % (100 * away / asked), *counts[TIERS:], *counts[:TIERS]]
+        for target, away, asked, counts in rows_of_targets(targets)))
+
+
+def page_of(options, gathered, columns, start, aims):
     """The page."""
-    names = ("offered", "admitted", "rejected", "rejected_while_idle", "bypassed")
-    counts = ", ".join("%d %s" % (sum(columns[name]), name.replace("_", " ")) for name in names)
-    rows = "".join("<tr><td>%d</td><td>%s</td></tr>\n" % (count, html.escape(target))
-                   for target, count in targets.most_common(MOST_TARGETS))
-    return html_page(name, "<p>%s.</p>\n%s\n<h2>Targets most turned away</h2>\n<table>\n"
-                     "<tr><th>times</th><th>target</th></tr>\n%s</table>" % (
-                         counts, "\n".join(pictures_of(columns)), rows))
+    names = (*NAMES, "rejected_while_idle")
+    counts = ", ".join("%d %s" % (sum(columns[name]), name.replace("rejected", "turned away").replace("_", " "))
+                       for name in names)
+    tiers = tiers_in(columns)
+    of_tiers = "; turned away of " + ", ".join(
+        "tier %d %d" % (tier, sum(columns["rejected_%d" % tier])) for tier in tiers) if len(tiers) > 1 else ""
+    width = gathered.steps.width
+    inputs = "Table %s; %s; %s" % (
+        options.table, "capture %s" % options.capture if options.capture else "times are from the capture's start",
+        "settings %s" % options.settings if options.settings else "settings unknown (--settings)")
+    body = "<p>%s. A step is %s.</p>\n<p>%s%s.</p>\n" % (
+        html.escape(inputs), steps.width_in_words(width), counts, of_tiers)
+    pictures = Pictures(columns, start, width, aims)
+    return pages.html_page(title_of(options), body + "\n".join(pictures.all()) + "\n" + table_of_targets(
+        gathered.targets, tiers))
 
 
-def write_seconds(file, columns):
-    """Writes the figures of each second as CSV; a figure that there isn't is an empty field."""
-    writer = csv.writer(file, lineterminator="\n")
-    writer.writerow(columns)
-    writer.writerows(zip(*columns.values()))
+def title_of(options):
+    """The page's title: what was replayed, with which settings."""
+    name = os.path.basename(options.capture or options.table)
+    return name + (" with " + os.path.basename(options.settings) if options.settings else "")
 
 
-def opened(name, mode):
-    """A file, or the fault that it can't be opened."""
-    try:
-        return open(name, mode, newline="")
-    except OSError as error:
-        raise Fault("%s: %s" % (name, error.strerror)) from error
+def start_of(path):
+    """The start of a capture in seconds since 1970."""
+    with open(path, "rb") as file:
+        first = file.read(input_files.FIRST_BYTES)
+    found = FIRST_LINE.match(first)
+    if not found:
+        kind = None if first.startswith(input_files.CAPTURE) else input_files.kind_of(first)
+        raise Fault("%s: this is no capture%s" % (path, ", but %s" % kind if kind else ""))
+    return int(found[1])
+
+
+def aims_of(path):
+    """The targets of the four tiers by a document of settings, in ticks."""
+    tables = settings_documents.read(path)
+    of_all = tables.get("policy", {}).get("target", DEFAULT_TARGET)
+    aims = [of_all, *(tables.get(name, {}).get("target", of_all) for name in settings_documents.TIERS[1:])]
+    if any(type(aim) is not int or not 0 < aim <= 10**12 for aim in aims):
+        raise Fault("%s: target: not from 1 to 1000000000000 microseconds" % path)
+    return aims
+
+
+def arguments(words):
+    """The words of the command line."""
+    parser = command_line.Parser(prog="tools/timeline.py", description=__doc__, epilog=EXPLANATION)
+    parser.add_argument("table", help="the table of decisions")
+    parser.add_argument("--output", required=True, metavar="PAGE", help="where the page goes")
+    parser.add_argument("--csv", metavar="FILE", help="where the figures of each step go")
+    parser.add_argument("--targets", metavar="FILE", help="where the counts of each target go")
+    parser.add_argument("--capture", metavar="FILE", help="the capture, for its name and times of day")
+    parser.add_argument("--settings", metavar="FILE", help="the settings, for their name and targets")
+    parser.add_argument("--step", type=steps.width, metavar="TIME", help="how long a step is: 10, 0.5, 250ms, 5m, 1h")
+    parser.add_argument("--from", dest="begin", type=steps.moment, metavar="TIME", help="leave out what is before")
+    parser.add_argument("--to", dest="end", type=steps.moment, metavar="TIME",
+                        help="leave out what is at this time or after it")
+    return parser.parse_args(words)
+
+
+def window_of(options, start):
+    """The first tick that is shown, and the one after the last."""
+    begin = 0 if options.begin is None else steps.tick_of(options.begin, start)
+    end = math.inf if options.end is None else steps.tick_of(options.end, start)
+    if begin >= end:
+        raise Fault("--to isn't after --from")
+    return begin, end
+
+
+def gather(options, window):
+    """What the rows of the table hold; its faults have the file's name."""
+    gathered = Gathering(window, options.step)
+    with open(options.table, "rb") as table:
+        size = os.fstat(table.fileno()).st_size or None
+        with tool_run.progress(TOOL, size, "B") as bar:
+            try:
+                for row in decision_tables.rows_of(counting.Counting(table, bar)):
+                    gathered.take(row)
+            except (decision_tables.Fault, steps.TooMany) as fault:
+                raise Fault("%s: %s" % (options.table, fault)) from None
+    return gathered
+
+
+def work(options):
+    """Does what the command line says."""
+    outputs = [path for path in (options.output, options.csv, options.targets) if path]
+    inputs = [path for path in (options.table, options.capture, options.settings) if path]
+    output_file.refuse_same(outputs, inputs)
+    start = start_of(options.capture) if options.capture else None
+    aims = aims_of(options.settings) if options.settings else None
+    gathered = gather(options, window_of(options, start))
+    columns = columns_of(gathered)
+    page = page_of(options, gathered, columns, start, aims)
+    written = [(options.output, lambda file: file.write(page)),
+               (options.csv, lambda file: spreadsheets.write(file, columns, zip(*columns.values()))),
+               (options.targets, lambda file: write_targets(file, gathered.targets))]
+    output_file.replace_all([(path, write) for path, write in written if path])
 
 
 def main(words=None):
-    parser = argparse.ArgumentParser(prog="tools/timeline.py", description=__doc__, epilog=EXPLANATION,
-                                     formatter_class=argparse.RawDescriptionHelpFormatter)
-    parser.add_argument("table", help="the table of decisions")
-    parser.add_argument("--output", required=True, metavar="PAGE", help="where the page goes")
-    parser.add_argument("--csv", metavar="FILE", help="where the figures of each second go")
-    options = parser.parse_args(words)
-    try:
-        with opened(options.table, "r") as table:
-            seconds, targets = gather(rows_of(table))
-        columns = columns_of(seconds)
-        with opened(options.output, "w") as page:
-            page.write(page_of(options.table, columns, targets))
-        if options.csv:
-            with opened(options.csv, "w") as file:
-                write_seconds(file, columns)
-    except (Fault, ValueError, UnicodeDecodeError) as fault:
-        print("%s: %s" % (TOOL, fault), file=sys.stderr)
-        return 1
-    return 0
+    """Does what the words of the command line say, or those of the process; returns the status."""
+    return tool_run.run(TOOL, lambda: work(arguments(words)))
 
 
 if __name__ == "__main__":

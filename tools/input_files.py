@@ -1,0 +1,121 @@
+"""Opens the inputs of the capture tools: plain or compressed files, and standard input as `-`."""
+import bz2
+import contextlib
+import gzip
+import lzma
+import os
+import stat
+import sys
+import zlib
+
+from tool_run import Fault
+
+try:
+    from compression import zstd  # in Python's own library from 3.14 on
+except ImportError:
+    zstd = None
+
+FIRST_BYTES = 65_536  # bytes that are looked at before a file is read
+STANDARD_INPUT = "-"
+ZSTANDARD = b"\x28\xb5\x2f\xfd"
+OPENERS = {b"\x1f\x8b": gzip.open, b"BZh": bz2.open, b"\xfd7zXZ\x00": lzma.open}
+DAMAGES = (EOFError, zlib.error, lzma.LZMAError, gzip.BadGzipFile)
+if zstd:
+    OPENERS[ZSTANDARD] = zstd.open
+    DAMAGES += (zstd.ZstdError,)
+PACKETS = (b"\xd4\xc3\xb2\xa1", b"\xa1\xb2\xc3\xd4", b"\x4d\x3c\xb2\xa1", b"\xa1\xb2\x3c\x4d", b"\x0a\x0d\x0d\x0a")
+CAPTURE = b"haboob-capture "
+
+
+class Input:
+    """A file that is read from its begin, with its name for faults."""
+
+    def __init__(self, name, raw, count_on):
+        """Looks at the first bytes of an open file; `count_on` is told how many of its bytes were read each time."""
+        self.name, self.raw, self.count_on = name, raw, count_on
+        self.counted = 0
+        self.file = _uncompressed(name, raw)
+        self.ahead = b""  # what was looked at, and is still to be read
+        self.first = self.read(FIRST_BYTES)
+        self.ahead = self.first
+
+    def read(self, count):
+        """The next bytes: so many, or fewer where the file ends; raises Fault where it is damaged."""
+        taken, self.ahead = self.ahead[:count], self.ahead[count:]
+        return taken if len(taken) == count else taken + self._read(count - len(taken))
+
+    def _read(self, count):
+        """Bytes after those that were looked at, by many short reads: between two of them Ctrl-C is seen."""
+        parts, missing = [], count
+        while missing:
+            parts.append(self._read_once(missing))
+            missing = missing - len(parts[-1]) if parts[-1] else 0
+        return b"".join(parts)
+
+    def _read_once(self, count):
+        """Some of the next bytes; none at the end."""
+        try:
+            data = self.file.read1(count)
+        except DAMAGES as error:
+            raise Fault("%s: the compressed file is cut or damaged: %s" % (self.name, error)) from None
+        except OSError as error:
+            raise Fault("%s: %s" % (self.name, error.strerror or error)) from None
+        place = self.raw.tell() if self.raw.seekable() else self.counted + len(data)
+        self.count_on(place - self.counted)
+        self.counted = place
+        return data
+
+
+def _uncompressed(name, raw):
+    """What the bytes of an open file stand for."""
+    begin = raw.peek(6)
+    if begin.startswith(ZSTANDARD) and not zstd:
+        raise Fault("%s: this Python reads no Zstandard; give `-` as the input, and pipe from zstd -dc" % name)
+    return next((opener(raw) for magic, opener in OPENERS.items() if begin.startswith(magic)), raw)
+
+
+def kind_of(first):
+    """What the first bytes of a file are, and which tool reads it, where that can be told; else None."""
+    if first.startswith(PACKETS):
+        return "recorded packets, which tools/capture_from_pcap.py reads"
+    if first.startswith(CAPTURE):
+        return "a capture already"
+    if first and b"\0" not in first and b"\n" in first:
+        return "text; if it is an access log, tools/capture_from_log.py reads it"
+    return None
+
+
+def size_of(paths):
+    """The bytes of all inputs together, as they lie on the disk; None where one has no size, as a pipe."""
+    total = 0
+    for path in paths:
+        status = os.fstat(0) if path == STANDARD_INPUT else os.stat(path)
+        if not stat.S_ISREG(status.st_mode):
+            return None
+        total += status.st_size
+    return total
+
+
+def descriptors(paths):
+    """The inputs as output_file.refuse_same takes them."""
+    return [0 if path == STANDARD_INPUT else path for path in paths]
+
+
+def _opened(path):
+    """A file of bytes, in a `with`; standard input stays open."""
+    if path != STANDARD_INPUT:
+        return open(path, "rb")
+    if sys.stdin is None:
+        raise Fault("standard input is closed")
+    return contextlib.nullcontext(sys.stdin.buffer)
+
+
+@contextlib.contextmanager
+def opened(paths, count_on):
+    """The inputs of some paths, none of them empty, each with its first bytes."""
+    with contextlib.ExitStack() as files:
+        inputs = [Input(path, files.enter_context(_opened(path)), count_on) for path in paths]
+        for one in inputs:
+            if not one.first:
+                raise Fault("%s: empty" % one.name)
+        yield inputs

@@ -1,0 +1,330 @@
+"""Reads how long a server took for each request: from recorded packets of both directions, or from an access log."""
+import collections
+import re
+
+import capture_from_pcap
+import input_files
+import log_formats
+import packet_files
+import tool_run
+from tool_run import Fault
+
+dpkt = packet_files.dpkt
+
+TOOL = "calibrate"
+NEEDED = ("status", "body_bytes_sent")
+PIECE = 1_048_576  # bytes of a log that are read at a time
+LINE_ROOM = 65_536  # bytes; a longer line doesn't fit
+SECOND = 1_000_000  # microseconds
+DIGITS = 15  # of a number of bytes
+SEQUENCES = 2**32
+HEAD_LIMIT = 65_536  # bytes of a head that are waited for
+HEAD_END = re.compile(rb"\r?\n\r?\n")
+LENGTH = re.compile(rb"^content-length:[ \t]*([0-9]{1,15})[ \t]*\r?$", re.IGNORECASE | re.MULTILINE)
+CHUNKED = re.compile(rb"^transfer-encoding:.*chunked", re.IGNORECASE | re.MULTILINE)
+CHUNK = re.compile(rb"([0-9A-Fa-f]{1,8})[^\n]*\n")
+STATUS = re.compile(rb"HTTP/1\.[01] ([0-9]{3})")
+LOST = "connections from a lost, cut or odd piece on"
+MIDDLE = "connections whose begin isn't there"
+UNANSWERED = "requests without a whole answer"
+UNFIT = "lines of another format"
+
+# When a request's last byte came and its answer's last byte went, in microseconds since 1970; and the answer.
+Measured = collections.namedtuple("Measured", "arrival answer method status size")
+
+
+class Side:
+    """What one side of a connection sends, in order."""
+
+    def __init__(self, sequence):
+        self.next = sequence % SEQUENCES
+        self.text = b""
+
+    def take(self, sequence, data):
+        """Takes a segment's bytes; tells whether there is no hole before them."""
+        if not data:
+            return True
+        known = (self.next - sequence) % SEQUENCES
+        if known >= SEQUENCES // 2:
+            return False
+        fresh = data[known:]
+        self.text += fresh
+        self.next = (self.next + len(fresh)) % SEQUENCES
+        return True
+
+    def head(self):
+        """The next head, taken away; None where it isn't whole."""
+        found = HEAD_END.search(self.text)
+        if not found:
+            return None
+        head, self.text = self.text[:found.end()], self.text[found.end():]
+        return head
+
+
+class Body:
+    """What is still to come of a body."""
+
+    def __init__(self, length, is_chunked=False):
+        self.left = length  # bytes; None: up to the connection's end
+        self.is_chunked = is_chunked
+        self.size = 0  # bytes that came
+
+    def take(self, side):
+        """Takes away what has come; tells whether that was all."""
+        while True:
+            count = len(side.text) if self.left is None else min(self.left, len(side.text))
+            side.text, self.size = side.text[count:], self.size + count
+            self.left = None if self.left is None else self.left - count
+            if self.left or self.left is None:
+                return False
+            if not self.is_chunked:
+                return True
+            if not self.next_chunk(side):
+                return False
+
+    def next_chunk(self, side):
+        """Reads the line of the next chunk; tells whether there is something to go on with."""
+        begin = side.text.lstrip(b"\r\n")
+        found = CHUNK.match(begin)
+        if not found:
+            return False
+        size = int(found[1], 16)
+        if size == 0:
+            end = HEAD_END.search(begin, found.end() - 2)
+            if not end:
+                return False
+            side.text, self.is_chunked = begin[end.end():], False
+            return True
+        side.text, self.left = begin[found.end():], size
+        return True
+
+
+class Exchange:
+    """The requests of one connection and their answers."""
+
+    def __init__(self, first):
+        self.client, self.server = Side(first), None
+        self.request_body = self.answer_body = None
+        self.waiting = collections.deque()  # arrival and method of requests without an answer
+        self.status = None
+
+    def from_client(self, time):
+        """Reads the requests that are whole."""
+        while True:
+            if self.request_body and not self.end_request(time):
+                return
+            self.client.text = self.client.text.lstrip(b"\r\n")
+            head = self.client.head()
+            if head is None:
+                return
+            length = LENGTH.search(head)
+            self.waiting.append([time, head.split(b" ", 1)[0].decode("latin-1")])
+            self.request_body = Body(int(length[1])) if length else None
+
+    def end_request(self, time):
+        """Takes what has come of a request's body; tells whether it is whole, and then the request came now."""
+        if not self.request_body.take(self.client):
+            return False
+        self.request_body = None
+        if self.waiting:  # else it was answered before
+            self.waiting[-1][0] = time
+        return True
+
+    def from_server(self, time, is_end=False):
+        """Reads the answers that are whole, each with its request."""
+        while self.server is not None:
+            if self.answer_body is None and not self.begin_answer():
+                return
+            ended = self.answer_body.take(self.server) or (is_end and self.answer_body.left is None)
+            if not ended:
+                return
+            arrival, method = self.waiting.popleft()
+            yield Measured(arrival, time, method, self.status, self.answer_body.size)
+            self.answer_body = None
+
+    def begin_answer(self):
+        """Reads the next answer's head; tells whether it is there. Interim answers are read over."""
+        while True:
+            head = self.server.head()
+            if head is None:
+                return False
+            found = STATUS.match(head)
+            if not found or not self.waiting:
+                raise ValueError
+            self.status = int(found[1])
+            if self.status >= 200:
+                break
+        length = LENGTH.search(head)
+        if self.waiting[0][1] == "HEAD" or self.status in (204, 304):
+            self.answer_body = Body(0)
+        elif CHUNKED.search(head):
+            self.answer_body = Body(0, True)
+        else:
+            self.answer_body = Body(int(length[1]) if length else None)
+        return True
+
+
+class Connections:
+    """The connections to given ports."""
+
+    def __init__(self, ports):
+        self.ports = ports
+        self.open = {}
+        self.left_out = collections.Counter()
+
+    def take(self, time, segment):
+        """Takes a segment at a time; gives what was measured by it."""
+        if segment.destination[1] in self.ports:
+            self.take_request(time, (segment.source, segment.destination), segment)
+        elif segment.source[1] in self.ports:
+            yield from self.take_answer(time, (segment.destination, segment.source), segment)
+
+    def take_request(self, time, key, segment):
+        """Takes a client's segment."""
+        if segment.flags & dpkt.tcp.TH_SYN:
+            self.open[key] = Exchange(segment.sequence + 1)
+            return
+        exchange = self.open.get(key)
+        self.left_out[MIDDLE] += key not in self.open and bool(segment.data)
+        if exchange is None:
+            self.open.setdefault(key, None)
+        elif not self.is_whole(exchange.client, segment) or len(exchange.client.text) > 2 * HEAD_LIMIT:
+            self.lose(key)
+        else:
+            exchange.from_client(time)
+
+    def take_answer(self, time, key, segment):
+        """Takes a server's segment."""
+        exchange = self.open.get(key)
+        if exchange is None:
+            return
+        if segment.flags & dpkt.tcp.TH_SYN:
+            exchange.server = Side(segment.sequence + 1)
+            return
+        if exchange.server is None or not self.is_whole(exchange.server, segment):
+            self.lose(key)
+            return
+        try:
+            yield from exchange.from_server(time, bool(segment.flags & (dpkt.tcp.TH_FIN | dpkt.tcp.TH_RST)))
+        except ValueError:
+            self.lose(key)
+
+    def is_whole(self, side, segment):
+        """Takes a segment's bytes; tells whether none are missing before or in it."""
+        return not segment.cut and side.take(segment.sequence, segment.data)
+
+    def lose(self, key):
+        """Gives a connection up."""
+        self.left_out[LOST] += 1
+        self.open[key] = None
+
+    def count_unanswered(self):
+        """Counts the requests that had no answer."""
+        self.left_out[UNANSWERED] += sum(len(exchange.waiting) for exchange in self.open.values() if exchange)
+
+
+def of_packets(one, ports):
+    """What was measured in an input of packets, and counts of what was left out."""
+    connections, measured = Connections(ports), []
+    for packet in packet_files.packets(one, capture_from_pcap.check_link):
+        segment = capture_from_pcap.segment_of(packet, connections.left_out)
+        if segment is not None:
+            measured += connections.take(packet.time, segment)
+    connections.count_unanswered()
+    return measured, connections.left_out
+
+
+def lines_of(one):
+    """The lines of an input, without their ends; one that is too long is empty."""
+    rest = b""
+    while piece := one.read(PIECE):
+        *lines, rest = (rest + piece).split(b"\n")
+        yield from lines
+        rest = rest if len(rest) <= LINE_ROOM else b""
+    if rest:
+        yield rest
+
+
+def first_of(names, known):
+    """The first of known names that is among those of a format; None where none is."""
+    return next((name for name in known if name in names), None)
+
+
+def reader_of(log_format, first):
+    """The format of a log that is named or written out; raises Fault where it tells no exact time, duration, status or
+    number of bytes."""
+    if log_format == log_formats.JSON:
+        found = log_formats.JsonFormat(first.split(b"\n", 1)[0])
+    else:
+        found = log_formats.given_format(log_format)
+    exact = [name for name, time in log_formats.TIMES.items() if time.exact]
+    missing = [wanted for wanted, known in (
+        ("$msec (Apache: %{end:usec}t)", exact), ("$request_time (Apache: %D)", log_formats.DURATIONS),
+        *(("$" + name, [name]) for name in NEEDED)) if not first_of(found.names, known)]
+    if missing:
+        raise Fault("--log-format: needs %s" % ", ".join(missing), 2)
+    return found
+
+
+class LogReader:
+    """Reads what was measured out of a log's lines."""
+
+    def __init__(self, log_format, first):
+        self.format = reader_of(log_format, first)
+        names = self.format.names
+        self.time = first_of(names, log_formats.TIMES)
+        self.duration = first_of(names, log_formats.DURATIONS)
+        self.is_answer = log_formats.TIMES[self.time].answered
+
+    def measured(self, line):
+        """What a line tells; None where it doesn't fit."""
+        values = self.format.values(line.rstrip(b"\r")) or {}
+        if not all(values.get(name) for name in (self.time, self.duration, "status")):
+            return None
+        time = log_formats.TIMES[self.time].read(values[self.time])
+        duration = log_formats.DURATIONS[self.duration](values[self.duration])
+        if time is None or duration is None or not re.fullmatch(rb"[0-9]{3}", values["status"]):
+            return None
+        arrival = time - duration if self.is_answer else time
+        sent = values.get("body_bytes_sent", b"")
+        size = int(sent) if sent.isdigit() and len(sent) <= DIGITS else 0
+        method = values.get("request_method") or values.get("request", b"").split(b" ", 1)[0]
+        return Measured(arrival, arrival + duration, method.decode("latin-1"), int(values["status"]), size)
+
+
+def nothing_fits(one, form):
+    """What is said where no line of an input fits the format of a log."""
+    if one.first.startswith(input_files.CAPTURE):
+        return "this is a capture, which tells no answers; give the packets or the log that it was made of"
+    line = one.first.split(b"\n", 1)[0].rstrip(b"\r")
+    return "no line fits the format %s (line 1 does in its first %d bytes); --log-format takes another" % (
+        form.name, form.fits_to(line))
+
+
+def of_log(one, log_format):
+    """What was measured in a log, and counts of what was left out."""
+    reader, measured, left_out = LogReader(log_format, one.first), [], collections.Counter()
+    for line in lines_of(one):
+        found = reader.measured(line)
+        left_out[UNFIT] += found is None
+        measured += [found] if found else []
+    if not measured:
+        raise Fault(nothing_fits(one, reader.format))
+    durations = [found.answer - found.arrival for found in measured]
+    if all(duration % SECOND == 0 for duration in durations):
+        raise Fault("the durations are whole seconds; they have to be milliseconds or better")
+    return measured, left_out
+
+
+def of_file(path, ports, log_format):
+    """What was measured in a file, which is told by its first bytes: packets or a log."""
+    size = input_files.size_of([path])
+    with tool_run.progress(TOOL, size, "B") as bar, input_files.opened([path], bar.update) as (one,):
+        try:
+            if one.first.startswith(input_files.PACKETS):
+                if not ports:
+                    raise Fault("these are packets: --port says which is the server's", 2)
+                return of_packets(one, frozenset(ports))
+            return of_log(one, log_format)
+        except Fault as fault:
+            raise Fault("%s: %s" % (path, fault), fault.status) from None

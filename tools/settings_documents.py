@@ -1,0 +1,99 @@
+"""Documents of settings (docs/FORMATS.md, Settings): reads them, writes them, and names what is wrong in words."""
+import collections
+import difflib
+import re
+import tomllib
+
+from tool_run import Fault
+
+SIZE_LIMIT = 65_536  # bytes
+TIERS = ("policy", "tier1", "tier2", "tier3")  # the tables of the tiers 0 to 3
+RATES = ("rate", "rate_min", "rate_max", "up")  # in thousandths a second
+FIXED_RATE = "fixed_rate"  # this project's tools' own word: rate, rate_min and rate_max alike
+RATES_OF_FIXED = ("rate_min", "rate", "rate_max")
+NAME = re.compile(r"[A-Za-z0-9_-]+")
+
+Policy = collections.namedtuple("Policy", "rate rate_min rate_max depth")
+
+
+def checked(path, name, table):
+    """A table of settings, where it holds nothing but integers and lists of integers."""
+    if not NAME.fullmatch(name) or type(table) is not dict:
+        raise Fault("%s: %s: no table of settings" % (path, name))
+    for key, value in table.items():
+        values = value if type(value) is list else [value]
+        if not NAME.fullmatch(key) or any(type(value) is not int for value in values):
+            raise Fault("%s: %s.%s: neither an integer nor a list of integers" % (path, name, key))
+    return table
+
+
+def parsed(text, path):
+    """The tables of a document of settings in a text of bytes, which came from this path."""
+    if len(text) > SIZE_LIMIT:
+        raise Fault("%s: more than %d bytes: no settings" % (path, SIZE_LIMIT))
+    try:
+        tables = tomllib.loads(text.decode())
+    except (ValueError, RecursionError) as error:  # also of bytes that are no UTF-8
+        raise Fault("%s: no TOML document: %s" % (path, error)) from None
+    return {name: checked(path, name, table) for name, table in tables.items()}
+
+
+def read(path):
+    """The tables of a document of settings; none without one."""
+    if path is None:
+        return {}
+    with open(path, "rb") as file:
+        return parsed(file.read(SIZE_LIMIT + 1), path)
+
+
+def text_of(base, keys=(), values=()):
+    """The settings of a base with values in the place of its own, as TOML: tables and keys by rising names."""
+    tables = collections.defaultdict(dict, {name: dict(table) for name, table in base.items()})
+    for key, value in zip(keys, values):
+        table, _, name = key.partition(".")
+        names = RATES_OF_FIXED if name == FIXED_RATE else (name,)
+        tables[table].update(dict.fromkeys(names, value))
+    return "\n".join("[%s]\n" % table + "".join("%s = %s\n" % entry for entry in sorted(entries.items()))
+                     for table, entries in sorted(tables.items()))
+
+
+def keys_of(tables):
+    """The keys, as policy.rate, of a document that has all, and those by which a tool sets the rates alike."""
+    keys = ["%s.%s" % (table, key) for table, entries in tables.items() for key in entries]
+    return keys + ["%s.%s" % (table, FIXED_RATE) for table in TIERS]
+
+
+def refuse_unknown(key, known, where=""):
+    """Refuses a key that isn't known, and names the nearest that is."""
+    if key not in known:
+        near = difflib.get_close_matches(key, known, 1, 0)
+        raise Fault("%s%s: no such key%s" % (where, key, "; the nearest is %s" % near[0] if near else ""))
+
+
+def is_rate(key):
+    """Whether a key's values are thousandths a second."""
+    return key.partition(".")[2] in (*RATES, FIXED_RATE)
+
+
+def shown(key, value):
+    """A value as people read it: a rate in requests a second."""
+    return "%g" % (value / 1000) if is_rate(key) and isinstance(value, int) else str(value)
+
+
+def titled(key):
+    """A key with the unit in which `shown` shows its values."""
+    return key + ", requests a second" if is_rate(key) else key
+
+
+def policy_of(tier, tables, defaults):
+    """What of a tier's policy is in force: of a document's tables, and the defaults' for what they leave out.
+
+    A key that a tier's table leaves out has the value of `policy`.
+    """
+    def value(key):
+        for table in (tables.get(TIERS[tier], {}), tables.get("policy", {})):
+            if key in table:
+                return table[key]
+        return defaults["policy"][key]
+
+    return Policy(*map(value, Policy._fields))

@@ -1,0 +1,204 @@
+"""The figures of a sweep's combinations: the worst over captures, which are equal, unbeaten, or within limits."""
+import collections
+import functools
+import math
+
+ANY = "any"  # in the place of a key's value where all its values give the same figures
+COUNTED = ("admitted", "rejected", "rejected_while_idle", "p50", "p90", "p99", "greatest")
+OF_TIER = ("turned_away", "rejected", "rejected_while_idle", "p50", "p90", "p99", "greatest")
+LIMITED = (*OF_TIER, "most_inside", "busy_share")
+COLUMNS_OF_TIER = ("admitted", *OF_TIER)
+IN_RESULT = (*COUNTED, "most_inside", "busy", "span")
+TICKS_IN_MILLISECOND = 1000
+FAR = 1_000_000.0  # the cost of what the program refuses
+MOST_COUNTED = 10**18  # beyond what a table of decisions can tell
+
+DEFINITIONS = (
+    ("turned away", "the rejected requests, in percent of those that were offered (all but the bypassed ones)"),
+    ("p50, p90, p99", "percentiles of the response times of the admitted requests, as in the report"),
+    ("greatest", "the longest response time of an admitted request"),
+    ("while idle", "the requests that were turned away while the virtual server was idle"),
+    ("most inside", "the most requests that were admitted and not yet answered"),
+    ("busy", "for how long the virtual server worked, as a part of the time from the first request to the end of "
+             "the last service"),
+    ("unbeaten", "no other combination turns no more away and has no greater p99, with one of both less"),
+)
+
+
+class Combination(collections.namedtuple("Combination", "row values settings results")):
+    """A combination that was run: its row in the table from 1, its values, the file of its settings, and what came of
+    it for each capture."""
+
+    @functools.cached_property
+    def figures(self):
+        """The worst figures over all captures: of these alone its place among others is decided."""
+        return worst(self.results)
+
+
+def is_count(value):
+    """Whether a value is a number that a run may have counted, or a time."""
+    return type(value) is int and 0 <= value < MOST_COUNTED
+
+
+def is_result(value):
+    """Whether a value is the result of a run."""
+    def are_counts(of, names):
+        return isinstance(of, dict) and all(of.get(name) is None or is_count(of[name]) for name in names)
+
+    if not isinstance(value, dict) or isinstance(value.get("fault"), str):
+        return isinstance(value, dict)
+    tiers = value.get("tiers")
+    return (are_counts(value, IN_RESULT) and all(name in value for name in IN_RESULT) and isinstance(tiers, dict)
+            and all(is_count(value[name]) for name in (*COUNTED[:3], "busy", "span"))
+            and all(number in ("0", "1", "2", "3") and are_counts(tier, COUNTED)
+                    and all(is_count(tier.get(name)) for name in ("admitted", "rejected"))
+                    for number, tier in tiers.items()))
+
+
+def share_of(result):
+    """The rejected requests in percent of those that were offered; 0 where none was."""
+    offered = result["admitted"] + result["rejected"]
+    return 100 * result["rejected"] / offered if offered else 0.0
+
+
+def with_shares(result):
+    """The figures of a result, with its shares."""
+    tiers = {number: {**tier, "turned_away": share_of(tier)} for number, tier in result["tiers"].items()}
+    busy = result["busy"] / result["span"] if result["span"] else None
+    return {**result, "turned_away": share_of(result), "busy_share": busy, "tiers": tiers}
+
+
+def worst_of(figures, names):
+    """The worst of each figure: the least admitted, the greatest of the others; None where there is none."""
+    of = {name: [one[name] for one in figures if one.get(name) is not None] for name in names}
+    return {name: (min if name == "admitted" else max)(values, default=None) for name, values in of.items()}
+
+
+def worst(results):
+    """The worst figures over results of the same settings; the fault where they were refused."""
+    fault = next((result["fault"] for result in results if "fault" in result), None)
+    if fault is not None:
+        return {"fault": fault}
+    figures = [with_shares(result) for result in results]
+    tiers = sorted({number for one in figures for number in one["tiers"]})
+    of_tiers = {number: worst_of([one["tiers"][number] for one in figures if number in one["tiers"]], COLUMNS_OF_TIER)
+                for number in tiers}
+    return {**worst_of(figures, ("admitted", *LIMITED)), "tiers": of_tiers}
+
+
+def joined(combinations, place, count):
+    """The combinations, where all the `count` values at a place that give the same figures are one, with ANY."""
+    groups = collections.defaultdict(list)
+    for combination in combinations:
+        groups[combination.values[:place], combination.values[place + 1:]].append(combination)
+    rows = []
+    for (before, after), group in groups.items():
+        is_equal = all(one.results == group[0].results for one in group)
+        if 1 < count == len(group) and is_equal:
+            group = [group[0]._replace(values=(*before, ANY, *after))]
+        rows += group
+    return rows
+
+
+def rows_of(combinations, grid, is_grid):
+    """The rows of the table, numbered from 1: equal ones of a grid are joined, in the order of their first."""
+    order = {combination.settings: place for place, combination in enumerate(combinations)}
+    rows = combinations
+    for place, values in enumerate(grid if is_grid else ()):
+        rows = joined(rows, place, len(values))
+    rows = sorted(rows, key=lambda row: order[row.settings])
+    return [row._replace(row=number) for number, row in enumerate(rows, 1)]
+
+
+def comparable(combinations):
+    """Those that were run and had an answer to time."""
+    return [combination for combination in combinations if combination.figures.get("p99") is not None]
+
+
+def unbeaten_of(combinations):
+    """Those that no other beats, by rising requests turned away and falling p99. All have the same requests."""
+    kept = []
+
+    def figures(combination):
+        return combination.figures["turned_away"], combination.figures["p99"]
+
+    for combination in sorted(comparable(combinations), key=figures):
+        if not kept or figures(combination) == figures(kept[-1]) or figures(combination)[1] < figures(kept[-1])[1]:
+            kept.append(combination)
+    return kept
+
+
+def limited(figures, limit):
+    """The figure that a limit is about; None where there is none."""
+    of = figures["tiers"].get(limit.tier, {}) if limit.tier else figures
+    return of.get(limit.figure)
+
+
+def is_within(figures, limits):
+    """Whether all figures are within their limits."""
+    values = [(limited(figures, one), one.most) for one in limits]
+    return all(value is not None and value <= most for value, most in values)
+
+
+def chosen_of(combinations, limits):
+    """The combination that turns fewest away within the limits, of equals that with the least p99; None of none."""
+    fit = [one for one in comparable(combinations) if is_within(one.figures, limits)] if limits else []
+    return min(fit, key=lambda one: (one.figures["turned_away"], one.figures["p99"], one.row), default=None)
+
+
+def nearest_in_words(combinations, limits):
+    """The least of each figure that has a limit, to be told where no combination is within all."""
+    words = []
+    for one in limits:
+        values = [limited(row.figures, one) for row in comparable(combinations)]
+        least = min((value for value in values if value is not None), default=None)
+        words.append("nothing was answered" if least is None else "the least %s is %g" % (one.name, least))
+    return ": " + ", ".join(words)
+
+
+def cost(figures, limits):
+    """What an optimiser makes small: requests turned away in percent, and beyond 100 by how much limits are passed."""
+    if figures.get("p99") is None:
+        return FAR
+    passed = 0.0
+    for one in limits:
+        value = limited(figures, one)
+        passed += FAR if value is None else math.log(max(value, one.most, 1e-9) / max(one.most, 1e-9))
+    return 100 + passed if passed else figures["turned_away"]
+
+
+def cells_of(figures, tiers):
+    """The cells of a row for figures: those of all, and those of each of several tiers."""
+    share, busy = (figures.get(name) for name in ("turned_away", "busy_share"))
+    of_all = [figures.get(name) for name in COUNTED]
+    of_tiers = [figures.get("tiers", {}).get(tier, {}).get(name) for tier in tiers for name in COLUMNS_OF_TIER]
+    return [*of_all, None if busy is None else "%.6f" % busy], [None if share is None else "%.4f" % share,
+                                                               figures.get("most_inside")], of_tiers
+
+
+def several_tiers(combinations):
+    """The tiers of which a request was offered, where there are others than 0."""
+    tiers = sorted({tier for one in combinations for tier in one.figures.get("tiers", {})})
+    return tiers if tiers != ["0"] else []
+
+
+def table_of(keys, captures, combinations, unbeaten, chosen):
+    """The heading and the rows of the table. Of several captures the worst figures come first, then those of each."""
+    tiers = several_tiers(combinations)
+    heading = [*keys, *COUNTED, "busy_share", "unbeaten", "chosen", "turned_away", "most_inside", "row", "capture",
+               *("tier%s.%s" % (tier, name) for tier in tiers for name in COLUMNS_OF_TIER), "fault", "settings"]
+    rows = []
+    for one in combinations:
+        each = [worst([result]) for result in one.results]
+        parts = [("worst", one.figures), *zip(captures, each)] if len(captures) > 1 else [(captures[0], one.figures)]
+        for capture, figures in parts:
+            first, second, of_tiers = cells_of(figures, tiers)
+            marks = [int(one in unbeaten), int(chosen is not None and one.row == chosen.row)]
+            rows.append([*one.values, *first, *marks, *second, one.row, capture, *of_tiers, figures.get("fault"),
+                         one.settings])
+    return heading, rows
+
+
+def milliseconds(ticks):
+    """A time for people."""
+    return "-" if ticks is None else "%.3f ms" % (ticks / TICKS_IN_MILLISECOND)
