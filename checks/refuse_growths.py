@@ -7,8 +7,8 @@ It takes the tests that `rt ci` has built (crates/*/out/*) and that have `growth
 .. the Nth request of such a test is refused, until some runs make fewer: the test has to pass each time, for it looks
 at what is answered and what stands then. Of a test with `twice` in its name the next request is refused as well, in
 runs of its own. (Above MOST requests only each STRIDEth is refused, after the first MOST.) It needs a C compiler (CC,
-or cc) and the C library of GNU; without a compiler nothing is tried. Exits with 1 where a test fails, or where no test
-is found.
+or cc) and the C library of GNU; without a compiler it fails. Exits with 1 where a test fails, or where no test is
+found.
 """
 import concurrent.futures
 import glob
@@ -75,7 +75,7 @@ def main():
         shim = build(folder)
         if shim is None:
             print("no C compiler: no growth was refused")
-            return 0
+            return 1
         binaries = sorted(glob.glob(os.path.join(TOP, "crates", "*", "out", "*_tests")))
         crates = {binary: binary.split(os.sep)[-3] for binary in binaries if os.access(binary, os.X_OK)}
         jobs = [

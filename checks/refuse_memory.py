@@ -9,7 +9,7 @@ or a snapshot, says `haboob: memory`, with status 7, a prefix of the replies, of
 that the run writes with ample memory, and no report; or it ends as with ample memory, where the program can do
 without. Then it counts the requests of 64 GETs of one file, with the cache of pages and without: each page that the
 cache spares is a request less, so a staged engine that goes round its cache shows. It needs a C compiler (CC, or cc)
-and the C library of GNU; without a compiler nothing is tried.
+and the C library of GNU; without a compiler it fails.
 """
 import os
 import shutil
@@ -159,7 +159,7 @@ def main():
     compiler = shutil.which(os.environ.get("CC", "cc"))
     if compiler is None:
         print("no C compiler: nothing was tried")
-        return 0
+        return 1
     with tempfile.TemporaryDirectory() as folder:
         refuser = os.path.join(folder, "refuse_memory.so")
         source = os.path.join(TOP, "checks", "refuse_memory.c")

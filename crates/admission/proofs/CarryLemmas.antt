@@ -2,15 +2,11 @@
 use Rattle.std.proofs.Common.{◌≡◌, ℕ, ◌+◌, ◌-◌, ◌*◌, ◌<◌, ◌≤◌, min, max, List, [], ◌∷◌, ◌++◌, map, Bool, true, false, cond, nat_le, refl, sym, ◌∙◌, ap, arith, append-nil, inl, inr, if◌then◌else◌}
 use Rattle.std.proofs.lemmas.Bool.{le-leb, lt-leb, cases_lt, cases_eq}
 use Rattle.std.proofs.lemmas.List.{map-append}
-use Rattle.token_bucket.specs.Limits.{TOKEN}
-use Rattle.token_bucket.specs.Accrual.{accrual}
+use Rattle.token_bucket.specs.Reference.{TOKEN, accrual}
 use Rattle.token_bucket.proofs.AccrualLemmas.{accrual-split}
 use Rattle.admission.specs.declared.control.Decision.TheVariants.{Admitted, Rejected}
-use Rattle.admission.specs.Rules.{Rules, rules_of}
-use Rattle.admission.specs.Requests.{Offer, Decided, Served, of_tier, is_admitted, served, last_finish, finish_after}
-use Rattle.admission.specs.Controls.{control_at, rate_at}
-use Rattle.admission.specs.Decisions.{least_balance, credit, decide, decided_next, decided_from, decided}
-use Rattle.admission.specs.After.{tick_from, AllCovered}
+use Rattle.admission.specs.Reference.{Rules, rules_of, Offer, Decided, Served, of_tier, is_admitted, served, last_finish, finish_after, control_at, rate_at, least_balance, credit, decide, decided_next, decided_from, decided, tick_from}
+use Rattle.admission.specs.After.{AllCovered}
 use Rattle.admission.specs.Laws.{AreOffered, AreOfOthers, RunsTo, FinishFromFinish, FirstCredit, CreditFromCredit, AccrualSplitsAtControl, RateFromOffersBefore}
 use Rattle.admission.proofs.RequestLemmas.{decided_from-push, of_tier-same, of_tier-other, of_tier-none, served-push, last_finish-push}
 use Rattle.admission.proofs.CreditLemmas.{token_of, least_balance-none, least_balance-later, least_balance-push, covered-later, covered-push}

@@ -10,10 +10,7 @@ use Rattle.std.proofs.lemmas.List.FromFn.{map-range_with_len_more}
 use Rattle.circular_buffer.specs.Buffer.{keep_last, last_item}
 use Rattle.circular_buffer.proofs.Places.{slice_get-last}
 use Rattle.admission.specs.declared.control.Control.{Control}
-use Rattle.admission.specs.Rules.{Rules}
-use Rattle.admission.specs.Requests.{Served, sample, samples, finishes}
-use Rattle.admission.specs.Percentile.{percentile}
-use Rattle.admission.specs.Controls.{percentile_at, smoother, smoothed_at, adjusted, rate_after, control_at, controls_of}
+use Rattle.admission.specs.Reference.{Rules, Served, sample, samples, finishes, percentile, percentile_at, smoother, smoothed_at, adjusted, rate_after, control_at, controls_of}
 use Rattle.admission.specs.Running.{last_smoothed, last_rate, next_control, with_due}
 
 -- ---- quotients

@@ -2,11 +2,9 @@
 use Rattle.std.proofs.Common.{◌≡◌, ℕ, ◌+◌, ◌-◌, ◌*◌, ◌<◌, ◌≤◌, min, List, [], ◌∷◌, ◌++◌, cond, refl, sym, arith}
 use Rattle.std.specs.Prelude.{count_by}
 use Rattle.std.proofs.lemmas.List.Sums.{sum_by_push}
-use Rattle.token_bucket.specs.Limits.{TOKEN}
-use Rattle.token_bucket.specs.Accrual.{accrual}
+use Rattle.token_bucket.specs.Reference.{TOKEN, accrual}
 use Rattle.token_bucket.proofs.AccrualLemmas.{accrual-split, accrual-agree, accrual-none}
-use Rattle.admission.specs.Requests.{Decided, is_admitted}
-use Rattle.admission.specs.Decisions.{balance, least_balance}
+use Rattle.admission.specs.Reference.{Decided, is_admitted, balance, least_balance}
 use Rattle.admission.specs.After.{AllCovered}
 
 -- how many tokens a request took, and how many requests took

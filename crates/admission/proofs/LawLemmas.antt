@@ -4,13 +4,10 @@ use Rattle.std.specs.Prelude.{◌⊎◌}
 use Rattle.std.proofs.lemmas.Bool.{cases_eq}
 use Rattle.std.proofs.Math.Nat.{div-le_of_le-mul}
 use Rattle.std.proofs.lemmas.List.Sums.{sum_by_push}
-use Rattle.token_bucket.specs.Limits.{TOKEN}
-use Rattle.token_bucket.specs.Accrual.{accrual}
+use Rattle.token_bucket.specs.Reference.{TOKEN, accrual}
 use Rattle.admission.specs.declared.control.Decision.TheVariants.{Admitted, Rejected}
-use Rattle.admission.specs.Rules.{Rules, rules_of, IsInRange}
-use Rattle.admission.specs.Requests.{Offer, Decided, Served, of_tier, served, samples, finish_after}
-use Rattle.admission.specs.Controls.{smoothed_at, adjusted, rate_after, rate_at}
-use Rattle.admission.specs.Decisions.{least_balance, credit, decided_next, decided_from, decided}
+use Rattle.admission.specs.Reference.{Rules, rules_of, Offer, Decided, Served, of_tier, served, samples, finish_after, smoothed_at, adjusted, rate_after, rate_at, least_balance, credit, decided_next, decided_from, decided}
+use Rattle.admission.specs.Rules.{IsInRange}
 use Rattle.admission.specs.Laws.{DecisionsBegin, FinishRuns, OtherTiersLeave, RateBefore, RatesWithin, RejectedLeavesAll, and_rejected}
 use Rattle.admission.proofs.RequestLemmas.{decided_from-push, last_finish-push, of_tier-same, of_tier-other, served-push}
 use Rattle.admission.proofs.CreditLemmas.{token_of, tokens_of}

@@ -2,16 +2,13 @@
 use Rattle.std.proofs.Common.{◌≡◌, ℕ, ◌+◌, ◌*◌, ◌≤◌, List, [], drop, map, refl, sym, ◌∙◌, ap, arith}
 use Rattle.std.proofs.Math.Nat.{zero-div}
 use Rattle.std.specs.List.{range_with_len}
-use Rattle.token_bucket.specs.Limits.{TOKEN}
+use Rattle.token_bucket.specs.Reference.{TOKEN}
 use Rattle.token_bucket.specs.Calls.{Past, made}
 use Rattle.token_bucket.specs.After.{BucketAfter, last_rate}
 use Rattle.token_bucket.specs.Standing as bucket
 use Rattle.token_bucket.proofs.CallLemmas as calls
-use Rattle.admission.specs.Rules.{Rules}
+use Rattle.admission.specs.Reference.{Rules, Decided, served, rate_after, control_at, least_balance}
 use Rattle.admission.specs.Window.{Window, window_of}
-use Rattle.admission.specs.Requests.{Decided, served}
-use Rattle.admission.specs.Controls.{rate_after, control_at}
-use Rattle.admission.specs.Decisions.{least_balance}
 use Rattle.admission.specs.Standing.{TierStanding, RiseWithin, AllRates, IsSoundTier, IsShare}
 use Rattle.admission.specs.Running.{passed}
 use Rattle.admission.specs.After.{IsRising, AllCovered, BucketFits, TierFits}

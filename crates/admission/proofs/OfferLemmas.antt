@@ -6,7 +6,7 @@ use Rattle.std.proofs.lemmas.List.{map-append, length-map}
 use Rattle.std.proofs.lemmas.Grind.{common_steps}
 use Rattle.std.proofs.lemmas.List.Sums.{count_by-le-length, sum_by_push}
 use Rattle.circular_buffer.specs.Buffer.{keep_last}
-use Rattle.token_bucket.specs.Limits.{TOKEN}
+use Rattle.token_bucket.specs.Reference.{TOKEN}
 use Rattle.token_bucket.specs.Calls.{Past, TryTake, and_then}
 use Rattle.token_bucket.specs.After.{BucketAfter}
 use Rattle.token_bucket.specs.Running.{after}
@@ -14,11 +14,8 @@ use Rattle.token_bucket.specs.Standing as bucket
 use Rattle.token_bucket.proofs.FitsLemmas.{standing_runs}
 use Rattle.admission.specs.declared.control.Decision.TheVariants.{Admitted, Rejected}
 use Rattle.admission.specs.declared.control.Control.{Control}
-use Rattle.admission.specs.Rules.{Rules}
+use Rattle.admission.specs.Reference.{Rules, Offer, Decided, Served, is_rejected, served, sample, samples, finishes, done, rate_after, rate_at, controls_of, least_balance, credit}
 use Rattle.admission.specs.Window.{Window, window_of, with_sample}
-use Rattle.admission.specs.Requests.{Offer, Decided, Served, is_rejected, served, sample, samples, finishes, done}
-use Rattle.admission.specs.Controls.{rate_after, rate_at, controls_of}
-use Rattle.admission.specs.Decisions.{least_balance, credit}
 use Rattle.admission.specs.Standing.{TierStanding}
 use Rattle.admission.specs.Running.{with_due, when_rejected, when_admitted, decision_after}
 use Rattle.admission.specs.After.{TierBucketAfter, TierFits}

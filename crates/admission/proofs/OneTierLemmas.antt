@@ -1,8 +1,6 @@
 -- Offers of one tier alone are decided as before there were tiers.
 use Rattle.std.proofs.Common.{◌≡◌, List, [], ◌∷◌, ◌++◌, refl, ◌∙◌, ap}
-use Rattle.admission.specs.Rules.{Rules, rules_of}
-use Rattle.admission.specs.Requests.{Offer, Decided, of_tier}
-use Rattle.admission.specs.Decisions.{decided_next, decided_from}
+use Rattle.admission.specs.Reference.{Rules, rules_of, Offer, Decided, of_tier, decided_next, decided_from}
 use Rattle.admission.specs.OneTier.{decided_alone_next, decided_alone_from, AreOfTier, OneTierAsBefore}
 use Rattle.admission.proofs.RequestLemmas.{of_tier-same, of_tier-none}
 

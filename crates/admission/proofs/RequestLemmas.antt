@@ -4,10 +4,8 @@ use Rattle.std.specs.Prelude.{filter, sum_by, count_by, slice_index}
 use Rattle.std.proofs.lemmas.List.Sums.{sum_by-cons, sum_by_push}
 use Rattle.std.proofs.lemmas.List.Elements.{filter-append}
 use Rattle.std.proofs.lemmas.Bool.{le-leb, lt-leb, cases_lt, eq-eqb, ne_eqb}
-use Rattle.admission.specs.Rules.{Rules}
-use Rattle.admission.specs.Requests.{Offer, Decided, of_tier, as_served, served, last_finish}
-use Rattle.admission.specs.Decisions.{decided_next, decided_from}
-use Rattle.admission.specs.After.{tick_from, IsRising}
+use Rattle.admission.specs.Reference.{Rules, Offer, Decided, of_tier, as_served, served, last_finish, decided_next, decided_from, tick_from}
+use Rattle.admission.specs.After.{IsRising}
 
 -- ---- the lists
 

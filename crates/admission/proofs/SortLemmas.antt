@@ -3,7 +3,7 @@ use Rattle.std.proofs.Common.{◌≡◌, ℕ, ◌+◌, ◌<◌, ◌≤◌, List,
 use Rattle.std.specs.Prelude.{◌||◌}
 use Rattle.std.specs.List.{list_any}
 use Rattle.std.proofs.lemmas.Bool.{le-leb, lt-leb, eq-eqb, ne_eqb, cases_lt, cases_order}
-use Rattle.admission.specs.Percentile.{insert_sorted, sorted}
+use Rattle.admission.specs.Reference.{insert_sorted, sorted}
 use Rattle.admission.specs.Tally.{remove_one}
 
 -- ---- one step

@@ -4,17 +4,13 @@ use Rattle.std.specs.Prelude.{slice_index, nat_le}
 use Rattle.std.specs.List.{range_with_len}
 use Rattle.std.proofs.lemmas.Bool.{cases_lt, lt-leb}
 use Rattle.std.proofs.lemmas.List.Sums.{count_by-le-length}
-use Rattle.token_bucket.specs.Limits.{TOKEN}
-use Rattle.token_bucket.specs.Accrual.{accrual}
+use Rattle.token_bucket.specs.Reference.{TOKEN, accrual}
 use Rattle.token_bucket.specs.Calls.{Advance, SetRate}
 use Rattle.token_bucket.specs.Running.{after}
 use Rattle.token_bucket.specs.Standing as bucket
 use Rattle.token_bucket.proofs.AccrualLemmas.{accrual-constant}
 use Rattle.admission.specs.declared.control.Control.{Control}
-use Rattle.admission.specs.Rules.{Rules}
-use Rattle.admission.specs.Requests.{Decided, Served, served, samples, finishes, done}
-use Rattle.admission.specs.Controls.{rate_after, rate_at, control_at, controls_of}
-use Rattle.admission.specs.Decisions.{credit}
+use Rattle.admission.specs.Reference.{Rules, Decided, Served, served, samples, finishes, done, rate_after, rate_at, control_at, controls_of, credit}
 use Rattle.admission.specs.Standing.{RiseWithin}
 use Rattle.admission.specs.Running.{passing, passed}
 use Rattle.admission.specs.After.{IsRising, TierBucketAfter}

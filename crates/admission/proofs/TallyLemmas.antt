@@ -11,7 +11,7 @@ use Rattle.std.proofs.lemmas.Cmp.{nat_cmp_total}
 use Rattle.std.proofs.lemmas.Map.{lookup-none}
 use Rattle.std.proofs.lemmas.Map.Entries.{none_below_head}
 use Rattle.std.proofs.lemmas.Map.Keys.{sorted_tail}
-use Rattle.admission.specs.Percentile.{insert_sorted}
+use Rattle.admission.specs.Reference.{insert_sorted}
 use Rattle.admission.specs.Tally.{remove_one, expanded, AllCounted, count_in}
 use Rattle.admission.proofs.SortLemmas.{insert-none, insert-front, insert-past, remove-none, remove-here, remove-past}
 

@@ -4,19 +4,18 @@ use Rattle.std.proofs.Math.Seq.{map-set_same}
 use Rattle.std.proofs.lemmas.Bool.{cases_eq}
 use Rattle.std.proofs.lemmas.List.{map-append, length-set}
 use Rattle.std.proofs.lemmas.Option.{get_or_from_slice_get}
-use Rattle.token_bucket.specs.Limits.{TOKEN, MAX_TICK}
+use Rattle.token_bucket.specs.Reference.{TOKEN}
+use Rattle.token_bucket.specs.Limits.{MAX_TICK}
 use Rattle.admission.specs.Limits.{MAX_OFFERS, MAX_SERVICE}
 use Rattle.admission.specs.declared.control.Control.{Control}
 use Rattle.admission.specs.declared.control.Decision.{Decision}
 use Rattle.admission.specs.declared.control.Outlook.{Outlook}
 use Rattle.admission.specs.declared.control.Decision.TheVariants.{Admitted, Rejected}
-use Rattle.admission.specs.Rules.{Rules, no_rules, rules_of}
-use Rattle.admission.specs.Requests.{Offer, Decided, Served, of_tier, served, last_finish, finish_after}
-use Rattle.admission.specs.Controls.{controls_until}
-use Rattle.admission.specs.Decisions.{credit, decide, decided_from, decided, outlook}
+use Rattle.admission.specs.Reference.{Rules, no_rules, rules_of, Offer, Decided, Served, of_tier, served, last_finish, finish_after, controls_until, credit, decide, decided_from, decided, tick_from}
+use Rattle.admission.specs.Decisions.{outlook}
 use Rattle.admission.specs.Standing.{TierStanding, Standing, policies_of, IsShare, IsSound}
 use Rattle.admission.specs.Running.{decision_after, free_after}
-use Rattle.admission.specs.After.{tick_from, TierFits, ControllerAfter}
+use Rattle.admission.specs.After.{TierFits, ControllerAfter}
 use Rattle.admission.specs.TierCalls.{AreNew, Decides, Takes, Shows, Foresees}
 use Rattle.admission.proofs.RequestLemmas.{decided_from-push, served-push, of_tier-same, of_tier-other, of_tier-none, tick_from-push, last_finish-push}
 use Rattle.admission.proofs.OfferLemmas.{tier_later}

@@ -6,10 +6,8 @@ use Rattle.std.proofs.lemmas.Bool.{cases_lt, le-leb, lt-leb}
 use Rattle.std.proofs.lemmas.List.Sums.{count_by-le-length}
 use Rattle.token_bucket.specs.Standing as bucket
 use Rattle.admission.specs.declared.control.Control.{Control}
-use Rattle.admission.specs.Rules.{Rules}
-use Rattle.admission.specs.Requests.{Decided, Served, served, finishes, done}
+use Rattle.admission.specs.Reference.{Rules, Decided, Served, served, finishes, done, control_at, controls_of, controls_until}
 use Rattle.admission.specs.Standing.{TierStanding}
-use Rattle.admission.specs.Controls.{control_at, controls_of, controls_until}
 use Rattle.admission.specs.After.{IsRising, BucketFits, TierFits}
 use Rattle.admission.proofs.ControlLemmas.{fits_quotient, quotient_fits, length-finishes}
 use Rattle.admission.proofs.RequestLemmas.{upto-before, upto-at}

@@ -3,7 +3,7 @@ use Rattle.std.proofs.Common.{◌≡◌, ℕ, zero, suc, ◌+◌, ◌-◌, ◌<�
 use Rattle.std.specs.Prelude.{replicate}
 use Rattle.std.proofs.lemmas.List.{length-replicate}
 use Rattle.circular_buffer.proofs.Places.{slice_get-append_left, slice_get-append_right}
-use Rattle.admission.specs.Percentile.{rank}
+use Rattle.admission.specs.Reference.{rank}
 use Rattle.admission.specs.Tally.{expanded}
 
 pub expanded-push : (entries : List (ℕ × ℕ)) (entry : ℕ × ℕ)

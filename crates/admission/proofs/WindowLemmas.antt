@@ -10,7 +10,7 @@ use Rattle.std.proofs.lemmas.List.{length-replicate}
 use Rattle.std.proofs.lemmas.Option.{slice_get_past}
 use Rattle.circular_buffer.specs.Buffer.{keep_last}
 use Rattle.admission.specs.Limits.{MAX_WINDOW}
-use Rattle.admission.specs.Percentile.{insert_sorted, sorted, rank, percentile}
+use Rattle.admission.specs.Reference.{insert_sorted, sorted, rank, percentile}
 use Rattle.admission.specs.Tally.{expanded, AllCounted, count_in, remove_one, IsTally}
 use Rattle.admission.proofs.SortLemmas.{sorted_push, remove-insert, length-sorted}
 use Rattle.admission.proofs.TallyLemmas.{expanded-insert, counted-insert, count-none, count-here, count-off, expanded-cons}

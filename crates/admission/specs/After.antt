@@ -1,22 +1,14 @@
 -- What a controller keeps of the offers so far.
 use Rattle.std.specs.Prelude.{◌≡◌, ℕ, ◌+◌, ◌*◌, ◌/◌, ◌<◌, ◌≤◌, List, [], ◌∷◌, length, map, count_by, Some, slice_get}
-use Rattle.token_bucket.specs.Limits.{TOKEN}
-use Rattle.token_bucket.specs.Accrual.{accrual}
+use Rattle.token_bucket.specs.Reference.{TOKEN, accrual}
 use Rattle.token_bucket.specs.Calls.{Past}
 use Rattle.token_bucket.specs.After as calls
 use Rattle.token_bucket.specs.Standing as bucket
-use Rattle.admission.specs.Rules.{Rules}
+use Rattle.admission.specs.Reference.{Rules, Offer, Decided, of_tier, is_admitted, is_rejected, served, finishes}
+use Rattle.admission.specs.Reference.{samples, last_finish, done, controls_of, rate_after, rate_at, credit, decided}
+use Rattle.admission.specs.Reference.{tick_from}
 use Rattle.admission.specs.Window.{window_of}
-use Rattle.admission.specs.Requests.{Offer, Decided, of_tier, is_admitted, is_rejected, served, finishes, samples}
-use Rattle.admission.specs.Requests.{last_finish, done}
-use Rattle.admission.specs.Controls.{controls_of, rate_after, rate_at}
-use Rattle.admission.specs.Decisions.{credit, decided}
 use Rattle.admission.specs.Standing.{TierStanding, Standing, policies_of}
-
--- the tick of the last offer
-unfoldable pub tick_from : ℕ → List Offer → ℕ
-tick_from tick [] = tick
-tick_from tick (offer ∷ offers) = tick_from offer.tick offers
 
 -- numbers that rise from above lo up to hi
 unfoldable pub IsRising : ℕ → ℕ → List ℕ → Type 0

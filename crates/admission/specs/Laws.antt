@@ -1,12 +1,10 @@
 -- What follows from the definitions.
 use Rattle.std.specs.Prelude.{◌≡◌, ℕ, ◌+◌, ◌-◌, ◌*◌, ◌<◌, ◌≤◌, min, max, List, [], ◌∷◌, ◌++◌, map, if◌then◌else◌}
-use Rattle.token_bucket.specs.Limits.{TOKEN}
-use Rattle.token_bucket.specs.Accrual.{accrual}
+use Rattle.token_bucket.specs.Reference.{TOKEN, accrual}
 use Rattle.admission.specs.declared.control.Decision.TheVariants.{Rejected}
-use Rattle.admission.specs.Rules.{Rules, rules_of, IsInRange}
-use Rattle.admission.specs.Requests.{Offer, Decided, Served, of_tier, served, last_finish, is_admitted}
-use Rattle.admission.specs.Controls.{control_at, rate_at}
-use Rattle.admission.specs.Decisions.{credit, decide, decided}
+use Rattle.admission.specs.Reference.{Rules, rules_of, Offer, Decided, Served, of_tier, served, last_finish}
+use Rattle.admission.specs.Reference.{is_admitted, control_at, rate_at, credit, decide, decided}
+use Rattle.admission.specs.Rules.{IsInRange}
 
 -- the decisions on the first offers are the first decisions
 abbrev pub DecisionsBegin : Type 0

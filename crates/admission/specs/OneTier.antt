@@ -1,11 +1,9 @@
 -- Which offered requests are admitted where there is one policy and no tiers: the decisions as they were before tiers.
 use Rattle.std.specs.Prelude.{◌≡◌, ℕ, List, [], ◌∷◌, ◌++◌, nat_le, if◌then◌else◌}
-use Rattle.token_bucket.specs.Limits.{TOKEN}
+use Rattle.token_bucket.specs.Reference.{TOKEN}
 use Rattle.admission.specs.declared.control.Decision.{Decision}
 use Rattle.admission.specs.declared.control.Decision.TheVariants.{Admitted, Rejected}
-use Rattle.admission.specs.Rules.{Rules, rules_of}
-use Rattle.admission.specs.Requests.{Offer, Decided, served, of_tier, finish_after}
-use Rattle.admission.specs.Decisions.{credit, decided}
+use Rattle.admission.specs.Reference.{Rules, rules_of, Offer, Decided, served, of_tier, finish_after, credit, decided}
 
 -- a request is admitted exactly where its credit holds a token
 abbrev pub decide_alone : Rules → List Decided → Offer → Decision

@@ -1,33 +1,10 @@
 -- The numbers of a policy, and their ranges.
-use Rattle.std.specs.Prelude.{ℕ, ◌≤◌, Bool, nat_le, ◌&&◌, if◌then◌else◌, Option, Some, None, List, slice_index_or}
+use Rattle.std.specs.Prelude.{ℕ, ◌≤◌, Bool, nat_le, ◌&&◌, if◌then◌else◌, Option, Some, None}
 use Rattle.admission.specs.Limits.{MAX_WINDOW, MAX_EVERY, MAX_UP, MIN_DOWN, MAX_DOWN, MAX_TARGET}
 use Rattle.token_bucket.specs.Limits.{MAX_RATE, MAX_DEPTH}
-use Rattle.admission.specs.declared.policy.PolicyNumbers.{PolicyNumbers}
 use Rattle.admission.specs.declared.policy.PolicyFault.{PolicyFault}
 use Rattle.admission.specs.declared.policy.PolicyFault.TheVariants.{Window, Every, Smoothing, Rates, Target, Depth}
-
-abbrev pub Rules : Type 0
-Rules = PolicyNumbers
-
--- the rules of a tier that has no policy
-abbrev pub no_rules : Rules
-no_rules = record {
-  window = 0;
-  every = 0;
-  smoothing = 0;
-  rate = 0;
-  rate_min = 0;
-  rate_max = 0;
-  up = 0;
-  down = 0;
-  target = 0;
-  low = 0;
-  depth = 0;
-}
-
--- the rules of a tier, among the policies in the order of their tiers
-unfoldable pub rules_of : List Rules → ℕ → Rules
-rules_of policies tier = slice_index_or policies tier no_rules
+use Rattle.admission.specs.Reference.{Rules}
 
 abbrev pub is_within : ℕ → ℕ → ℕ → Bool
 is_within least most x = nat_le least x && nat_le x most

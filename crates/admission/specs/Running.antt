@@ -3,19 +3,15 @@ use Rattle.std.specs.Prelude.{ℕ, ◌+◌, ◌%◌, max, List, [], ◌∷◌, �
 use Rattle.std.specs.Prelude.{option_map}
 use Rattle.std.specs.List.{prefix_len}
 use Rattle.circular_buffer.specs.Buffer.{last_item}
-use Rattle.token_bucket.specs.Limits.{TOKEN}
+use Rattle.token_bucket.specs.Reference.{TOKEN}
 use Rattle.token_bucket.specs.Calls.{Advance, SetRate}
 use Rattle.token_bucket.specs.Running.{after}
 use Rattle.token_bucket.specs.Standing as bucket
 use Rattle.admission.specs.declared.control.Control.{Control}
 use Rattle.admission.specs.declared.control.Decision.{Decision}
 use Rattle.admission.specs.declared.control.Decision.TheVariants.{Admitted, Rejected}
-use Rattle.admission.specs.Rules.{Rules}
-use Rattle.admission.specs.Requests.{Decided}
+use Rattle.admission.specs.Reference.{Rules, Decided, percentile, smoother, adjusted, credit}
 use Rattle.admission.specs.Window.{with_sample}
-use Rattle.admission.specs.Percentile.{percentile}
-use Rattle.admission.specs.Controls.{smoother, adjusted}
-use Rattle.admission.specs.Decisions.{credit}
 use Rattle.admission.specs.Standing.{TierStanding}
 
 -- the bucket at `tick`, where it took on the rates of the pending controls whose instant it passed

@@ -4,7 +4,7 @@ use Rattle.token_bucket.specs.Limits.{MAX_TICK, MAX_RATE}
 use Rattle.token_bucket.specs.Standing as bucket
 use Rattle.admission.specs.Limits.{MAX_OFFERS, MAX_SERVICE}
 use Rattle.admission.specs.declared.control.Control.{Control}
-use Rattle.admission.specs.Rules.{Rules}
+use Rattle.admission.specs.Reference.{Rules}
 use Rattle.admission.specs.Window.{Window}
 
 -- a tier: its policy's numbers; its bucket; how many of its requests were admitted, and how many rejected; its window;

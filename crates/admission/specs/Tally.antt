@@ -5,7 +5,7 @@ use Rattle.std.specs.Ordering.{nat_cmp}
 use Rattle.std.specs.Map.{lookup}
 use Rattle.std.specs.BTreeMap.{is_at}
 use Rattle.admission.specs.Limits.{MAX_WINDOW}
-use Rattle.admission.specs.Percentile.{sorted}
+use Rattle.admission.specs.Reference.{sorted}
 
 -- each key as often as its count says, in the order of the keys
 unfoldable pub expanded : List (ℕ × ℕ) → List ℕ

@@ -4,9 +4,7 @@ use Rattle.token_bucket.specs.Standing as bucket
 use Rattle.admission.specs.declared.control.Control.{Control}
 use Rattle.admission.specs.declared.control.Decision.{Decision}
 use Rattle.admission.specs.declared.control.Outlook.{Outlook}
-use Rattle.admission.specs.Requests.{Offer, Decided, served}
-use Rattle.admission.specs.Controls.{controls_until, rate_at}
-use Rattle.admission.specs.Decisions.{credit}
+use Rattle.admission.specs.Reference.{Offer, Decided, served, controls_until, rate_at, credit}
 use Rattle.admission.specs.Standing.{TierStanding, RiseWithin, IsShare}
 use Rattle.admission.specs.Running.{decision_after, free_after}
 use Rattle.admission.specs.After.{BucketFits, TierFits}

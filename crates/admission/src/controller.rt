@@ -2,12 +2,11 @@
 
 ghost use Rattle.std.specs.Prelude.{◌≡◌, ◌+◌, ◌*◌, ◌<◌, ◌≤◌, ◌++◌, [], ◌∷◌, ℕ, List, length, map, IfOk, OnOk, OnErr};
 ghost use Rattle.std.specs.Prelude.{count_by};
-ghost use Rattle.admission.specs.Rules.{rules_of};
-ghost use Rattle.admission.specs.Requests.{Offer, of_tier, served, is_rejected};
-ghost use Rattle.admission.specs.Controls.{controls_until};
-ghost use Rattle.admission.specs.Decisions.{decide, decided, outlook};
+ghost use Rattle.admission.specs.Reference.{rules_of, Offer, of_tier, served, is_rejected, controls_until, decide};
+ghost use Rattle.admission.specs.Reference.{decided, tick_from};
+ghost use Rattle.admission.specs.Decisions.{outlook};
 ghost use Rattle.admission.specs.Standing.{last_tick, policies_of};
-ghost use Rattle.admission.specs.After.{ControllerAfter, tick_from};
+ghost use Rattle.admission.specs.After.{ControllerAfter};
 ghost use Rattle.admission.specs.TierCalls.{AreNew};
 ghost use Rattle.admission.specs.Running.{free_after};
 

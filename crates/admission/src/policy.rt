@@ -1,7 +1,8 @@
 //! A policy: how a tier adapts its rate, within checked ranges.
 
 ghost use Rattle.std.specs.Prelude.{◌≡◌, Some, None, IfOk, IfErr, MatchResult};
-ghost use Rattle.admission.specs.Rules.{Rules, is_within, policy_fault};
+ghost use Rattle.admission.specs.Reference.{Rules};
+ghost use Rattle.admission.specs.Rules.{is_within, policy_fault};
 
 use crate::{MAX_DEPTH, MAX_DOWN, MAX_EVERY, MAX_RATE, MAX_TARGET, MAX_UP, MAX_WINDOW, MIN_DOWN};
 use std::marker::Model;
@@ -58,7 +59,8 @@ pub struct Policy {
 }
 
 impl Model for Policy {
-    ghost use Rattle.admission.specs.Rules.{Rules, IsInRange};
+    ghost use Rattle.admission.specs.Reference.{Rules};
+    ghost use Rattle.admission.specs.Rules.{IsInRange};
 
     ghost Value = { Rules };
 

@@ -7,7 +7,7 @@ ghost use Rattle.std.specs.List.Sorted.{IsStrictlySortedBy};
 ghost use Rattle.std.specs.Map.{keys_of, set_value};
 ghost use Rattle.std.specs.BTreeMap.{insert_entry, is_at};
 ghost use Rattle.admission.specs.Tally.{expanded, AllCounted, count_in, remove_one};
-ghost use Rattle.admission.specs.Percentile.{percentile};
+ghost use Rattle.admission.specs.Reference.{percentile};
 ghost use Rattle.admission.specs.Window.{window_of, with_sample};
 
 use crate::MAX_WINDOW;

@@ -13,9 +13,9 @@ use Rattle.std.proofs.Math.Seq.{take-append_seam}
 use Rattle.captures.specs.declared.record.Record.{Record}
 use Rattle.captures.specs.declared.record.Record.TheVariants.{Piece}
 use Rattle.http_requests.specs.declared.messages.Message.{Message}
-use Rattle.http_requests.specs.Framing.{MessagesOf}
+use Rattle.http_requests.specs.Reference.{MessagesOf}
 use Rattle.http_requests.proofs.MessageLemmas.{messages_unique, messages_prefix}
-use Rattle.arrivals.specs.Arrivals.{bytes_to, text_of, Arrival, messages_of, ArrivesWith, Precedes, AreArrivals}
+use Rattle.arrivals.specs.Reference.{bytes_to, text_of, Arrival, messages_of, ArrivesWith, Precedes, AreArrivals}
 use Rattle.arrivals.specs.Laws.{OneListOfArrivals, ArrivalsBegin}
 use Rattle.arrivals.proofs.ArrivalLaws.LateMessages.{IsLate, messages_late}
 use Rattle.arrivals.proofs.ArrivalLaws.OnePlace.{text_past, same_arrival, precedes_once, precedes_by}

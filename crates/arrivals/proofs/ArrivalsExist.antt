@@ -7,13 +7,13 @@ use Rattle.std.proofs.lemmas.List.{append_assoc, append-nil, drop-append-le, get
 use Rattle.std.proofs.lemmas.Grind.{flat_map-append}
 use Rattle.captures.specs.declared.record.Record.{Record}
 use Rattle.captures.specs.declared.record.Record.TheVariants.{Piece, End, Tier}
-use Rattle.captures.specs.Captures.{tier_of}
+use Rattle.captures.specs.Reference.{tier_of}
 use Rattle.http_requests.specs.declared.messages.Message.{Message}
-use Rattle.http_requests.specs.Framing.{Messages, MessagesOf, closes}
+use Rattle.http_requests.specs.Reference.{Messages, MessagesOf, closes}
 use Rattle.http_requests.specs.Cutting.{EndBetween}
 use Rattle.http_requests.proofs.FrontLemmas.{next_append, next_unique, next_within}
 use Rattle.http_requests.proofs.MessageLemmas.{messages_prefix}
-use Rattle.arrivals.specs.Arrivals.{bytes_to, text_of, Arrival, messages_of, AreArrivals}
+use Rattle.arrivals.specs.Reference.{bytes_to, text_of, Arrival, messages_of, AreArrivals}
 use Rattle.arrivals.specs.Connections.{arrivals_with}
 use Rattle.arrivals.specs.Laws.{HasMessages, ArrivalsOfMessages}
 use Rattle.arrivals.proofs.ArrivalLaws.LateMessages.{IsLate, next_shorter, messages_late}

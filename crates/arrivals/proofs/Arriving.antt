@@ -11,12 +11,12 @@ use Rattle.std.proofs.lemmas.Grind.{flat_map-append}
 use Rattle.std.proofs.Math.Seq.{take-append_seam}
 use Rattle.captures.specs.declared.record.Record.{Record}
 use Rattle.captures.specs.declared.record.Record.TheVariants.{Piece, End, Tier}
-use Rattle.captures.specs.Captures.{tier_of}
+use Rattle.captures.specs.Reference.{tier_of}
 use Rattle.http_requests.specs.declared.messages.Message.{Message}
-use Rattle.http_requests.specs.Framing.{MessagesOf}
+use Rattle.http_requests.specs.Reference.{MessagesOf}
 use Rattle.http_requests.specs.Cutting.{EndBetween}
 use Rattle.http_requests.proofs.FrontLemmas.{next_within}
-use Rattle.arrivals.specs.Arrivals.{bytes_to, text_of, Arrival, messages_of, ArrivesWith, Precedes, AreArrivals}
+use Rattle.arrivals.specs.Reference.{bytes_to, text_of, Arrival, messages_of, ArrivesWith, Precedes, AreArrivals}
 use Rattle.arrivals.specs.Connections.{HasRead, ReadMore, HaveRead, connection_at, arrivals_with}
 use Rattle.arrivals.specs.declared.incoming.Origin.{Origin}
 use Rattle.arrivals.specs.declared.connections.Connection.{Connection}

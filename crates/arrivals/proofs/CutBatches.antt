@@ -5,11 +5,10 @@ use Rattle.std.proofs.lemmas.List.Sums.{sum_by-cons}
 use Rattle.std.specs.Prelude.{map, IfOk, MatchResult, Result, Ok, Err}
 use Rattle.std.specs.List.{AllZip}
 use Rattle.std.specs.declared.alloc.AllocError.{AllocError}
-use Rattle.arrivals.specs.Places.{IsCutOf, Place}
+use Rattle.arrivals.specs.Places.{IsCutOf, Place, CanRead}
 use Rattle.http_requests.specs.declared.messages.Message.{Message}
 use Rattle.arrivals.specs.Connections.{HasRead, HasRoom}
 use Rattle.arrivals.specs.Batches.{Reads, ReadsOn}
-use Rattle.arrivals.specs.Places.{CanRead}
 use Rattle.arrivals.specs.declared.connections.Connection.{Connection}
 use Rattle.arrivals.specs.declared.connections.Connection.TheVariants.{Silent, Open, Closed}
 

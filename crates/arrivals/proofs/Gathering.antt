@@ -9,7 +9,8 @@ use Rattle.captures.specs.declared.progress.Progress.{Progress}
 use Rattle.captures.specs.Readers.{ReaderAfter, Gave}
 use Rattle.arrivals.specs.Batches.{pieces_to, with_tier, tiers_of, origins_of}
 use Rattle.std.proofs.lemmas.List.Sums.{sum_by-append, sum_by-cons}
-use Rattle.captures.specs.Captures.{IsRecord, size_of, sizes_of, max_piece_bytes}
+use Rattle.captures.specs.Reference.{IsRecord, max_piece_bytes}
+use Rattle.captures.specs.Captures.{size_of, sizes_of}
 use Rattle.arrivals.specs.Gathering.{with_pieces, Adds, AddsOne, as_piece, piece_count}
 use Rattle.arrivals.specs.Places.{Place, place_at, with_piece}
 use Rattle.arrivals.proofs.Arriving.{if_true, if_false}

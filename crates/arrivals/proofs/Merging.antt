@@ -6,10 +6,10 @@ use Rattle.std.proofs.lemmas.List.{append_assoc, append-nil, length-append}
 use Rattle.std.proofs.lemmas.List.Elements.{All-append}
 use Rattle.captures.specs.declared.record.Record.{Record}
 use Rattle.captures.specs.declared.record.Record.TheVariants.{Piece, End, Tier}
-use Rattle.captures.specs.Captures.{tier_of}
+use Rattle.captures.specs.Reference.{tier_of}
 use Rattle.captures.proofs.Tiers.{tier_of_piece, tier_of_end, tier_of_tier}
 use Rattle.http_requests.specs.declared.messages.Message.{Message}
-use Rattle.arrivals.specs.Arrivals.{text_of, Arrival, messages_of, ArrivesWith}
+use Rattle.arrivals.specs.Reference.{text_of, Arrival, messages_of, ArrivesWith}
 use Rattle.arrivals.specs.Connections.{HasRead, ReadMore, arrivals_with}
 use Rattle.arrivals.specs.Batches.{Reads, ReadsOn, pieces_to, with_tier, tiers_of, origins_of, lists_to, arrivals_in, Stand}
 use Rattle.arrivals.specs.declared.connections.Connection.{Connection}

@@ -3,7 +3,7 @@ use Rattle.std.proofs.Common.{◌≡◌, ℕ, zero, suc, ◌+◌, Bool, true, fa
 use Rattle.std.specs.Prelude.{MatchBool}
 use Rattle.std.proofs.lemmas.List.{append_assoc, append-nil, drop-append-le}
 use Rattle.http_requests.specs.declared.messages.Message.{Message}
-use Rattle.http_requests.specs.Framing.{Messages, MessagesOf, closes}
+use Rattle.http_requests.specs.Reference.{Messages, MessagesOf, closes}
 use Rattle.http_requests.specs.Cutting.{Progress, CutterAfter, Fed}
 use Rattle.http_requests.proofs.FrontLemmas.{next_append, next_within}
 use Rattle.arrivals.specs.Connections.{HasRead, ReadMore, connection_at, some_closes}

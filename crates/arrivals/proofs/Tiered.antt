@@ -5,7 +5,7 @@ use Rattle.std.proofs.lemmas.List.Elements.{All-head, All-tail}
 use Rattle.captures.specs.declared.version.Version.{Version}
 use Rattle.captures.specs.declared.record.Record.{Record}
 use Rattle.captures.specs.declared.record.Record.TheVariants.{Piece, End, Tier}
-use Rattle.captures.specs.Captures.{IsRecord, tier_given, tier_of}
+use Rattle.captures.specs.Reference.{IsRecord, tier_given, tier_of}
 
 AllFew : List ℕ → Type 0
 AllFew [] = Unit {0}

@@ -2,9 +2,9 @@
 use Rattle.std.specs.Prelude.{◌≡◌, ℕ, ◌+◌, ◌==◌, List, [], ◌∷◌, ◌++◌, length, map, flat_map, if◌then◌else◌}
 use Rattle.captures.specs.declared.record.Record.{Record}
 use Rattle.captures.specs.declared.record.Record.TheVariants.{Piece, End, Tier}
-use Rattle.captures.specs.Captures.{tier_of}
+use Rattle.captures.specs.Reference.{tier_of}
 use Rattle.http_requests.specs.declared.messages.Message.{Message}
-use Rattle.arrivals.specs.Arrivals.{Arrival, AreArrivals, text_of, messages_of}
+use Rattle.arrivals.specs.Reference.{Arrival, AreArrivals, text_of, messages_of}
 use Rattle.arrivals.specs.declared.incoming.Incoming.{Incoming}
 use Rattle.arrivals.specs.declared.incoming.Origin.{Origin}
 use Rattle.arrivals.specs.declared.incoming.PieceMessages.{PieceMessages}

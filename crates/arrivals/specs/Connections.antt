@@ -1,12 +1,12 @@
 -- What is kept of the connections of a capture between two of its records.
 use Rattle.std.specs.Prelude.{◌≡◌, ℕ, ◌+◌, ◌≤◌, Bool, List, [], ◌++◌, length, map, slice_index_or}
 use Rattle.std.specs.List.{list_any}
-use Rattle.captures.specs.Captures.{max_text_bytes}
+use Rattle.captures.specs.Reference.{max_text_bytes}
 use Rattle.captures.specs.declared.record.Record.{Record}
 use Rattle.http_requests.specs.declared.messages.Message.{Message}
-use Rattle.http_requests.specs.Framing.{MessagesOf, closes}
+use Rattle.http_requests.specs.Reference.{MessagesOf, closes}
 use Rattle.http_requests.specs.Cutting.{CutterAfter, EndBetween}
-use Rattle.arrivals.specs.Arrivals.{Arrival, text_of, messages_of}
+use Rattle.arrivals.specs.Reference.{Arrival, text_of, messages_of}
 use Rattle.arrivals.specs.declared.incoming.Origin.{Origin}
 use Rattle.arrivals.specs.declared.connections.Connection.{Connection}
 use Rattle.arrivals.specs.declared.connections.Connection.TheVariants.{Silent, Open, Closed}

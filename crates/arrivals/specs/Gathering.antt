@@ -4,7 +4,8 @@ use Rattle.captures.specs.declared.record.Record.{Record}
 use Rattle.captures.specs.declared.record.Record.TheVariants.{Piece, End as Ends, Tier}
 use Rattle.captures.specs.declared.progress.Progress.{Progress}
 use Rattle.captures.specs.declared.version.Version.{Version}
-use Rattle.captures.specs.Captures.{max_piece_bytes, sizes_of}
+use Rattle.captures.specs.Reference.{max_piece_bytes}
+use Rattle.captures.specs.Captures.{sizes_of}
 use Rattle.captures.specs.CaptureFaults.{failures_of}
 use Rattle.captures.specs.Readers.{ReaderAfter, Gave, FailsNext}
 use Rattle.arrivals.specs.Batches.{pieces_to}

@@ -2,8 +2,8 @@
 use Rattle.std.specs.Prelude.{◌≡◌, ℕ, List, ◌++◌}
 use Rattle.captures.specs.declared.record.Record.{Record}
 use Rattle.http_requests.specs.declared.messages.Message.{Message}
-use Rattle.http_requests.specs.Framing.{MessagesOf}
-use Rattle.arrivals.specs.Arrivals.{Arrival, AreArrivals, text_of}
+use Rattle.http_requests.specs.Reference.{MessagesOf}
+use Rattle.arrivals.specs.Reference.{Arrival, AreArrivals, text_of}
 
 -- the text of each connection has a list of messages
 abbrev pub HasMessages : List Record → Type 0

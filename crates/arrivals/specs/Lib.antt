@@ -1,9 +1,9 @@
-pub mod Arrivals
-pub mod Tiers
-pub mod Connections
 pub mod Batches
-pub mod Places
-pub mod Noted
-pub mod Picking
+pub mod Connections
 pub mod Gathering
 pub mod Laws
+pub mod Noted
+pub mod Picking
+pub mod Places
+pub mod Reference
+pub mod Tiers

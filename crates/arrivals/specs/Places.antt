@@ -1,7 +1,7 @@
 -- What is kept of a connection while a batch is read and cut.
 use Rattle.std.specs.Prelude.{◌≡◌, ℕ, ◌+◌, ◌≤◌, ◌==◌, List, [], ◌∷◌, ◌++◌, length, slice_index_or, if◌then◌else◌}
 use Rattle.std.specs.List.{sum_by}
-use Rattle.captures.specs.Captures.{max_text_bytes}
+use Rattle.captures.specs.Reference.{max_text_bytes}
 use Rattle.http_requests.specs.declared.messages.Message.{Message}
 use Rattle.arrivals.specs.Connections.{HasRead}
 use Rattle.arrivals.specs.Batches.{ReadsOn}

@@ -1,6 +1,6 @@
 -- What is kept of the tiers of the connections, while records are read.
 use Rattle.std.specs.Prelude.{◌≡◌, ℕ, List, slice_index_or}
-use Rattle.captures.specs.Captures.{tier_of}
+use Rattle.captures.specs.Reference.{tier_of}
 use Rattle.captures.specs.declared.record.Record.{Record}
 
 -- the tier of a connection, 0 where none is kept

@@ -1,7 +1,7 @@
 //! All connections of a capture, read piece by piece.
 
 ghost use Rattle.std.specs.Prelude.{◌≡◌, ◌≢◌, ◌<◌, ◌≤◌, [], ℕ, List, length, ◌+◌, OnOk, IfOk, IfSome, IfNone};
-ghost use Rattle.captures.specs.Captures.{max_text_bytes};
+ghost use Rattle.captures.specs.Reference.{max_text_bytes};
 ghost use Rattle.http_requests.specs.declared.messages.Message.{Message as AMessage};
 ghost use Rattle.http_requests.specs.Cutting.{CutterAfter};
 ghost use Rattle.arrivals.specs.Connections.{HasRead, HasRoom, ReadMore, connection_at, some_closes};

@@ -7,8 +7,8 @@ ghost use Rattle.arrivals.specs.Places.{empty_place, with_piece, with_lists, Can
 use crate::Series;
 use crate::connections::Connection;
 use crate::fifo::Fifo;
+use devices::Bytes;
 use http_requests::Message;
-use paths::Bytes;
 use std::alloc::{AllocError, Global};
 use std::marker::Model;
 use std::mem;

@@ -13,13 +13,13 @@ use Rattle.std.proofs.lemmas.List.{append_assoc, length-append, length-take, tak
 use Rattle.std.proofs.lemmas.List.Folds.{prefix_len-append}
 use Rattle.std.specs.Cmp.Lexicographic.{pointwise}
 use Rattle.std.proofs.lemmas.Slice.Eq.{slice_eq-Decides}
-use Rattle.paths.specs.Ascii.{line_feed}
-use Rattle.paths.specs.Numbers.{is_decimal, number_of, number_and_rest, three_numbers}
-use Rattle.paths.specs.Numbers.{◌>>=◌ as ◌>?=◌}
-use Rattle.paths.specs.Texts.{Ahead, byte_at, run_at, line_at, available, past as beyond, ended}
-use Rattle.paths.specs.declared.text.Stop.{Stop}
-use Rattle.paths.proofs.Taking.{line_whole}
-use Rattle.captures.specs.Captures.{opening, last_connection, has_tiers, Past, first_line, piece_line, end_line, tier_line, record_text, max_start, max_tick, max_piece_bytes, max_tier, Follows}
+use Rattle.devices.specs.Reference.{line_feed}
+use Rattle.devices.specs.Numbers.{is_decimal, number_of, number_and_rest, three_numbers, ◌>>=◌ as ◌>?=◌}
+use Rattle.devices.specs.Texts.{Ahead, byte_at, run_at, line_at, available, past as beyond, ended}
+use Rattle.devices.specs.declared.text.Stop.{Stop}
+use Rattle.devices.proofs.Taking.{line_whole}
+use Rattle.captures.specs.Reference.{opening, last_connection, has_tiers, first_line, piece_line, end_line, tier_line, record_text, max_start, max_tick, max_piece_bytes, max_tier}
+use Rattle.captures.specs.Captures.{Past, Follows}
 use Rattle.captures.specs.declared.version.Version.{Version}
 use Rattle.captures.specs.declared.version.Version.TheVariants.{One, Two}
 use Rattle.captures.specs.CaptureFaults.{named, ◌>>=◌, kind_of, header_kind_of, start_heading, start_of, header_at, two_numbers, piece_heading, end_heading, tier_heading, stop_heading, heading_of, open_connection, allowed, body_at, piece_at, tier_record, record_at}

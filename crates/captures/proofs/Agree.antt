@@ -6,10 +6,11 @@ use Rattle.std.proofs.lemmas.List.{append_assoc, append-nil, length-append, get_
 use Rattle.std.proofs.lemmas.List.Elements.{All-head, All-tail, All-from_get_or}
 use Rattle.std.proofs.lemmas.List.Folds.{list_any_none}
 use Rattle.std.proofs.lemmas.Grind.{flat_map-append}
-use Rattle.paths.specs.Ascii.{line_feed}
-use Rattle.paths.specs.Texts.{Ahead}
-use Rattle.paths.proofs.Inverse.{ok_is}
-use Rattle.captures.specs.Captures.{Past, first_line, record_text, text_before_stop, max_text_bytes, max_start, is_end_of, is_use_of, connection_of, LetsFollow, tick_of, ticks_of, IsRecord, IsCapture, IsCaptureText, past_of, Follows}
+use Rattle.devices.specs.Reference.{line_feed}
+use Rattle.devices.specs.Texts.{Ahead}
+use Rattle.devices.proofs.Inverse.{ok_is}
+use Rattle.captures.specs.Reference.{first_line, record_text, text_before_stop, max_text_bytes, max_start, is_end_of, is_use_of, connection_of, LetsFollow, tick_of, ticks_of, IsRecord, IsCapture, IsCaptureText}
+use Rattle.captures.specs.Captures.{Past, past_of, Follows}
 use Rattle.captures.specs.declared.version.Version.{Version}
 use Rattle.captures.specs.CaptureFaults.{header_at, record_at, FaultsAfter, IsHeaderFault, IsFirstFault}
 use Rattle.captures.specs.declared.record.Record.{Record}

@@ -1,6 +1,6 @@
 -- What a caller of a reader concludes from an answer.
 use Rattle.std.proofs.Common.{◌≡◌, ℕ, true, List, [], ◌∷◌, ◌++◌, Option, Some, None, Ok, is_some, unwrap_or, inl, inr, subst, sym}
-use Rattle.captures.specs.Captures.{IsCaptureText}
+use Rattle.captures.specs.Reference.{IsCaptureText}
 use Rattle.captures.specs.declared.version.Version.{Version}
 use Rattle.captures.specs.CaptureFaults.{IsForeseen, IsHeaderFault, IsFaultAfter, IsFirstFault}
 use Rattle.captures.specs.Readers.{ReaderAfter, Gave}

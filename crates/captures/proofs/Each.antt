@@ -1,9 +1,10 @@
 -- Each text is a capture's, or has a first fault.
 use Rattle.std.proofs.Common.{◌≡◌, ℕ, suc, zero, ◌+◌, ◌-◌, ◌^◌, ◌<◌, ◌⊎◌, inl, inr, List, [], ◌∷◌, ◌++◌, length, Option, Some, None, Result, Ok, Err, refl, sym, ap, ◌∙◌, subst, arith, flat_map}
 use Rattle.std.proofs.lemmas.List.{append_assoc, append-nil, length-append, flat_map_more}
-use Rattle.paths.specs.Ascii.{line_feed}
-use Rattle.paths.specs.Texts.{Ahead}
-use Rattle.captures.specs.Captures.{first_line, record_text, text_before_stop, max_text_bytes, IsCapture, IsCaptureText, past_of}
+use Rattle.devices.specs.Reference.{line_feed}
+use Rattle.devices.specs.Texts.{Ahead}
+use Rattle.captures.specs.Reference.{first_line, record_text, text_before_stop, max_text_bytes, IsCapture, IsCaptureText}
+use Rattle.captures.specs.Captures.{past_of}
 use Rattle.captures.specs.declared.version.Version.{Version}
 use Rattle.captures.specs.CaptureFaults.{header_at, record_at, IsFirstFault}
 use Rattle.captures.specs.declared.record.Record.{Record}

@@ -8,10 +8,11 @@ use Rattle.std.proofs.lemmas.List.Quantifiers.{all_pairs_push}
 use Rattle.std.proofs.lemmas.List.Folds.{list_any_at}
 use Rattle.std.proofs.lemmas.List.Sums.{sum_by_push, sum_by-cons}
 use Rattle.std.proofs.lemmas.Grind.{flat_map-append}
-use Rattle.paths.specs.Ascii.{line_feed}
-use Rattle.paths.specs.Texts.{ahead_of}
-use Rattle.paths.proofs.Inverse.{TakesAhead}
-use Rattle.captures.specs.Captures.{Past, first_line, record_text, text_before_stop, max_text_bytes, max_start, is_end_of, is_use_of, connection_of, LetsFollow, tick_of, ticks_of, IsRecord, IsCapture, IsCaptureText, past_of, Follows, size_of, sizes_of}
+use Rattle.devices.specs.Reference.{line_feed}
+use Rattle.devices.specs.Texts.{ahead_of}
+use Rattle.devices.proofs.Inverse.{TakesAhead}
+use Rattle.captures.specs.Reference.{first_line, record_text, text_before_stop, max_text_bytes, max_start, is_end_of, is_use_of, connection_of, LetsFollow, tick_of, ticks_of, IsRecord, IsCapture, IsCaptureText}
+use Rattle.captures.specs.Captures.{Past, past_of, Follows, size_of, sizes_of}
 use Rattle.captures.specs.declared.version.Version.{Version}
 use Rattle.captures.specs.CaptureFaults.{header_at, record_at, is_unforeseen_kind, IsForeseen, IsFaultAfter}
 use Rattle.captures.specs.Readers.{seen, after, ReaderAfter}

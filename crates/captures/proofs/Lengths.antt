@@ -2,11 +2,11 @@
 use Rattle.std.proofs.Common.{◌≡◌, ℕ, ◌≤◌, cond, ◌&&◌, Bool, true, false, List, length, drop, Option, Some, None, Result, Ok, Err, refl, arith, codes, nat_eq}
 use Rattle.std.proofs.lemmas.List.{length-drop}
 use Rattle.std.specs.List.{starts_with}
-use Rattle.paths.specs.Numbers.{number_of, number_and_rest, three_numbers}
-use Rattle.paths.specs.Owed.{IsLong, GivesLongLine}
-use Rattle.paths.specs.declared.text.Stop.{Stop}
-use Rattle.paths.proofs.Pieces.{number_long, rest_long, three_long}
-use Rattle.captures.specs.Captures.{has_tiers}
+use Rattle.devices.specs.Numbers.{number_of, number_and_rest, three_numbers}
+use Rattle.devices.specs.LongLines.{IsLong, GivesLongLine}
+use Rattle.devices.specs.declared.text.Stop.{Stop}
+use Rattle.devices.proofs.Pieces.{number_long, rest_long, three_long}
+use Rattle.captures.specs.Reference.{has_tiers}
 use Rattle.captures.specs.CaptureFaults.{two_numbers, piece_heading, end_heading, tier_heading, stop_heading, heading_of}
 use Rattle.captures.specs.RecordLines.{GivesLine}
 use Rattle.captures.specs.declared.version.Version.{Version}

@@ -13,3 +13,4 @@ pub mod WritingLemmas
 pub mod UpgradeLemmas
 pub mod UpgradeLaws
 pub mod Lengths
+pub mod PassLemmas

@@ -3,13 +3,12 @@ use Rattle.std.proofs.Common.{◌≡◌, ℕ, ◌-◌, ◌^◌, ◌<◌, ◌≤�
 use Rattle.std.specs.List.{starts_with}
 use Rattle.std.proofs.lemmas.Bool.Decides.{nat_tests, Decides-eqb}
 use Rattle.std.proofs.lemmas.Slice.Eq.{starts_is}
-use Rattle.paths.specs.Ascii.{line_feed}
-use Rattle.paths.specs.Numbers.{number_of, number_and_rest, three_numbers}
-use Rattle.paths.specs.Numbers.{◌>>=◌ as ◌>?=◌}
-use Rattle.paths.specs.Texts.{Ahead, line_at}
-use Rattle.paths.specs.declared.text.Stop.{Stop}
-use Rattle.paths.proofs.Inverse.{TakesAhead, unless_ok, when_ok, ok_is, line_inverse, number_inverse, rest_inverse, three_inverse}
-use Rattle.captures.specs.Captures.{opening, last_connection, has_tiers, first_line, max_start}
+use Rattle.devices.specs.Reference.{line_feed}
+use Rattle.devices.specs.Numbers.{number_of, number_and_rest, three_numbers, ◌>>=◌ as ◌>?=◌}
+use Rattle.devices.specs.Texts.{Ahead, line_at}
+use Rattle.devices.specs.declared.text.Stop.{Stop}
+use Rattle.devices.proofs.Inverse.{TakesAhead, unless_ok, when_ok, ok_is, line_inverse, number_inverse, rest_inverse, three_inverse}
+use Rattle.captures.specs.Reference.{opening, last_connection, has_tiers, first_line, max_start}
 use Rattle.captures.specs.CaptureFaults.{named, ◌>>=◌, header_kind_of, start_heading, start_of, header_at, two_numbers, piece_heading, end_heading, tier_heading, stop_heading, heading_of, IsHeadingOf}
 use Rattle.captures.specs.declared.version.Version.{Version}
 use Rattle.captures.specs.declared.version.Version.TheVariants.{One, Two}

@@ -2,16 +2,17 @@
 use Rattle.std.proofs.Common.{◌≡◌, ℕ, ◌+◌, ◌-◌, ◌||◌, ◌&&◌, ◌⊎◌, inl, inr, cond, nat_lt, Bool, true, false, List, [], ◌∷◌, ◌++◌, length, drop, Option, Some, None, Result, Ok, Err, refl, sym, ap, ◌∙◌, subst, arith, codes, nat_eq, is_some, unwrap_or}
 use Rattle.std.specs.List.{starts_with}
 use Rattle.std.proofs.lemmas.List.{append_assoc}
-use Rattle.paths.specs.Ascii.{line_feed}
-use Rattle.paths.specs.Numbers.{number_of, three_numbers}
-use Rattle.paths.specs.Texts.{Ahead, ahead_of, byte_at, run_at, line_at}
-use Rattle.paths.specs.Parts.{TookPart}
-use Rattle.paths.specs.declared.text.Stop.{Stop}
-use Rattle.paths.specs.declared.text.Stop.TheVariants as stops
-use Rattle.paths.proofs.Taking.{Takes}
-use Rattle.paths.proofs.Inverse.{line_inverse}
-use Rattle.paths.proofs.PartLemmas.{none_after, part_after, no_byte, run_alone, run_takes, line_alone}
-use Rattle.captures.specs.Captures.{last_connection, has_tiers, Past, max_text_bytes, max_tick, max_tier, text_before_stop, past_of}
+use Rattle.devices.specs.Reference.{line_feed}
+use Rattle.devices.specs.Numbers.{number_of, three_numbers}
+use Rattle.devices.specs.Texts.{Ahead, ahead_of, byte_at, run_at, line_at}
+use Rattle.devices.specs.Parts.{TookPart}
+use Rattle.devices.specs.declared.text.Stop.{Stop}
+use Rattle.devices.specs.declared.text.Stop.TheVariants as stops
+use Rattle.devices.proofs.Taking.{Takes}
+use Rattle.devices.proofs.Inverse.{line_inverse}
+use Rattle.devices.proofs.PartLemmas.{none_after, part_after, no_byte, run_alone, run_takes, line_alone}
+use Rattle.captures.specs.Reference.{last_connection, has_tiers, max_text_bytes, max_tick, max_tier, text_before_stop}
+use Rattle.captures.specs.Captures.{Past, past_of}
 use Rattle.captures.specs.declared.version.Version.{Version}
 use Rattle.captures.specs.CaptureFaults.{kind_of, named, ◌>>=◌, two_numbers, piece_heading, end_heading, tier_heading, stop_heading, heading_of, open_connection, allowed, tier_record, body_at, announced, record_at, IsUnfinished, failures_of}
 use Rattle.captures.specs.Readers.{seen, ReaderAfter, FailsInRecord}

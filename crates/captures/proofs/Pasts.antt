@@ -4,7 +4,8 @@ use Rattle.std.specs.List.{list_any}
 use Rattle.std.proofs.lemmas.List.{append-nil, length_push, get_or_push}
 use Rattle.std.proofs.lemmas.List.Folds.{list_any-append}
 use Rattle.std.proofs.lemmas.Grind.{flat_map-append}
-use Rattle.captures.specs.Captures.{Past, past_of, last_of, ticks_of, tick_of, is_end_of, is_use_of}
+use Rattle.captures.specs.Reference.{last_of, ticks_of, tick_of, is_end_of, is_use_of}
+use Rattle.captures.specs.Captures.{Past, past_of}
 use Rattle.captures.specs.declared.record.Record.{Record}
 use Rattle.captures.specs.declared.record.Record.TheVariants.{Piece, End, Tier}
 use Rattle.captures.specs.Readers.{after}

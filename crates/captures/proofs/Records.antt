@@ -2,10 +2,11 @@
 use Rattle.std.proofs.Common.{◌≡◌, ℕ, ◌-◌, ◌^◌, ◌<◌, ◌≤◌, ◌==◌, ◌||◌, nat_lt, Bool, true, false, List, [], ◌∷◌, ◌++◌, length, Option, Some, None, Ok, refl, sym, ap, ◌∙◌, subst, arith, codes, decimal}
 use Rattle.std.proofs.lemmas.Bool.Decides.{nat_tests, Decides-eqb}
 use Rattle.std.proofs.lemmas.List.{append_assoc, append-nil, length-append}
-use Rattle.paths.specs.Ascii.{line_feed}
-use Rattle.paths.specs.Texts.{Ahead, line_at, run_at, byte_at}
-use Rattle.paths.proofs.Inverse.{TakesAhead, ahead_then, unless_ok, when_ok, ok_is, line_inverse, run_inverse, byte_takes}
-use Rattle.captures.specs.Captures.{last_connection, has_tiers, Past, piece_line, record_text, max_tick, max_piece_bytes, max_tier, size_of, Follows}
+use Rattle.devices.specs.Reference.{line_feed}
+use Rattle.devices.specs.Texts.{Ahead, line_at, run_at, byte_at}
+use Rattle.devices.proofs.Inverse.{TakesAhead, ahead_then, unless_ok, when_ok, ok_is, line_inverse, run_inverse, byte_takes}
+use Rattle.captures.specs.Reference.{last_connection, has_tiers, piece_line, record_text, max_tick, max_piece_bytes, max_tier}
+use Rattle.captures.specs.Captures.{Past, size_of, Follows}
 use Rattle.captures.specs.declared.version.Version.{Version}
 use Rattle.captures.specs.CaptureFaults.{kind_of, named, heading_of, IsHeadingOf, open_connection, allowed, body_at, piece_at, tier_record, close_at, announced, record_at}
 use Rattle.captures.specs.declared.record.Record.{Record}

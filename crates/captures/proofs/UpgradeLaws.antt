@@ -1,12 +1,12 @@
 -- What an upgraded text is.
 use Rattle.std.proofs.Common.{◌≡◌, ℕ, List, [], ◌∷◌, ◌++◌, length, get_or, refl, sym, ap, ◌∙◌, subst, arith, decimal, flat_map}
 use Rattle.std.proofs.lemmas.List.{length-append}
-use Rattle.paths.specs.Ascii.{line_feed}
+use Rattle.devices.specs.Reference.{line_feed}
 use Rattle.captures.specs.declared.version.Version.{Version}
 use Rattle.captures.specs.declared.version.Version.TheVariants.{One, Two}
 use Rattle.captures.specs.declared.record.Record.{Record}
 use Rattle.captures.specs.declared.record.Record.TheVariants.{Piece, End, Tier}
-use Rattle.captures.specs.Captures.{opening, first_line, last_line, record_text, text_before_stop, capture_text, IsRecord, IsCapture, IsCaptureText}
+use Rattle.captures.specs.Reference.{opening, first_line, last_line, record_text, text_before_stop, capture_text, IsRecord, IsCapture, IsCaptureText}
 use Rattle.captures.specs.Upgrades.{upgraded, IsUpgrade}
 use Rattle.captures.proofs.Lines.{few_connections}
 use Rattle.captures.proofs.Agree.{one_list}

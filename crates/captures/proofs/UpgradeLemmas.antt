@@ -1,11 +1,11 @@
 -- What an upgrade has written where it stops.
-use Rattle.std.proofs.Common.{◌≡◌, ℕ, ◌≤◌, ◌⊎◌, inl, inr, List, [], ◌∷◌, ◌++◌, length, Option, Some, None, Result, Ok, Err, refl, sym, ap, ◌∙◌, subst, arith, codes, decimal, unwrap_or, IfErr, OnOk, append-nil}
+use Rattle.std.proofs.Common.{◌≡◌, ℕ, ◌≤◌, ◌⊎◌, inl, inr, List, [], ◌∷◌, ◌++◌, length, Option, Some, None, Result, Ok, Err, refl, sym, ap, ◌∙◌, subst, arith, codes, decimal, IfErr, OnOk, append-nil}
 use Rattle.std.specs.Result.{IsErrAnd}
 use Rattle.std.specs.Io.KnownBytes.{Appends}
 use Rattle.std.proofs.lemmas.List.{flat_map_more}
-use Rattle.paths.proofs.Appending.{appends_then, prefix_then}
-use Rattle.paths.specs.Ascii.{line_feed}
-use Rattle.paths.specs.Devices.{AppendsPrefix, WritesPrefix}
+use Rattle.devices.proofs.Appending.{appends_then, prefix_then}
+use Rattle.devices.specs.Reference.{line_feed, WhereKnown}
+use Rattle.devices.specs.Devices.{AppendsPrefix, WritesPrefix}
 use Rattle.captures.specs.declared.version.Version.{Version}
 use Rattle.captures.specs.declared.version.Version.TheVariants.{Two}
 use Rattle.captures.specs.declared.record.Record.{Record}
@@ -15,11 +15,11 @@ use Rattle.captures.specs.declared.capture_fault.CaptureFaultKind.{CaptureFaultK
 use Rattle.captures.specs.declared.capture_fault.CaptureFaultKind.TheVariants as kinds
 use Rattle.captures.specs.declared.upgrade_fault.UpgradeFault.{UpgradeFault}
 use Rattle.captures.specs.declared.upgrade_fault.UpgradeFault.TheVariants.{Capture, Memory, Write as Unwritten}
-use Rattle.paths.specs.KnownText.{WhereKnown}
-use Rattle.captures.specs.Captures.{first_line, last_line, record_text, text_before_stop, max_text_bytes, IsCapture, IsCaptureText}
+use Rattle.captures.specs.Reference.{first_line, last_line, record_text, text_before_stop, max_text_bytes, IsCapture, IsCaptureText}
 use Rattle.captures.specs.CaptureFaults.{IsForeseen, IsHeaderFault, failures_of}
 use Rattle.captures.specs.Readers.{ReaderAfter, Gave, FailsFirst, FailsNext}
-use Rattle.captures.specs.Upgrades.{Upgrades, Reads, Stops, IsCutShort, told_as, upgrade_fault, IfCapture, IfCutShort, IsWriteOrMemory, reader_failures, writer_failures}
+use Rattle.captures.proofs.PassLemmas.{reads_of, faults_next}
+use Rattle.captures.specs.Upgrades.{Upgrades, Stops, IsCutShort, Leaves, told_as, upgrade_fault, IsWriteOrMemory, reader_failures, writer_failures}
 
 -- ---- what is told of a capture's fault
 
@@ -42,29 +42,18 @@ tells f = go f.kind refl
     go kinds.Read e = inr ((λ m. let x : kinds.Read ≡ kinds.Memory = sym e ∙ m in absurd cc), refl)
     go kinds.Memory e = inl (e, refl)
 
-pub told : (f : CaptureFault) (P : CaptureFault → Type 0) → P f → IfCapture (upgrade_fault f) P
-told f P h = elim (tells f) [
-  | inl m ↦ subst (λ (u : UpgradeFault). IfCapture u P) (sym m.1) tt
-  | inr c ↦ subst (λ (u : UpgradeFault). IfCapture u P) (sym c.1) h
-]
-
-pub told_short : (f : CaptureFault) (P : Type 0) → P → IfCutShort (upgrade_fault f) P
-told_short f P h = elim (tells f) [
-  | inl m ↦ subst (λ (u : UpgradeFault). IfCutShort u P) (sym m.1) h
-  | inr c ↦ subst (λ (u : UpgradeFault). IfCutShort u P) (sym c.1) tt
+-- what stands where the capture has a fault: what is due there, or else a prefix of what is due
+pub leaves_told : (input ahead old new : Option (List ℕ)) (f : CaptureFault) → Stops input ahead old new f → IsCutShort input old new → Leaves input ahead old new (upgrade_fault f)
+leaves_told input ahead old new f stops cut = elim (tells f) [
+  | inl m ↦ subst (λ (u : UpgradeFault). Leaves input ahead old new u) (sym m.1) cut
+  | inr c ↦ subst (λ (u : UpgradeFault). Leaves input ahead old new u) (sym c.1) (c.0, stops)
 ]
 
 -- where memory can't have run out
-pub told_unless : (f : CaptureFault) (P : Type 0) → (f.kind ≡ kinds.Memory → ⊥) → IfCutShort (upgrade_fault f) P
-told_unless f P h = elim (tells f) [
-  | inl m ↦ absurd (h m.0)
-  | inr c ↦ subst (λ (u : UpgradeFault). IfCutShort u P) (sym c.1) tt
-]
-
-pub told_memory : (f : CaptureFault) → IfCapture (upgrade_fault f) (λ g. g.kind ≡ kinds.Memory → ⊥)
-told_memory f = elim (tells f) [
-  | inl m ↦ subst (λ (u : UpgradeFault). IfCapture u (λ g. g.kind ≡ kinds.Memory → ⊥)) (sym m.1) tt
-  | inr c ↦ subst (λ (u : UpgradeFault). IfCapture u (λ g. g.kind ≡ kinds.Memory → ⊥)) (sym c.1) c.0
+pub leaves_first : (input ahead old new : Option (List ℕ)) (f : CaptureFault) → Stops input ahead old new f → (f.kind ≡ kinds.Memory → ⊥) → Leaves input ahead old new (upgrade_fault f)
+leaves_first input ahead old new f stops other = elim (tells f) [
+  | inl m ↦ absurd (other m.0)
+  | inr c ↦ subst (λ (u : UpgradeFault). Leaves input ahead old new u) (sym c.1) (c.0, stops)
 ]
 
 pub told_reads : (f : CaptureFault) → reader_failures (upgrade_fault f) ≡ failures_of f.kind
@@ -78,20 +67,15 @@ told_writes f = elim (tells f) [ inl m ↦ ap writer_failures m.1 | inr c ↦ ap
 
 -- ---- what is said of the call's own faults
 
-pub own_capture : (f : UpgradeFault) (P : CaptureFault → Type 0) → IsWriteOrMemory f → IfCapture f P
-own_capture (Capture f) P h = absurd h
-own_capture Unwritten P h = tt
-own_capture Memory P h = tt
+pub own_leaves : (input ahead old new : Option (List ℕ)) (f : UpgradeFault) → IsWriteOrMemory f → IsCutShort input old new → Leaves input ahead old new f
+own_leaves input ahead old new (Capture f) h cut = absurd h
+own_leaves input ahead old new Unwritten h cut = cut
+own_leaves input ahead old new Memory h cut = cut
 
 pub own_reads : (f : UpgradeFault) → IsWriteOrMemory f → reader_failures f ≡ 0
 own_reads (Capture f) h = absurd h
 own_reads Unwritten h = refl
 own_reads Memory h = refl
-
-pub short : (f : UpgradeFault) (P : Type 0) → P → IfCutShort f P
-short (Capture f) P h = tt
-short Unwritten P h = h
-short Memory P h = h
 
 -- a fault that `?` has passed on
 pub passed_on : {T : Type 0} (r : Result T UpgradeFault) (Q P : UpgradeFault → Type 0) → ((f : UpgradeFault) → Q f → P f) → IsErrAnd r Q → IfErr r P
@@ -137,35 +121,17 @@ more_prefix start records r old mid new before h =
 -- ---- where it stops
 
 pub stops_first : (text ahead old : Option (List ℕ)) (f : CaptureFault) → f.at ≡ 0 → IsForeseen IsHeaderFault text f → FailsFirst text f ahead → Stops text ahead old old f
-stops_first text ahead old f at h failed = inl (record { at = at; written = refl; fault = λ foreseen known. h known foreseen; failed = failed })
-
-reads_of : (v : Version) (text now : Option (List ℕ)) (start : ℕ) (records : List Record) (p : Progress) → ReaderAfter v text start records p now → Reads text
-reads_of v text now start records p fits = record {
-  version = v;
-  start = start;
-  records = records;
-  rest = unwrap_or now [];
-  rules = fits.rules;
-  begins = fits.taken;
-  size = λ known. let l = fits.left known in omega arith;
-}
+stops_first text ahead old f at h failed = inl (record { at = at; fault = λ foreseen known. h known foreseen; failed = failed }, refl)
 
 pub stops_after : (v : Version) (text now ahead old new : Option (List ℕ)) (start : ℕ) (records : List Record) (p q : Progress) (f : CaptureFault) → ReaderAfter v text start records p now
     → Appends old new (text_before_stop Two start records) → Gave v text start records (Err f) q ahead → FailsNext v text start records (Err f) ahead
     → Stops text ahead old new f
-unfolding reads_of
-stops_after v text now ahead old new start records p q f fits written gave fails = inr (record {
-  reads = reads_of v text now start records p fits;
-  at = gave.0;
-  written = written;
-  fault = λ foreseen known. gave.1 known foreseen;
-  failed = fails;
-})
+stops_after v text now ahead old new start records p q f fits written gave fails =
+    inr (reads_of v text now start records p fits, faults_next v text now ahead start records p q f fits gave fails, written)
 
 pub short_among : (v : Version) (text now old new : Option (List ℕ)) (start : ℕ) (records : List Record) (p : Progress) → ReaderAfter v text start records p now
     → AppendsPrefix old new (text_before_stop Two start records) → IsCutShort text old new
-unfolding reads_of
-short_among v text now old new start records p fits written = inl (record { reads = reads_of v text now start records p fits; written = written })
+short_among v text now old new start records p fits written = inl (reads_of v text now start records p fits, written)
 
 -- the end was met
 pub all_read : (v : Version) (text now : Option (List ℕ)) (start : ℕ) (records : List Record) (p : Progress) (x : Option Record) → x ≡ None → Gave v text start records (Ok x) p now
@@ -178,24 +144,16 @@ counted n records e = ap (λ m. (codes "stop " ++ decimal m) ++ line_feed ∷ []
 short_end : (v : Version) (text old mid new : Option (List ℕ)) (start n : ℕ) (records : List Record) → n ≡ length records → IsCapture v start records
     → WhereKnown text (λ bytes. IsCaptureText v bytes start records)
     → Appends old mid (text_before_stop Two start records) → AppendsPrefix mid new ((codes "stop " ++ decimal n) ++ line_feed ∷ []) → IsCutShort text old new
-short_end v text old mid new start n records is rules c before h = inr (record {
-  version = v;
-  start = start;
-  records = records;
-  rules = rules;
-  capture = c;
-  written = prefix_then old mid new (text_before_stop Two start records) (last_line records ++ line_feed ∷ []) before (subst (λ (w : List ℕ). AppendsPrefix mid new w) (counted n records is) h);
-})
+short_end v text old mid new start n records is rules c before h = inr (
+  record { version = v; start = start; records = records; rules = rules; text = c },
+  prefix_then old mid new (text_before_stop Two start records) (last_line records ++ line_feed ∷ []) before (subst (λ (w : List ℕ). AppendsPrefix mid new w) (counted n records is) h),
+)
 
 whole : (v : Version) (text old mid new : Option (List ℕ)) (start n : ℕ) (records : List Record) → n ≡ length records → IsCapture v start records
     → WhereKnown text (λ bytes. IsCaptureText v bytes start records)
     → Appends old mid (text_before_stop Two start records) → Appends mid new ((codes "stop " ++ decimal n) ++ line_feed ∷ []) → Upgrades text old new
 whole v text old mid new start n records is rules c before h = record {
-  version = v;
-  start = start;
-  records = records;
-  rules = rules;
-  capture = c;
+  capture = record { version = v; start = start; records = records; rules = rules; text = c };
   written = appends_then old mid new (text_before_stop Two start records) (last_line records ++ line_feed ∷ []) before (subst (λ (w : List ℕ). Appends mid new w) (counted n records is) h);
 }
 
@@ -203,21 +161,12 @@ whole v text old mid new start n records is rules c before h = record {
 pub moved : (X : Option (List ℕ) → Type 0) (a b : Option (List ℕ)) → X b → a ≡ b → X a
 moved X a b h e = subst X (sym e) h
 
--- a fault of the call itself
-pub own_errs : (r : Result Unit UpgradeFault) (P : CaptureFault → Type 0) → IfErr r IsWriteOrMemory → IfErr r (λ f. IfCapture f P)
-own_errs (Ok x) P h = tt
-own_errs (Err f) P h = own_capture f P h
-
-pub short_errs : (r : Result Unit UpgradeFault) (P : Type 0) → P → IfErr r (λ f. IfCutShort f P)
-short_errs (Ok x) P h = tt
-short_errs (Err f) P h = short f P h
-
 -- the last line was written, or a prefix of it
-pub part_end : (r : Result Unit UpgradeFault) (v : Version) (text old mid new : Option (List ℕ)) (start n : ℕ) (records : List Record) → n ≡ length records → IsCapture v start records
+pub part_end : (r : Result Unit UpgradeFault) (v : Version) (text ahead old mid new : Option (List ℕ)) (start n : ℕ) (records : List Record) → n ≡ length records → IsCapture v start records
     → Appends old mid (text_before_stop Two start records) → WhereKnown text (λ bytes. IsCaptureText v bytes start records) → WritesPrefix mid new r ((codes "stop " ++ decimal n) ++ line_feed ∷ [])
-    → IfErr r (λ f. IfCutShort f (IsCutShort text old new))
-part_end (Ok x) v text old mid new start n records is rules before c h = tt
-part_end (Err f) v text old mid new start n records is rules before c h = short f _ (short_end v text old mid new start n records is rules c before h)
+    → IfErr r IsWriteOrMemory → IfErr r (Leaves text ahead old new)
+part_end (Ok x) v text ahead old mid new start n records is rules before c h own = tt
+part_end (Err f) v text ahead old mid new start n records is rules before c h own = own_leaves text ahead old new f own (short_end v text old mid new start n records is rules c before h)
 
 pub ok_end : (r : Result Unit UpgradeFault) (v : Version) (text old mid new : Option (List ℕ)) (start n : ℕ) (records : List Record) → n ≡ length records → IsCapture v start records
     → Appends old mid (text_before_stop Two start records) → WhereKnown text (λ bytes. IsCaptureText v bytes start records) → WritesPrefix mid new r ((codes "stop " ++ decimal n) ++ line_feed ∷ [])

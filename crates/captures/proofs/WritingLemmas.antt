@@ -1,8 +1,8 @@
 -- A record is its line and what comes after it.
 use Rattle.std.proofs.Common.{◌≡◌, [], ◌∷◌, ◌++◌, length, sym, append-nil}
 use Rattle.std.proofs.lemmas.List.{append_assoc}
-use Rattle.paths.specs.Ascii.{line_feed}
-use Rattle.captures.specs.Captures.{piece_line, record_text}
+use Rattle.devices.specs.Reference.{line_feed}
+use Rattle.captures.specs.Reference.{piece_line, record_text}
 use Rattle.captures.specs.Writing.{line_of, rest_of}
 use Rattle.captures.specs.declared.record.Record.{Record}
 use Rattle.captures.specs.declared.record.Record.TheVariants.{Piece, End, Tier}

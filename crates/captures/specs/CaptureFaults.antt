@@ -1,17 +1,17 @@
 -- How a capture text is read, record by record, and its first fault.
 use Rattle.std.specs.Prelude.{◌≡◌, ℕ, ◌+◌, ◌-◌, ◌≤◌, ◌==◌, ◌||◌, ◌&&◌, ◌⊎◌, Bool, true, false, List, [], ◌++◌, drop}
-use Rattle.std.specs.Prelude.{length, Option, Some, None, Result, Ok, Err, codes, nat_eq, nat_lt}
-use Rattle.std.specs.Prelude.{if◌then◌else◌, is_some, unwrap_or}
+use Rattle.std.specs.Prelude.{length, Option, Some, None, Result, Ok, Err, codes, nat_eq, nat_lt, if◌then◌else◌}
+use Rattle.std.specs.Prelude.{is_some, unwrap_or}
 use Rattle.std.specs.List.{starts_with}
-use Rattle.paths.specs.Ascii.{line_feed}
-use Rattle.paths.specs.Devices.{CountsBy}
-use Rattle.paths.specs.Numbers.{number_of, number_and_rest, three_numbers}
-use Rattle.paths.specs.Numbers.{◌>>=◌ as ◌>?=◌}
-use Rattle.paths.specs.Texts.{Ahead, line_at, run_at, byte_at}
-use Rattle.paths.specs.declared.text.Stop.{Stop}
-use Rattle.paths.specs.declared.text.Stop.TheVariants as stops
-use Rattle.captures.specs.Captures.{opening, last_connection, has_tiers, max_start, max_tick, max_piece_bytes}
-use Rattle.captures.specs.Captures.{max_text_bytes, max_tier, Past, past_of, text_before_stop, IsCapture}
+use Rattle.devices.specs.Reference.{line_feed}
+use Rattle.devices.specs.Devices.{CountsBy}
+use Rattle.devices.specs.Numbers.{number_of, number_and_rest, three_numbers, ◌>>=◌ as ◌>?=◌}
+use Rattle.devices.specs.Texts.{Ahead, line_at, run_at, byte_at}
+use Rattle.devices.specs.declared.text.Stop.{Stop}
+use Rattle.devices.specs.declared.text.Stop.TheVariants as stops
+use Rattle.captures.specs.Reference.{opening, last_connection, has_tiers, max_start, max_tick, max_piece_bytes}
+use Rattle.captures.specs.Reference.{max_text_bytes, max_tier, text_before_stop, IsCapture}
+use Rattle.captures.specs.Captures.{Past, past_of}
 use Rattle.captures.specs.declared.version.Version.{Version}
 use Rattle.captures.specs.declared.version.Version.TheVariants.{One, Two}
 use Rattle.captures.specs.declared.record.Record.{Record}

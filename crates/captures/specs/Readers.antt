@@ -1,10 +1,10 @@
 -- A reader of a capture, which gives record after record.
 use Rattle.std.specs.Prelude.{◌≡◌, ℕ, ◌+◌, ◌-◌, ◌≤◌, ◌/◌, ◌%◌, Bool, true, ◌||◌, ◌==◌, List, [], ◌∷◌, ◌++◌, length}
-use Rattle.std.specs.Prelude.{Option, Some, None, Result, Ok, Err, IfErr, slice_index_or, is_some}
-use Rattle.std.specs.Prelude.{unwrap_or}
+use Rattle.std.specs.Prelude.{Option, Some, None, Result, Ok, Err, IfErr, slice_index_or, is_some, unwrap_or}
 use Rattle.std.specs.Int.{bit_at}
-use Rattle.paths.specs.Devices.{CountsBy}
-use Rattle.captures.specs.Captures.{Past, past_of, max_text_bytes, text_before_stop, IsCapture, IsCaptureText, sizes_of}
+use Rattle.devices.specs.Devices.{CountsBy}
+use Rattle.captures.specs.Reference.{max_text_bytes, text_before_stop, IsCapture, IsCaptureText}
+use Rattle.captures.specs.Captures.{Past, past_of, sizes_of}
 use Rattle.captures.specs.CaptureFaults.{IsFaultAfter, IsForeseen, IsUnfinished, header_at, record_at, failures_of}
 use Rattle.captures.specs.declared.version.Version.{Version}
 use Rattle.captures.specs.declared.record.Record.{Record}

@@ -1,7 +1,7 @@
 -- The line of a record, as it is read: what it owes is read at once.
 use Rattle.std.specs.Prelude.{◌≡◌, ℕ, true, false, List, Option, Result, Ok, Err, MatchResult, is_some}
-use Rattle.paths.specs.Texts.{Ahead, ahead_of, line_at, is_unforeseen}
-use Rattle.paths.specs.declared.text.Stop.{Stop}
+use Rattle.devices.specs.Texts.{Ahead, ahead_of, line_at, is_unforeseen}
+use Rattle.devices.specs.declared.text.Stop.{Stop}
 use Rattle.captures.specs.CaptureFaults.{heading_of}
 use Rattle.captures.specs.declared.version.Version.{Version}
 use Rattle.captures.specs.declared.heading.Heading.{Heading}

@@ -1,6 +1,6 @@
 -- What a reader of a capture shows in contracts.
 use Rattle.std.specs.Prelude.{ℕ}
-use Rattle.paths.specs.Devices.{Device}
+use Rattle.devices.specs.Devices.{Device}
 use Rattle.captures.specs.declared.progress.Progress.{Progress}
 use Rattle.captures.specs.declared.reader.CaptureReader.{CaptureReader}
 

@@ -1,7 +1,7 @@
 -- The text of a record in the two parts in which it is written.
 use Rattle.std.specs.Prelude.{ℕ, List, [], ◌∷◌, ◌++◌, length}
-use Rattle.paths.specs.Ascii.{line_feed}
-use Rattle.captures.specs.Captures.{piece_line, end_line, tier_line}
+use Rattle.devices.specs.Reference.{line_feed}
+use Rattle.captures.specs.Reference.{piece_line, end_line, tier_line}
 use Rattle.captures.specs.declared.record.Record.{Record}
 use Rattle.captures.specs.declared.record.Record.TheVariants.{Piece, End, Tier}
 

@@ -3,7 +3,7 @@
 ghost use Rattle.std.specs.Prelude.{◌≡◌, ◌≤◌, length};
 ghost use Rattle.captures.specs.CaptureFaults.{kind_name};
 
-use paths::Stop;
+use devices::Stop;
 use std::error::Error;
 use std::fmt;
 

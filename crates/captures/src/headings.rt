@@ -1,12 +1,12 @@
 //! Reading the first line and the lines that announce records.
 
 ghost use Rattle.std.specs.Prelude.{◌≡◌};
-ghost use Rattle.paths.specs.Numbers.{number_of};
+ghost use Rattle.devices.specs.Numbers.{number_of};
 ghost use Rattle.captures.specs.CaptureFaults.{two_numbers, heading_of, start_heading, start_of};
 
 use crate::heading::{EndLine, Heading, PieceLine, TierLine};
 use crate::{CaptureFaultKind, Version};
-use paths::{number, number_and_rest, three_numbers};
+use devices::{number, number_and_rest, three_numbers};
 
 /// The latest start of a capture, in seconds since 1970-01-01.
 const MAX_START: u64 = 4_102_444_800;

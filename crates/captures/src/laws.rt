@@ -1,6 +1,6 @@
 //! What holds of each capture text, whoever reads it.
 ghost use Rattle.std.specs.Prelude.{◌≡◌, ℕ, List, ◌⊎◌};
-ghost use Rattle.captures.specs.Captures.{IsCapture, IsCaptureText};
+ghost use Rattle.captures.specs.Reference.{IsCapture, IsCaptureText};
 ghost use Rattle.captures.specs.Upgrades.{upgraded, IsUpgrade};
 ghost use Rattle.captures.specs.declared.version.Version.TheVariants.{One, Two};
 ghost use Rattle.captures.specs.CaptureFaults.{IsFirstFault};

@@ -2,8 +2,9 @@
 
 ghost use Rattle.std.specs.Prelude.{◌≡◌, ◌+◌, ◌<◌, ◌≤◌, ◌-◌, ◌^◌, [], ℕ, List, Option, IfNone, IfOk, IfErr, IfSome};
 ghost use Rattle.std.specs.Prelude.{◌≢◌};
-ghost use Rattle.paths.specs.Devices.{CanFail};
-ghost use Rattle.captures.specs.Captures.{IsRecord, size_of};
+ghost use Rattle.devices.specs.Devices.{CanFail};
+ghost use Rattle.captures.specs.Reference.{IsRecord};
+ghost use Rattle.captures.specs.Captures.{size_of};
 ghost use Rattle.captures.specs.CaptureFaults.{IsForeseen, IsHeaderFault, IsFaultAfter, CountsFault, CountsKind};
 ghost use Rattle.captures.specs.Readers.{ReaderAfter, Gave, GaveKind, FailsNext, FailsNextKind, stage_after, Repeats};
 ghost use Rattle.captures.specs.Readers.{CountsNext, FailsFirst};
@@ -13,7 +14,7 @@ ghost use Rattle.captures.specs.declared.version.Version.{Version as AVersion};
 use crate::reading::{read_header, read_record};
 use crate::so_far::SoFar;
 use crate::{CaptureFault, CaptureFaultKind, Record, Version};
-use paths::Input;
+use devices::Input;
 use std::alloc::Global;
 use std::io::Read;
 

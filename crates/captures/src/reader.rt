@@ -2,9 +2,10 @@
 
 ghost use Rattle.std.specs.Prelude.{◌≡◌, ◌+◌, ◌<◌, ◌≤◌, ◌-◌, ◌^◌, [], ℕ, List, Option, IfOk, IfErr, IfSome, ◌≢◌};
 ghost use Rattle.std.specs.Borrow.{sem, RestsIfErr};
-ghost use Rattle.paths.specs.Devices.{CanFail};
-ghost use Rattle.paths.specs.contracts.device.Input.{the_row};
-ghost use Rattle.captures.specs.Captures.{IsRecord, size_of};
+ghost use Rattle.devices.specs.Devices.{CanFail};
+ghost use Rattle.devices.specs.contracts.device.Input.{the_row};
+ghost use Rattle.captures.specs.Reference.{IsRecord};
+ghost use Rattle.captures.specs.Captures.{size_of};
 ghost use Rattle.captures.specs.CaptureFaults.{IsForeseen, IsHeaderFault, CountsFault};
 ghost use Rattle.captures.specs.Readers.{ReaderAfter, Gave, FailsFirst, FailsNext, stage_after, Repeats, CountsNext};
 ghost use Rattle.captures.specs.declared.record.Record.{Record as ARecord};
@@ -12,7 +13,7 @@ ghost use Rattle.captures.specs.declared.version.Version.{Version as AVersion};
 
 use crate::progress::Progress;
 use crate::{CaptureFault, CaptureFaultKind, Record, Version};
-use paths::Input;
+use devices::Input;
 use std::alloc::Global;
 use std::io::Read;
 

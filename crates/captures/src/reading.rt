@@ -1,10 +1,11 @@
 //! Reading a record by the line that announces it.
 
 ghost use Rattle.std.specs.Prelude.{◌≡◌, ◌<◌, ◌≤◌, ◌-◌, ◌^◌, length, IfOk, IfErr, IfSome, ◌≢◌};
-ghost use Rattle.paths.specs.Devices.{CanFail};
-ghost use Rattle.paths.specs.Texts.{Counts, Gives, line_at};
-ghost use Rattle.paths.specs.Parts.{FailsAtOnce, FailsAfter, FailsWithin};
-ghost use Rattle.captures.specs.Captures.{Follows, max_start};
+ghost use Rattle.devices.specs.Devices.{CanFail};
+ghost use Rattle.devices.specs.Texts.{Counts, Gives, line_at};
+ghost use Rattle.devices.specs.Parts.{FailsAtOnce, FailsAfter, FailsWithin};
+ghost use Rattle.captures.specs.Reference.{max_start};
+ghost use Rattle.captures.specs.Captures.{Follows};
 ghost use Rattle.captures.specs.CaptureFaults.{CountsKind, IsUnfinished, IsHeadingOf, is_unforeseen_kind, header_at};
 ghost use Rattle.captures.specs.CaptureFaults.{body_at, piece_at, close_at, announced, record_at};
 ghost use Rattle.captures.specs.Readers.{seen};
@@ -14,7 +15,7 @@ use crate::heading::{Heading, PieceLine};
 use crate::headings::{read_heading, read_start};
 use crate::so_far::SoFar;
 use crate::{CaptureFaultKind, Record, Version};
-use paths::{Bytes, Input, Line, Stop, read_byte_of, read_line, read_long_line, read_run};
+use devices::{Bytes, Input, Line, Stop, read_byte_of, read_line, read_long_line, read_run};
 use std::alloc::Global;
 use std::io::Read;
 

@@ -3,7 +3,7 @@
 ghost use Rattle.std.specs.Prelude.{◌≡◌};
 ghost use Rattle.captures.specs.Captures.{size_of};
 
-use paths::Bytes;
+use devices::Bytes;
 
 /// A record of a capture: something that came in on a connection, or its tier.
 #[derive(Debug, Drop)]

@@ -2,14 +2,14 @@
 
 ghost use Rattle.std.specs.Prelude.{◌≡◌, ◌<◌, ◌-◌, ◌^◌, ◌++◌, ◌∷◌, [], codes, decimal, IfOk, IfErr};
 ghost use Rattle.std.specs.String.{string_bytes};
-ghost use Rattle.paths.specs.Devices.{CanFail, CountsBy, WritesPrefix};
-ghost use Rattle.captures.specs.Captures.{first_line, piece_line, record_text};
+ghost use Rattle.devices.specs.Devices.{CanFail, CountsBy, WritesPrefix};
+ghost use Rattle.captures.specs.Reference.{first_line, piece_line, record_text};
 ghost use Rattle.captures.specs.Upgrades.{writer_failures, IsWriteOrMemory};
 ghost use Rattle.captures.specs.Writing.{line_of, rest_of};
 ghost use Rattle.captures.specs.declared.version.Version.TheVariants.{Two};
 
 use crate::{Record, UpgradeFault};
-use paths::Output;
+use devices::Output;
 use std::alloc::{AllocError, Global};
 use std::io::Write;
 

@@ -3,7 +3,7 @@
 ghost use Rattle.std.specs.Prelude.{◌≡◌};
 
 use crate::{CaptureFault, CaptureFaultKind};
-use paths::Failed;
+use devices::Failed;
 use std::alloc::AllocError;
 use thiserror::Error;
 

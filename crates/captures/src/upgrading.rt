@@ -1,13 +1,12 @@
 //! A capture of either version becomes one of version 2.
 
-ghost use Rattle.std.specs.Prelude.{◌≡◌, ◌≢◌, ◌<◌, ◌-◌, ◌^◌, OnOk, IfErr};
-ghost use Rattle.paths.specs.Devices.{CanFail, CountsBy};
-ghost use Rattle.captures.specs.Upgrades.{Upgrades, Stops, IsCutShort, IfCapture, IfCutShort};
-ghost use Rattle.captures.specs.Upgrades.{reader_failures, writer_failures};
+ghost use Rattle.std.specs.Prelude.{◌<◌, ◌-◌, ◌^◌, OnOk, IfErr};
+ghost use Rattle.devices.specs.Devices.{CanFail, CountsBy};
+ghost use Rattle.captures.specs.Upgrades.{Upgrades, Leaves, reader_failures, writer_failures};
 
 use crate::record_writer::{write_first_line, write_last_line, write_record};
 use crate::{CaptureFaultKind, CaptureReader, UpgradeFault};
-use paths::{Input, Output};
+use devices::{Input, Output};
 use std::alloc::Global;
 use std::io::{Read, Write};
 
@@ -27,14 +26,8 @@ pub fn upgrade<R: Read, W: Write>(
     requires reading { CanFail reader.old }
     requires writing { CanFail writer.old }
     ensures ok { OnOk result (Upgrades reader.old.bytes writer.old.bytes writer.new.bytes) }
-    // After a capture's fault, the first line and the whole records before it stand.
-    ensures stops { IfErr result
-        (λ f. IfCapture f (Stops reader.old.bytes reader.new.bytes writer.old.bytes writer.new.bytes)) }
-    // After a failed write and out of memory, a prefix of what was due stands.
-    ensures part { IfErr result
-        (λ f. IfCutShort f (IsCutShort reader.old.bytes writer.old.bytes writer.new.bytes)) }
-    // Out of memory has a name of its own.
-    ensures memory { IfErr result (λ f. IfCapture f (λ fault. fault.kind ≢ CaptureFaultKind.Memory)) }
+    // After a capture's fault, the first line and the whole records before it stand; else a prefix of what was due.
+    ensures fault { IfErr result (Leaves reader.old.bytes reader.new.bytes writer.old.bytes writer.new.bytes) }
     // A device is blamed only where it failed in this call.
     ensures reads { CountsBy reader_failures reader.old.failures reader.new.failures result }
     ensures writes { CountsBy writer_failures writer.old.failures writer.new.failures result }

@@ -1,7 +1,7 @@
 //! The two versions of the format, and in what they differ.
 
 ghost use Rattle.std.specs.Prelude.{◌≡◌};
-ghost use Rattle.captures.specs.Captures.{has_tiers, last_connection};
+ghost use Rattle.captures.specs.Reference.{has_tiers, last_connection};
 
 /// A version of the capture format, as the first line of a capture names it.
 #[derive(Clone, Copy, Debug, PartialEq, Eq)]

@@ -1,7 +1,7 @@
 //! What no clause says: that the definitions mean what the rules say, and that calls succeed.
 use crate::tests::collecting::collect;
 use captures::{CaptureFault, CaptureFaultKind, Record};
-use paths::Input;
+use devices::Input;
 use std::alloc::Global;
 
 mod collecting;

@@ -73,9 +73,9 @@ settings_command =
     with_rule (new_app (codes "settings"))
     (option_of (codes "settings"))
 
--- the program, which wants one of its subcommands; the words are those after its name
+-- the program, which wants one of its subcommands or tells its version; the words are those after its name
 abbrev pub program_of : App → App
-program_of a = record a { top = record a.top { no_binary_name = true; subcommand_required = true } }
+program_of a = record a { top = record a.top { no_binary_name = true; subcommand_required = true; has_version = true } }
 
 unfoldable pub command_line : App
 command_line =

@@ -9,6 +9,9 @@ ghost use Rattle.command_line.specs.CommandLine.{replay_command, settings_comman
 use clap::{Arg, ArgAction, Command};
 use std::alloc::{AllocError, Global};
 
+/// The version of the program and of its package.
+const VERSION: &str = "1.0.0";
+
 /// What help says after the commands.
 const PROGRAM_NOTES: &str =
     "Without a command, a snapshot directly followed by a capture is read from standard
@@ -88,6 +91,7 @@ pub(crate) fn command_line<'a>(alloc: Global) -> Result<Command<'a>, AllocError>
         .bin_name("haboob")?
         .no_binary_name(true)
         .subcommand_required(true)
+        .version(VERSION)
         .about("Answers recorded requests for the files of a site, and reports the load.")
         .after_help(PROGRAM_NOTES)
         .subcommand(replay)?

@@ -73,6 +73,8 @@ static FILE_OF_SETTINGS: [&str; 2] = ["settings", "t"];
 
 static HELP: [&str; 1] = ["--help"];
 
+static VERSION: [&str; 1] = ["--version"];
+
 static REPLAY_HELP: [&str; 2] = ["replay", "--help"];
 
 static UPGRADE_HELP: [&str; 2] = ["upgrade", "--help"];
@@ -216,7 +218,8 @@ Commands:
   help      Print this message or the help of the given subcommand(s)
 
 Options:
-  -h, --help  Print help
+  -h, --help     Print help
+  -V, --version  Print version
 
 Without a command, a snapshot directly followed by a capture is read from standard
 input, and the replies are written to standard output, with default settings.
@@ -384,6 +387,7 @@ For more information, try '--help'.
 fn texts(rt: HostRuntime) -> Result<(), Fail> {
     let cases = [
         (HELP.as_slice(), HELP_TEXT),
+        (VERSION.as_slice(), "haboob 1.0.0\n"),
         (REPLAY_HELP.as_slice(), REPLAY_HELP_TEXT),
         (UPGRADE_HELP.as_slice(), UPGRADE_HELP_TEXT),
         (SNAPSHOT_HELP.as_slice(), SNAPSHOT_HELP_TEXT),

@@ -2,7 +2,8 @@
 
 ghost use Rattle.std.specs.Prelude.{◌≡◌, ◌≤◌, true, false, IfOk, IfErr};
 ghost use Rattle.paths.specs.Snapshots.{max_file_bytes};
-ghost use Rattle.cost_model.specs.Services.{is_in_range, bytes_cost, service, longest_service};
+ghost use Rattle.cost_model.specs.Reference.{bytes_cost, service};
+ghost use Rattle.cost_model.specs.Services.{is_in_range, longest_service};
 
 use crate::MAX_COST;
 use paths::Outcome;
@@ -26,7 +27,8 @@ pub struct Costs {
 
 impl Model for Costs {
     ghost use Rattle.std.specs.Prelude.{◌≡◌, true};
-    ghost use Rattle.cost_model.specs.Services.{CostTable, is_in_range};
+    ghost use Rattle.cost_model.specs.Reference.{CostTable};
+    ghost use Rattle.cost_model.specs.Services.{is_in_range};
 
     ghost Value = { CostTable };
 

@@ -1,7 +1,8 @@
 //! Costs by the table, and outside their ranges.
 
 use crate::{CostFault, Costs, service};
-use paths::{Bytes, Outcome};
+use devices::Bytes;
+use paths::Outcome;
 
 #[test]
 fn costs_by_the_table(rt: HostRuntime) {

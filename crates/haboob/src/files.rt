@@ -1,15 +1,15 @@
 //! Each job with the files that its arguments name.
 
-use crate::folder::{FileFolder, list_folder};
+use crate::folder::{FileFolder, list_folder, open_root};
 use crate::overwritten::{Node, Overwritten};
 use command_line::{Job, WordFault, read_words};
-use options::{MAX_SETTINGS_BYTES, default_settings, read_settings};
-use paths::Output;
-use replay::Settings;
-use runs::{
+use devices::Output;
+use program::{
     Fault, Place, Wanted, inspect_files, run_files, run_program, run_snapshot, settings_files,
     upgrade_files, write_skipped,
 };
+use replay::Settings;
+use settings::{MAX_SETTINGS_BYTES, default_settings, read_settings};
 use std::env;
 use std::fs::File;
 use std::io::{ErrorKind, Read};
@@ -18,6 +18,11 @@ use std::thread::Threads;
 
 /// How many bytes of a settings file are read: one more than it may have.
 const MAX_SETTINGS_READ: u64 = MAX_SETTINGS_BYTES as u64 + 1;
+
+/// Where the system shows what standard input and standard output are open on.
+const STANDARD_INPUT: &str = "/proc/self/fd/0";
+
+const STANDARD_OUTPUT: &str = "/proc/self/fd/1";
 
 /// What is said of arguments that are no text.
 const NOT_TEXT: &str = "error: a word is not UTF-8\n\nFor more information, try '--help'.\n";
@@ -64,25 +69,53 @@ fn settings_in(rt: &HostRuntime, name: Option<&str>) -> Result<(Settings, Option
     Ok((read_settings(alloc, &bytes)?, Some(node)))
 }
 
+/// Refuses a standard output that is one of the inputs, before anything is written.
+fn check_standard(
+    standard: Option<Node>,
+    inputs: &[Option<Node>],
+    place: Place,
+) -> Result<(), Fault> {
+    match standard {
+        Some(node) if node.is_kept_in(inputs) => Err(Fault::Open(place)),
+        _ => Ok(()),
+    }
+}
+
+/// Replays standard input to standard output.
+fn bundle(rt: &HostRuntime, standard: Option<Node>) -> Result<(), Fault> {
+    check_standard(standard, &[Node::at(rt, STANDARD_INPUT)], Place::Replies)?;
+    run_program(rt.alloc(), rt.stdin(), rt.stdout()).0
+}
+
 /// Writes to standard output the settings of a file, or the default ones without it.
-fn settings_named(rt: &HostRuntime, name: Option<&str>) -> Result<(), Fault> {
-    let bytes = match name {
-        Some(name) => document_in(rt, name)?.0,
-        None => Vec::new(rt.alloc()),
+fn settings_named(
+    rt: &HostRuntime,
+    standard: Option<Node>,
+    name: Option<&str>,
+) -> Result<(), Fault> {
+    let (bytes, node) = match name {
+        Some(name) => {
+            let (bytes, node) = document_in(rt, name)?;
+            (bytes, Some(node))
+        }
+        None => (Vec::new(rt.alloc()), None),
     };
+    check_standard(standard, &[node], Place::Report)?;
     settings_files(rt.alloc(), &bytes, rt.stdout()).0
 }
 
 /// Tells on standard output what a capture file holds.
-fn inspect_named(rt: &HostRuntime, capture: &str) -> Result<(), Fault> {
+fn inspect_named(rt: &HostRuntime, standard: Option<Node>, capture: &str) -> Result<(), Fault> {
     let capture = open(rt, capture, Place::Capture)?;
+    let node = Node::of(&capture, Place::Capture)?;
+    check_standard(standard, &[Some(node)], Place::Report)?;
     inspect_files(rt.alloc(), capture, rt.stdout()).0
 }
 
 /// Writes the upgraded text of a capture file to another.
 fn upgrade_named(rt: &HostRuntime, capture: &str, output: &str) -> Result<(), Fault> {
     let capture = open(rt, capture, Place::Capture)?;
-    let inputs = [Node::of(&capture, Place::Capture)?];
+    let inputs = [Some(Node::of(&capture, Place::Capture)?)];
     let mut output = Overwritten::open(rt, output, Place::Output, &inputs)?;
     if output.empty().is_err() {
         return Err(Fault::Open(Place::Output));
@@ -93,11 +126,15 @@ fn upgrade_named(rt: &HostRuntime, capture: &str, output: &str) -> Result<(), Fa
 /// Writes the files of a folder as a snapshot. What is in the folder is listed before the output is opened: so a new
 /// output is none of its files, and one that was among them is refused.
 fn snapshot_named(rt: &HostRuntime, folder: &str, output: &str, skip: bool) -> Result<(), Fault> {
-    let listing = list_folder(rt, folder)?;
+    let root = open_root(rt, folder)?;
+    let listing = list_folder(rt.alloc(), &root)?;
     let output = Overwritten::open(rt, output, Place::Output, &listing.nodes)?;
     let skipped = run_snapshot(
         rt.alloc(),
-        &FileFolder { rt, path: folder },
+        &FileFolder {
+            root: &root,
+            listing: &listing,
+        },
         &listing.found,
         skip,
         &mut Output::new(output),
@@ -127,16 +164,17 @@ struct Names<'a> {
 fn replay_named<T: Threads + Wait + Sync>(
     rt: &HostRuntime,
     threads: &T,
+    standard: Option<Node>,
     names: &Names,
 ) -> Result<(), Fault> {
     let (settings, node) = settings_in(rt, names.settings)?;
     let snapshot = open(rt, names.snapshot, Place::Snapshot)?;
     let capture = open(rt, names.capture, Place::Capture)?;
-    let first = Node::of(&snapshot, Place::Snapshot)?;
-    let second = Node::of(&capture, Place::Capture)?;
-    // Without a settings file the capture stands in its place: it is an input anyway.
-    let inputs = [first, second, node.unwrap_or(second)];
-    let written = Overwritten::open(rt, names.written, names.place, &inputs)?;
+    let first = Some(Node::of(&snapshot, Place::Snapshot)?);
+    let second = Some(Node::of(&capture, Place::Capture)?);
+    check_standard(standard, &[first, second, node], Place::Report)?;
+    let others = [first, second, node, standard];
+    let written = Overwritten::open(rt, names.written, names.place, &others)?;
     let (alloc, out) = (rt.alloc(), rt.stdout());
     run_files(
         threads,
@@ -154,12 +192,14 @@ fn replay_named<T: Threads + Wait + Sync>(
 /// Does what the arguments ask for: a run from standard input to standard output, or one over the files that they name.
 ///
 /// Which arguments there are, and what the files hold, is the system's to say: no contract can. Tests do, and
-/// checks/run_program.py.
+/// the scripts checks/program_*.py.
 pub fn run_arguments<T: Threads + Wait + Sync>(rt: &HostRuntime, threads: &T) -> Result<(), Fault> {
     let alloc = rt.alloc();
     let arguments = arguments_of(rt)?;
+    // Which file it is, before any other can get its number.
+    let standard = Node::at(rt, STANDARD_OUTPUT);
     match read_words(alloc, &arguments)? {
-        Job::Bundle => run_program(alloc, rt.stdin(), rt.stdout()).0,
+        Job::Bundle => bundle(rt, standard),
         Job::Replay {
             snapshot,
             capture,
@@ -175,7 +215,7 @@ pub fn run_arguments<T: Threads + Wait + Sync>(rt: &HostRuntime, threads: &T) ->
                 written: replies,
                 place: Place::Replies,
             };
-            replay_named(rt, threads, &names)
+            replay_named(rt, threads, standard, &names)
         }
         Job::Explain {
             snapshot,
@@ -191,15 +231,15 @@ pub fn run_arguments<T: Threads + Wait + Sync>(rt: &HostRuntime, threads: &T) ->
                 written: messages,
                 place: Place::Messages,
             };
-            replay_named(rt, threads, &names).map_err(Fault::of_rows)
+            replay_named(rt, threads, standard, &names).map_err(Fault::of_rows)
         }
-        Job::Inspect { capture } => inspect_named(rt, capture),
+        Job::Inspect { capture } => inspect_named(rt, standard, capture),
         Job::Upgrade { capture, output } => upgrade_named(rt, capture, output),
         Job::Snapshot {
             folder,
             output,
             skip,
         } => snapshot_named(rt, folder, output, skip),
-        Job::Settings { settings } => settings_named(rt, settings),
+        Job::Settings { settings } => settings_named(rt, standard, settings),
     }
 }

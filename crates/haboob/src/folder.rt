@@ -1,28 +1,27 @@
 //! The walk through a folder, and the reading of its files.
 
+use crate::open_folder::{OpenFolder, Unread};
 use crate::overwritten::Node;
-use paths::MAX_FILE_BYTES;
-use runs::{Contents, Fault, FileFault, Folder, Found, Place};
+use paths::MAX_NAME_BYTES;
+use program::{Contents, Fault, FileFault, Folder, Found, Place};
 use std::alloc::{AllocError, Global};
-use std::fs::{DirEntry, File, Metadata, read_dir};
+use std::fs::{DirEntry, Metadata, ReadDir};
 use std::io;
-use std::io::{ErrorKind, Read};
-use std::os::unix::fs::MetadataExt;
 
 /// What is in a folder and in all folders in it.
 #[derive(Drop)]
 pub struct Listing {
     /// All that is no folder, and each folder that couldn't be read, by the bytes of their names.
     pub found: Vec<Found>,
-    /// Which files the regular ones are.
-    pub nodes: Vec<Node>,
+    /// Which file each of them is, in the same order; none of what couldn't be looked at.
+    pub nodes: Vec<Option<Node>>,
 }
 
 /// A walk through a folder and all folders in it.
 #[derive(Drop)]
 struct Walk {
     alloc: Global,
-    listing: Listing,
+    found: Vec<(Found, Option<Node>)>,
     /// The folders that are still to be read: the names of what is in them begin so.
     ahead: Vec<String>,
 }
@@ -32,25 +31,6 @@ fn joined(alloc: Global, first: &str, second: &str) -> Result<String, AllocError
     let mut text = String::from_str(alloc, first)?;
     text.push_str(second)?;
     Ok(text)
-}
-
-/// The path of what has this name in a folder; an empty name is the folder's own.
-fn path_in(alloc: Global, folder: &str, name: &str) -> Result<String, AllocError> {
-    if name.is_empty() {
-        return String::from_str(alloc, folder);
-    }
-    let mut path = joined(alloc, folder, "/")?;
-    path.push_str(name)?;
-    Ok(path)
-}
-
-/// What a failed call says of a file or a folder, where it isn't that there was no memory.
-fn unread(error: &io::Error) -> Result<FileFault, AllocError> {
-    match error.kind() {
-        ErrorKind::OutOfMemory => Err(AllocError),
-        ErrorKind::InvalidFilename => Ok(FileFault::Name),
-        _ => Ok(FileFault::Read),
-    }
 }
 
 /// Why what is no folder can't be taken, by its kind.
@@ -65,113 +45,136 @@ fn kind_fault(known: &Metadata) -> Option<FileFault> {
 }
 
 impl Walk {
-    fn new(alloc: Global) -> Walk {
-        Walk {
-            alloc,
-            listing: Listing {
-                found: Vec::new(alloc),
-                nodes: Vec::new(alloc),
-            },
-            ahead: Vec::new(alloc),
-        }
+    /// Takes what can't be read, or what of a folder can't be; the root's name is empty.
+    fn take_unread(&mut self, name: &str, why: Unread) -> Result<(), AllocError> {
+        let Unread::Fault(fault) = why else {
+            return Err(AllocError);
+        };
+        let name = String::from_str(self.alloc, if name.is_empty() { "./" } else { name })?;
+        let fault = Some(fault);
+        self.found.push((Found { name, fault }, None))?;
+        Ok(())
     }
 
-    /// Takes what can't be read, or what of a folder can't be; the root's name is empty.
-    fn take_unread(&mut self, name: &str, error: &io::Error) -> Result<(), AllocError> {
-        let fault = Some(unread(error)?);
-        let name = String::from_str(self.alloc, if name.is_empty() { "./" } else { name })?;
-        self.listing.found.push(Found { name, fault })?;
+    /// Takes a folder. No file below one whose name is too long can be taken, so it isn't read.
+    fn take_folder(&mut self, mut name: String) -> Result<(), AllocError> {
+        name.push('/')?;
+        if name.len() as u64 > MAX_NAME_BYTES {
+            return self.take_unread(&name, Unread::Fault(FileFault::Name));
+        }
+        self.ahead.push(name)?;
         Ok(())
     }
 
     /// Takes what has this name.
-    fn take_known(&mut self, mut name: String, known: &Metadata) -> Result<(), AllocError> {
+    fn take_known(&mut self, name: String, known: &Metadata) -> Result<(), AllocError> {
         if known.is_dir() {
-            name.push('/')?;
-            self.ahead.push(name)?;
-            return Ok(());
-        }
-        if known.is_file() {
-            self.listing.nodes.push(Node::new(known))?;
+            return self.take_folder(name);
         }
         let fault = kind_fault(known);
-        self.listing.found.push(Found { name, fault })?;
+        let node = Some(Node::new(known));
+        self.found.push((Found { name, fault }, node))?;
         Ok(())
     }
 
     /// Takes what a folder has next.
-    fn take(&mut self, folder: &str, entry: &io::Result<DirEntry>) -> Result<(), AllocError> {
+    fn take(&mut self, folder: &str, entry: io::Result<DirEntry>) -> Result<(), AllocError> {
         let entry = match entry {
             Ok(entry) => entry,
-            Err(error) => return self.take_unread(folder, error),
+            Err(error) => return self.take_unread(folder, Unread::from(error)),
         };
         let name = joined(self.alloc, folder, entry.file_name())?;
         match entry.metadata() {
             Ok(known) => self.take_known(name, &known),
-            Err(error) => self.take_unread(&name, &error),
+            Err(error) => self.take_unread(&name, Unread::from(error)),
         }
     }
 
     /// Takes all that a folder has.
-    fn take_folder(&mut self, rt: &HostRuntime, root: &str, folder: &str) -> Result<(), Fault> {
-        let path = path_in(self.alloc, root, folder)?;
-        let entries = match read_dir(rt, path.as_str()) {
-            Ok(entries) => entries,
-            Err(error) if folder.is_empty() && unread(&error).is_ok() => {
-                return Err(Fault::Open(Place::Folder));
-            }
-            Err(error) => return Ok(self.take_unread(folder, &error)?),
-        };
+    fn take_all(&mut self, name: &str, entries: ReadDir) -> Result<(), AllocError> {
         for entry in entries {
-            self.take(folder, &entry)?;
+            self.take(name, entry)?;
         }
         Ok(())
     }
+
+    /// Takes all that the folder of this name has, which stays open meanwhile.
+    fn take_below(&mut self, root: &OpenFolder, name: &str) -> Result<(), AllocError> {
+        let folder = match root.descend(name) {
+            Ok(folder) => folder,
+            Err(why) => return self.take_unread(name, why),
+        };
+        match folder.entries() {
+            Ok(entries) => self.take_all(name, entries),
+            Err(why) => self.take_unread(name, why),
+        }
+    }
+}
+
+/// What it is to the run that the folder itself can't be opened or listed.
+fn root_fault(why: Unread) -> Fault {
+    match why {
+        Unread::Memory => Fault::Memory,
+        Unread::Fault(_) => Fault::Open(Place::Folder),
+    }
+}
+
+/// Opens the folder of a path.
+pub fn open_root<'a>(rt: &'a HostRuntime, path: &str) -> Result<OpenFolder<'a>, Fault> {
+    OpenFolder::open(rt, path).map_err(root_fault)
 }
 
 /// Lists what is in a folder. Links aren't followed.
-pub fn list_folder(rt: &HostRuntime, root: &str) -> Result<Listing, Fault> {
-    let mut walk = Walk::new(rt.alloc());
-    walk.take_folder(rt, root, "")?;
+pub fn list_folder(alloc: Global, root: &OpenFolder) -> Result<Listing, Fault> {
+    let mut walk = Walk {
+        alloc,
+        found: Vec::new(alloc),
+        ahead: Vec::new(alloc),
+    };
+    walk.take_all("", root.entries().map_err(root_fault)?)?;
     // The system's folders come to an end some time.
     for _ in 0..u64::MAX {
-        let Some(folder) = walk.ahead.pop() else {
+        let Some(name) = walk.ahead.pop() else {
             break;
         };
-        walk.take_folder(rt, root, &folder)?;
+        walk.take_below(root, &name)?;
     }
-    let mut listing = walk.listing;
-    listing
-        .found
-        .sort_unstable_by(|one, other| one.name.cmp(&other.name));
+    Ok(in_order(alloc, walk.found)?)
+}
+
+/// What was found, by the bytes of the names.
+fn in_order(alloc: Global, mut taken: Vec<(Found, Option<Node>)>) -> Result<Listing, AllocError> {
+    taken.sort_unstable_by(|(one, _), (other, _)| one.name.cmp(&other.name));
+    let mut listing = Listing {
+        found: Vec::new(alloc),
+        nodes: Vec::new(alloc),
+    };
+    for (found, node) in taken {
+        listing.found.push(found)?;
+        listing.nodes.push(node)?;
+    }
     Ok(listing)
 }
 
-/// A folder of the system.
+/// A folder of the system, as it was listed.
 #[derive(Clone, Copy)]
 pub struct FileFolder<'a> {
-    pub rt: &'a HostRuntime,
-    pub path: &'a str,
+    pub root: &'a OpenFolder<'a>,
+    pub listing: &'a Listing,
 }
 
 impl<'a> FileFolder<'a> {
-    /// Reads a file, up to the first byte that is too many. What it holds at the end is what was read, whatever becomes
-    /// of it in between. A time before 1970 is reported as 0.
-    fn read_file(&self, name: &str) -> io::Result<Result<Contents, FileFault>> {
-        let alloc = self.rt.alloc();
-        let path = path_in(alloc, self.path, name)?;
-        let file = File::open(self.rt, path.as_str())?;
-        let known = file.metadata()?;
-        if !known.is_file() {
-            return Ok(Err(FileFault::Special));
-        }
-        if known.len() > MAX_FILE_BYTES {
-            return Ok(Err(FileFault::Size));
-        }
-        let mut bytes = Vec::with_capacity(alloc, known.len() as usize + 1)?;
-        file.take(MAX_FILE_BYTES + 1).read_to_end(&mut bytes)?;
-        let mtime = u64::try_from(known.mtime()).unwrap_or(0);
-        Ok(Ok(Contents { mtime, bytes }))
+    /// Which file was listed under this name.
+    fn listed(&self, name: &str) -> Option<Node> {
+        let found = &self.listing.found;
+        let place = found.binary_search_by(|one| one.name.as_str().cmp(name));
+        *self.listing.nodes.get(place.ok()?)?
+    }
+
+    /// Reads the file of this name, which is to be the one that was listed.
+    fn read_file(&self, name: &str) -> Result<Contents, Unread> {
+        let (folders, last) = name.rsplit_once('/').unwrap_or(("", name));
+        self.root.descend(folders)?.read(last, self.listed(name))
     }
 }
 
@@ -181,8 +184,9 @@ impl<'a> Folder for FileFolder<'a> {
 
     fn read(&self, name: &str) -> Result<Result<Contents, FileFault>, AllocError> {
         match self.read_file(name) {
-            Ok(answer) => Ok(answer),
-            Err(error) => Ok(Err(unread(&error)?)),
+            Ok(contents) => Ok(Ok(contents)),
+            Err(Unread::Fault(fault)) => Ok(Err(fault)),
+            Err(Unread::Memory) => Err(AllocError),
         }
     }
 }

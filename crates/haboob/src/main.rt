@@ -10,10 +10,11 @@
 
 mod files;
 mod folder;
+mod open_folder;
 mod overwritten;
 
+use devices::Output;
 use files::run_arguments;
-use paths::Output;
 use std::process::ExitCode;
 
 fn main(rt: HostRuntime) -> ExitCode {

@@ -1,7 +1,7 @@
 //! An output that is emptied at its first byte, and is no input.
 
-use runs::{Fault, Place};
-use std::fs::{File, Metadata, OpenOptions};
+use program::{Fault, Place};
+use std::fs::{File, Metadata, OpenOptions, metadata};
 use std::io;
 use std::io::Write;
 use std::os::unix::fs::MetadataExt;
@@ -32,6 +32,16 @@ impl Node {
             Err(_) => Err(Fault::Open(place)),
         }
     }
+
+    /// The node that a path leads to, where it leads to one.
+    pub fn at(rt: &HostRuntime, path: &str) -> Option<Node> {
+        Some(Node::new(&metadata(rt, path).ok()?))
+    }
+
+    /// Whether it is a file that keeps its bytes, and one of these.
+    pub fn is_kept_in(self, others: &[Option<Node>]) -> bool {
+        self.is_regular && others.contains(&Some(self))
+    }
 }
 
 /// A file to be written. Where it is there it keeps its bytes until the first byte is written, and is emptied then.
@@ -44,19 +54,20 @@ pub struct Overwritten {
 }
 
 impl Overwritten {
-    /// Opens a file to be written. A regular one that is among the inputs is refused, and keeps its bytes.
+    /// Opens a file to be written. A regular one that is among the others, the inputs and standard output, is refused
+    /// and keeps its bytes.
     pub fn open(
         rt: &HostRuntime,
         name: &str,
         place: Place,
-        inputs: &[Node],
+        others: &[Option<Node>],
     ) -> Result<Overwritten, Fault> {
         let opened = OpenOptions::new().write(true).create(true).open(rt, name);
         let Ok(file) = opened else {
             return Err(Fault::Open(place));
         };
         let node = Node::of(&file, place)?;
-        if node.is_regular && inputs.contains(&node) {
+        if node.is_kept_in(others) {
             return Err(Fault::Open(place));
         }
         Ok(Overwritten {

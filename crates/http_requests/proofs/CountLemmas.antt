@@ -10,8 +10,7 @@ use Rattle.http_requests.specs.declared.heads.Verdict.{Verdict}
 use Rattle.http_requests.specs.declared.heads.Extent.{Extent}
 use Rattle.http_requests.specs.declared.scanning.Found.TheVariants.{Wait, Over as Beyond, Whole}
 use Rattle.http_requests.specs.declared.counting.Step.TheVariants.{Missing, Last, Over}
-use Rattle.http_requests.specs.Heads.{FieldLine, IsVerdict, PartsSay, IsModifiedSince, head_fault, version_of, is_closing, body_length, values_of, bad}
-use Rattle.http_requests.specs.Framing.{blank_len, IsWhole, IsOver, IsNext, Messages, MessagesOf, closes}
+use Rattle.http_requests.specs.Reference.{FieldLine, IsVerdict, PartsSay, IsModifiedSince, head_fault, version_of, is_closing, body_length, values_of, bad, blank_len, IsWhole, IsOver, IsNext, Messages, MessagesOf, closes}
 use Rattle.http_requests.specs.Scanning.{IsFound}
 use Rattle.http_requests.specs.Counting.{IsExtent, IsStep}
 use Rattle.http_requests.proofs.FrontLemmas.{next_within}

@@ -8,7 +8,7 @@ use Rattle.http_requests.specs.declared.messages.Message.{Message}
 use Rattle.http_requests.specs.declared.heads.Verdict.{Verdict}
 use Rattle.http_requests.specs.declared.cutting.Stage.{Stage}
 use Rattle.http_requests.specs.declared.cutting.Stage.TheVariants.{Seeking, Body, Closed, Failed}
-use Rattle.http_requests.specs.Framing.{blank_len, NoBlock, IsWhole, IsOver, IsNext, Messages}
+use Rattle.http_requests.specs.Reference.{blank_len, NoBlock, IsWhole, IsOver, IsNext, Messages}
 use Rattle.http_requests.specs.Cutting.{Progress, BodyMessages, Yields, YieldsIn, IsUnfinished, IsStage, IsSound, HasFailed, EndBetween, Enters, Cuts, Begins, Waits, Took, CutterAfter, Fed, FedSome}
 use Rattle.http_requests.proofs.FoundLemmas.{front_empty}
 use Rattle.http_requests.proofs.MessageLemmas.{messages_prefix, body_step}

@@ -4,9 +4,17 @@ use Rattle.std.proofs.lemmas.List.{take-append-drop, get_or-append-add}
 use Rattle.std.proofs.Math.Seq.{drop-cons}
 use Rattle.std.proofs.lemmas.Grind.{common_steps}
 use Rattle.std.proofs.lemmas.Bool.{cases_lt}
-use Rattle.http_requests.specs.Framing.{ends_at, EndsAt, IsBlock}
-use Rattle.http_requests.specs.Ends.{IsBlockEnd, EndsAfter, IsShortestBlock}
-use Rattle.http_requests.proofs.FrontLemmas.{ends_within}
+use Rattle.http_requests.specs.Reference.{IsBlockEnd, EndsAt, IsBlock}
+use Rattle.http_requests.specs.Ends.{ends_at, IsShortestBlock}
+
+-- the test holds within the text alone, and looks at no byte after the place
+test_within : (s : List ℕ) (e : ℕ) → IsTrue (ends_at s e) → (2 ≤ e) × (e ≤ length s)
+unfolding ends_at
+test_within s e h = (grind arith, grind arith)
+
+test_append : (s y : List ℕ) (e : ℕ) → e ≤ length s → ends_at (s ++ y) e ≡ ends_at s e
+unfolding ends_at
+test_append s y e h = grind (arith, common_steps)
 
 -- the bytes that the test looks at
 abbrev Test : List ℕ → ℕ → Type 0
@@ -31,7 +39,7 @@ is_byte x c h = grind arith
 at_least : (n e : ℕ) → IsTrue (nat_le n e) → n ≤ e
 at_least n e h = grind arith
 
-tested : (s : List ℕ) (e : ℕ) → EndsAt s e → Test s e
+tested : (s : List ℕ) (e : ℕ) → IsTrue (ends_at s e) → Test s e
 unfolding ends_at
 tested s e h =
     let rest = after_and (nat_le e (length s)) _ (after_and (nat_le 2 e) _ h) in
@@ -50,9 +58,9 @@ split s n end after h = sym (take-append-drop n s) ∙ ap (λ w. take n s ++ w) 
 taken : (s : List ℕ) (n : ℕ) → n ≤ length s → length (take n s) ≡ n
 taken s n le = grind (arith, common_steps)
 
-pub ends_after : (s : List ℕ) (e : ℕ) → EndsAt s e → EndsAfter s e
-ends_after s e h =
-    let w = ends_within s e h in
+pub ends_by_test : (s : List ℕ) (e : ℕ) → IsTrue (ends_at s e) → EndsAt s e
+ends_by_test s e h =
+    let w = test_within s e h in
     elim (tested s e h) [
       | inl t ↦ (let a : drop (e - 2) s ≡ 10 ∷ drop (e - 1) s = (let k : e - 2 + 1 ≡ e - 1 = omega (arith, w.0) in rw (next s (e - 2) 10 (omega (arith, w.0, w.1)) t.1, k) refl) in
           let b : drop (e - 1) s ≡ 10 ∷ drop e s = (let k : e - 1 + 1 ≡ e = omega (arith, w.0) in rw (next s (e - 1) 10 (omega (arith, w.0, w.1)) t.0, k) refl) in
@@ -81,7 +89,7 @@ ends_after s e h =
 byte_of : (before tail : List ℕ) (n k : ℕ) → k ≡ length before + n → slice_index (before ++ tail) k ≡ slice_index tail n
 byte_of before tail n k is = rw is (get_or-append-add before tail n 0)
 
-short_end : (before after : List ℕ) (e : ℕ) → e ≡ length before + 2 → EndsAt (before ++ (10 ∷ 10 ∷ after)) e
+short_end : (before after : List ℕ) (e : ℕ) → e ≡ length before + 2 → IsTrue (ends_at (before ++ (10 ∷ 10 ∷ after)) e)
 unfolding ends_at
 short_end before after e is =
     let tail = 10 ∷ 10 ∷ after in
@@ -90,7 +98,7 @@ short_end before after e is =
     let len = length-append before tail in
     grind (arith, last, first, len, is)
 
-long_end : (before after : List ℕ) (e : ℕ) → e ≡ length before + 3 → EndsAt (before ++ (10 ∷ 13 ∷ 10 ∷ after)) e
+long_end : (before after : List ℕ) (e : ℕ) → e ≡ length before + 3 → IsTrue (ends_at (before ++ (10 ∷ 13 ∷ 10 ∷ after)) e)
 unfolding ends_at
 long_end before after e is =
     let tail = 10 ∷ 13 ∷ 10 ∷ after in
@@ -100,25 +108,35 @@ long_end before after e is =
     let len = length-append before tail in
     grind (arith, last, middle, first, len, is)
 
-after_end : (s before end after : List ℕ) (e : ℕ) → IsBlockEnd end → s ≡ before ++ (end ++ after) → e ≡ length before + length end → EndsAt s e
+after_end : (s before end after : List ℕ) (e : ℕ) → IsBlockEnd end → s ≡ before ++ (end ++ after) → e ≡ length before + length end → IsTrue (ends_at s e)
 after_end s before end after e (inl is) text place =
     rw (text, is) (short_end before after e (place ∙ ap (λ (w : List ℕ). length before + length w) is))
 after_end s before end after e (inr is) text place =
     rw (text, is) (long_end before after e (place ∙ ap (λ (w : List ℕ). length before + length w) is))
 
-pub after_ends : (s : List ℕ) (e : ℕ) → EndsAfter s e → EndsAt s e
-after_ends s e h = after_end s h.before h.end h.after e h.is h.text h.place
+pub test_holds : (s : List ℕ) (e : ℕ) → EndsAt s e → IsTrue (ends_at s e)
+test_holds s e h = after_end s h.before h.end h.after e h.is h.text h.place
+
+pub ends_within : (s : List ℕ) (e : ℕ) → EndsAt s e → (2 ≤ e) × (e ≤ length s)
+ends_within s e h = test_within s e (test_holds s e h)
+
+-- what follows a text makes no end in it, and takes none away
+pub ends_longer : (s y : List ℕ) (e : ℕ) → e ≤ length s → EndsAt s e → EndsAt (s ++ y) e
+ends_longer s y e le h = ends_by_test (s ++ y) e (rw (test_append s y e le) (test_holds s e h))
+
+pub ends_shorter : (s y : List ℕ) (e : ℕ) → e ≤ length s → EndsAt (s ++ y) e → EndsAt s e
+ends_shorter s y e le h = ends_by_test s e (rw (← test_append s y e le) (test_holds (s ++ y) e h))
 
 pub shortest : (s : List ℕ) (e : ℕ) → IsBlock s e → IsShortestBlock s e
 shortest s e h = record {
-  ends = ends_after s e h.ends;
-  shortest = λ k ends. elim (cases_lt k e) [ inl lt ↦ absurd (h.first k lt (after_ends s k ends)) | inr ge ↦ ge ];
+  ends = h.ends;
+  shortest = λ k ends. elim (cases_lt k e) [ inl lt ↦ absurd (h.first k lt ends) | inr ge ↦ ge ];
   limit = h.short;
 }
 
 pub in_front : (s : List ℕ) (e : ℕ) → IsShortestBlock s e → IsBlock s e
 in_front s e h = record {
-  ends = after_ends s e h.ends;
-  first = λ k lt ends. let le = h.shortest k (ends_after s k ends) in omega (arith, le, lt);
+  ends = h.ends;
+  first = λ k lt ends. let le = h.shortest k ends in omega (arith, le, lt);
   short = h.limit;
 }

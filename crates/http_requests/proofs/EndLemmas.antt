@@ -1,16 +1,18 @@
 -- The first end of a block, found by the line feeds.
-use Rattle.std.proofs.Common.{◌≡◌, ℕ, zero, suc, ◌+◌, ◌-◌, ◌<◌, ◌≤◌, ◌⊎◌, inl, inr, Bool, true, false, ◌==◌, List, [], ◌∷◌, length, take, drop, slice_index, sym, ◌∙◌, ap, arith}
+use Rattle.std.proofs.Common.{◌≡◌, ℕ, zero, suc, ◌+◌, ◌-◌, ◌<◌, ◌≤◌, ◌⊎◌, inl, inr, Bool, true, false, ◌==◌, List, [], ◌∷◌, length, take, drop, slice_index, sym, ◌∙◌, ap, arith, IsTrue}
 use Rattle.std.proofs.lemmas.Grind.{common_steps}
 use Rattle.std.proofs.lemmas.Bool.{cases_lt, cases_Bool, cond-true, cond-false, both_ways, eqb-true}
 use Rattle.memchr.specs.Find.{Nowhere, Passes, is_byte, places_from}
-use Rattle.http_requests.specs.Framing.{ends_at, EndsAt, NoBlock, IsBlock, blank_len}
+use Rattle.http_requests.specs.Ends.{ends_at}
+use Rattle.http_requests.specs.Reference.{EndsAt, IsBlock, NoBlock, blank_len}
 use Rattle.http_requests.specs.Scanning.{NoEndIn}
-use Rattle.http_requests.proofs.FrontLemmas.{ends_within, blank_at}
+use Rattle.http_requests.proofs.EndLaws.{ends_within, ends_by_test, test_holds}
+use Rattle.http_requests.proofs.FrontLemmas.{blank_at}
 use Rattle.std.proofs.lemmas.Bool.Decides.{nat_tests}
 use Rattle.std.specs.Prelude.{max}
 
 -- an end stands after a line feed
-end_lf : (s : List ℕ) (e : ℕ) → EndsAt s e → (slice_index s (e - 1) == 10) ≡ true
+end_lf : (s : List ℕ) (e : ℕ) → IsTrue (ends_at s e) → (slice_index s (e - 1) == 10) ≡ true
 unfolding ends_at
 end_lf s e h = grind arith
 
@@ -25,7 +27,7 @@ no_end_before s from to k n a b before nowhere e le ends =
       | inl lt ↦ (let w = ends_within s e ends in
           let place : from + (e - 1 - from) ≡ e - 1 = omega (arith, lt) in
           let read : slice_index (take (to - from) (drop from s)) (e - 1 - from) ≡ slice_index s (e - 1) = slice_read s from to (e - 1 - from) (omega (arith, lt, le, a)) b ∙ ap (slice_index s) place in
-          nowhere (e - 1 - from) (omega (arith, lt)) (omega (arith, lt, le)) (ap (λ x. x == 10) read ∙ end_lf s e ends))
+          nowhere (e - 1 - from) (omega (arith, lt)) (omega (arith, lt, le)) (ap (λ x. x == 10) read ∙ end_lf s e (test_holds s e ends)))
       | inr ge ↦ before e ge ends
     ]
 
@@ -37,10 +39,11 @@ none_behind s at n before each e le ends =
           let w = ends_within s e ends in
           let place : e - 1 ≡ at + (e - 1 - at) = omega (arith, lt) in
           let end : at + (e - 1 - at) + 1 ≡ e = omega (arith, lt) in
-          let feed : slice_index s (e - 1) ≡ 10 = eqb-true (slice_index s (e - 1)) 10 (end_lf s e ends) in
+          let feed : slice_index s (e - 1) ≡ 10 = eqb-true (slice_index s (e - 1)) 10 (end_lf s e (test_holds s e ends)) in
           let none = each (e - 1 - at) (omega (arith, lt, le)) (rw place at feed) in
           let here = rw end at none in
-          grind (arith, here, ends))
+          let test = test_holds s e ends in
+          grind (arith, here, test))
       | inr ge ↦ before e ge ends
     ]
 
@@ -51,7 +54,8 @@ first_feed : (s : List ℕ) → blank_len s ≡ 0 → EndsAt s 2 → ⊥
 unfolding ends_at
 first_feed s begins ends =
     let w = ends_within s 2 ends in
-    let feed : (slice_index s 0 == 10) ≡ true = grind (arith, nat_tests, ends) in
+    let test = test_holds s 2 ends in
+    let feed : (slice_index s 0 == 10) ≡ true = grind (arith, nat_tests, test) in
     let b = blank_at s 0 (omega (arith, w.1)) in
     let c = rw feed at b in
     absurd (omega (arith, begins, c))
@@ -68,13 +72,13 @@ no_end_first s seen at begins before is e le ends = elim (cases_lt seen e) [
 
 pub one_more : (s : List ℕ) (n : ℕ) → NoEndIn n s → ends_at s (n + 1) ≡ false → NoEndIn (n + 1) s
 one_more s n before is_none e le ends = elim (cases_lt n e) [
-  | inl lt ↦ (let is : e ≡ n + 1 = omega (arith, lt, le) in let here = rw is at ends in grind (arith, here, is_none))
+  | inl lt ↦ (let is : e ≡ n + 1 = omega (arith, lt, le) in let here : IsTrue (ends_at s (n + 1)) = test_holds s (n + 1) (rw (← is) ends) in grind (arith, here, is_none))
   | inr ge ↦ before e ge ends
 ]
 
 pub first_end : (s : List ℕ) (n : ℕ) → NoEndIn n s → ends_at s (n + 1) ≡ true → n + 1 ≤ 8192 → IsBlock s (n + 1)
 first_end s n before is_end short = record {
-  ends = grind (arith, is_end);
+  ends = ends_by_test s (n + 1) (grind (arith, is_end));
   first = λ k below ends. before k (omega (arith, below)) ends;
   short = short;
 }

@@ -10,11 +10,11 @@ use Rattle.http_requests.specs.declared.messages.Fault.TheVariants.{TooLong}
 use Rattle.http_requests.specs.declared.messages.Message.{Message}
 use Rattle.http_requests.specs.declared.heads.Verdict.{Verdict}
 use Rattle.http_requests.specs.declared.scanning.Found.TheVariants.{Wait, Over, Whole}
-use Rattle.http_requests.specs.Heads.{IsVerdict, bad}
-use Rattle.http_requests.specs.Framing.{blank_len, Messages}
+use Rattle.http_requests.specs.Reference.{IsVerdict, bad, blank_len, Messages}
 use Rattle.http_requests.specs.Scanning.{IsFound, NoEndIn}
 use Rattle.http_requests.specs.Cutting.{BodyMessages, IsUnfinished, Begins, Waits}
-use Rattle.http_requests.proofs.FrontLemmas.{blank_append, blank_two, blank_kept, front_kept, block_append, noblock_append, ends_within, ends_append, blank_fixed}
+use Rattle.http_requests.proofs.FrontLemmas.{blank_append, blank_two, blank_kept, front_kept, block_append, noblock_append, blank_fixed}
+use Rattle.http_requests.proofs.EndLaws.{ends_within, ends_longer, ends_shorter}
 use Rattle.http_requests.proofs.MessageLemmas.{whole_step, over_step, wait_step}
 
 -- no block stands in nothing
@@ -54,8 +54,8 @@ found_prefix b c q len f le =
       same,
       le,
       record {
-        ends = rw (← ends_append (drop q b) c len l) block.ends;
-        first = λ k below ends. block.first k below (rw (ends_append (drop q b) c k (omega (arith, below, l))) ends);
+        ends = ends_shorter (drop q b) c len l block.ends;
+        first = λ k below ends. block.first k below (ends_longer (drop q b) c k (omega (arith, below, l)) ends);
         short = block.short;
       },
     )
@@ -70,7 +70,7 @@ over_prefix b c m f le =
     let d : drop (blank_len (b ++ c)) (b ++ c) ≡ drop (blank_len b) b ++ c = rw k (front_kept b c) in
     let none = rw d at f.1 in
     let l : 8192 ≤ length (drop (blank_len b) b) = rw (length-drop (blank_len b) b) (omega (arith, same, le)) in
-    (same, λ e short ends. none e short (rw (ends_append (drop (blank_len b) b) c e (omega (arith, short, l))) ends), le)
+    (same, λ e short ends. none e short (ends_longer (drop (blank_len b) b) c e (omega (arith, short, l)) ends), le)
 
 says_prefix : (b c : List ℕ) (q len : ℕ) (v : Verdict) → q + len ≤ length b → IsVerdict (take len (drop q (b ++ c))) v → IsVerdict (take len (drop q b)) v
 says_prefix b c q len v le h =
@@ -158,7 +158,7 @@ held_short held t q len s f =
       | inr ge ↦ (let q0 : q ≡ 0 = f.0 ∙ blank_two held t ge s.0 in
           elim (cases_lt (length held) (q + len)) [
             | inl lt ↦ lt
-            | inr le ↦ absurd (s.1 len f.2.short (rw (← ends_append held t len (omega (arith, le)), ← drop_none q (held ++ t) q0) f.2.ends))
+            | inr le ↦ absurd (s.1 len f.2.short (ends_shorter held t len (omega (arith, le)) (rw (← drop_none q (held ++ t) q0) f.2.ends)))
           ])
     ]
 
@@ -170,7 +170,7 @@ short_held held text b n q len s bis f = held_short held (take n text) q len s (
 pub no_end_joined : (held text b : List ℕ) (n : ℕ) → IsUnfinished held → b ≡ held ++ take n text → NoEndIn (length held) b
 no_end_joined held text b n s bis e le ends =
     let i = s.2 in
-    s.1 e (omega (arith, i, le)) (rw (← ends_append held (take n text) e le, ← bis) ends)
+    s.1 e (omega (arith, i, le)) (ends_shorter held (take n text) e le (rw (← bis) ends))
 
 -- nothing is held: the text is all that there is
 pub alone : (held text : List ℕ) → held ≡ [] → text ≡ held ++ take (length text) text

@@ -3,8 +3,9 @@ use Rattle.std.proofs.lemmas.List.{take-append-le, drop-append-le}
 use Rattle.std.proofs.lemmas.Grind.{common_steps}
 use Rattle.std.proofs.lemmas.Bool.{cases_lt}
 use Rattle.http_requests.specs.declared.messages.Meaning.{Meaning}
-use Rattle.http_requests.specs.Framing.{begins_lf, is_blank, blank_len, ends_at, EndsAt, NoBlock, IsBlock, IsWhole, IsOver, IsNext}
+use Rattle.http_requests.specs.Reference.{begins_lf, is_blank, blank_len, NoBlock, IsBlock, IsWhole, IsOver, IsNext}
 use Rattle.http_requests.proofs.VerdictLemmas.{verdict_unique}
+use Rattle.http_requests.proofs.EndLaws.{ends_within, ends_longer, ends_shorter}
 
 pub begins_append : (b : ℕ) (r y : List ℕ) → IsTrue (is_blank b r) → IsTrue (is_blank b (r ++ y))
 begins_append b [] y h = grind arith
@@ -13,14 +14,6 @@ begins_append b (c ∷ r) y h = h
 pub blank_le : (r : List ℕ) → blank_len r ≤ length r
 blank_le [] = omega arith
 blank_le (b ∷ r) = elim (is_blank b r) as (λ t. (if t then suc (blank_len r) else 0) ≤ suc (length r)) [ true ↦ let h = blank_le r in omega arith | false ↦ omega arith ]
-
-pub ends_within : (s : List ℕ) (e : ℕ) → EndsAt s e → (2 ≤ e) × (e ≤ length s)
-unfolding ends_at
-ends_within s e h = (grind arith, grind arith)
-
-pub ends_append : (s y : List ℕ) (e : ℕ) → e ≤ length s → ends_at (s ++ y) e ≡ ends_at s e
-unfolding ends_at
-ends_append s y e h = grind (arith, common_steps)
 
 pub begins_at : (s : List ℕ) (j : ℕ) → begins_lf (drop j s) ≡ (nat_lt j (length s) && (slice_index s j == 10))
 begins_at [] j = grind (arith, common_steps)
@@ -82,13 +75,13 @@ pub block_append : (s y : List ℕ) (e : ℕ) → IsBlock s e → IsBlock (s ++ 
 block_append s y e h =
     let w = ends_within s e h.ends in
     record {
-      ends = rw (ends_append s y e w.1) h.ends;
-      first = λ k below ends. h.first k below (rw (← ends_append s y k (omega arith)) ends);
+      ends = ends_longer s y e w.1 h.ends;
+      first = λ k below ends. h.first k below (ends_shorter s y k (omega arith) ends);
       short = h.short;
     }
 
 pub noblock_append : (s y : List ℕ) → 8192 ≤ length s → NoBlock s → NoBlock (s ++ y)
-noblock_append s y h none = λ e short ends. none e short (rw (← ends_append s y e (omega arith)) ends)
+noblock_append s y h none = λ e short ends. none e short (ends_shorter s y e (omega arith) ends)
 
 pub block_unique : (s : List ℕ) (e f : ℕ) → IsBlock s e → IsBlock s f → e ≡ f
 block_unique s e f g h = elim (cases_lt e f) [ inl lt ↦ absurd (h.first e lt g.ends) | inr ge ↦ elim (cases_lt f e) [ inl gt ↦ absurd (g.first f gt h.ends) | inr le ↦ omega arith ] ]

@@ -14,7 +14,7 @@ use Rattle.httparse.specs.declared.spans.Span.{Span}
 use Rattle.httparse.specs.Spans.{header_bytes, span_bytes, IsWithin}
 use Rattle.http_requests.specs.declared.heads.Lines.{Lines}
 use Rattle.http_requests.specs.declared.heads.Lines.TheVariants.{Absent, Once, Repeated}
-use Rattle.http_requests.specs.Heads.{FieldLine, same_text, values_of, is_given, options_of, has_option}
+use Rattle.http_requests.specs.Reference.{FieldLine, same_text, values_of, is_given, options_of, has_option}
 use Rattle.http_requests.specs.Lines.{AreLines, and_if, is_there}
 
 -- the field lines at these places of a block

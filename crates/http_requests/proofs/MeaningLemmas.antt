@@ -9,10 +9,10 @@ use Rattle.http_requests.specs.declared.messages.Fault.TheVariants.{TooLong, Blo
 use Rattle.http_requests.specs.declared.messages.Meaning.TheVariants.{Bad}
 use Rattle.http_requests.specs.declared.messages.Message.{Message}
 use Rattle.http_requests.specs.declared.heads.Verdict.{Verdict}
-use Rattle.http_requests.specs.Heads.{IsVerdict, IsHead, IsRequest, head_fault, lines_of, bad}
-use Rattle.http_requests.specs.Framing.{is_blank, blank_len, NoBlock, IsWhole, IsOver, IsNext, Messages, closes}
+use Rattle.http_requests.specs.Reference.{IsVerdict, IsHead, IsRequest, head_fault, lines_of, bad, is_blank, blank_len, NoBlock, IsWhole, IsOver, IsNext, Messages, closes}
 use Rattle.http_requests.specs.Parts.{Means, IsPart, LieInOrder}
-use Rattle.http_requests.proofs.FrontLemmas.{bool_cases, blank_front, blank_fixed, ends_within, ends_append, blank_le}
+use Rattle.http_requests.proofs.FrontLemmas.{bool_cases, blank_front, blank_fixed, blank_le}
+use Rattle.http_requests.proofs.EndLaws.{ends_within, ends_longer}
 
 -- the bytes of an empty line in front are those of a line end
 blank_lf : (b : ℕ) (r : List ℕ) → (b == 10) ≡ true → (rest : (ends : List LineEnd) × (take (blank_len r) r ≡ print_blank ends))
@@ -132,7 +132,7 @@ over_part p k r m j kis end w =
     let block_is = taken_len 8192 s w.within in
     let after_is : drop k r ≡ drop 8192 s = rw (drop-drop 8192 q r, kis, jis) refl in
     let none : NoBlock (take 8192 s) = λ e short ends. w.none e short
-    (rw (← take-append-drop 8192 s, ends_append (take 8192 s) (drop 8192 s) e (omega (arith, short, block_is))) ends) in
+    (rw (← take-append-drop 8192 s) (ends_longer (take 8192 s) (drop 8192 s) e (omega (arith, short, block_is)) ends)) in
     record {
       empty_lines = blank.0;
       block = take 8192 s;

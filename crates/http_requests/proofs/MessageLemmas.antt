@@ -6,11 +6,11 @@ use Rattle.http_requests.specs.declared.messages.Fault.TheVariants.{TooLong}
 use Rattle.http_requests.specs.declared.messages.Message.{Message}
 use Rattle.std.specs.Prelude.{MatchBool}
 use Rattle.http_requests.specs.declared.heads.Verdict.{Verdict}
-use Rattle.http_requests.specs.Heads.{IsVerdict}
-use Rattle.http_requests.specs.Framing.{blank_len, NoBlock, IsBlock, IsWhole, IsOver, Messages, closes}
+use Rattle.http_requests.specs.Reference.{IsVerdict, blank_len, NoBlock, IsBlock, IsWhole, IsOver, Messages, closes}
 use Rattle.http_requests.proofs.VerdictLemmas.{verdict_unique}
 use Rattle.http_requests.specs.Cutting.{MessagesAfter, BodyMessages}
-use Rattle.http_requests.proofs.FrontLemmas.{next_unique, next_append, next_within, blank_append, front_kept, blank_le, block_unique, ends_within}
+use Rattle.http_requests.proofs.FrontLemmas.{next_unique, next_append, next_within, blank_append, front_kept, blank_le, block_unique}
+use Rattle.http_requests.proofs.EndLaws.{ends_within}
 
 -- two equal descriptions of a message
 same_message : (m n : Message) → m.what ≡ n.what → m.end ≡ n.end → m ≡ n

@@ -9,7 +9,7 @@ use Rattle.http_requests.specs.declared.messages.Fault.{Fault}
 use Rattle.http_requests.specs.declared.messages.Meaning.{Meaning}
 use Rattle.http_requests.specs.declared.messages.Meaning.TheVariants.{Request}
 use Rattle.http_requests.specs.declared.heads.Verdict.{Verdict}
-use Rattle.http_requests.specs.Heads.{FieldLine, lines_of, values_of, IsSecondOf, IsOnlySecond, counts_since, IsModifiedSince, IsRequest, bad, head_fault, HeadSays, IsVerdict, version_of, is_closing}
+use Rattle.http_requests.specs.Reference.{FieldLine, lines_of, values_of, IsSecondOf, IsOnlySecond, counts_since, IsModifiedSince, IsRequest, bad, head_fault, HeadSays, IsVerdict, version_of, is_closing}
 
 -- a text shows one second, or none
 second_unique : (text : List ℕ) (s t : Option ℕ) → IsSecondOf text s → IsSecondOf text t → s ≡ t

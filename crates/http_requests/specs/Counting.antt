@@ -5,7 +5,7 @@ use Rattle.http_requests.specs.declared.heads.Verdict.{Verdict}
 use Rattle.http_requests.specs.declared.heads.Extent.{Extent}
 use Rattle.http_requests.specs.declared.counting.Step.{Step}
 use Rattle.http_requests.specs.declared.counting.Step.TheVariants.{Missing, Last, Over}
-use Rattle.http_requests.specs.Framing.{IsNext, closes}
+use Rattle.http_requests.specs.Reference.{IsNext, closes}
 
 -- how a message goes on after its block, by the block's verdict
 abbrev pub IsExtent : Verdict → Extent → Type 0

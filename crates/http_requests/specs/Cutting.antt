@@ -1,12 +1,12 @@
 -- What a cutter holds between two pieces, and what it has done with the pieces so far.
 use Rattle.std.specs.Prelude.{◌≡◌, ℕ, ◌+◌, ◌-◌, ◌<◌, ◌≤◌, List, [], ◌∷◌, ◌++◌, length, take, drop, MatchBool}
-use Rattle.http_requests.specs.Limits.{max_block_bytes, max_body_bytes}
+use Rattle.http_requests.specs.Reference.{max_block_bytes, max_body_bytes, NoBlock, Messages, MessagesOf, blank_len}
+use Rattle.http_requests.specs.Reference.{closes}
 use Rattle.http_requests.specs.declared.messages.Meaning.{Meaning}
 use Rattle.http_requests.specs.declared.messages.Message.{Message}
 use Rattle.http_requests.specs.declared.heads.Verdict.{Verdict}
 use Rattle.http_requests.specs.declared.cutting.Stage.{Stage}
 use Rattle.http_requests.specs.declared.cutting.Stage.TheVariants.{Seeking, Body, Closed, Failed}
-use Rattle.http_requests.specs.Framing.{NoBlock, Messages, MessagesOf, blank_len, closes}
 
 -- what a cutter keeps of the text: where it stands, how many bytes were read, and the prefix that was
 -- read of a block that isn't whole

@@ -2,7 +2,7 @@
 use Rattle.std.specs.Prelude.{◌≡◌, ℕ, ◌≤◌, Bool, true, false, List, [], ◌∷◌, length, map, All, codes}
 use Rattle.httparse.specs.declared.spans.Span.{Span}
 use Rattle.httparse.specs.Spans.{header_bytes, span_bytes, IsWithin, IsHeaderWithin}
-use Rattle.http_requests.specs.Heads.{FieldLine, PartsSay, same_text, values_of}
+use Rattle.http_requests.specs.Reference.{FieldLine, PartsSay, same_text, values_of}
 use Rattle.http_requests.specs.declared.heads.Verdict.{Verdict}
 use Rattle.http_requests.specs.declared.heads.Head.{Head}
 use Rattle.http_requests.specs.declared.heads.Lines.{Lines}

@@ -1,15 +1,13 @@
 -- Where the messages of a text lie in it, and what each was read from.
 use Rattle.std.specs.Prelude.{◌≡◌, ℕ, ◌+◌, ◌≤◌, Bool, List, [], ◌∷◌, ◌++◌, length, Option, None, codes}
-use Rattle.http_requests.specs.Limits.{max_fields, max_block_bytes}
+use Rattle.http_requests.specs.Reference.{max_fields, max_block_bytes, values_of, body_length, head_fault, is_closing}
+use Rattle.http_requests.specs.Reference.{IsModifiedSince, version_of, lines_of, IsVerdict, bad, NoBlock, blank_len}
 use Rattle.httparse.specs.Grammar.{LineEnd, print_blank, RequestHead, ReadsRequest}
 use Rattle.http_requests.specs.declared.messages.Version.{Version}
 use Rattle.http_requests.specs.declared.messages.Fault.TheVariants.{TooLong}
 use Rattle.http_requests.specs.declared.messages.Meaning.{Meaning}
 use Rattle.http_requests.specs.declared.messages.Meaning.TheVariants.{Request, Bad}
 use Rattle.http_requests.specs.declared.messages.Message.{Message}
-use Rattle.http_requests.specs.Heads.{values_of, body_length, head_fault, is_closing, IsModifiedSince, version_of}
-use Rattle.http_requests.specs.Heads.{lines_of, IsVerdict, bad}
-use Rattle.http_requests.specs.Framing.{NoBlock, blank_len}
 
 -- the request is what a head says, the head is the whole block, and the body is as long as it says
 pub record IsReadFrom

@@ -1,10 +1,9 @@
 -- What stands at the start of a text.
 use Rattle.std.specs.Prelude.{◌≡◌, ◌↔◌, ℕ, ◌+◌, ◌<◌, ◌≤◌, List, length, drop, slice_index}
 use Rattle.std.specs.Int.{bit_at}
-use Rattle.http_requests.specs.Limits.{line_feed, max_block_bytes}
+use Rattle.http_requests.specs.Reference.{line_feed, max_block_bytes, EndsAt, NoBlock, IsBlock, blank_len}
 use Rattle.http_requests.specs.declared.scanning.Found.{Found}
 use Rattle.http_requests.specs.declared.scanning.Found.TheVariants.{Wait, Over, Whole}
-use Rattle.http_requests.specs.Framing.{EndsAt, NoBlock, IsBlock, blank_len}
 
 -- no block ends in the first n bytes
 abbrev pub NoEndIn : ℕ → List ℕ → Type 0

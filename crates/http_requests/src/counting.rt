@@ -1,7 +1,7 @@
 //! Counting the messages of a text. It takes no memory, so each text has messages to count.
 ghost use Rattle.std.specs.Prelude.{◌≡◌, ◌≤◌, List, ℕ, length};
 ghost use Rattle.http_requests.specs.declared.messages.Message.{Message as AMessage};
-ghost use Rattle.http_requests.specs.Framing.{MessagesOf};
+ghost use Rattle.http_requests.specs.Reference.{MessagesOf};
 ghost use Rattle.http_requests.specs.Counting.{IsStep};
 
 use crate::heads::measure_block;

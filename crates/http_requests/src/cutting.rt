@@ -1,7 +1,8 @@
 //! Cutting a text that comes in pieces.
 ghost use Rattle.std.specs.Prelude.{◌≡◌, ◌<◌, ◌≤◌, ◌++◌, ◌∷◌, [], drop, length, IfNone, IfOk, IfSome, OnErr, OnOk};
 ghost use Rattle.std.specs.Prelude.{OnSome};
-ghost use Rattle.http_requests.specs.Limits.{max_body_bytes, max_text_bytes};
+ghost use Rattle.http_requests.specs.Reference.{max_body_bytes};
+ghost use Rattle.http_requests.specs.Limits.{max_text_bytes};
 ghost use Rattle.http_requests.specs.Cutting.{Begins, IsUnfinished, Waits};
 
 use crate::heads::{Verdict, bad, read_block};

@@ -1,16 +1,14 @@
 //! What a block says: the verdict of its head (RFC 9110 and RFC 9112).
-ghost use Rattle.std.specs.Prelude.{◌≡◌, ◌≤◌, ◌==◌, false, true, codes, min, IfOk, MatchOption};
-ghost use Rattle.std.specs.Prelude.{MatchResult, Some, None, IfSome, IfNone};
+ghost use Rattle.std.specs.Prelude.{◌≡◌, ◌≤◌, ◌==◌, false, true, codes, min, IfOk, MatchOption, MatchResult, Some};
+ghost use Rattle.std.specs.Prelude.{None, IfSome, IfNone};
 ghost use Rattle.httparse.specs.Grammar.{is_ows, trim_ows};
 ghost use Rattle.httparse.specs.Spans.{span_bytes};
 ghost use Rattle.std.specs.Str.Parse.{digits_value};
 ghost use Rattle.std.specs.List.{list_all, list_any, slice_split};
-ghost use Rattle.http_requests.specs.Limits.{max_body_bytes};
-ghost use Rattle.http_requests.specs.Heads.{IsVerdict, same_text, values_of, is_host_byte, is_host_fault};
-ghost use Rattle.http_requests.specs.Heads.{is_numeral, body_length, head_fault, has_option, is_closing};
-ghost use Rattle.http_requests.specs.Heads.{is_get_or_head, IsModifiedSince, bad};
-ghost use Rattle.http_requests.specs.Lines.{LiesWithin, lines_at, Says, AreLines, AreNoted, and_if, is_there};
-ghost use Rattle.http_requests.specs.Lines.{AddsLine};
+ghost use Rattle.http_requests.specs.Reference.{max_body_bytes, is_get_or_head, IsModifiedSince, bad};
+ghost use Rattle.http_requests.specs.Reference.{IsVerdict, same_text, values_of, is_host_byte, is_host_fault};
+ghost use Rattle.http_requests.specs.Reference.{is_numeral, body_length, head_fault, has_option, is_closing};
+ghost use Rattle.http_requests.specs.Lines.{LiesWithin, lines_at, Says, AreLines, AreNoted, and_if, is_there, AddsLine};
 ghost use Rattle.http_requests.specs.Counting.{IsExtent};
 ghost use Rattle.http_requests.specs.declared.heads.Verdict.{Verdict as AVerdict};
 ghost use Rattle.http_requests.specs.declared.messages.Fault.TheVariants.{Block};

@@ -1,9 +1,9 @@
 //! What holds of the messages of each text, whoever cuts it.
-ghost use Rattle.std.specs.Prelude.{◌≡◌, ◌++◌, ◌≤◌, ℕ, List, length, map, IfOk};
+ghost use Rattle.std.specs.Prelude.{◌≡◌, ◌++◌, ◌≤◌, ℕ, List, length, map, IfOk, IsTrue};
 ghost use Rattle.http_requests.specs.Limits.{max_text_bytes};
 ghost use Rattle.http_requests.specs.declared.messages.Message.{Message as AMessage};
-ghost use Rattle.http_requests.specs.Framing.{MessagesOf, EndsAt, IsBlock};
-ghost use Rattle.http_requests.specs.Ends.{EndsAfter, IsShortestBlock};
+ghost use Rattle.http_requests.specs.Reference.{MessagesOf, EndsAt, IsBlock};
+ghost use Rattle.http_requests.specs.Ends.{ends_at, IsShortestBlock};
 ghost use Rattle.http_requests.specs.Parts.{LieInOrder};
 ghost use Rattle.http_requests.specs.Cutting.{joined};
 
@@ -11,9 +11,9 @@ use crate::cutting::Cutter;
 use crate::messages::Message;
 use std::alloc::{AllocError, Global};
 
-/// A block ends where the scan looks for its end: after LF LF or LF CR LF.
+/// Where a block ends is told by the last three bytes before that place: LF LF or LF CR LF.
 pub fn block_ends()
-    ensures { (s : List ℕ) (e : ℕ) → (EndsAt s e → EndsAfter s e) × (EndsAfter s e → EndsAt s e) }
+    ensures { (s : List ℕ) (e : ℕ) → (EndsAt s e → IsTrue (ends_at s e)) × (IsTrue (ends_at s e) → EndsAt s e) }
 {}
 
 /// The block at the start of a text is its shortest prefix that ends so, within the limit.

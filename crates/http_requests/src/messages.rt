@@ -2,7 +2,7 @@
 ghost use Rattle.std.specs.Prelude.{◌≡◌, nat_eq, IfOk};
 ghost use Rattle.std.specs.Cmp.Lexicographic.{pointwise, nat_list_eq_equiv};
 ghost use Rattle.std.specs.Cmp.{partial_equiv_from_equiv};
-ghost use Rattle.http_requests.specs.Framing.{closes};
+ghost use Rattle.http_requests.specs.Reference.{closes};
 
 use std::alloc::{AllocError, Global};
 use std::fmt;

@@ -1,8 +1,8 @@
 //! The empty lines and the block at the start of a text.
 ghost use Rattle.std.specs.Prelude.{◌≡◌, ◌≢◌, ◌+◌, ◌<◌, ◌≤◌, ℕ, length, slice_index, IfSome, IfNone};
 ghost use Rattle.std.specs.Int.{bit_at};
-ghost use Rattle.http_requests.specs.Limits.{line_feed, max_block_bytes};
-ghost use Rattle.http_requests.specs.Framing.{ends_at, NoBlock, IsBlock, blank_len};
+ghost use Rattle.http_requests.specs.Reference.{line_feed, max_block_bytes, NoBlock, blank_len, IsBlock};
+ghost use Rattle.http_requests.specs.Ends.{ends_at};
 ghost use Rattle.http_requests.specs.Scanning.{IsFound, NoEndIn, MarksFeeds};
 
 use memchr::{memchr, memchr_iter};
@@ -27,7 +27,7 @@ pub enum Found {
 
 /// Whether a block ends with the line feed at this place: whether LF, or LF CR, stands before it.
 #[inline(always)]
-#[tactic(auto, unfolding(crate::specs::Framing::ends_at))]
+#[tactic(auto, unfolding(crate::specs::Ends::ends_at))]
 fn ends_with(s: &[u8], feed: usize) -> bool
     requires two { 2 ≤ feed }
     requires within { feed < length s.now }
@@ -172,7 +172,7 @@ fn block_end(s: &[u8], seen: usize) -> Option<usize>
 
 /// What stands at the start of a text, where no block ends in its first `seen` bytes. Only the bytes
 /// after those are looked at, and a few before.
-#[tactic(auto, using(crate::proofs::FrontLemmas::ends_within))]
+#[tactic(auto, using(crate::proofs::EndLaws::ends_within))]
 pub fn find(r: &[u8], seen: usize) -> Found
     requires within { seen ≤ length r.now }
     requires limit { seen ≤ max_block_bytes }

@@ -1,10 +1,9 @@
 -- The counts of one more record and of one more message.
 use Rattle.std.proofs.Common.{◌≡◌, ℕ, ◌+◌, ◌-◌, ◌^◌, ◌<◌, Bool, true, false, cond, List, [], ◌∷◌, ◌++◌, length, map, take, get_or, refl, sym, ap, ◌∙◌, arith}
-use Rattle.std.specs.Prelude.{bytes_eq, codes, count_by}
+use Rattle.std.specs.Prelude.{bytes_eq, codes, count_by, Option}
 use Rattle.std.proofs.lemmas.List.{length_push, append_assoc, map-append, take_more, length-append, length-map, length-take-le}
 use Rattle.std.proofs.lemmas.List.Sums.{sum_by_push, count_by-le-length}
 use Rattle.std.proofs.lemmas.Slice.Eq.{bytes_eq-Decides}
-use Rattle.std.specs.Prelude.{Option}
 use Rattle.captures.specs.declared.record.Record.{Record}
 use Rattle.captures.specs.declared.record.Record.TheVariants.{Piece, End, Tier}
 use Rattle.http_requests.specs.declared.messages.Message.{Message}
@@ -18,9 +17,7 @@ use Rattle.inspection.specs.declared.counts.RecordCounts.{RecordCounts}
 use Rattle.inspection.specs.declared.counts.MethodCounts.{MethodCounts}
 use Rattle.inspection.specs.declared.counts.FaultCounts.{FaultCounts}
 use Rattle.inspection.specs.declared.counts.MessageCounts.{MessageCounts}
-use Rattle.inspection.specs.Figures.{is_piece, is_end, is_tier, records_by_kind, is_request, has_method, has_other_method, is_http10, is_http11}
-use Rattle.inspection.specs.Figures.{is_too_long, is_bad_block, is_bad_host, is_bad_coding, is_bad_length, is_bad_body_size}
-use Rattle.inspection.specs.Figures.{methods_by_kind, versions_by_kind, faults_by_kind, messages_by_kind}
+use Rattle.inspection.specs.Figures.{is_piece, is_end, is_tier, records_by_kind, is_request, has_method, has_other_method, is_http10, is_http11, is_too_long, is_bad_block, is_bad_host, is_bad_coding, is_bad_length, is_bad_body_size, methods_by_kind, versions_by_kind, faults_by_kind, messages_by_kind}
 use Rattle.inspection.specs.Running.{FewRecords, FewMessages, with_piece, with_end, with_tier, with_method, with_version, with_fault, with_message}
 
 -- ---- one more of a list

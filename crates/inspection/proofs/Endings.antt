@@ -9,10 +9,11 @@ use Rattle.captures.specs.declared.version.Version.{Version}
 use Rattle.captures.specs.declared.capture_fault.CaptureFault.{CaptureFault}
 use Rattle.captures.specs.declared.capture_fault.CaptureFaultKind.{CaptureFaultKind}
 use Rattle.captures.specs.declared.capture_fault.CaptureFaultKind.TheVariants as kinds
-use Rattle.captures.specs.Captures.{IsCapture, tick_of, ticks_of}
+use Rattle.captures.specs.Reference.{IsCapture, tick_of, ticks_of}
 use Rattle.captures.specs.Readers.{ReaderAfter, Gave, FailsNext}
+use Rattle.captures.proofs.PassLemmas.{reads_of, faults_next}
 use Rattle.captures.proofs.UpgradeLemmas.{all_read}
-use Rattle.arrivals.specs.Arrivals.{Arrival}
+use Rattle.arrivals.specs.Reference.{Arrival}
 use Rattle.arrivals.specs.declared.connections.Connection.{Connection}
 use Rattle.arrivals.proofs.Arriving.{reads_none, arrives_none}
 use Rattle.inspection.specs.declared.inspection.Inspection.{Inspection}
@@ -39,11 +40,17 @@ pub holds_all : (v : Version) (text now : Option (List ℕ)) (start : ℕ) (reco
     (x : Option Record) (i : Inspection) → ReaderAfter v text start records p now → x ≡ None → Gave v text start records (Ok x) q ahead → Holds records arrivals connections f
     → i.version ≡ v → i.start ≡ start → AreFigures records arrivals i → HoldsAll text i
 holds_all v text now start records arrivals connections f p q ahead x i fits none gave holds version begun figures = record {
-  records = records;
+  capture = record {
+    version = v;
+    start = start;
+    records = records;
+    rules = fits.rules;
+    text = all_read v text ahead start records q x none gave;
+  };
   arrivals = arrivals;
-  rules = rw (version, begun) fits.rules;
-  capture = rw (version, begun) (all_read v text ahead start records q x none gave);
   arrived = holds.arrived;
+  version = version;
+  start = begun;
   figures = figures;
 }
 
@@ -53,17 +60,13 @@ pub holds_before : (v : Version) (text now : Option (List ℕ)) (start : ℕ) (r
     (fault : CaptureFault) (i : Inspection) → ReaderAfter v text start records p now → Gave v text start records (Err fault) q ahead → FailsNext v text start records (Err fault) ahead
     → Holds records arrivals connections f → i.version ≡ v → i.start ≡ start → AreFigures records arrivals i → HoldsBefore text ahead i fault
 holds_before v text now start records arrivals connections f p q ahead fault i fits gave failed holds version begun figures = record {
-  records = records;
+  read = reads_of v text now start records p fits;
+  faults = faults_next v text now ahead start records p q fault fits gave failed;
   arrivals = arrivals;
-  rest = unwrap_or now [];
-  rules = rw (version, begun) fits.rules;
-  begins = rw (version, begun) fits.taken;
-  size = rw (version, begun) (λ known. (let e = fits.left known in omega (arith, e)));
   arrived = holds.arrived;
+  version = version;
+  start = begun;
   figures = figures;
-  at = gave.0;
-  fault = rw (version, begun) (λ foreseen known. gave.1 known foreseen);
-  failed = rw (version, begun) failed;
 }
 
 -- what is said of a capture's fault, where the inspection tells it

@@ -10,7 +10,7 @@ use Rattle.std.proofs.Math.ListN.{get_or-eq_default}
 use Rattle.captures.specs.declared.record.Record.{Record}
 use Rattle.captures.specs.declared.record.Record.TheVariants.{Piece, End, Tier}
 use Rattle.captures.specs.Captures.{sizes_of, size_of}
-use Rattle.arrivals.specs.Arrivals.{Arrival, text_of, bytes_to}
+use Rattle.arrivals.specs.Reference.{Arrival, text_of, bytes_to}
 use Rattle.std.proofs.lemmas.Bool.Decides.{eqb_tells}
 use Rattle.inspection.specs.declared.inspection.Share.{Share}
 use Rattle.inspection.specs.declared.tails.Tail.{Tail}

@@ -10,11 +10,12 @@ use Rattle.std.proofs.lemmas.List.Sums.{sum_by_push}
 use Rattle.std.proofs.Math.Seq.{get_or-append_seam}
 use Rattle.captures.specs.declared.record.Record.{Record}
 use Rattle.captures.specs.declared.record.Record.TheVariants.{Piece, End, Tier}
-use Rattle.captures.specs.Captures.{tier_of, tick_of, ticks_of, last_of, size_of, sizes_of}
+use Rattle.captures.specs.Reference.{tier_of, tick_of, ticks_of, last_of}
+use Rattle.captures.specs.Captures.{size_of, sizes_of}
 use Rattle.captures.proofs.Pasts.{past_more}
 use Rattle.http_requests.specs.declared.messages.Message.{Message}
 use Rattle.http_requests.specs.Cutting.{EndBetween}
-use Rattle.arrivals.specs.Arrivals.{Arrival, bytes_to, text_of, messages_of}
+use Rattle.arrivals.specs.Reference.{Arrival, bytes_to, text_of, messages_of}
 use Rattle.arrivals.specs.Connections.{HasRead, HasRoom, ReadMore, connection_at, arrivals_with}
 use Rattle.arrivals.specs.declared.connections.Connection.{Connection}
 use Rattle.arrivals.specs.declared.connections.Connection.TheVariants.{Silent, Open, Closed}

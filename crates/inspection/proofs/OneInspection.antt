@@ -2,9 +2,9 @@
 use Rattle.std.proofs.Common.{◌≡◌, ℕ, List, Some, refl, sym, ap, ◌∙◌, subst, arith}
 use Rattle.std.specs.Prelude.{slice_get, length, ◌-◌}
 use Rattle.captures.specs.declared.record.Record.{Record}
-use Rattle.captures.specs.Captures.{ticks_of}
+use Rattle.captures.specs.Reference.{ticks_of}
 use Rattle.captures.proofs.Agree.{one_list}
-use Rattle.arrivals.specs.Arrivals.{Arrival, AreArrivals}
+use Rattle.arrivals.specs.Reference.{Arrival, AreArrivals}
 use Rattle.arrivals.proofs.ArrivalLaws.{one_list_of_arrivals}
 use Rattle.inspection.specs.declared.inspection.Inspection.{Inspection}
 use Rattle.inspection.specs.declared.inspection.Second.{Second}
@@ -47,6 +47,9 @@ same_figures i j rs ss xs ys version start records arrivals h k =
 
 pub one_inspection : (bytes : List ℕ) (i j : Inspection) → HoldsAll (Some bytes) i → HoldsAll (Some bytes) j → i ≡ j
 one_inspection bytes i j h k =
-    let one = one_list bytes i.version j.version i.start j.start h.records k.records (h.capture refl) (k.capture refl) in
-    let arrived : AreArrivals k.records h.arrivals = subst (λ (l : List Record). AreArrivals l h.arrivals) one.2 h.arrived in
-    same_figures i j h.records k.records h.arrivals k.arrivals one.0 one.1 one.2 (one_list_of_arrivals k.records h.arrivals k.arrivals arrived k.arrived) h.figures k.figures
+    let c = h.capture in
+    let d = k.capture in
+    let one = one_list bytes c.version d.version c.start d.start c.records d.records (c.text refl) (d.text refl) in
+    let arrived : AreArrivals d.records h.arrivals = subst (λ (l : List Record). AreArrivals l h.arrivals) one.2 h.arrived in
+    same_figures i j c.records d.records h.arrivals k.arrivals (h.version ∙ (one.0 ∙ sym k.version)) (h.start ∙ (one.1 ∙ sym k.start)) one.2
+    (one_list_of_arrivals d.records h.arrivals k.arrivals arrived k.arrived) h.figures k.figures

@@ -5,14 +5,14 @@ use Rattle.std.specs.List.{range_with_len}
 use Rattle.captures.specs.declared.version.Version.TheVariants.{Two}
 use Rattle.captures.specs.declared.record.Record.{Record}
 use Rattle.captures.specs.declared.record.Record.TheVariants.{Piece, End, Tier}
-use Rattle.captures.specs.Captures.{last_connection, last_of, ticks_of}
+use Rattle.captures.specs.Reference.{last_connection, last_of, ticks_of}
 use Rattle.http_requests.specs.declared.messages.Message.{Message}
 use Rattle.http_requests.specs.declared.messages.Meaning.{Meaning}
 use Rattle.http_requests.specs.declared.messages.Meaning.TheVariants.{Request, Bad}
 use Rattle.http_requests.specs.declared.messages.Version.TheVariants.{Http10, Http11}
 use Rattle.http_requests.specs.declared.messages.Fault.TheVariants.{TooLong, Block, Host, Coding, Length, BodySize}
-use Rattle.http_requests.specs.Heads.{is_get_or_head}
-use Rattle.arrivals.specs.Arrivals.{Arrival, text_of, messages_of}
+use Rattle.http_requests.specs.Reference.{is_get_or_head}
+use Rattle.arrivals.specs.Reference.{Arrival, text_of, messages_of}
 use Rattle.arrivals.specs.Connections.{some_closes}
 use Rattle.inspection.specs.declared.counts.RecordCounts.{RecordCounts}
 use Rattle.inspection.specs.declared.counts.MethodCounts.{MethodCounts}

@@ -1,10 +1,10 @@
 -- What is kept of a capture while its records are read.
-use Rattle.std.specs.Prelude.{◌≡◌, ◌≢◌, ℕ, ◌+◌, ◌-◌, ◌/◌, ◌<◌, ◌≤◌, false, List, [], ◌∷◌, ◌++◌, length}
-use Rattle.std.specs.Prelude.{map, replicate, slice_get, slice_index_or, codes, bytes_eq, nat_lt, if◌then◌else◌}
-use Rattle.std.specs.Prelude.{Some, unwrap_or}
+use Rattle.std.specs.Prelude.{◌≡◌, ◌≢◌, ℕ, ◌+◌, ◌-◌, ◌/◌, ◌<◌, ◌≤◌, false, List, [], ◌∷◌, ◌++◌, length, map, replicate}
+use Rattle.std.specs.Prelude.{slice_get, slice_index_or, codes, bytes_eq, nat_lt, if◌then◌else◌, Some, unwrap_or}
 use Rattle.captures.specs.declared.record.Record.{Record}
 use Rattle.captures.specs.declared.record.Record.TheVariants.{Piece, End, Tier}
-use Rattle.captures.specs.Captures.{last_of, ticks_of, sizes_of, size_of, max_text_bytes}
+use Rattle.captures.specs.Reference.{last_of, ticks_of, max_text_bytes}
+use Rattle.captures.specs.Captures.{sizes_of, size_of}
 use Rattle.http_requests.specs.declared.messages.Message.{Message}
 use Rattle.http_requests.specs.declared.messages.Meaning.{Meaning}
 use Rattle.http_requests.specs.declared.messages.Meaning.TheVariants.{Request, Bad}
@@ -12,7 +12,7 @@ use Rattle.http_requests.specs.declared.messages.Version.{Version}
 use Rattle.http_requests.specs.declared.messages.Version.TheVariants.{Http10, Http11}
 use Rattle.http_requests.specs.declared.messages.Fault.{Fault}
 use Rattle.http_requests.specs.declared.messages.Fault.TheVariants.{TooLong, Block, Host, Coding, Length, BodySize}
-use Rattle.arrivals.specs.Arrivals.{Arrival, AreArrivals, text_of, messages_of}
+use Rattle.arrivals.specs.Reference.{Arrival, AreArrivals, text_of, messages_of}
 use Rattle.arrivals.specs.Connections.{HaveRead, some_closes}
 use Rattle.arrivals.specs.declared.connections.Connection.{Connection}
 use Rattle.inspection.specs.declared.counts.RecordCounts.{RecordCounts}
@@ -24,8 +24,8 @@ use Rattle.inspection.specs.declared.inspection.Share.{Share}
 use Rattle.inspection.specs.declared.busy.Busy.{Busy}
 use Rattle.inspection.specs.declared.tails.Tail.{Tail}
 use Rattle.inspection.specs.declared.found.Found.{Found}
-use Rattle.inspection.specs.Figures.{records_by_kind, messages_by_kind, whats_of, end_of, seconds_of}
-use Rattle.inspection.specs.Figures.{ticks_of_a_second, count_in, IsBusiest}
+use Rattle.inspection.specs.Figures.{records_by_kind, messages_by_kind, whats_of, end_of, seconds_of, ticks_of_a_second}
+use Rattle.inspection.specs.Figures.{count_in, IsBusiest}
 
 -- ---- counts
 

@@ -3,9 +3,8 @@
 ghost use Rattle.std.specs.Prelude.{◌≡◌, ◌+◌, ◌-◌, ◌<◌, ◌^◌, ◌++◌, List, length, map};
 ghost use Rattle.http_requests.specs.declared.messages.Meaning.{Meaning as AMeaning};
 ghost use Rattle.inspection.specs.Figures.{messages_by_kind};
-ghost use Rattle.inspection.specs.Running.{FewRecords, FewMethods, FewVersions, FewFaults, FewMessages};
-ghost use Rattle.inspection.specs.Running.{with_piece, with_end, with_tier, with_method, with_version, with_fault};
-ghost use Rattle.inspection.specs.Running.{with_message};
+ghost use Rattle.inspection.specs.Running.{FewRecords, FewMethods, FewVersions, FewFaults, FewMessages, with_piece};
+ghost use Rattle.inspection.specs.Running.{with_end, with_tier, with_method, with_version, with_fault, with_message};
 
 use crate::counts::{FaultCounts, MessageCounts, MethodCounts, RecordCounts, VersionCounts};
 use http_requests::{Fault, Meaning, Message, Version};

@@ -3,8 +3,9 @@
 ghost use Rattle.std.specs.Prelude.{◌≡◌, ℕ, ◌+◌, ◌-◌, ◌<◌, ◌≤◌, ◌^◌, [], List, length, OnOk};
 ghost use Rattle.http_requests.specs.declared.messages.Meaning.{Meaning as AMeaning};
 ghost use Rattle.captures.specs.declared.record.Record.{Record as ARecord};
-ghost use Rattle.captures.specs.Captures.{sizes_of, max_text_bytes};
-ghost use Rattle.arrivals.specs.Arrivals.{Arrival};
+ghost use Rattle.captures.specs.Reference.{max_text_bytes};
+ghost use Rattle.captures.specs.Captures.{sizes_of};
+ghost use Rattle.arrivals.specs.Reference.{Arrival};
 ghost use Rattle.inspection.specs.Figures.{AreFigures, messages_by_kind};
 ghost use Rattle.inspection.specs.Running.{FewRecords, most_connections, tail_at, IsFound, TookPiece, with_tick};
 ghost use Rattle.inspection.specs.Running.{with_end, with_tier};

@@ -1,9 +1,9 @@
 //! Reading a capture to its end, and counting what it holds.
 
 ghost use Rattle.std.specs.Prelude.{◌≡◌, ◌-◌, ◌<◌, ◌^◌, List, OnOk, IfOk, IfErr};
-ghost use Rattle.paths.specs.Devices.{CanFail, CountsBy};
+ghost use Rattle.devices.specs.Devices.{CanFail, CountsBy};
 ghost use Rattle.captures.specs.declared.record.Record.{Record as ARecord};
-ghost use Rattle.arrivals.specs.Arrivals.{Arrival};
+ghost use Rattle.arrivals.specs.Reference.{Arrival};
 ghost use Rattle.inspection.specs.Running.{Holds, HoldsMore, HasRoomFor, IsNoEarlier};
 ghost use Rattle.inspection.specs.Inspections.{HoldsAll, Stops, reader_failures, stop_of};
 
@@ -11,7 +11,7 @@ use crate::found::{Found, inspection_of};
 use crate::{InspectFault, Inspection};
 use arrivals::Connections;
 use captures::{CaptureFault, CaptureFaultKind, CaptureReader, Record};
-use paths::Input;
+use devices::Input;
 use std::alloc::{AllocError, Global};
 use std::io::Read;
 

@@ -1,6 +1,7 @@
 //! What holds of each inspection, whoever made it.
 ghost use Rattle.std.specs.Prelude.{◌≡◌, ◌+◌, ℕ, List, Some};
-ghost use Rattle.captures.specs.Captures.{IsCapture, sizes_of};
+ghost use Rattle.captures.specs.Reference.{IsCapture};
+ghost use Rattle.captures.specs.Captures.{sizes_of};
 ghost use Rattle.captures.specs.declared.record.Record.{Record as ARecord};
 ghost use Rattle.captures.specs.declared.version.Version.{Version as AVersion};
 ghost use Rattle.http_requests.specs.declared.messages.Meaning.{Meaning as AMeaning};

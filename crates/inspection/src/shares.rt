@@ -1,7 +1,7 @@
 //! How the messages spread over the connections.
 
 ghost use Rattle.std.specs.Prelude.{◌≡◌, ◌+◌, ◌≤◌, ◌<◌, ◌^◌, All, length};
-ghost use Rattle.captures.specs.Captures.{max_text_bytes};
+ghost use Rattle.captures.specs.Reference.{max_text_bytes};
 ghost use Rattle.inspection.specs.Figures.{share_over};
 ghost use Rattle.inspection.specs.Running.{most_connections, rest_after_close, rest_unfinished, with_bytes, FewBytes};
 

@@ -1,6 +1,6 @@
 //! What no clause says: that the definitions mean what the rules say, and that calls succeed.
+use devices::Input;
 use inspection::{InspectFault, Inspection, inspect};
-use paths::Input;
 use std::alloc::Global;
 
 mod failing;

@@ -1,6 +1,6 @@
 -- What stands after the last byte of a value, by the place of that byte.
 use Rattle.std.proofs.Common.{◌≡◌, ◌≢◌, ℕ, ◌+◌, ◌<◌, ◌≤◌, true, false, zero, suc, List, [], ◌∷◌, length, drop, get_or, Some, None, refl, arith, rules, ◌==◌}
-use Rattle.page_cache.specs.Media.{after_last}
+use Rattle.page_cache.specs.Reference.{after_last}
 
 pub after_last_none : (mark : ℕ) (text : List ℕ) → ((k : ℕ) → k < length text → get_or text k 0 ≢ mark) → after_last mark text ≡ None
 unfolding after_last

@@ -3,3 +3,4 @@ pub mod Caches
 pub mod Laws
 pub mod Media
 pub mod Pages
+pub mod Reference

@@ -1,8 +1,9 @@
 -- The page of a file: the fields that tell its content, and the content itself.
 use Rattle.std.specs.Prelude.{◌≡◌, ℕ, ◌<◌, List, ◌++◌, length}
-use Rattle.paths.specs.Snapshots.{file_of}
+use Rattle.paths.specs.Reference.{file_of}
 use Rattle.paths.specs.declared.file.File.{File}
-use Rattle.page_cache.specs.Media.{media_of, entity_fields}
+use Rattle.page_cache.specs.Reference.{media_of}
+use Rattle.page_cache.specs.Media.{entity_fields}
 
 -- the fields of a file, each with its CR LF
 abbrev pub page_fields : File → List ℕ

@@ -3,7 +3,7 @@
 ghost use Rattle.std.specs.Prelude.{◌≡◌, IfOk, string_bytes, map, unwrap_or};
 ghost use Rattle.std.specs.Option.{option_map};
 ghost use Rattle.std.specs.Char.{to_ascii_lowercase};
-ghost use Rattle.page_cache.specs.Media.{after_last, last_part, media_by_extension, media_of, media_text};
+ghost use Rattle.page_cache.specs.Reference.{after_last, last_part, media_by_extension, media_of, media_text};
 ghost use Rattle.page_cache.specs.Media.{entity_fields};
 
 use itoa::Buffer;
@@ -27,7 +27,7 @@ pub enum MediaType {
 impl MediaType {
     /// The media type of a file of this name, by its extension: what stands after the last dot of the last part,
     /// without regard to case.
-    #[tactic(auto, unfolding(crate::specs::Media::media_of))]
+    #[tactic(auto, unfolding(crate::specs::Reference::media_of))]
     pub fn of_name(name: &[u8]) -> MediaType
         ensures { result ≡ media_of name.now }
     {

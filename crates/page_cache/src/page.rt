@@ -2,7 +2,7 @@
 
 ghost use Rattle.std.specs.Prelude.{◌≡◌, ◌<◌, length, IfOk};
 ghost use Rattle.std.specs.Arc.{arc_value};
-ghost use Rattle.paths.specs.Snapshots.{file_of};
+ghost use Rattle.paths.specs.Reference.{file_of};
 ghost use Rattle.page_cache.specs.Pages.{page_fields, page_size};
 
 use crate::MediaType;

@@ -1,5 +1,6 @@
 //! What no clause says: that the definitions mean what the rules say, and that calls succeed.
-use paths::{Input, Snapshot, SnapshotFault};
+use devices::Input;
+use paths::{Snapshot, SnapshotFault};
 use std::alloc::Global;
 
 mod caches;

@@ -2,20 +2,21 @@
 use Rattle.std.proofs.Common.{◌≡◌, ℕ, ◌+◌, ◌-◌, ◌≤◌, ◌==◌, true, List, [], ◌∷◌, ◌++◌, length, Option, Some, None, Ok, Err, refl, sym, ap, ◌∙◌, subst, arith, codes, decimal, is_some, unwrap_or, inr, false}
 use Rattle.std.proofs.lemmas.Bool.Decides.{Decides-eqb}
 use Rattle.std.proofs.lemmas.List.{append_assoc, append-nil, flat_map_more}
-use Rattle.paths.specs.Ascii.{line_feed}
+use Rattle.devices.specs.Reference.{line_feed}
 use Rattle.paths.specs.declared.file.File.{File}
 use Rattle.paths.specs.declared.file.FileLine.{FileLine}
 use Rattle.paths.specs.declared.file.Heading.{Heading}
 use Rattle.paths.specs.declared.file.Heading.TheVariants as headings
 use Rattle.paths.specs.declared.snapshot_fault.SnapshotFaultKind.{SnapshotFaultKind}
 use Rattle.paths.specs.declared.snapshot_fault.SnapshotFaultKind.TheVariants.{Count, Trailing}
-use Rattle.paths.specs.Texts.{Ahead, ahead_of, line_at}
+use Rattle.devices.specs.Texts.{Ahead, ahead_of, line_at}
 use Rattle.paths.specs.Snapshots.{file_text, first_line, last_line, text_before_end, snapshot_text, max_text_bytes, max_files, IsSnapshot}
 use Rattle.paths.specs.SnapshotFaults.{kind_of, named, header_at, heading_of, file_at, announced, entry_at, ReadsFront, IsForeseen, IsFrontFault, IsFirstFault, is_unforeseen_kind}
 use Rattle.std.specs.Io.KnownBytes.{Consumes}
-use Rattle.paths.specs.Devices.{TakesByte}
-use Rattle.paths.proofs.Taking.{Takes, takes_more}
-use Rattle.paths.proofs.Inverse.{TakesAhead, ahead_then, bind_ok, named_ok, when_ok, ok_is, line_inverse, file_line_inverse, end_line_inverse, file_inverse, header_inverse}
+use Rattle.devices.specs.Devices.{TakesByte}
+use Rattle.devices.proofs.Taking.{Takes, takes_more}
+use Rattle.devices.proofs.Inverse.{TakesAhead, ahead_then, when_ok, ok_is, line_inverse}
+use Rattle.paths.proofs.Inverse.{bind_ok, named_ok, file_line_inverse, end_line_inverse, file_inverse, header_inverse}
 
 -- an entry's bytes: those of a file, or the last line
 abbrev pub entry_text : List File → Option File → List ℕ

@@ -7,8 +7,9 @@ use Rattle.std.proofs.lemmas.List.{append_assoc, append-nil, length-append, flat
 use Rattle.std.proofs.lemmas.List.Elements.{All-push}
 use Rattle.std.proofs.lemmas.List.Quantifiers.{all_pairs_push}
 use Rattle.std.proofs.lemmas.List.Folds.{list_any_at, list_all_at}
-use Rattle.paths.specs.Ascii.{line_feed}
-use Rattle.paths.specs.Texts.{Ahead, byte_at, run_at, line_at}
+use Rattle.devices.specs.Reference.{line_feed}
+use Rattle.paths.specs.Reference.{lies_in}
+use Rattle.devices.specs.Texts.{Ahead, byte_at, run_at, line_at}
 use Rattle.paths.specs.declared.file.File.{File}
 use Rattle.paths.specs.declared.file.FileLine.{FileLine}
 use Rattle.paths.specs.declared.file.Heading.{Heading}
@@ -16,9 +17,10 @@ use Rattle.paths.specs.declared.file.Heading.TheVariants as headings
 use Rattle.paths.specs.declared.snapshot_fault.SnapshotFault.{SnapshotFault}
 use Rattle.paths.specs.declared.snapshot_fault.SnapshotFaultKind.{SnapshotFaultKind}
 use Rattle.paths.specs.declared.snapshot_fault.SnapshotFaultKind.TheVariants.{Name, Order, Conflict, Number, TooLarge, Count, Trailing}
-use Rattle.paths.specs.Snapshots.{file_text, first_line, last_line, text_before_end, snapshot_text, max_time, max_name_bytes, max_file_bytes, max_files, max_text_bytes, is_name, comes_before, lies_in, IsFile, IsSnapshot, IsSnapshotText, BeginsWithSnapshot, Follows}
+use Rattle.paths.specs.Snapshots.{file_text, first_line, last_line, text_before_end, snapshot_text, max_time, max_name_bytes, max_file_bytes, max_files, max_text_bytes, is_name, comes_before, IsFile, IsSnapshot, IsSnapshotText, BeginsWithSnapshot, Follows}
 use Rattle.paths.specs.SnapshotFaults.{kind_of, named, header_at, heading_of, name_at, body_at, file_at, announced, entry_at, IsFrontFault, IsFirstFault}
-use Rattle.paths.proofs.Inverse.{bind_ok, unless_ok, when_ok, ok_is, name_inverse, body_inverse, header_inverse}
+use Rattle.paths.proofs.Inverse.{bind_ok, name_inverse, body_inverse, header_inverse}
+use Rattle.devices.proofs.Inverse.{unless_ok, when_ok, ok_is}
 use Rattle.paths.proofs.Entries.{entry_takes}
 
 -- ---- a file that was read may stand after those before it

@@ -1,5 +1,3 @@
-pub mod Appending
-pub mod Decimals
 pub mod Entries
 pub mod FilesOrFault
 pub mod Inverse
@@ -12,6 +10,4 @@ pub mod Pieces
 pub mod Plain
 pub mod PlainPaths
 pub mod Segmenting
-pub mod Taking
 pub mod Locations
-pub mod Windows

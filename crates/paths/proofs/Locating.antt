@@ -9,8 +9,8 @@ use Rattle.std.proofs.lemmas.List.Sums.{AllPass-from_list_all}
 use Rattle.percent_encoding.specs.AsciiSet.{should_percent_encode}
 use Rattle.percent_encoding.specs.Percent.{percent_encode, encode_byte, percent_encode_byte}
 use Rattle.paths.specs.declared.resolution.TheConstants.{RESERVED}
-use Rattle.paths.specs.Ascii.{slash}
-use Rattle.paths.specs.Resolution.{is_unreserved, location_byte, joined, slash_before}
+use Rattle.paths.specs.Reference.{slash, is_unreserved, location_byte, joined}
+use Rattle.paths.specs.Resolution.{slash_before}
 
 -- one more segment after others
 joined_after : (x : List ℕ) (xs : List (List ℕ)) (y : List ℕ) → joined ((x ∷ xs) ++ y ∷ []) ≡ joined (x ∷ xs) ++ (slash ∷ y)

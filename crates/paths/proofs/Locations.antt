@@ -2,15 +2,14 @@
 use Rattle.std.proofs.Common.{◌≡◌, ℕ, ◌<◌, ◌%◌, ◌/◌, ◌&&◌, Bool, true, false, List, [], ◌∷◌, ◌++◌, length, flat_map, Option, Some, None, refl, ◌∙◌, arith, nat_lt}
 use Rattle.std.proofs.lemmas.Grind.{common_steps}
 use Rattle.std.specs.Prelude.{codes, Result, Ok, Err, IfOk}
-use Rattle.paths.specs.Ascii.{slash}
+use Rattle.paths.specs.Reference.{slash, is_unreserved, location_byte, location, joined, outcome, file_or_missing, file_or_folder, position_of, has_folder}
 use Rattle.paths.specs.declared.resolution.Outcome.{Outcome}
 use Rattle.std.specs.List.{list_all, position, position_or_len}
 use Rattle.std.specs.Char.{is_ascii_graphic}
 use Rattle.std.specs.Fmt.{digit_glyph}
 use Rattle.std.proofs.lemmas.List.Folds.{list_all-append}
 use Rattle.percent_encoding.specs.Percent.{percent_encode_byte}
-use Rattle.paths.specs.Resolution.{is_unreserved, location_byte, location, joined, outcome, file_or_missing, file_or_folder, IsOutcome}
-use Rattle.paths.specs.Snapshots.{position_of, has_folder}
+use Rattle.paths.specs.Resolution.{IsOutcome}
 use Rattle.paths.specs.declared.file.File.{File}
 use Rattle.paths.specs.declared.target.Asked.{Asked}
 use Rattle.paths.specs.declared.target.Asked.TheVariants as askeds

@@ -17,10 +17,10 @@ use Rattle.std.proofs.lemmas.List.Sums.{position_or_len_is, list_all-from_AllPas
 use Rattle.std.proofs.lemmas.List.Folds.{list_any_at, list_any_none, list_all_at, Any-from_list_any}
 use Rattle.std.proofs.lemmas.List.{get_or_default, append-nil, append_assoc, take_at, take-append-drop, drop_more, length-append, length-take, take-take, get_or-take, get_or_at}
 use Rattle.std.proofs.lemmas.Slice.Eq.{starts_is, bytes_eq-Decides}
-use Rattle.paths.specs.Ascii.{slash}
+use Rattle.paths.specs.Reference.{slash, file_of, no_file, lies_in, position_of, has_folder}
 use Rattle.paths.specs.declared.file.File.{File}
 use Rattle.paths.specs.Above.{HasNoFile, HasNoFileAbove}
-use Rattle.paths.specs.Snapshots.{file_of, no_file, comes_before, lies_in, IsPlace, position_of, has_folder}
+use Rattle.paths.specs.Snapshots.{comes_before, IsPlace}
 
 abbrev pub AreRising : List File → Type 0
 AreRising files = AllPairs (λ f g. comes_before f.name g.name ≡ true) files

@@ -1,56 +1,32 @@
 -- A snapshot's text has no fault.
-use Rattle.std.proofs.Common.{◌≡◌, ℕ, ◌+◌, ◌-◌, ◌^◌, ◌<◌, ◌≤◌, ◌==◌, ◌&&◌, ◌||◌, ◌⊎◌, inl, inr, not, cond, nat_lt, nat_le, Bool, true, false, List, [], ◌∷◌, ◌++◌, length, take, drop, get_or, Some, None, Result, Ok, Err, refl, sym, ap, ◌∙◌, subst, arith, codes, decimal, eq-eqb, All, flat_map}
+use Rattle.std.proofs.Common.{◌≡◌, ℕ, ◌+◌, ◌-◌, ◌^◌, ◌<◌, ◌≤◌, ◌==◌, ◌&&◌, ◌||◌, ◌⊎◌, inl, inr, not, nat_lt, nat_le, Bool, true, false, List, [], ◌∷◌, ◌++◌, length, get_or, Some, None, Result, Ok, Err, refl, sym, ap, ◌∙◌, subst, arith, codes, decimal, eq-eqb, All, flat_map}
 use Rattle.std.specs.List.{list_all, list_any}
 use Rattle.std.proofs.Math.Seq.{get_or-append_seam}
 use Rattle.std.proofs.lemmas.Bool.{ne_eqb}
 use Rattle.std.proofs.lemmas.Bool.Decides.{nat_tests}
-use Rattle.std.proofs.lemmas.List.{append_assoc, append-nil, length-append, length-take, take_at, drop_at, get_or_append_left}
+use Rattle.std.proofs.lemmas.List.{append_assoc, append-nil, length-append, get_or_append_left}
 use Rattle.std.proofs.lemmas.List.Elements.{All-head, All-tail, All-from_get_or}
 use Rattle.std.proofs.lemmas.List.Folds.{list_any_none}
 use Rattle.std.proofs.lemmas.Grind.{flat_map-append}
-use Rattle.paths.specs.Ascii.{line_feed}
-use Rattle.paths.specs.Texts.{Ahead, byte_at, run_at, line_at, available, past as beyond, ended}
-use Rattle.paths.specs.declared.text.Stop.{Stop}
+use Rattle.devices.specs.Reference.{line_feed}
+use Rattle.paths.specs.Reference.{lies_in}
+use Rattle.devices.specs.Texts.{Ahead, byte_at, run_at, line_at}
+use Rattle.devices.specs.declared.text.Stop.{Stop}
 use Rattle.paths.specs.declared.file.File.{File}
-use Rattle.paths.specs.declared.file.Heading.TheVariants as headings
 use Rattle.paths.specs.declared.snapshot_fault.SnapshotFault.{SnapshotFault}
 use Rattle.paths.specs.declared.snapshot_fault.SnapshotFaultKind.{SnapshotFaultKind}
-use Rattle.paths.specs.Snapshots.{file_line, file_text, first_line, last_line, text_before_end, snapshot_text, max_time, max_name_bytes, max_file_bytes, max_files, max_text_bytes, is_name, comes_before, lies_in, IsFile, IsSnapshot, IsSnapshotText, Follows}
+use Rattle.paths.specs.Snapshots.{file_line, file_text, first_line, last_line, text_before_end, snapshot_text, max_time, max_name_bytes, max_file_bytes, max_files, max_text_bytes, is_name, comes_before, IsFile, IsSnapshot, IsSnapshotText, Follows}
 use Rattle.paths.specs.SnapshotFaults.{kind_of, header_kind_of, named, ◌>>=◌, header_at, end_heading, heading_of, name_at, body_at, file_at, entry_at, FaultsAfter, IsFrontFault, IsFirstFault}
-use Rattle.paths.proofs.Taking.{line_whole}
-use Rattle.paths.proofs.OneList.{meet, number_again, decimal_passes, passes_append, file_is_line, digits_short, announces, heading_again, following, file_then, split, same_file, end_text, end_apart, header, parts, one_list}
+use Rattle.devices.proofs.Taking.{line_whole}
+use Rattle.devices.proofs.Again.{meet, number_again, decimal_passes, passes_append, digits_short, split, end_text, pass, neither, byte_again, run_again, nothing_after}
+use Rattle.paths.proofs.OneList.{file_is_line, announces, heading_again, following, file_then, same_file, end_apart, header, parts, one_list}
+use Rattle.paths.specs.declared.file.Heading.TheVariants as headings
 
 pub bind_is : {A B : Type 0} (r : Result A SnapshotFaultKind) (f : A → Result B SnapshotFaultKind) (x : A) → r ≡ Ok x → (r >>= f) ≡ f x
 bind_is r f x h = ap (λ (q : Result _ SnapshotFaultKind). q >>= f) h
 
 pub named_is : {X : Type 0} (name : Stop → SnapshotFaultKind) (r : Result X Stop) (x : X) → r ≡ Ok x → named name r ≡ Ok x
 named_is name r x h = ap (named name) h
-
-pub pass : {A : Type 0} (b : Bool) (e r : A) → b ≡ false → cond b e r ≡ r
-pass true e r h = absurd cc
-pass false e r h = refl
-
-pub neither : (b c : Bool) → b ≡ false → c ≡ false → (b || c) ≡ false
-neither true c h k = absurd cc
-neither false c h k = k
-
-pub byte_again : (c : ℕ) (t : List ℕ) (l nl : ℕ) → l ≡ 1 + nl → byte_at (record { bytes = c ∷ t; left = l }) ≡ Ok (c, record { bytes = t; left = nl })
-byte_again c t l nl h =
-    let a : Ahead = record { bytes = c ∷ t; left = l } in
-    let there : nat_lt 0 (length (available a)) ≡ true = let s = length-take l (c ∷ t) in grind (arith, nat_tests) in
-    let less : l - 1 ≡ nl = omega arith in
-    meet (nat_lt 0 (length (available a))) (Ok (c, beyond 1 a)) (Err (ended a)) there
-    ∙ ap (λ (k : ℕ). let r : Result (ℕ × Ahead) Stop = Ok (c, record { bytes = t; left = k }) in r) less
-
-pub run_again : (n : ℕ) (run t : List ℕ) (l nl : ℕ) → length run ≡ n → l ≡ n + nl → run_at n (record { bytes = run ++ t; left = l }) ≡ Ok (run, record { bytes = t; left = nl })
-run_again n run t l nl is left =
-    let a : Ahead = record { bytes = run ++ t; left = l } in
-    let there : nat_le n (length (available a)) ≡ true = let s = length-take l (run ++ t) in let m = length-append run t in grind (arith, nat_tests) in
-    let bytes : take n (run ++ t) ≡ run = take_at run t n is in
-    let rest : drop n (run ++ t) ≡ t = drop_at run t n is in
-    let less : l - n ≡ nl = omega arith in
-    meet (nat_le n (length (available a))) (Ok (take n (run ++ t), beyond n a)) (Err (ended a)) there
-    ∙ ap (λ (v : List ℕ × Ahead). let r : Result (List ℕ × Ahead) Stop = Ok v in r) (λ i. (bytes i, record { bytes = rest i; left = less i }))
 
 body_again : (n : ℕ) (bytes t : List ℕ) (l nl : ℕ) → length bytes ≡ n → l ≡ n + (1 + nl) → body_at n (record { bytes = bytes ++ line_feed ∷ t; left = l }) ≡ Ok (bytes, record { bytes = t; left = nl })
 body_again n bytes t l nl is left =
@@ -211,9 +187,6 @@ prefix_good fs x f rules size (inr (gs, rest, fault)) =
         let here : rest ≡ file_text q ++ t = g ∙ append_assoc (file_text q) (flat_map file_text more) (end_text (length fs) ++ x) in
         not_both _ f.kind (entry_at gs (record { bytes = file_text q ++ t; left = l })) (entry_again gs q t l (l - length (file_text q)) follows (omega (arith, one_more_text gs more q)))
         (sym (ap (λ w. entry_at gs (record { bytes = w; left = l })) here) ∙ fault.kind)
-
-nothing_after : (xs : List ℕ) (b : ℕ) (rest : List ℕ) → [] ≡ b ∷ rest → ⊥
-nothing_after xs b rest h = absurd cc
 
 -- nor is the whole text
 pub no_fault : (bytes : List ℕ) (fs : List File) (f : SnapshotFault) → IsSnapshotText bytes fs → IsFirstFault bytes f → ⊥

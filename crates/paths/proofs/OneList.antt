@@ -1,106 +1,25 @@
 -- A snapshot's text is that of one list of files.
-use Rattle.std.proofs.Common.{◌≡◌, ℕ, suc, zero, ◌+◌, ◌-◌, ◌^◌, ◌<◌, ◌≤◌, ◌==◌, not, cond, nat_lt, min, Bool, true, false, List, [], ◌∷◌, ◌++◌, length, take, drop, get_or, Option, Some, Result, Ok, refl, sym, ap, ◌∙◌, subst, arith, codes, decimal, eq-eqb, All, flat_map}
-use Rattle.std.specs.List.{prefix_len, position}
-use Rattle.std.specs.Str.{all_ascii_digits}
-use Rattle.std.specs.Char.{is_ascii_digit}
-use Rattle.std.specs.Str.Parse.{digits_value}
-use Rattle.std.proofs.lemmas.Bool.{ne_eqb}
-use Rattle.std.proofs.lemmas.Bool.Decides.{nat_tests}
-use Rattle.std.proofs.lemmas.Grind.{common_steps}
-use Rattle.std.proofs.lemmas.Fmt.{digits_decimal, digits_value-decimal, length-decimal-le, decimal_nonempty, first_decimal}
-use Rattle.std.proofs.lemmas.Str.Parse.{IsNumeralModel, numerals_by_value, tells_all_ascii_digits}
-use Rattle.std.proofs.lemmas.List.{append_assoc, length-append, take_at, drop_at}
+use Rattle.std.proofs.Common.{◌≡◌, ℕ, ◌+◌, ◌-◌, ◌^◌, ◌<◌, ◌≤◌, ◌==◌, not, List, [], ◌∷◌, ◌++◌, length, drop, get_or, Result, Ok, refl, sym, ap, ◌∙◌, subst, arith, codes, decimal, All, flat_map}
+use Rattle.std.specs.List.{prefix_len}
+use Rattle.std.proofs.lemmas.List.{append_assoc, length-append}
 use Rattle.std.proofs.lemmas.List.Elements.{All-head, All-tail}
-use Rattle.std.proofs.lemmas.List.Folds.{prefix_len-append}
-use Rattle.paths.specs.Ascii.{line_feed}
-use Rattle.paths.specs.Numbers.{is_decimal, number_of, number_and_rest, three_numbers}
-use Rattle.paths.specs.Numbers.{◌>>=◌ as ◌>?=◌}
-use Rattle.paths.specs.Texts.{Ahead, line_at}
-use Rattle.paths.specs.declared.text.Stop.{Stop}
+use Rattle.devices.specs.Reference.{line_feed}
+use Rattle.devices.specs.Texts.{Ahead, line_at}
+use Rattle.devices.specs.declared.text.Stop.{Stop}
 use Rattle.paths.specs.declared.file.File.{File}
 use Rattle.paths.specs.declared.file.FileLine.{FileLine}
 use Rattle.paths.specs.declared.file.Heading.{Heading}
-use Rattle.paths.specs.declared.file.Heading.TheVariants as headings
 use Rattle.paths.specs.declared.snapshot_fault.SnapshotFaultKind.{SnapshotFaultKind}
 use Rattle.paths.specs.Snapshots.{file_line, file_text, first_line, last_line, text_before_end, snapshot_text, max_time, max_name_bytes, max_file_bytes, IsFile, IsSnapshot}
 use Rattle.paths.specs.SnapshotFaults.{file_heading, heading_of}
-use Rattle.paths.proofs.Taking.{line_whole}
-use Rattle.paths.proofs.Inverse.{ok_is}
-
-pub meet : {A : Type 0} (b : Bool) (r e : A) → b ≡ true → cond b r e ≡ r
-meet true r e h = refl
-meet false r e h = absurd cc
+use Rattle.devices.proofs.Taking.{line_whole}
+use Rattle.devices.proofs.Inverse.{ok_is}
+use Rattle.devices.proofs.Again.{decimal_passes, passes_append, three_again, words, IsLine, digits_short, split, end_text}
+use Rattle.paths.specs.declared.file.Heading.TheVariants as headings
 
 -- ---- numbers
 
-own : IsNumeralModel (λ ds. all_ascii_digits ds ≡ true) (digits_value 10)
-own = numerals_by_value (λ ds. all_ascii_digits ds ≡ true) tells_all_ascii_digits
-
-decimal_is : (ds : List ℕ) → all_ascii_digits ds ≡ true → 0 < length ds → (get_or ds 0 0 ≡ 48 → length ds ≡ 1) → is_decimal ds ≡ true
-decimal_is [] h some lead = absurd (omega arith)
-decimal_is (d ∷ []) h some lead = h
-decimal_is (d ∷ e ∷ ds) h some lead = rw (ne_eqb d 48 (λ same. omega (arith, lead same)), h) refl
-
-leads : (n : ℕ) → n < 2 ^ 64 → get_or (decimal n) 0 0 ≡ 48 → length (decimal n) ≡ 1
-leads zero small h = omega (arith, length-decimal-le 1 0 (omega arith) (omega arith) small, decimal_nonempty 0 small)
-leads (suc n) small h = absurd (omega (arith, first_decimal (suc n) (omega arith) small))
-
-pub number_again : (n : ℕ) → n < 2 ^ 64 - 1 → number_of (decimal n) ≡ Some n
-number_again n small =
-    let is : is_decimal (decimal n) ≡ true = decimal_is (decimal n) (digits_decimal own n (omega arith)) (decimal_nonempty n (omega arith)) (leads n (omega arith)) in
-    let value : digits_value 10 (decimal n) ≡ n = digits_value-decimal own n (omega arith) in
-    let least : min (digits_value 10 (decimal n)) (2 ^ 64 - 1) ≡ n = omega arith in
-    meet (is_decimal (decimal n)) _ _ is ∙ ap (λ v. Some v) least
-
--- no digit is a space or a line feed
-digits_pass : (c : ℕ) (ds : List ℕ) → c < 48 → all_ascii_digits ds ≡ true → prefix_len (λ b. not (b == c)) ds ≡ length ds
-digits_pass c [] low h = refl
-digits_pass c (d ∷ ds) low h =
-    let first : is_ascii_digit d ≡ true = grind (arith, common_steps) in
-    let others : all_ascii_digits ds ≡ true = grind (arith, common_steps) in
-    let more : prefix_len (λ b. not (b == c)) ds ≡ length ds = digits_pass c ds low others in
-    rw (ne_eqb d c (λ same. let t = first in grind (arith, nat_tests))) (omega arith)
-
-pub decimal_passes : (c n : ℕ) → c < 48 → n < 2 ^ 64 - 1 → prefix_len (λ b. not (b == c)) (decimal n) ≡ length (decimal n)
-decimal_passes c n low small = digits_pass c (decimal n) low (digits_decimal own n (omega arith))
-
-pub passes_append : (p : ℕ → Bool) (xs ys : List ℕ) → prefix_len p xs ≡ length xs → prefix_len p ys ≡ length ys → prefix_len p (xs ++ ys) ≡ length (xs ++ ys)
-passes_append p xs ys a b = rw (prefix_len-append p xs ys, eq-eqb (prefix_len p xs) (length xs) a, length-append xs ys) (omega arith)
-
-drop_word : (ds rest : List ℕ) → drop (length ds + 1) (ds ++ 32 ∷ rest) ≡ rest
-drop_word ds rest = ap (drop (length ds + 1)) (sym (append_assoc ds (32 ∷ []) rest)) ∙ drop_at (ds ++ 32 ∷ []) rest (length ds + 1) (length-append ds (32 ∷ []))
-
-space_at : (ds rest : List ℕ) → prefix_len (λ b. not (b == 32)) ds ≡ length ds → position (λ b. b == 32) (ds ++ 32 ∷ rest) ≡ Some (length ds)
-space_at ds rest h =
-    let k : prefix_len (λ b. not (b == 32)) (ds ++ 32 ∷ rest) ≡ length ds =
-    rw (prefix_len-append (λ b. not (b == 32)) ds (32 ∷ rest), eq-eqb (prefix_len (λ b. not (b == 32)) ds) (length ds) h) (omega arith) in
-    let within : nat_lt (prefix_len (λ b. not (b == 32)) (ds ++ 32 ∷ rest)) (length (ds ++ 32 ∷ rest)) ≡ true = let l = length-append ds (32 ∷ rest) in grind (arith, nat_tests) in
-    meet _ _ _ within ∙ ap (λ v. Some v) k
-
-rest_again : (n : ℕ) (rest : List ℕ) → n < 2 ^ 64 - 1 → number_and_rest (decimal n ++ 32 ∷ rest) ≡ Some (n, rest)
-rest_again n rest small =
-    let text = decimal n ++ 32 ∷ rest in
-    let split : number_of (take (length (decimal n)) text) ≡ Some n = ap number_of (take_at (decimal n) (32 ∷ rest) (length (decimal n)) refl) ∙ number_again n small in
-    ap (λ (o : Option ℕ). o >?= λ space. number_of (take space text) >?= λ m. Some (m, drop (space + 1) text)) (space_at (decimal n) rest (decimal_passes 32 n (omega arith) small))
-    ∙ (ap (λ (o : Option ℕ). o >?= λ m. Some (m, drop (length (decimal n) + 1) text)) split ∙ ap (λ v. Some (n, v)) (drop_word (decimal n) rest))
-
-three_again : (a b c : ℕ) → a < 2 ^ 64 - 1 → b < 2 ^ 64 - 1 → c < 2 ^ 64 - 1 → three_numbers (decimal a ++ 32 ∷ (decimal b ++ 32 ∷ decimal c)) ≡ Some (a, b, c)
-three_again a b c sa sb sc =
-    ap (λ (o : Option (ℕ × List ℕ)). o >?= λ first. number_and_rest first.1 >?= λ second. number_of second.1 >?= λ third. Some (first.0, second.0, third)) (rest_again a (decimal b ++ 32 ∷ decimal c) sa)
-    ∙ (ap (λ (o : Option (ℕ × List ℕ)). o >?= λ second. number_of second.1 >?= λ third. Some (a, second.0, third)) (rest_again b (decimal c) sb)
-    ∙ ap (λ (o : Option ℕ). o >?= λ third. Some (a, b, third)) (number_again c sc))
-
 -- ---- a file's line
-
-words : (a b c : List ℕ) → codes "file " ++ a ++ codes " " ++ b ++ codes " " ++ c ≡ codes "file " ++ (a ++ 32 ∷ (b ++ 32 ∷ c))
-words a b c = simp append_assoc
-
-pub record IsLine (line : List ℕ) : Type 0 where
-  pub feeds : prefix_len (λ b. not (b == 10)) line ≡ length line
-  pub short : length line ≤ 64
-
-pub digits_short : (k n : ℕ) → 0 < k → n < 10 ^ k → n < 2 ^ 64 - 1 → length (decimal n) ≤ k
-digits_short k n some small wide = length-decimal-le k n some small (omega arith)
 
 pub file_is_line : (t c l : ℕ) → t ≤ max_time → c ≤ max_name_bytes → l ≤ max_file_bytes → IsLine (codes "file " ++ decimal t ++ codes " " ++ decimal c ++ codes " " ++ decimal l)
 file_is_line t c l ht hc hl =
@@ -133,9 +52,6 @@ file_then f x =
     append_assoc (file_line f) (line_feed ∷ (f.name ++ line_feed ∷ (f.bytes ++ line_feed ∷ []))) x
     ∙ ap (λ w. file_line f ++ line_feed ∷ w) (append_assoc f.name (line_feed ∷ (f.bytes ++ line_feed ∷ [])) x ∙ ap (λ w. f.name ++ line_feed ∷ w) (append_assoc f.bytes (line_feed ∷ []) x))
 
-pub split : (n : ℕ) (a b c d : List ℕ) → length a ≡ n → length b ≡ n → a ++ c ≡ b ++ d → (a ≡ b) × (c ≡ d)
-split n a b c d p q h = (sym (take_at a c n p) ∙ (ap (take n) h ∙ take_at b d n q), sym (drop_at a c n p) ∙ (ap (drop n) h ∙ drop_at b d n q))
-
 same_heading : (a b : FileLine) → (let r : Result Heading SnapshotFaultKind = Ok (headings.File a) in r) ≡ Ok (headings.File b) → a ≡ b
 same_heading a b h = cc
 
@@ -163,9 +79,6 @@ same_file f g x y hf hg h =
     (λ i. record { name = first.0 i; mtime = time i; bytes = second.0 i }, ap (drop 1) second.1)
 
 -- ---- whole texts
-
-abbrev pub end_text : ℕ → List ℕ
-end_text n = (codes "end " ++ decimal n) ++ line_feed ∷ []
 
 pub end_apart : (n : ℕ) (f : File) (x y : List ℕ) → end_text n ++ x ≡ file_text f ++ y → ⊥
 end_apart n f x y h = let first : ◌≡◌ {A = ℕ} 101 102 = ap (λ (l : List ℕ). get_or l 0 0) h in omega arith

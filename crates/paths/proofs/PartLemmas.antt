@@ -1,122 +1,38 @@
 -- What was taken of a text when a read failed.
-use Rattle.std.proofs.Common.{◌≡◌, ℕ, suc, zero, ◌+◌, ◌-◌, ◌<◌, ◌≤◌, ◌==◌, ◌||◌, ◌⊎◌, inl, inr, not, cond, nat_lt, nat_le, Bool, true, false, List, [], ◌∷◌, ◌++◌, length, take, drop, Option, Some, None, IfSome, Result, Ok, Err, refl, sym, ap, ◌∙◌, subst, arith, codes, nat_eq, is_some, unwrap_or}
-use Rattle.std.specs.List.{list_all, list_any, prefix_len, starts_with}
-use Rattle.std.proofs.lemmas.Bool.{eqb-false, ne_eqb}
+use Rattle.std.proofs.Common.{◌≡◌, ℕ, suc, zero, ◌+◌, ◌-◌, ◌<◌, ◌≤◌, ◌==◌, ◌||◌, ◌⊎◌, inl, inr, not, cond, nat_lt, nat_le, Bool, true, false, List, [], ◌∷◌, ◌++◌, length, drop, Option, Some, None, IfSome, Result, Ok, Err, refl, sym, ap, ◌∙◌, subst, arith, codes, nat_eq, is_some, unwrap_or}
+use Rattle.std.specs.List.{list_all, list_any, starts_with}
+use Rattle.std.proofs.lemmas.Bool.{ne_eqb}
 use Rattle.std.proofs.lemmas.Bool.Decides.{nat_tests}
-use Rattle.std.proofs.lemmas.List.{append_assoc, append-nil, length-append, length-take, get_or-take}
-use Rattle.std.proofs.lemmas.List.Sums.{prefix_len-le-length, prefix_len_passes, prefix_len_is}
-use Rattle.paths.specs.Ascii.{line_feed}
-use Rattle.paths.specs.declared.text.Stop.{Stop}
-use Rattle.paths.specs.declared.text.Stop.TheVariants as stops
+use Rattle.std.proofs.lemmas.List.{append_assoc, length-append}
+use Rattle.devices.specs.Reference.{line_feed}
+use Rattle.paths.specs.Reference.{lies_in}
+use Rattle.devices.specs.declared.text.Stop.{Stop}
 use Rattle.paths.specs.declared.file.File.{File}
 use Rattle.paths.specs.declared.file.FileLine.{FileLine}
 use Rattle.paths.specs.declared.file.Heading.{Heading}
 use Rattle.paths.specs.declared.snapshot_fault.SnapshotFaultKind.{SnapshotFaultKind}
 use Rattle.paths.specs.declared.snapshot_fault.SnapshotFaultKind.TheVariants.{Cut, Read, Memory, Number, Kind}
-use Rattle.paths.specs.Numbers.{number_of, three_numbers}
-use Rattle.paths.specs.Texts.{Ahead, ahead_of, byte_at, run_at, line_at, line_start, available, ended}
-use Rattle.paths.specs.Snapshots.{file_line, file_text, text_before_end, max_text_bytes, Follows, max_time, max_file_bytes, max_name_bytes, max_files, is_name, comes_before, lies_in, IsSnapshot}
+use Rattle.devices.specs.Numbers.{number_of, three_numbers}
+use Rattle.devices.specs.Texts.{Ahead, ahead_of, byte_at, run_at, line_at}
+use Rattle.paths.specs.Snapshots.{file_line, file_text, text_before_end, max_text_bytes, Follows, max_time, max_file_bytes, max_name_bytes, max_files, is_name, comes_before, IsSnapshot}
 use Rattle.paths.specs.SnapshotFaults.{kind_of, named, ◌>>=◌, file_heading, end_heading, heading_of, name_at, body_at, file_at, announced, entry_at}
-use Rattle.paths.specs.Parts.{TookPart, FailsInSnapshot, Reached, LacksInEntry}
-use Rattle.paths.proofs.Taking.{Takes, TakesLine, line_whole, line_ends, ended_past}
+use Rattle.devices.specs.Parts.{TookPart}
+use Rattle.paths.specs.Parts.{FailsInSnapshot, Reached, LacksInEntry}
+use Rattle.devices.proofs.Taking.{Takes}
 use Rattle.paths.proofs.Entries.{entry_text, entry_takes}
-use Rattle.paths.proofs.Inverse.{TakesAhead, unless_ok, ok_is, line_inverse, run_inverse, name_inverse}
-use Rattle.paths.proofs.NoFault.{bind_is, named_is, pass, neither, byte_again, run_again}
+use Rattle.devices.proofs.Inverse.{TakesAhead, line_inverse}
+use Rattle.paths.proofs.Inverse.{name_inverse}
+use Rattle.paths.proofs.NoFault.{bind_is, named_is}
+use Rattle.devices.proofs.Again.{pass, neither, byte_again, run_again}
 use Rattle.paths.proofs.FilesOrFault.{name_fits}
+use Rattle.devices.proofs.PartLemmas.{none_after, part_after, part_is, no_byte, line_alone, run_alone, no_run, run_takes}
+use Rattle.devices.specs.declared.text.Stop.TheVariants as stops
 
 -- ---- a part after what was taken
 
--- a read failed after what was taken, and took nothing
-pub none_after : (Q : List ℕ → Type 0) (o n m : Option (List ℕ)) (l nl ml : ℕ) (taken : List ℕ) → Takes o l n nl taken → (is_some o ≡ true → Q taken)
-    → (is_some n ≡ true → TookPart (λ part. part ≡ []) n nl m ml) → is_some o ≡ true → TookPart Q o l m ml
-none_after Q o n m l nl ml taken t q h k =
-    let none = h (t.known k) in
-    let same : none.part ≡ [] = none.holds in
-    record {
-      part = taken;
-      bytes = t.bytes k ∙ ap (λ v. taken ++ v) (none.bytes ∙ ap (λ v. v ++ unwrap_or m []) same);
-      count = omega (arith, t.count k, none.count, ap length same);
-      known = none.known;
-      holds = q k;
-    }
-
--- it took a part
-pub part_after : (P Q : List ℕ → Type 0) (o n m : Option (List ℕ)) (l nl ml : ℕ) (taken : List ℕ) → Takes o l n nl taken
-    → ((t : List ℕ) → l ≡ length taken + nl → P t → Q (taken ++ t))
-    → (is_some n ≡ true → TookPart P n nl m ml) → is_some o ≡ true → TookPart Q o l m ml
-part_after P Q o n m l nl ml taken t q h k =
-    let more = h (t.known k) in
-    record {
-      part = taken ++ more.part;
-      bytes = t.bytes k ∙ (ap (λ v. taken ++ v) more.bytes ∙ sym (append_assoc taken more.part (unwrap_or m [])));
-      count = omega (arith, t.count k, more.count, length-append taken more.part);
-      known = more.known;
-      holds = q more.part (t.count k) more.holds;
-    }
-
--- the same part, of which something else holds
-pub part_is : (P Q : List ℕ → Type 0) (o n : Option (List ℕ)) (l nl : ℕ) → ((t : List ℕ) → P t → Q t) → TookPart P o l n nl → TookPart Q o l n nl
-part_is P Q o n l nl q h = record { part = h.part; bytes = h.bytes; count = h.count; known = h.known; holds = q h.part h.holds }
-
 -- ---- parts that are cut
 
-ended_nil : (l : ℕ) → ended (record { bytes = []; left = l }) ≡ stops.Cut
-ended_nil l = let none : nat_lt l 0 ≡ false = grind (arith, nat_tests) in ap (λ b. cond b stops.TooLarge stops.Cut) none
-
-pub no_byte : (l : ℕ) → byte_at (record { bytes = []; left = l }) ≡ Err stops.Cut
-no_byte l =
-    let none : nat_lt 0 (length (take l [])) ≡ false = let s = length-take {A = ℕ} l [] in grind (arith, nat_tests) in
-    pass_err (nat_lt 0 (length (take l []))) _ _ none ∙ ap (λ (e : Stop). let r : Result (ℕ × Ahead) Stop = Err e in r) (ended_nil l)
-  where
-    pass_err : (b : Bool) (x : ℕ × Ahead) (e : Stop) → b ≡ false → cond b (Ok x) (Err e) ≡ Err e
-    pass_err true x e h = absurd cc
-    pass_err false x e h = refl
-
-line_cut : (line : List ℕ) (l nl : ℕ) → prefix_len (λ b. not (b == 10)) line ≡ length line → length line ≤ 64 → l ≡ length line + nl
-    → line_at (record { bytes = line; left = l }) ≡ Err stops.Cut
-line_cut line l nl feeds short left =
-    let none : length (take nl []) ≡ 0 = omega (arith, length-take {A = ℕ} nl []) in
-    ap (λ v. line_at (record { bytes = v; left = l })) (sym (append-nil line))
-    ∙ (line_ends line [] l nl feeds short left none
-    ∙ ap (λ (s : Stop). let r : Result (List ℕ × Ahead) Stop = Err s in r) (ended_past line [] l nl left ∙ ended_nil nl))
-
--- a read failed in a line
-pub line_fails : (o n m : Option (List ℕ)) (l nl ml : ℕ) (line : List ℕ) → TakesLine o l n nl line → length line ≤ 64
-    → (is_some n ≡ true → TookPart (λ part. part ≡ []) n nl m ml) → is_some o ≡ true
-    → TookPart (λ part. line_at (record { bytes = part; left = l }) ≡ Err stops.Cut) o l m ml
-line_fails o n m l nl ml line t short h k =
-    none_after (λ part. line_at (record { bytes = part; left = l }) ≡ Err stops.Cut) o n m l nl ml line t.takes
-    (λ known. line_cut line l nl t.feeds short (t.takes.count known)) h k
-
 -- ---- what was read is read again before any text
-
-line_good : (a b : Ahead) (line : List ℕ) → line_at a ≡ Ok (line, b) → (prefix_len (λ c. not (c == 10)) line ≡ length line) × (length line ≤ 64)
-line_good a b line h =
-    let full = unless_ok (length (line_start a) == 65) _ _ _ h in
-    let all = unless_ok (length (line_start a) == length (available a)) _ _ _ full.1 in
-    let F = take 65 (available a) in
-    let p = prefix_len (λ c. not (c == 10)) F in
-    let below : p ≤ length F = prefix_len-le-length (λ c. not (c == 10)) F in
-    let size : length (take p F) ≡ p = omega (arith, length-take p F) in
-    let feeds : prefix_len (λ c. not (c == 10)) (take p F) ≡ length (take p F) =
-    prefix_len_is (λ c. not (c == 10)) (take p F) (length (take p F)) 0 (omega arith)
-    (λ i under. ap (λ c. not (c == 10)) (get_or-take p F i 0 (omega arith)) ∙ prefix_len_passes (λ c. not (c == 10)) F i 0 (omega arith))
-    (λ past_end. absurd (omega arith)) in
-    let most : length F ≤ 65 = omega (arith, length-take 65 (available a)) in
-    let not_full : length (line_start a) ≡ 65 → ⊥ = λ e. eqb-false (length (line_start a)) 65 full.0 e in
-    let short : length (take p F) ≤ 64 = omega (arith, not_full) in
-    subst (λ (v : List ℕ). (prefix_len (λ c. not (c == 10)) v ≡ length v) × (length v ≤ 64)) (ap (λ (q : List ℕ × Ahead). q.0) (ok_is {A = List ℕ × Ahead} {E = Stop} _ _ _ _ refl refl all.1)) (feeds, short)
-
-pub line_alone : (a b : Ahead) (line : List ℕ) → line_at a ≡ Ok (line, b) → (t : List ℕ)
-    → line_at (record { bytes = (line ++ line_feed ∷ []) ++ t; left = a.left }) ≡ Ok (line, record { bytes = t; left = b.left })
-line_alone a b line h t =
-    let took = line_inverse a b line h in
-    let good = line_good a b line h in
-    ap (λ w. line_at (record { bytes = w; left = a.left })) (append_assoc line (line_feed ∷ []) t)
-    ∙ line_whole line t a.left b.left good.0 good.1 (let e = took.left in omega (arith, e, length-append line (line_feed ∷ [])))
-
-pub run_alone : (n l nl : ℕ) (run : List ℕ) → length run ≡ n → l ≡ n + nl → run_at n (record { bytes = run; left = l }) ≡ Ok (run, record { bytes = []; left = nl })
-run_alone n l nl run is left = ap (λ w. run_at n (record { bytes = w; left = l })) (sym (append-nil run)) ∙ run_again n run [] l nl is left
 
 name_alone : (files : List File) (n : ℕ) (a b : Ahead) (name : List ℕ) → name_at files n a ≡ Ok (name, b) → (t : List ℕ)
     → name_at files n (record { bytes = (name ++ line_feed ∷ []) ++ t; left = a.left }) ≡ Ok (name, record { bytes = t; left = b.left })
@@ -148,15 +64,6 @@ read_is stops.TooLarge kind a b = absurd cc
 read_is stops.Read kind a b = refl
 read_is stops.Memory kind a b = absurd cc
 
-no_run : (n l : ℕ) → 0 < n → run_at n (record { bytes = []; left = l }) ≡ Err stops.Cut
-no_run n l some =
-    let none : nat_le n (length (take l [])) ≡ false = let s = length-take {A = ℕ} l [] in grind (arith, nat_tests) in
-    pass_err (nat_le n (length (take l []))) _ _ none ∙ ap (λ (e : Stop). let r : Result (List ℕ × Ahead) Stop = Err e in r) (ended_nil l)
-  where
-    pass_err : (b : Bool) (x : List ℕ × Ahead) (e : Stop) → b ≡ false → cond b (Ok x) (Err e) ≡ Err e
-    pass_err true x e h = absurd cc
-    pass_err false x e h = refl
-
 body_cut : (n l nl : ℕ) (bytes : List ℕ) → length bytes ≡ n → l ≡ n + nl → body_at n (record { bytes = bytes; left = l }) ≡ Err Cut
 body_cut n l nl bytes is left =
     let mid : Ahead = record { bytes = []; left = nl } in
@@ -183,13 +90,6 @@ pub body_lacks : (n : ℕ) (o m : Option (List ℕ)) (l ml : ℕ) → TookPart (
     → TookPart (λ part. body_at n (record { bytes = part; left = l }) ≡ Err Cut) o l m ml
 body_lacks n o m l ml h = part_is (λ part. part ≡ []) (λ part. body_at n (record { bytes = part; left = l }) ≡ Err Cut) o m l ml
     (λ t none. ap (λ v. body_at n (record { bytes = v; left = l })) none ∙ body_none n l) h
-
-pub run_takes : (n : ℕ) (o m : Option (List ℕ)) (l ml : ℕ) (run : List ℕ) → (is_some o ≡ true → (run_at n (ahead_of o l) ≡ Ok (run, ahead_of m ml)) × (is_some m ≡ true)) → Takes o l m ml run
-run_takes n o m l ml run h = record {
-  bytes = λ k. (run_inverse n (ahead_of o l) (ahead_of m ml) run (h k).0).0.bytes;
-  count = λ k. (run_inverse n (ahead_of o l) (ahead_of m ml) run (h k).0).0.left;
-  known = λ k. (h k).1;
-}
 
 -- a read failed after the bytes of a file
 pub body_fails : (n : ℕ) (o m p : Option (List ℕ)) (l ml pl : ℕ) (bytes : List ℕ) → length bytes ≡ n

@@ -1,8 +1,7 @@
 -- Which folders of a name are no files.
 use Rattle.std.specs.Prelude.{◌≡◌, ◌≢◌, ℕ, ◌<◌, List, length, get_or, take}
-use Rattle.paths.specs.Ascii.{slash}
+use Rattle.paths.specs.Reference.{slash, file_of}
 use Rattle.paths.specs.declared.file.File.{File}
-use Rattle.paths.specs.Snapshots.{file_of}
 
 -- no file has this name
 abbrev pub HasNoFile : List File → List ℕ → Type 0

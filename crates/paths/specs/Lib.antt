@@ -1,15 +1,10 @@
 pub mod Above
-pub mod Ascii
-pub mod Devices
-pub mod Feeds
-pub mod KnownText
-pub mod Numbers
 pub mod Owed
 pub mod Parts
 pub mod PlainPaths
+pub mod Reference
 pub mod Resolution
 pub mod SnapshotFaults
 pub mod Snapshots
 pub mod Steps
 pub mod Targets
-pub mod Texts

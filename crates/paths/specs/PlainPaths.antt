@@ -2,9 +2,7 @@
 use Rattle.std.specs.Prelude.{ℕ, ◌==◌, ◌&&◌, not, Bool, List, [], ◌∷◌, Option, None, if◌then◌else◌}
 use Rattle.std.specs.List.{list_all}
 use Rattle.std.specs.Char.{is_ascii}
-use Rattle.paths.specs.Ascii.{question_mark, number_sign, percent_sign, slash}
-use Rattle.paths.specs.Snapshots.{position_of}
-use Rattle.paths.specs.Targets.{is_served}
+use Rattle.paths.specs.Reference.{question_mark, number_sign, percent_sign, slash, position_of, is_served}
 use Rattle.paths.specs.declared.file.File.{File}
 
 -- ASCII but byte 0, `#`, `%` and `?`

@@ -1,17 +1,17 @@
 -- How a snapshot text is read, entry by entry, and its first fault.
 use Rattle.std.specs.Prelude.{◌≡◌, ℕ, ◌+◌, ◌-◌, ◌≤◌, ◌==◌, ◌||◌, ◌⊎◌, not, Bool, true, false, List, [], ◌∷◌, ◌++◌, drop}
-use Rattle.std.specs.Prelude.{length, Option, Some, None, Result, Ok, Err, codes, nat_eq, nat_lt, nat_le}
-use Rattle.std.specs.Prelude.{bytes_eq, if◌then◌else◌, is_some, unwrap_or}
+use Rattle.std.specs.Prelude.{length, Option, Some, None, Result, Ok, Err, codes, nat_eq, nat_lt, nat_le, bytes_eq}
+use Rattle.std.specs.Prelude.{if◌then◌else◌, is_some, unwrap_or}
 use Rattle.std.specs.List.{list_all, list_any, starts_with}
-use Rattle.paths.specs.Ascii.{line_feed}
-use Rattle.paths.specs.Devices.{CountsBy}
-use Rattle.paths.specs.Numbers.{number_of, three_numbers}
-use Rattle.paths.specs.Texts.{Ahead, line_at, run_at, byte_at}
+use Rattle.devices.specs.Reference.{line_feed}
+use Rattle.paths.specs.Reference.{lies_in}
+use Rattle.devices.specs.Devices.{CountsBy}
+use Rattle.devices.specs.Numbers.{number_of, three_numbers}
+use Rattle.devices.specs.Texts.{Ahead, line_at, run_at, byte_at}
 use Rattle.paths.specs.Snapshots.{max_files, max_file_bytes, max_name_bytes, max_time, max_text_bytes, first_line}
-use Rattle.paths.specs.Snapshots.{text_before_end, snapshot_text, is_name, comes_before, lies_in, IsSnapshot}
-use Rattle.paths.specs.Snapshots.{IsSnapshotText}
-use Rattle.paths.specs.declared.text.Stop.{Stop}
-use Rattle.paths.specs.declared.text.Stop.TheVariants as stops
+use Rattle.paths.specs.Snapshots.{text_before_end, snapshot_text, is_name, comes_before, IsSnapshot, IsSnapshotText}
+use Rattle.devices.specs.declared.text.Stop.{Stop}
+use Rattle.devices.specs.declared.text.Stop.TheVariants as stops
 use Rattle.paths.specs.declared.file.File.{File}
 use Rattle.paths.specs.declared.file.FileLine.{FileLine}
 use Rattle.paths.specs.declared.file.Heading.{Heading}

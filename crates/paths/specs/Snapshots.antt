@@ -1,11 +1,12 @@
 -- The text of a snapshot of a file tree.
 use Rattle.std.specs.Prelude.{◌≡◌, ℕ, ◌<◌, ◌≤◌, ◌==◌, ◌&&◌, not, Bool, true, false, List, [], ◌∷◌, ◌++◌, length, All}
-use Rattle.std.specs.Prelude.{codes, decimal, bytes_eq, nat_eq, slice_index_or, flat_map, Option, Result, MatchResult}
-use Rattle.std.specs.List.{list_all, list_any, starts_with, slice_split, AllPairs, position}
+use Rattle.std.specs.Prelude.{codes, decimal, bytes_eq, flat_map, Result, MatchResult}
+use Rattle.std.specs.List.{list_all, list_any, slice_split, AllPairs}
 use Rattle.std.specs.Str.{is_utf8}
 use Rattle.std.specs.Ordering.{is_lt, nat_cmp}
 use Rattle.std.specs.Cmp.Lexicographic.{slice_cmp}
-use Rattle.paths.specs.Ascii.{line_feed, slash}
+use Rattle.devices.specs.Reference.{line_feed}
+use Rattle.paths.specs.Reference.{slash, lies_in, file_of}
 use Rattle.paths.specs.declared.file.File.{File}
 
 -- the greatest number of files, of bytes of a file, of bytes of a name and of bytes of a text, and the greatest time
@@ -61,10 +62,6 @@ is_name name = is_utf8 name && list_all (λ b. not (b == 0)) name && list_all is
 abbrev pub comes_before : List ℕ → List ℕ → Bool
 comes_before m n = is_lt (slice_cmp nat_cmp m n)
 
--- the name lies in the folder: it begins with the folder's name and a slash
-abbrev pub lies_in : List ℕ → List ℕ → Bool
-lies_in folder name = starts_with nat_eq name (folder ++ slash ∷ [])
-
 -- a file within the limits
 pub record IsFile (f : File) : Type 0 where
   pub mtime : f.mtime ≤ max_time
@@ -93,13 +90,6 @@ pub record BeginsWithSnapshot (bytes : List ℕ) (files : List File) (rest : Lis
   pub rules : IsSnapshot files
   pub size : length (snapshot_text files) ≤ max_text_bytes
 
-abbrev pub no_file : File
-no_file = record { name = []; mtime = 0; bytes = [] }
-
--- the file of a number below the number of files
-abbrev pub file_of : List File → ℕ → File
-file_of files n = slice_index_or files n no_file
-
 -- the name, of n bytes, may stand after those of these files
 pub record FitsName (files : List File) (len : ℕ) (name : List ℕ) : Type 0 where
   pub length_is : length name ≡ len
@@ -113,13 +103,6 @@ pub record Follows (files : List File) (f : File) : Type 0 where
   pub file : IsFile f
   pub order : list_all (λ g. comes_before g.name f.name) files ≡ true
   pub apart : list_any (λ g. lies_in g.name f.name) files ≡ false
-
--- the number of the file of this name, and whether some file lies in this folder
-abbrev pub position_of : List File → List ℕ → Option ℕ
-position_of files name = position (λ f. bytes_eq f.name name) files
-
-abbrev pub has_folder : List File → List ℕ → Bool
-has_folder files folder = list_any (λ f. lies_in folder f.name) files
 
 -- The file of this name stands there, after those that come before it; or none has it, those before the place come
 -- before it and the others after it.

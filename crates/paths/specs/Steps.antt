@@ -1,6 +1,6 @@
 -- One step of a walk over segments.
 use Rattle.std.specs.Prelude.{ℕ, Bool, List}
-use Rattle.paths.specs.Targets.{walked}
+use Rattle.paths.specs.Reference.{walked}
 use Rattle.paths.specs.declared.target.Asked.{Asked}
 use Rattle.paths.specs.declared.target.Asked.TheVariants as askeds
 use Rattle.paths.specs.declared.target.Step.{Step}

@@ -2,10 +2,10 @@
 
 ghost use Rattle.std.specs.Prelude.{◌≡◌, ◌<◌, ◌≤◌, ◌-◌, ◌^◌, ◌&&◌, ◌==◌, not, length, IfOk, IfErr, IfSome, ◌≢◌};
 ghost use Rattle.std.specs.List.{list_all, list_any, slice_split};
-ghost use Rattle.paths.specs.Ascii.{slash};
-ghost use Rattle.paths.specs.Devices.{CanFail};
-ghost use Rattle.paths.specs.Texts.{Gives};
-ghost use Rattle.paths.specs.Parts.{FailsAtOnce, FailsWithin, LacksWithin};
+ghost use Rattle.paths.specs.Reference.{slash};
+ghost use Rattle.devices.specs.Devices.{CanFail};
+ghost use Rattle.devices.specs.Texts.{Gives};
+ghost use Rattle.devices.specs.Parts.{FailsAtOnce, FailsWithin, LacksWithin};
 ghost use Rattle.paths.specs.Snapshots.{is_name, is_part, FitsName, Follows};
 ghost use Rattle.paths.specs.SnapshotFaults.{CountsKind, is_unforeseen_kind, header_at, name_at, body_at, file_at};
 ghost use Rattle.paths.specs.SnapshotFaults.{announced, entry_at};
@@ -14,9 +14,9 @@ use crate::bytes::is_text;
 use crate::file::{FileLine, Heading};
 use crate::heading::{read_entry_line, read_heading};
 use crate::{
-    Bytes, File, Input, MAX_FILE_BYTES, MAX_FILES, MAX_NAME_BYTES, MAX_TIME, Snapshot,
-    SnapshotFaultKind, Stop, read_byte_of, read_line, read_run,
+    File, MAX_FILE_BYTES, MAX_FILES, MAX_NAME_BYTES, MAX_TIME, Snapshot, SnapshotFaultKind,
 };
+use devices::{Bytes, Input, Stop, read_byte_of, read_line, read_run};
 use std::alloc::Global;
 use std::io::Read;
 

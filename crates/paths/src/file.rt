@@ -1,6 +1,6 @@
 //! A file of a snapshot, and the lines that announce one.
 
-use crate::Bytes;
+use devices::Bytes;
 
 /// A file of a snapshot.
 #[derive(Debug, Drop)]

@@ -1,7 +1,7 @@
 //! Where the file of a name may be found, by a hash of the name.
 
 ghost use Rattle.std.specs.Prelude.{◌≡◌, ◌<◌, ◌≤◌, ◌^◌, length, IfSome};
-ghost use Rattle.paths.specs.Snapshots.{file_of};
+ghost use Rattle.paths.specs.Reference.{file_of};
 
 use crate::File;
 use std::alloc::{AllocError, Global};

@@ -2,13 +2,14 @@
 
 ghost use Rattle.std.specs.Prelude.{◌≡◌, ◌<◌, ◌-◌, ◌^◌, ◌++◌, IfOk, IfErr, false, true, Option, ℕ, List, ◌≢◌};
 ghost use Rattle.std.specs.Option.{unwrap_or};
-ghost use Rattle.paths.specs.Devices.{CanFail};
+ghost use Rattle.devices.specs.Devices.{CanFail};
 ghost use Rattle.paths.specs.Parts.{NamesFailed, NamesLacking, FailsInSnapshot, FailsInText};
 ghost use Rattle.paths.specs.SnapshotFaults.{ReadsFront, IsFrontFault, IsFirstFault, ReadsWhole, IsForeseen};
 ghost use Rattle.paths.specs.SnapshotFaults.{CountsFault};
 
 use crate::entry::{read_entry, read_header};
-use crate::{Input, MAX_TEXT_BYTES, Snapshot, SnapshotFault, SnapshotFaultKind};
+use crate::{MAX_TEXT_BYTES, Snapshot, SnapshotFault, SnapshotFaultKind};
+use devices::Input;
 use std::alloc::Global;
 use std::io::Read;
 

@@ -1,15 +1,14 @@
 //! From what is asked to the file, the location or the fault that answers it.
 
 ghost use Rattle.std.specs.Prelude.{◌≡◌, ◌++◌, [], ◌∷◌, true, false, IfOk, IfSome, OnOk, string_bytes, codes, flat_map};
-ghost use Rattle.std.specs.Prelude.{List, ℕ};
 ghost use Rattle.std.specs.List.{list_all};
-ghost use Rattle.paths.specs.Ascii.{slash};
+ghost use Rattle.paths.specs.Reference.{slash, asked, outcome, joined, location, location_byte};
 ghost use Rattle.paths.specs.PlainPaths.{is_plain, plain_file};
-ghost use Rattle.paths.specs.Targets.{asked};
-ghost use Rattle.paths.specs.Resolution.{IsOutcome, outcome, joined, location, location_byte, slash_before};
+ghost use Rattle.paths.specs.Resolution.{IsOutcome, slash_before};
 
 use crate::target::is_served;
-use crate::{Asked, Bytes, Segments, Snapshot, inspect};
+use crate::{Asked, Segments, Snapshot, inspect};
+use devices::Bytes;
 use percent_encoding::{AsciiSet, NON_ALPHANUMERIC, ascii_set, percent_encode};
 use std::alloc::{AllocError, Global};
 

@@ -2,7 +2,7 @@
 
 ghost use Rattle.std.specs.Prelude.{◌≡◌, ◌-◌, ◌==◌, ◌++◌, [], ◌∷◌, length, take, OnOk, OnErr};
 
-use crate::Bytes;
+use devices::Bytes;
 use std::alloc::{AllocError, Global};
 use std::marker::Model;
 

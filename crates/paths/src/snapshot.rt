@@ -2,10 +2,9 @@
 
 ghost use Rattle.std.specs.Prelude.{◌≡◌, ◌<◌, ◌≤◌, ◌++◌, [], ◌∷◌, length, OnOk, OnErr, Option, List, ℕ};
 ghost use Rattle.std.specs.List.{list_all, list_any};
-ghost use Rattle.paths.specs.Ascii.{slash};
-ghost use Rattle.paths.specs.Snapshots.{max_files, max_time, max_file_bytes};
-ghost use Rattle.paths.specs.Snapshots.{file_of, Follows, position_of, has_folder, comes_before, lies_in};
-ghost use Rattle.paths.specs.Snapshots.{IsPlace, IsSnapshot};
+ghost use Rattle.paths.specs.Reference.{slash, file_of, position_of, has_folder, lies_in};
+ghost use Rattle.paths.specs.Snapshots.{max_files, max_time, max_file_bytes, Follows, comes_before, IsPlace};
+ghost use Rattle.paths.specs.Snapshots.{IsSnapshot};
 ghost use Rattle.paths.specs.Above.{HasNoFileAbove};
 
 use crate::File;

@@ -3,7 +3,7 @@
 ghost use Rattle.std.specs.Prelude.{◌≡◌, ◌≤◌, length};
 ghost use Rattle.paths.specs.SnapshotFaults.{kind_name};
 
-use crate::Stop;
+use devices::Stop;
 use std::error::Error;
 use std::fmt;
 

@@ -5,14 +5,15 @@ ghost use Rattle.std.specs.Prelude.{map, List, ℕ, true, [], ◌∷◌};
 ghost use Rattle.std.specs.Option.{option_map};
 ghost use Rattle.std.specs.List.{list_any, before_first, slice_split};
 ghost use Rattle.percent_encoding.specs.Percent.{percent_decode};
-ghost use Rattle.paths.specs.Ascii.{slash, question_mark, number_sign, percent_sign};
+ghost use Rattle.paths.specs.Reference.{slash, question_mark, number_sign, percent_sign, is_served, is_known, path_of};
+ghost use Rattle.paths.specs.Reference.{begins_hexadecimal, has_good_escapes, is_nameless, is_here, is_up, walked};
+ghost use Rattle.paths.specs.Reference.{asked_by, asked, segments_of, is_authority_end, after_authority};
 ghost use Rattle.paths.specs.Steps.{after_step};
-ghost use Rattle.paths.specs.Targets.{is_served, is_known, path_of, begins_hexadecimal, has_good_escapes, is_nameless};
-ghost use Rattle.paths.specs.Targets.{is_here, is_up, walked, asked_by, asked, segments_of, is_authority_end};
-ghost use Rattle.paths.specs.Targets.{after_authority, parts_of};
+ghost use Rattle.paths.specs.Targets.{parts_of};
 
+use crate::Segments;
 use crate::bytes::is_text;
-use crate::{Bytes, Segments};
+use devices::Bytes;
 use std::alloc::{AllocError, Global};
 
 /// What a request asks for, by its method and its target alone.

@@ -1,11 +1,12 @@
 //! What no clause says: that the definitions mean what the rules say, and that calls succeed.
-use paths::{Input, Snapshot, SnapshotFault, SnapshotFaultKind};
+use devices::Input;
+use paths::{Snapshot, SnapshotFault, SnapshotFaultKind};
 use std::alloc::Global;
 use std::test::Fail;
 
-mod devices;
 mod memory;
 mod names;
+mod poor_devices;
 mod resolution;
 mod snapshots;
 mod texts;

@@ -12,11 +12,12 @@ use Rattle.captures.specs.declared.record.Record.TheVariants.{Piece, End, Tier}
 use Rattle.captures.specs.declared.version.Version.{Version}
 use Rattle.arrivals.proofs.Tiered.{tier_in_range}
 use Rattle.captures.specs.declared.progress.Progress.{Progress}
-use Rattle.captures.specs.Captures.{IsCapture, IsRecord, size_of, sizes_of, ticks_of}
+use Rattle.captures.specs.Reference.{IsCapture, IsRecord, ticks_of}
+use Rattle.captures.specs.Captures.{size_of, sizes_of}
 use Rattle.captures.specs.Readers.{ReaderAfter}
 use Rattle.http_requests.specs.declared.messages.Message.{Message}
-use Rattle.replay.specs.Choices.{Terms}
-use Rattle.arrivals.specs.Arrivals.{Arrival, ArrivesWith, AreArrivals, Precedes, text_of, messages_of}
+use Rattle.replay.specs.Reference.{Terms}
+use Rattle.arrivals.specs.Reference.{Arrival, ArrivesWith, AreArrivals, Precedes, text_of, messages_of}
 use Rattle.arrivals.specs.Batches.{ReadsOn, pieces_to, with_tier, tiers_of, origins_of, lists_to, arrivals_in, incoming_from, Stand}
 use Rattle.arrivals.specs.Connections.{HaveRead, connection_at, arrivals_with}
 use Rattle.arrivals.specs.Places.{Place, place_at, with_lists, total, IsReady, IsCutOf, count_to}

@@ -1,8 +1,7 @@
 -- How the plain engine goes on by one more record, and how it ends.
 use Rattle.std.proofs.Common.{◌≡◌, ◌≢◌, ℕ, suc, zero, ◌+◌, ◌<◌, ◌≤◌, ◌==◌, inl, inr, List, [], ◌∷◌, ◌++◌, length, take, map, get_or, Option, Some, None, Result, Ok, Err, refl, sym, ap, ◌∙◌, subst, arith, append-nil, unwrap_or}
-use Rattle.std.specs.Prelude.{OnOk, IfErr}
+use Rattle.std.specs.Prelude.{OnOk, IfErr, slice_get, option_map, if◌then◌else◌}
 use Rattle.std.specs.List.{AllPairs}
-use Rattle.std.specs.Prelude.{slice_get, option_map, if◌then◌else◌}
 use Rattle.std.proofs.lemmas.Option.{slice_get_within, get_or_from_slice_get, same_Some}
 use Rattle.std.proofs.lemmas.Grind.{common_steps, flat_map-append}
 use Rattle.std.proofs.lemmas.Bool.Decides.{eqb_tells}
@@ -10,8 +9,8 @@ use Rattle.std.proofs.lemmas.List.{length-append, length-map, get_or_append_left
 use Rattle.std.proofs.lemmas.List.Sums.{sum_by-cons}
 use Rattle.std.proofs.Math.Seq.{get_or-append_seam, take-append-add}
 use Rattle.std.specs.Io.KnownBytes.{Appends}
-use Rattle.paths.proofs.Appending.{prefix_all}
-use Rattle.paths.specs.Devices.{AppendsPrefix}
+use Rattle.devices.proofs.Appending.{prefix_all}
+use Rattle.devices.specs.Devices.{AppendsPrefix}
 use Rattle.captures.specs.declared.record.Record.{Record}
 use Rattle.captures.specs.declared.record.Record.TheVariants.{Piece, End, Tier}
 use Rattle.captures.specs.declared.progress.Progress.{Progress}
@@ -20,8 +19,10 @@ use Rattle.captures.specs.declared.capture_fault.CaptureFaultKind.{CaptureFaultK
 use Rattle.captures.specs.declared.capture_fault.CaptureFaultKind.TheVariants as kinds
 use Rattle.captures.specs.CaptureFaults.{IsForeseen, IsHeaderFault, IsFaultAfter, failures_of}
 use Rattle.captures.specs.declared.version.Version.{Version}
-use Rattle.captures.specs.Captures.{tier_of, IsCapture, IsRecord, IsCaptureText, size_of, sizes_of, tick_of, ticks_of}
+use Rattle.captures.specs.Reference.{tier_of, IsCapture, IsRecord, IsCaptureText, tick_of, ticks_of}
+use Rattle.captures.specs.Captures.{size_of, sizes_of}
 use Rattle.captures.specs.Readers.{ReaderAfter, Gave, FailsFirst, FailsNext}
+use Rattle.captures.proofs.PassLemmas.{reads_of}
 use Rattle.captures.proofs.Tiers.{tier_of_none, tier_of_piece, tier_of_end, tier_of_tier}
 use Rattle.arrivals.specs.Tiers.{tier_at, AreTiers}
 use Rattle.arrivals.specs.Batches.{with_tier}
@@ -33,20 +34,18 @@ use Rattle.arrivals.specs.declared.connections.Connection.{Connection}
 use Rattle.arrivals.specs.declared.connections.Connection.TheVariants.{Silent, Open, Closed}
 use Rattle.replay.specs.declared.replay_fault.ReplayFault.{ReplayFault}
 use Rattle.replay.specs.declared.replay_fault.ReplayFault.TheVariants as faults
-use Rattle.replay.specs.Choices.{Terms}
-use Rattle.arrivals.specs.Arrivals.{Arrival, AreArrivals, bytes_to, text_of, messages_of}
+use Rattle.replay.specs.Reference.{Terms, handled, replies_of, first_line, last_line, text_before_stop, summary_of, outcome_of, Answers}
+use Rattle.arrivals.specs.Reference.{Arrival, AreArrivals, bytes_to, text_of, messages_of}
 use Rattle.arrivals.specs.Connections.{HasRead, HasRoom, ReadMore, HaveRead, connection_at, arrivals_with}
-use Rattle.replay.specs.Offers.{handled}
-use Rattle.replay.specs.Replies.{replies_of, first_line, last_line, text_before_stop}
-use Rattle.replay.specs.Counting.{summary_of}
 use Rattle.replay.specs.Serving.{DeskAfter, AreBy, IsLater, Serves, Written, ServesFull, ServesInPart, TellsMore, TellsFull, TellsInPart, HasTold}
 use Rattle.replay.specs.Telling.{Telling, IsTelling, Told, ToldInPart, replies_told}
-use Rattle.paths.specs.KnownText.{WhereKnown}
-use Rattle.replay.specs.Outcomes.{Answers, told_as, capture_fault, IfCapture, IfTooMany, IfCutShort, IsOwn, IsWriteOrMemory, IsCutShort, IsCutOff, StopsBeyond, StopsFull, StopsTelling, Stops, Taken, reader_failures, writer_failures}
+use Rattle.devices.specs.Reference.{WhereKnown}
+use Rattle.replay.specs.Outcomes.{told_as, capture_fault, IfTooMany, IfCutShort, IsOwn, IsWriteOrMemory, IsCutOff, StopsBeyond, StopsFull, StopsTelling, Stops, Taken, Leaves, reader_failures, writer_failures}
 use Rattle.arrivals.proofs.Arriving.{from_piece, reads_none, arrives_none, reads_piece, reads_end, reads_tier, arrives_piece, arrives_end, arrives_tier}
 use Rattle.replay.proofs.Writing.{replies_laws}
 use Rattle.replay.proofs.Texts.{told_none, text_begun, text_told, text_part, text_ended, text_ended_part}
 use Rattle.replay.proofs.Judging.{answered_is}
+use Rattle.replay.proofs.OneAnswer.{same_outcome}
 
 -- ---- the room of a connection
 
@@ -296,17 +295,14 @@ pub all_told : (t : Telling) (terms : Terms) (v : Version) (start count : ℕ) (
     → Appends old mid (t.so_far start arrivals) → Appends mid new (t.last count) → count ≡ desk.totals.answered
     → outcome.rejected ≡ desk.totals.rejected → outcome.summary ≡ summary_of terms arrivals → HasTold t terms input old new outcome
 all_told t terms v start count records arrivals connections desk input old mid new outcome laws rules capture serves before last counted rejected told = record {
-  version = v;
-  start = start;
-  records = records;
-  arrivals = arrivals;
-  rules = rules;
-  capture = capture;
-  arrived = serves.arrived;
-  few = serves.stands.few;
+  read = record {
+    capture = record { version = v; start = start; records = records; rules = rules; text = capture };
+    arrivals = arrivals;
+    are = serves.arrived;
+    few = serves.stands.few;
+  };
   written = text_ended t start count arrivals old mid new laws (counted ∙ answered_is terms arrivals desk serves.stands) before last;
-  rejected = rejected ∙ ap (λ t. t.rejected) serves.stands.totals;
-  summary = told;
+  outcome_is = same_outcome outcome (outcome_of terms arrivals) (rejected ∙ ap (λ t. t.rejected) serves.stands.totals) told;
 }
 
 -- the last line was not
@@ -316,78 +312,52 @@ pub ends_short : (t : Telling) (terms : Terms) (v : Version) (start count : ℕ)
     → Appends old mid (t.so_far start arrivals) → AppendsPrefix mid new (t.last count) → count ≡ desk.totals.answered
     → IsCutOff t input old new
 ends_short t terms v start count records arrivals connections desk input old mid new laws rules capture serves before last counted =
-    inr (inr (record {
-      version = v;
-      start = start;
-      records = records;
-      arrivals = arrivals;
-      rules = rules;
-      capture = capture;
-      arrived = serves.arrived;
-      few = serves.stands.few;
-      written = text_ended_part t start count arrivals old mid new laws (counted ∙ answered_is terms arrivals desk serves.stands) before last;
-    }))
+    inr (inr (
+      record {
+        capture = record { version = v; start = start; records = records; rules = rules; text = capture };
+        arrivals = arrivals;
+        are = serves.arrived;
+        few = serves.stands.few;
+      },
+      text_ended_part t start count arrivals old mid new laws (counted ∙ answered_is terms arrivals desk serves.stands) before last,
+    ))
 
 -- ---- faults
 
--- what is said of a capture's fault, where the replay tells it
-pub told : (f : CaptureFault) (P : CaptureFault → Type 0) → P f → IfCapture (capture_fault f) P
-told f P h = go f.kind refl
+-- what stands where the capture has a fault: what is due there, or else a prefix of what is due
+pub leaves_told : (t : Telling) (input ahead old new : Option (List ℕ)) (f : CaptureFault) → StopsTelling t input ahead old new f → IsCutOff t input old new
+    → Leaves t input ahead old new (capture_fault f)
+leaves_told t input ahead old new f stops cut = go f.kind refl
   where
-    go : (k : CaptureFaultKind) → f.kind ≡ k → IfCapture (told_as k f) P
-    go kinds.Cut e = (rw e refl, h)
-    go kinds.Header e = (rw e refl, h)
-    go kinds.Kind e = (rw e refl, h)
-    go kinds.Number e = (rw e refl, h)
-    go kinds.Tick e = (rw e refl, h)
-    go kinds.Connection e = (rw e refl, h)
-    go kinds.Ended e = (rw e refl, h)
-    go kinds.Tier e = (rw e refl, h)
-    go kinds.Length e = (rw e refl, h)
-    go kinds.Count e = (rw e refl, h)
-    go kinds.Trailing e = (rw e refl, h)
-    go kinds.TooLarge e = (rw e refl, h)
-    go kinds.Read e = (rw e refl, h)
-    go kinds.Memory e = tt
+    go : (k : CaptureFaultKind) → f.kind ≡ k → Leaves t input ahead old new (told_as k f)
+    go kinds.Cut e = (rw e refl, stops)
+    go kinds.Header e = (rw e refl, stops)
+    go kinds.Kind e = (rw e refl, stops)
+    go kinds.Number e = (rw e refl, stops)
+    go kinds.Tick e = (rw e refl, stops)
+    go kinds.Connection e = (rw e refl, stops)
+    go kinds.Ended e = (rw e refl, stops)
+    go kinds.Tier e = (rw e refl, stops)
+    go kinds.Length e = (rw e refl, stops)
+    go kinds.Count e = (rw e refl, stops)
+    go kinds.Trailing e = (rw e refl, stops)
+    go kinds.TooLarge e = (rw e refl, stops)
+    go kinds.Read e = (rw e refl, stops)
+    go kinds.Memory e = cut
 
--- it isn't that messages are too many, and out of memory cuts short
-pub told_many : (f : CaptureFault) (P : ℕ → Type 0) → IfTooMany (capture_fault f) P
-told_many f P = go f.kind
-  where
-    go : (k : CaptureFaultKind) → IfTooMany (told_as k f) P
-    go kinds.Cut = tt
-    go kinds.Header = tt
-    go kinds.Kind = tt
-    go kinds.Number = tt
-    go kinds.Tick = tt
-    go kinds.Connection = tt
-    go kinds.Ended = tt
-    go kinds.Tier = tt
-    go kinds.Length = tt
-    go kinds.Count = tt
-    go kinds.Trailing = tt
-    go kinds.TooLarge = tt
-    go kinds.Read = tt
-    go kinds.Memory = tt
+-- the same of the call's own faults
+pub own_leaves : (t : Telling) (input ahead old new : Option (List ℕ)) (f : ReplayFault) → IsOwn f → IfTooMany f (StopsBeyond t input old new) → IfCutShort f (IsCutOff t input old new)
+    → Leaves t input ahead old new f
+own_leaves t input ahead old new (faults.Capture f) own many cut = absurd own
+own_leaves t input ahead old new (faults.TooMany n) own many cut = many
+own_leaves t input ahead old new faults.Write own many cut = cut
+own_leaves t input ahead old new faults.Memory own many cut = cut
 
-pub told_short : (f : CaptureFault) (P : Type 0) → P → IfCutShort (capture_fault f) P
-told_short f P h = go f.kind
-  where
-    go : (k : CaptureFaultKind) → IfCutShort (told_as k f) P
-    go kinds.Cut = tt
-    go kinds.Header = tt
-    go kinds.Kind = tt
-    go kinds.Number = tt
-    go kinds.Tick = tt
-    go kinds.Connection = tt
-    go kinds.Ended = tt
-    go kinds.Tier = tt
-    go kinds.Length = tt
-    go kinds.Count = tt
-    go kinds.Trailing = tt
-    go kinds.TooLarge = tt
-    go kinds.Read = tt
-    go kinds.Memory = h
+pub short_leaves : (t : Telling) (input ahead old new : Option (List ℕ)) (f : ReplayFault) → IsWriteOrMemory f → IsCutOff t input old new → Leaves t input ahead old new f
+short_leaves t input ahead old new (faults.Capture f) own cut = absurd own
+short_leaves t input ahead old new (faults.TooMany n) own cut = absurd own
+short_leaves t input ahead old new faults.Write own cut = cut
+short_leaves t input ahead old new faults.Memory own cut = cut
 
 pub told_reads : (f : CaptureFault) → reader_failures (capture_fault f) ≡ failures_of f.kind
 told_reads f = go f.kind refl
@@ -427,30 +397,16 @@ told_writes f = go f.kind
     go kinds.Read = refl
     go kinds.Memory = refl
 
--- a failed write or out of memory is neither the capture's nor that of too many messages
-pub short_capture : {T : Type 0} (r : Result T ReplayFault) (P : CaptureFault → Type 0) → IfErr r IsWriteOrMemory → IfErr r (λ f. IfCapture f P)
-short_capture (Ok x) P h = tt
-short_capture (Err (faults.Capture f)) P h = absurd h
-short_capture (Err (faults.TooMany n)) P h = absurd h
-short_capture (Err faults.Write) P h = tt
-short_capture (Err faults.Memory) P h = tt
-
 pub halts_first : (t : Telling) (input ahead old new : Option (List ℕ)) (f : CaptureFault) → Appends old new t.first → f.at ≡ 0 → IsForeseen IsHeaderFault input f
     → FailsFirst input f ahead → StopsTelling t input ahead old new f
-halts_first t input ahead old new f written at fault failed = inl (record { at = at; written = written; fault = λ foreseen known. fault known foreseen; failed = failed })
+halts_first t input ahead old new f written at fault failed = inl (record { at = at; fault = λ foreseen known. fault known foreseen; failed = failed }, written)
 
 -- the records that a reader has given
 abbrev pub taken : (v : Version) (input now : Option (List ℕ)) (start : ℕ) (records : List Record) (arrivals : List Arrival) (p : Progress)
     → ReaderAfter v input start records p now → AreArrivals records arrivals → Taken input
 taken v input now start records arrivals p fits arrived = record {
-  version = v;
-  start = start;
-  records = records;
-  rest = unwrap_or now [];
+  read = reads_of v input now start records p fits;
   arrivals = arrivals;
-  rules = fits.rules;
-  begins = fits.taken;
-  size = λ known. (let left = fits.left known in omega (arith, left));
   arrived = arrived;
 }
 
@@ -458,25 +414,15 @@ pub halts_after : (t : Telling) (terms : Terms) (v : Version) (input now ahead l
     (f : CaptureFault) → ReaderAfter v input start records p now → Serves terms records arrivals connections desk → Appends old new (t.so_far start arrivals)
     → (f.at ≡ length records + 1) × IsForeseen (λ bytes. IsFaultAfter v bytes start records) input f → FailsNext v input start records (Err f) left
     → ahead ≡ left → StopsTelling t input ahead old new f
-halts_after t terms v input now ahead left old new start records arrivals p connections desk f fits serves written fault failed same = inr (record {
-  taken = taken v input now start records arrivals p fits serves.arrived;
-  at = fault.0;
-  few = serves.stands.few;
-  written = written;
-  fault = λ foreseen known. fault.1 known foreseen;
-  failed = subst (λ w. FailsNext v input start records (Err f) w) (sym same) failed;
-})
-
--- a fault of the reader that was reported
-pub halts_told : (t : Telling) (terms : Terms) (v : Version) (input now ahead left old new : Option (List ℕ)) (start : ℕ) (records : List Record) (arrivals : List Arrival) (p : Progress) (connections : List Connection) (desk : Desk)
-    (f : CaptureFault) (r : ReplayFault) → r ≡ capture_fault f
-    → ReaderAfter v input start records p now → Serves terms records arrivals connections desk → Appends old new (t.so_far start arrivals)
-    → (f.at ≡ length records + 1) × IsForeseen (λ bytes. IsFaultAfter v bytes start records) input f → FailsNext v input start records (Err f) left
-    → ahead ≡ left → IfCapture r (StopsTelling t input ahead old new)
-halts_told t terms v input now ahead left old new start records arrivals p connections desk f r is fits serves written fault failed same =
-    rw is
-    (told f (StopsTelling t input ahead old new)
-    (halts_after t terms v input now ahead left old new start records arrivals p connections desk f fits serves written fault failed same))
+halts_after t terms v input now ahead left old new start records arrivals p connections desk f fits serves written fault failed same = inr (
+  reads_of v input now start records p fits,
+  record {
+    at = fault.0;
+    fault = λ foreseen known. fault.1 known foreseen;
+    failed = subst (λ w. FailsNext v input start records (Err f) w) (sym same) failed;
+  },
+  record { arrivals = arrivals; arrived = serves.arrived; few = serves.stands.few; written = written },
+)
 
 take_all : {A : Type 0} (xs : List A) → take (length xs) xs ≡ xs
 take_all xs = grind (arith, common_steps)
@@ -491,6 +437,18 @@ cut_among t terms v input now old new start records arrivals p connections desk 
   few = serves.stands.few;
   written = rw (take_all arrivals) (prefix_all old new _ written);
 }))
+
+-- a fault of the reader that was reported
+pub halts_told : (t : Telling) (terms : Terms) (v : Version) (input now ahead left old new : Option (List ℕ)) (start : ℕ) (records : List Record) (arrivals : List Arrival) (p : Progress) (connections : List Connection) (desk : Desk)
+    (f : CaptureFault) (r : ReplayFault) → r ≡ capture_fault f
+    → ReaderAfter v input start records p now → Serves terms records arrivals connections desk → Appends old new (t.so_far start arrivals)
+    → (f.at ≡ length records + 1) × IsForeseen (λ bytes. IsFaultAfter v bytes start records) input f → FailsNext v input start records (Err f) left
+    → ahead ≡ left → Leaves t input ahead old new r
+halts_told t terms v input now ahead left old new start records arrivals p connections desk f r is fits serves written fault failed same =
+    rw is
+    (leaves_told t input ahead old new f
+    (halts_after t terms v input now ahead left old new start records arrivals p connections desk f fits serves written fault failed same)
+    (cut_among t terms v input now old new start records arrivals p connections desk fits serves written))
 
 pub halts_full : (t : Telling) (v : Version) (input now old mid new : Option (List ℕ)) (start n : ℕ) (records : List Record) (arrivals : List Arrival) (rs : List Record) (p : Progress)
     → IsTelling t → ReaderAfter v input start (records ++ rs) p now → Appends old mid (t.so_far start arrivals) → n ≡ 1048576
@@ -515,12 +473,6 @@ cut_part t v input now old mid new start records arrivals rs p laws fits written
       few = part.few;
       written = rw here (text_part t start arrivals (take part.within part.more) old mid new laws written part.written);
     }))
-
-pub own_capture : (f : ReplayFault) (P : CaptureFault → Type 0) → IsOwn f → IfCapture f P
-own_capture (faults.Capture f) P h = absurd h
-own_capture (faults.TooMany n) P h = tt
-own_capture faults.Write P h = tt
-own_capture faults.Memory P h = tt
 
 -- a reader that failed is reported, and at most once
 pub blamed_told : (old new : ℕ) (f : CaptureFault) (r : ReplayFault) → r ≡ capture_fault f → new ≡ old + failures_of f.kind → (old + reader_failures r ≤ new) × (new ≤ old + 1)
@@ -556,19 +508,7 @@ more_written terms start arrivals more old mid new before after = text_told (rep
 
 -- what was told is the answer
 pub has_answered : (terms : Terms) (input old new : Option (List ℕ)) (outcome : Outcome) → HasTold (replies_told terms) terms input old new outcome → Answers terms input old new outcome
-has_answered terms input old new outcome h = record {
-  version = h.version;
-  start = h.start;
-  records = h.records;
-  arrivals = h.arrivals;
-  rules = h.rules;
-  capture = h.capture;
-  arrived = h.arrived;
-  few = h.few;
-  written = h.written;
-  rejected = h.rejected;
-  summary = h.summary;
-}
+has_answered terms input old new outcome h = record { read = h.read; written = h.written; outcome_is = h.outcome_is }
 
 pub answers_all : (terms : Terms) (v : Version) (start count : ℕ) (records : List Record) (arrivals : List Arrival) (connections : List Connection) (desk : Desk)
     (input old mid new : Option (List ℕ)) (outcome : Outcome) → IsCapture v start records → WhereKnown input (λ bytes. IsCaptureText v bytes start records)
@@ -583,7 +523,7 @@ pub ends_in_part : (terms : Terms) (v : Version) (start count : ℕ) (records : 
     (input old mid new : Option (List ℕ)) → IsCapture v start records → WhereKnown input (λ bytes. IsCaptureText v bytes start records)
     → Serves terms records arrivals connections desk
     → Appends old mid (text_before_stop (replies_of terms start (handled terms arrivals))) → AppendsPrefix mid new (last_line count) → count ≡ desk.totals.answered
-    → IsCutShort terms input old new
+    → IsCutOff (replies_told terms) input old new
 ends_in_part terms v start count records arrivals connections desk input old mid new rules capture serves before last counted =
     ends_short (replies_told terms) terms v start count records arrivals connections desk input old mid new (replies_laws terms) rules capture serves before last counted
 
@@ -595,18 +535,18 @@ pub stops_told : (terms : Terms) (v : Version) (input now ahead left old new : O
     (f : CaptureFault) (r : ReplayFault) → r ≡ capture_fault f
     → ReaderAfter v input start records p now → Serves terms records arrivals connections desk → Appends old new (text_before_stop (replies_of terms start (handled terms arrivals)))
     → (f.at ≡ length records + 1) × IsForeseen (λ bytes. IsFaultAfter v bytes start records) input f → FailsNext v input start records (Err f) left
-    → ahead ≡ left → IfCapture r (Stops terms input ahead old new)
+    → ahead ≡ left → Leaves (replies_told terms) input ahead old new r
 stops_told terms v input now ahead left old new start records arrivals p connections desk f r is fits serves written fault failed same =
     halts_told (replies_told terms) terms v input now ahead left old new start records arrivals p connections desk f r is fits serves written fault failed same
 
 -- what is left of the input, found before the rest is in sight
 pub left_first : (terms : Terms) (input ahead left old new : Option (List ℕ)) (r : ReplayFault) → ahead ≡ left
-    → (ahead ≡ left → IfCapture r (Stops terms input ahead old new)) → IfCapture r (Stops terms input ahead old new)
+    → (ahead ≡ left → Leaves (replies_told terms) input ahead old new r) → Leaves (replies_told terms) input ahead old new r
 left_first terms input ahead left old new r same rest = rest same
 
 pub short_among : (terms : Terms) (v : Version) (input now old new : Option (List ℕ)) (start : ℕ) (records : List Record) (arrivals : List Arrival) (p : Progress) (connections : List Connection) (desk : Desk)
     → ReaderAfter v input start records p now → Serves terms records arrivals connections desk → Appends old new (text_before_stop (replies_of terms start (handled terms arrivals)))
-    → IsCutShort terms input old new
+    → IsCutOff (replies_told terms) input old new
 short_among terms v input now old new start records arrivals p connections desk fits serves written =
     cut_among (replies_told terms) terms v input now old new start records arrivals p connections desk fits serves written
 
@@ -618,6 +558,6 @@ stops_full terms v input now old mid new start n records arrivals rs p fits writ
 
 pub short_part : (terms : Terms) (v : Version) (input now old mid new : Option (List ℕ)) (start : ℕ) (records : List Record) (arrivals : List Arrival) (rs : List Record) (p : Progress)
     → ReaderAfter v input start (records ++ rs) p now → Appends old mid (text_before_stop (replies_of terms start (handled terms arrivals)))
-    → ServesInPart terms start records arrivals rs mid new → IsCutShort terms input old new
+    → ServesInPart terms start records arrivals rs mid new → IsCutOff (replies_told terms) input old new
 short_part terms v input now old mid new start records arrivals rs p fits written part =
     cut_part (replies_told terms) v input now old mid new start records arrivals rs p (replies_laws terms) fits written part

@@ -1,6 +1,5 @@
 -- The counts of one more message.
-use Rattle.std.proofs.Common.{◌≡◌, ℕ, zero, suc, ◌+◌, ◌<◌, ◌≤◌, ◌==◌, ◌&&◌, Bool, true, false, cond}
-use Rattle.std.proofs.Common.{List, [], ◌∷◌, ◌++◌, length, map, Some, refl, ap, subst, arith}
+use Rattle.std.proofs.Common.{◌≡◌, ℕ, zero, suc, ◌+◌, ◌<◌, ◌≤◌, ◌==◌, ◌&&◌, Bool, true, false, cond, List, [], ◌∷◌, ◌++◌, length, map, Some, refl, ap, subst, arith}
 use Rattle.std.specs.List.{filter, zip, slice_get}
 use Rattle.std.specs.Prelude.{if◌then◌else◌}
 use Rattle.std.proofs.lemmas.List.Sums.{sum_by_push, count_by-le-length}
@@ -9,12 +8,11 @@ use Rattle.std.proofs.lemmas.List.Elements.{filter-append, All-map}
 use Rattle.std.proofs.lemmas.Bool.Decides.{nat_tests}
 use Rattle.std.proofs.lemmas.Option.{same_Some}
 use lib.ListN.{get_or, set}
-use Rattle.responses.specs.Statuses.{statuses}
+use Rattle.responses.specs.Reference.{statuses}
 use Rattle.replay.specs.declared.summary.Counts.{Counts}
-use Rattle.replay.specs.Choices.{Terms}
-use Rattle.arrivals.specs.Arrivals.{Arrival}
-use Rattle.replay.specs.Offers.{Handled}
-use Rattle.replay.specs.Counting.{status_for, count_of, counts_of, bypassed_of, rejected_of, breaks_a_rule, one_if, with_status, AreBelow}
+use Rattle.replay.specs.Reference.{Terms, Handled, status_for, count_of, counts_of, bypassed_of, rejected_of, breaks_a_rule}
+use Rattle.arrivals.specs.Reference.{Arrival}
+use Rattle.replay.specs.Counting.{one_if, with_status, AreBelow}
 
 count_more : (terms : Terms) (messages : List Handled) (h : Handled) (status : ℕ) → count_of terms (messages ++ h ∷ []) status ≡ count_of terms messages status + one_if (status_for terms h) status
 count_more terms messages h status = sum_by_push (λ h. cond (status_for terms h == status) 1 0) messages h

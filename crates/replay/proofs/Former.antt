@@ -14,18 +14,14 @@ use Rattle.http_requests.specs.declared.messages.Meaning.TheVariants.{Request, B
 use Rattle.captures.specs.declared.record.Record.{Record}
 use Rattle.captures.specs.declared.version.Version.{Version}
 use Rattle.captures.specs.declared.version.Version.TheVariants.{One, Two}
-use Rattle.captures.specs.Captures.{IsRecord, IsCapture, IsCaptureText}
+use Rattle.captures.specs.Reference.{IsRecord, IsCapture, IsCaptureText}
 use Rattle.captures.proofs.Agree.{one_list}
 use Rattle.captures.proofs.Tiers.{tiers_of_version_one}
 use Rattle.captures.proofs.UpgradeLaws.{upgrade_is}
-use Rattle.http_requests.specs.Framing.{MessagesOf}
+use Rattle.http_requests.specs.Reference.{MessagesOf}
 use Rattle.admission.specs.declared.control.Control.{Control}
-use Rattle.admission.specs.Rules.{Rules, rules_of}
-use Rattle.admission.specs.Requests.{Offer, Decided, of_tier, served, samples, is_rejected}
-use Rattle.admission.specs.Controls.{control_at, controls_until}
-use Rattle.admission.specs.Decisions.{decided}
+use Rattle.admission.specs.Reference.{Rules, rules_of, Offer, Decided, of_tier, served, samples, is_rejected, control_at, controls_until, decided, tick_from}
 use Rattle.admission.specs.OneTier.{decided_alone, decided_alone_next, decided_alone_from, AreOfTier}
-use Rattle.admission.specs.After.{tick_from}
 use Rattle.admission.proofs.RequestLemmas.{of_tier-other, of_tier-none}
 use Rattle.admission.proofs.OneTierLemmas.{one_tier_as_before}
 use Rattle.arrivals.specs.declared.incoming.Origin.{Origin}
@@ -33,14 +29,10 @@ use Rattle.replay.specs.declared.summary.Outcome.{Outcome}
 use Rattle.replay.specs.declared.summary.Counts.{Counts}
 use Rattle.replay.specs.declared.summary.Tally.{Tally}
 use Rattle.replay.specs.declared.summary.Summary.{Summary}
-use Rattle.arrivals.specs.Arrivals.{Arrival, text_of, messages_of, ArrivesWith, Precedes, AreArrivals}
-use Rattle.responses.specs.Statuses.{statuses}
-use Rattle.replay.specs.Choices.{Terms}
-use Rattle.replay.specs.Answers.{given}
-use Rattle.replay.specs.Offers.{Handled, offer_at, offers_of, rejects, is_turned_away, handled_next, handled_after, handled}
-use Rattle.replay.specs.Replies.{reply_of, replies_of, replies_text}
-use Rattle.replay.specs.Counting.{status_for, counts_of, bypassed_of, breaks_a_rule, rejected_of, samples_of, tally_of, tallies_of, summary_of}
-use Rattle.replay.specs.Outcomes.{Answers, max_messages}
+use Rattle.arrivals.specs.Reference.{Arrival, text_of, messages_of, ArrivesWith, Precedes, AreArrivals}
+use Rattle.responses.specs.Reference.{statuses}
+use Rattle.replay.proofs.OneAnswer.{same_outcome}
+use Rattle.replay.specs.Reference.{outcome_of, Terms, given, Handled, offer_at, offers_of, rejects, is_turned_away, handled_next, handled_after, handled, reply_of, replies_of, replies_text, status_for, counts_of, bypassed_of, breaks_a_rule, rejected_of, samples_of, tally_of, tallies_of, summary_of, Answers, max_messages}
 use Rattle.replay.specs.Former.{FormerTerms, ArrivedWith, WereArrivals, former_offer, former_offers, formerly_rejects, was_turned_away, handled_next_alone, handled_after_alone, former_handled, formerly_given, former_reply, former_replies, former_status, former_counts, former_samples, former_controls, FormerOutcome, former_outcome}
 use Rattle.replay.specs.Laws.{former_terms, no_requests, all_requests, in_tiers, SameInVersionOne, FormerAnswersHold, UpgradeKeepsAnswers}
 
@@ -326,29 +318,27 @@ were_arrivals records arrivals arrived = record {
   order = arrived.order;
 }
 
-same_outcome : (a b : Outcome) → a.rejected ≡ b.rejected → a.summary ≡ b.summary → a ≡ b
-same_outcome a b rejected summary = rw (rejected, summary) refl
-
 pub same_in_version_one : SameInVersionOne
 same_in_version_one terms input old new outcome a one =
-    let rules : IsCapture One a.start a.records = subst (λ v. IsCapture v a.start a.records) one a.rules in
-    let lowest : AreLowest a.arrivals = lowest_of a.records a.arrivals rules.each a.arrived in
-    let former : FormerOutcome = former_outcome (former_terms terms) a.arrivals in (
+    let c = a.read.capture in
+    let rules : IsCapture One c.start c.records = subst (λ v. IsCapture v c.start c.records) one c.rules in
+    let lowest : AreLowest a.read.arrivals = lowest_of c.records a.read.arrivals rules.each a.read.are in
+    let former : FormerOutcome = former_outcome (former_terms terms) a.read.arrivals in (
       former,
       record {
-        start = a.start;
-        records = a.records;
-        arrivals = a.arrivals;
+        start = c.start;
+        records = c.records;
+        arrivals = a.read.arrivals;
         rules = rules;
-        capture = λ known. subst (λ v. IsCaptureText v (unwrap_or input []) a.start a.records) one (a.capture known);
-        arrived = were_arrivals a.records a.arrivals a.arrived;
-        few = a.few;
+        capture = λ known. subst (λ v. IsCaptureText v (unwrap_or input []) c.start c.records) one (c.text known);
+        arrived = were_arrivals c.records a.read.arrivals a.read.are;
+        few = a.read.few;
         written =
-            subst (λ rs. Appends old new (replies_text rs)) (text_same terms a.start a.arrivals lowest) a.written;
+            subst (λ rs. Appends old new (replies_text rs)) (text_same terms c.start a.read.arrivals lowest) a.written;
         outcome = refl;
       },
-      same_outcome outcome (in_tiers former) (a.rejected ∙ rejected_same terms a.arrivals lowest)
-          (a.summary ∙ summary_same terms a.arrivals lowest),
+      a.outcome_is ∙ same_outcome (outcome_of terms a.read.arrivals) (in_tiers former)
+          (rejected_same terms a.read.arrivals lowest) (summary_same terms a.read.arrivals lowest),
     )
 
 -- ---- the law of the upgrade
@@ -380,26 +370,31 @@ summary_shared terms other arrivals lowest same =
 -- the answer to another text of the same records
 carried : (terms other : Terms) (text later : List ℕ) (old new : Option (List ℕ)) (outcome : Outcome) (v : Version)
     (start : ℕ) (records : List Record)
-    → (a : Answers terms (Some text) old new outcome) → a.start ≡ start → a.records ≡ records
+    → (a : Answers terms (Some text) old new outcome) → a.read.capture.start ≡ start → a.read.capture.records ≡ records
     → All (IsRecord One) records → IsCaptureText v later start records
     → former_terms terms ≡ former_terms other → Answers other (Some later) old new outcome
 carried terms other text later old new outcome v start records a begin all each capture same =
-    let arrived : AreArrivals records a.arrivals = subst (λ rs. AreArrivals rs a.arrivals) all a.arrived in
-    let lowest : AreLowest a.arrivals = lowest_of records a.arrivals each arrived in
+    let arrivals = a.read.arrivals in
+    let arrived : AreArrivals records arrivals = subst (λ rs. AreArrivals rs arrivals) all a.read.are in
+    let lowest : AreLowest arrivals = lowest_of records arrivals each arrived in
     record {
-      version = v;
-      start = start;
-      records = records;
-      arrivals = a.arrivals;
-      rules = capture.rules;
-      capture = λ known. capture;
-      arrived = arrived;
-      few = a.few;
+      read = record {
+        capture = record {
+          version = v;
+          start = start;
+          records = records;
+          rules = capture.rules;
+          text = λ known. capture;
+        };
+        arrivals = arrivals;
+        are = arrived;
+        few = a.read.few;
+      };
       written = subst (λ rs. Appends old new (replies_text rs))
-          (ap (λ s. replies_of terms s (handled terms a.arrivals)) begin
-          ∙ text_shared terms other start a.arrivals lowest same) a.written;
-      rejected = a.rejected ∙ rejected_shared terms other a.arrivals lowest same;
-      summary = a.summary ∙ summary_shared terms other a.arrivals lowest same;
+          (ap (λ s. replies_of terms s (handled terms arrivals)) begin
+          ∙ text_shared terms other start arrivals lowest same) a.written;
+      outcome_is = a.outcome_is ∙ same_outcome (outcome_of terms arrivals) (outcome_of other arrivals)
+          (rejected_shared terms other arrivals lowest same) (summary_shared terms other arrivals lowest same);
     }
 
 pub upgrade_keeps_answers : UpgradeKeepsAnswers
@@ -409,11 +404,13 @@ upgrade_keeps_answers terms other text later old new outcome u one same =
     let second : IsCaptureText Two later u.start u.records =
     subst (λ w. IsCaptureText Two w u.start u.records) (sym u.text) (upgrade_is One text u.start u.records first) in (
       (λ a.
-          (let both = one_list text a.version One a.start u.start a.records u.records (a.capture refl) first in
+          (let both = one_list text a.read.capture.version One a.read.capture.start u.start a.read.capture.records u.records
+          (a.read.capture.text refl) first in
           carried terms other text later old new outcome Two u.start u.records a both.1 both.2
           first.rules.each second same)),
       (λ a.
-          (let both = one_list later a.version Two a.start u.start a.records u.records (a.capture refl) second in
+          (let both = one_list later a.read.capture.version Two a.read.capture.start u.start a.read.capture.records u.records
+          (a.read.capture.text refl) second in
           carried terms other later text old new outcome One u.start u.records a both.1 both.2
           first.rules.each first same)),
     )
@@ -570,18 +567,22 @@ former_answers_hold terms input old new former f =
     ∙ ap (λ hs. former_replies (former_terms terms) f.start hs) (lowered_handled (former_terms terms) [] f.arrivals)
     ∙ lowered_replies (former_terms terms) f.start (former_handled (former_terms terms) f.arrivals)) in (
       record {
-        version = One;
-        start = f.start;
-        records = f.records;
-        arrivals = arrivals;
-        rules = f.rules;
-        capture = f.capture;
-        arrived = lowered_arrivals f.records f.arrivals f.rules.each f.arrived;
-        few = subst (λ n. n ≤ max_messages) (sym (length-map f.arrivals lowered)) f.few;
+        read = record {
+          capture = record {
+            version = One;
+            start = f.start;
+            records = f.records;
+            rules = f.rules;
+            text = f.capture;
+          };
+          arrivals = arrivals;
+          are = lowered_arrivals f.records f.arrivals f.rules.each f.arrived;
+          few = subst (λ n. n ≤ max_messages) (sym (length-map f.arrivals lowered)) f.few;
+        };
         written = subst (λ rs. Appends old new (replies_text rs)) text f.written;
-        rejected = sym (ap (λ (o : FormerOutcome). o.rejected) told) ∙ sym (rejected_same terms arrivals lowest);
-        summary =
-            sym (ap (λ (o : FormerOutcome). (in_tiers o).summary) told) ∙ sym (summary_same terms arrivals lowest);
+        outcome_is = same_outcome (in_tiers former) (outcome_of terms arrivals)
+            (sym (ap (λ (o : FormerOutcome). o.rejected) told) ∙ sym (rejected_same terms arrivals lowest))
+            (sym (ap (λ (o : FormerOutcome). (in_tiers o).summary) told) ∙ sym (summary_same terms arrivals lowest));
       },
       refl,
     )

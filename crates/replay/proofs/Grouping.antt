@@ -5,10 +5,10 @@ use Rattle.std.specs.List.{list_all}
 use Rattle.std.specs.Io.KnownBytes.{Appends}
 use Rattle.std.proofs.lemmas.List.{map-append}
 use Rattle.std.proofs.lemmas.Grind.{flat_map-append}
-use Rattle.paths.proofs.Appending.{appends_then, prefix_then, appends_none, prefix_first}
-use Rattle.paths.specs.Devices.{AppendsPrefix}
+use Rattle.devices.proofs.Appending.{appends_then, prefix_then, appends_none, prefix_first}
+use Rattle.devices.specs.Devices.{AppendsPrefix}
 use Rattle.paths.specs.declared.file.File.{File}
-use Rattle.responses.specs.Records.{record_text}
+use Rattle.responses.specs.Reference.{record_text}
 use Rattle.replay.specs.Backs.{slip_of_ticket, reply_to}
 use Rattle.replay.specs.Groups.{all_of, records_of}
 use Rattle.replay.specs.declared.ticket.Ticket.{Ticket}

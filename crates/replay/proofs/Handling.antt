@@ -2,9 +2,7 @@
 use Rattle.std.proofs.Common.{◌≡◌, ℕ, zero, suc, List, [], ◌∷◌, ◌++◌, map, take, refl, ap, ◌∙◌}
 use Rattle.std.proofs.lemmas.List.{map-append}
 use Rattle.arrivals.proofs.ArrivalLaws.{arrivals_begin}
-use Rattle.replay.specs.Offers.{handled, handled_after}
-use Rattle.replay.specs.Outcomes.{max_messages}
-use Rattle.replay.specs.Replies.{reply_of, replies_of}
+use Rattle.replay.specs.Reference.{handled, handled_after, max_messages, reply_of, replies_of}
 use Rattle.replay.specs.Laws.{FloorsChangeNothing, HandledBegin, DueBegin}
 use Rattle.replay.proofs.Offering.{handled_more}
 

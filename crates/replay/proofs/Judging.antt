@@ -6,34 +6,28 @@ use Rattle.std.proofs.lemmas.List.{length-append}
 use Rattle.http_requests.specs.declared.messages.Meaning.{Meaning}
 use Rattle.admission.specs.declared.control.Decision.{Decision}
 use Rattle.admission.specs.declared.control.Decision.TheVariants.{Admitted, Rejected}
-use Rattle.admission.specs.Requests.{Offer, served}
-use Rattle.admission.specs.Decisions.{decide, decided, decided_from}
+use Rattle.admission.specs.Reference.{Offer, served, decide, decided, decided_from}
 use Rattle.admission.specs.Standing.{Standing, policies_of}
 use Rattle.admission.specs.After.{ControllerAfter}
 use Rattle.responses.specs.declared.slip.Link.{Link}
 use Rattle.responses.specs.declared.slip.Slip.{Slip}
-use Rattle.responses.specs.Replies.{status_of, reply_text}
-use Rattle.responses.specs.Records.{record_text}
-use Rattle.replay.specs.Choices.{Choice, Terms, terms_of}
-use Rattle.arrivals.specs.Arrivals.{Arrival}
-use Rattle.paths.specs.Targets.{asked}
-use Rattle.paths.specs.Resolution.{outcome}
+use Rattle.responses.specs.Reference.{status_of, reply_text, record_text}
+use Rattle.replay.specs.Reference.{Choice, Terms, terms_of, given, answers_head, is_head, link_of, outcome_answer, slip_of, is_unmodified_file, length_given, offer_at, offers_of, is_turned_away, handled_next, handled_after, handled, bypassed_of, samples_of, tally_of, breaks_a_rule}
+use Rattle.arrivals.specs.Reference.{Arrival}
+use Rattle.paths.specs.Reference.{asked, outcome}
 use Rattle.paths.specs.declared.file.File.{File}
 use Rattle.paths.specs.declared.resolution.Outcome.{Outcome}
 use Rattle.http_requests.specs.declared.messages.Version.{Version}
 use Rattle.http_requests.specs.declared.messages.Meaning.TheVariants.{Request}
-use Rattle.cost_model.specs.Services.{CostTable, service}
+use Rattle.cost_model.specs.Reference.{CostTable, service}
 use Rattle.responses.specs.declared.slip.Given.{Given}
 use Rattle.responses.specs.declared.slip.Given.TheVariants.{Plain}
 use Rattle.responses.specs.declared.slip.Status.TheVariants.{ServiceUnavailable}
-use Rattle.replay.specs.Answers.{given, answers_head, is_head, link_of, outcome_answer}
-use Rattle.replay.specs.Replies.{slip_of}
 use Rattle.replay.specs.Outcomes.{IfCutShort, IfTooMany}
 use Rattle.arrivals.specs.declared.incoming.Origin.{Origin}
 use Rattle.replay.specs.declared.replay_fault.ReplayFault.{ReplayFault}
 use Rattle.replay.specs.declared.replay_fault.ReplayFault.TheVariants.{Capture, TooMany, Memory, Write as Unwritten}
-use Rattle.replay.specs.Offers.{is_unmodified_file, length_given, offer_at, offers_of, is_turned_away, handled_next, handled_after, handled}
-use Rattle.replay.specs.Counting.{bypassed_of, samples_of, tally_of, breaks_a_rule, AreBelow}
+use Rattle.replay.specs.Counting.{AreBelow}
 use Rattle.replay.specs.Totals.{no_counts, totals_of, noted}
 use Rattle.replay.specs.Deciding.{decided_totals, Decides}
 use Rattle.replay.specs.Serving.{DeskAfter, AreBy, records_after}

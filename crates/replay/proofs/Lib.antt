@@ -15,3 +15,4 @@ pub mod Upcoming
 pub mod Grouping
 pub mod ByBatch
 pub mod Former
+pub mod InOrder

@@ -8,16 +8,11 @@ use Rattle.http_requests.specs.declared.messages.Meaning.{Meaning}
 use Rattle.http_requests.specs.declared.messages.Meaning.TheVariants.{Request, Bad}
 use Rattle.admission.specs.declared.control.Decision.{Decision}
 use Rattle.admission.specs.declared.control.Decision.TheVariants.{Admitted, Rejected}
-use Rattle.admission.specs.Rules.{Rules}
-use Rattle.admission.specs.Requests.{Offer, Decided, served, as_served, finish_after}
-use Rattle.admission.specs.Decisions.{decide, decided, decided_next}
-use Rattle.admission.specs.After.{tick_from}
+use Rattle.admission.specs.Reference.{Rules, Offer, Decided, served, as_served, finish_after, decide, decided, decided_next, tick_from}
 use Rattle.admission.proofs.RequestLemmas.{decided_from-push, served-push, last_finish-push}
-use Rattle.replay.specs.Choices.{Terms}
-use Rattle.arrivals.specs.Arrivals.{Arrival}
+use Rattle.replay.specs.Reference.{Terms, offer_at, offers_of, rejects, handled_next, handled_after, handled, samples_of}
+use Rattle.arrivals.specs.Reference.{Arrival}
 use Rattle.arrivals.specs.declared.incoming.Origin.{Origin}
-use Rattle.replay.specs.Offers.{offer_at, offers_of, rejects, handled_next, handled_after, handled}
-use Rattle.replay.specs.Counting.{samples_of}
 use Rattle.replay.specs.Serving.{AreBy}
 
 -- ---- offers

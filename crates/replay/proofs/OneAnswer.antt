@@ -2,10 +2,8 @@
 use Rattle.std.proofs.Common.{◌≡◌, ◌∙◌, ℕ, List, ◌++◌, Option, Some, None, true, false, is_some, unwrap_or, [], refl, sym, ap}
 use Rattle.std.specs.Io.KnownBytes.{Appends}
 use Rattle.captures.proofs.Agree.{one_list}
-use Rattle.replay.specs.Counting.{rejected_of, summary_of}
+use Rattle.replay.specs.Reference.{outcome_of, handled, replies_of, replies_text}
 use Rattle.replay.specs.Laws.{OneAnswer}
-use Rattle.replay.specs.Offers.{handled}
-use Rattle.replay.specs.Replies.{replies_of, replies_text}
 use Rattle.replay.specs.declared.summary.Outcome.{Outcome}
 use Rattle.arrivals.proofs.ArrivalLaws.{one_list_of_arrivals}
 
@@ -16,14 +14,16 @@ grows_once (Some before) None other xs ys known same h g = absurd h
 grows_once (Some before) (Some x) None xs ys known same h g = absurd g
 grows_once (Some before) (Some x) (Some y) xs ys known same h g = ap Some (h ∙ (ap (λ w. before ++ w) same ∙ sym g))
 
-same_outcome : (a b : Outcome) → a.rejected ≡ b.rejected → a.summary ≡ b.summary → a ≡ b
+pub same_outcome : (a b : Outcome) → a.rejected ≡ b.rejected → a.summary ≡ b.summary → a ≡ b
 same_outcome a b rejected summary = rw (rejected, summary) refl
 
 pub one_answer : OneAnswer
 one_answer terms input old new other outcome another given known a b =
-    let capture = one_list (unwrap_or input []) a.version b.version a.start b.start a.records b.records (a.capture given) (b.capture given) in
-    let arrivals : a.arrivals ≡ b.arrivals = one_list_of_arrivals b.records a.arrivals b.arrivals (rw (← capture.2) a.arrived) b.arrived in
-    let text = ap (λ start. replies_text (replies_of terms start (handled terms a.arrivals))) capture.1 ∙ ap (λ xs. replies_text (replies_of terms b.start (handled terms xs))) arrivals in (
+    let c = a.read.capture in
+    let d = b.read.capture in
+    let capture = one_list (unwrap_or input []) c.version d.version c.start d.start c.records d.records (c.text given) (d.text given) in
+    let arrivals : a.read.arrivals ≡ b.read.arrivals = one_list_of_arrivals d.records a.read.arrivals b.read.arrivals (rw (← capture.2) a.read.are) b.read.are in
+    let text = ap (λ start. replies_text (replies_of terms start (handled terms a.read.arrivals))) capture.1 ∙ ap (λ xs. replies_text (replies_of terms d.start (handled terms xs))) arrivals in (
       grows_once old new other _ _ known text a.written b.written,
-      same_outcome outcome another (a.rejected ∙ (ap (λ xs. rejected_of (handled terms xs)) arrivals ∙ sym b.rejected)) (a.summary ∙ (ap (λ xs. summary_of terms xs) arrivals ∙ sym b.summary)),
+      a.outcome_is ∙ (ap (outcome_of terms) arrivals ∙ sym b.outcome_is),
     )

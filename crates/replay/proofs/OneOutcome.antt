@@ -4,16 +4,15 @@ use Rattle.std.proofs.lemmas.List.{append-nil, length-append, take-append-le, ni
 use Rattle.captures.specs.declared.record.Record.{Record}
 use Rattle.captures.specs.declared.version.Version.{Version}
 use Rattle.captures.specs.declared.capture_fault.CaptureFault.{CaptureFault}
-use Rattle.captures.specs.Captures.{record_text, max_text_bytes, IsCapture, text_before_stop as records_text}
+use Rattle.captures.specs.Reference.{record_text, max_text_bytes, IsCapture, text_before_stop as records_text}
 use Rattle.captures.specs.CaptureFaults.{is_unforeseen_kind, IsFirstFault, FaultsAfter}
 use Rattle.captures.proofs.Records.{stop_text}
 use Rattle.captures.proofs.Agree.{Agrees, no_fault, few_records, one_fault as one_first_fault, agree_on, no_last_line, no_header_fault, no_fault_among}
-use Rattle.arrivals.specs.Arrivals.{Arrival, AreArrivals}
-use Rattle.replay.specs.Choices.{Terms}
-use Rattle.replay.specs.Offers.{handled}
+use Rattle.arrivals.specs.Reference.{Arrival, AreArrivals}
+use Rattle.replay.specs.Reference.{Terms, handled, max_messages, first_line, text_before_stop, replies_of}
 use Rattle.replay.specs.Telling.{replies_told}
-use Rattle.replay.specs.Outcomes.{max_messages, StopsAfter, Stops, StopsFull}
-use Rattle.replay.specs.Replies.{first_line, text_before_stop, replies_of}
+use Rattle.captures.specs.Passes.{RecordsRead, FaultsNext}
+use Rattle.replay.specs.Outcomes.{TellsAll, Stops, StopsFull}
 use Rattle.replay.specs.Laws.{AnsweredNotFaulty, AnsweredNotFull, FaultyNotFull, OneFault, OneLimit}
 use Rattle.arrivals.proofs.ArrivalLaws.{one_list_of_arrivals, arrivals_begin}
 use Rattle.replay.proofs.OneAnswer.{grows_once}
@@ -41,29 +40,31 @@ none_more rs ss is = is ∙ append-nil rs
 -- a fault of the capture that was foreseen is the first of its text
 first_fault : (terms : Terms) (input ahead old new : Option (List ℕ)) (f : CaptureFault) → is_some input ≡ true → is_unforeseen_kind f.kind ≡ false → Stops terms input ahead old new f
     → IsFirstFault (unwrap_or input []) f
-first_fault terms input ahead old new f known foreseen (inl first) = inl (first.fault foreseen known)
-first_fault terms input ahead old new f known foreseen (inr after) = inr (after.taken.version, after.taken.start, after.taken.records, after.fault foreseen known)
+first_fault terms input ahead old new f known foreseen (inl first) = inl (first.0.fault foreseen known)
+first_fault terms input ahead old new f known foreseen (inr after) = inr (after.0.version, after.0.start, after.0.records, after.1.fault foreseen known)
 
 pub answered_not_faulty : AnsweredNotFaulty
 answered_not_faulty terms others input ahead old new before after outcome f known foreseen a s =
-    let text = a.capture known in
-    no_fault (unwrap_or input []) a.version a.start a.records f (few_records a.version (unwrap_or input []) a.start a.records text) text (first_fault others input ahead before after f known foreseen s)
+    let c = a.read.capture in
+    let text = c.text known in
+    no_fault (unwrap_or input []) c.version c.start c.records f (few_records c.version (unwrap_or input []) c.start c.records text) text (first_fault others input ahead before after f known foreseen s)
 
 -- ---- messages beyond the limit
 
 pub answered_not_full : AnsweredNotFull
 answered_not_full terms others input old new before after outcome number known a full =
     let bytes = unwrap_or input [] in
-    let t = full.taken in
-    let text = a.capture known in
-    let both = agree_on bytes t.version a.version t.start a.start t.records a.records t.rest (stop_text (length a.records)) t.rules text.rules (t.begins known) text.text in
+    let t = full.taken.read in
+    let c = a.read.capture in
+    let text = c.text known in
+    let both = agree_on bytes t.version c.version t.start c.start t.records c.records t.rest (stop_text (length c.records)) t.rules text.rules (t.begins known) text.text in
     elim both.2 [
       | inl longer ↦
-          (let le = no_fewer t.records a.records longer.0 t.arrivals a.arrivals longer.1 t.arrived a.arrived in
-          let few = a.few in
+          (let le = no_fewer t.records c.records longer.0 full.taken.arrivals a.read.arrivals longer.1 full.taken.arrived a.read.are in
+          let few = a.read.few in
           let beyond = full.beyond in
           omega (arith, le, few, beyond))
-      | inr shorter ↦ no_last_line (length a.records) shorter.0 _ shorter.3
+      | inr shorter ↦ no_last_line (length c.records) shorter.0 _ shorter.3
     ]
 
 -- records that go on after a fault
@@ -78,30 +79,29 @@ go_on v w bytes s t rs ss f x y xs ys (q ∷ more) fault a few b beyond rules si
     no_fault_among v w bytes s t rs ss f x y q more fault rules size same start is rest
 
 after_not_full : (terms others : Terms) (input ahead old new before after : Option (List ℕ)) (f : CaptureFault) (number : ℕ) → is_some input ≡ true → is_unforeseen_kind f.kind ≡ false
-    → StopsAfter (replies_told terms) input ahead old new f → StopsFull others input before after number → ⊥
-after_not_full terms others input ahead old new before after f number known foreseen stop full =
+    → (r : RecordsRead input) → FaultsNext input ahead r f → TellsAll (replies_told terms) r.start r.records old new → StopsFull others input before after number → ⊥
+after_not_full terms others input ahead old new before after f number known foreseen r faults told full =
     let bytes = unwrap_or input [] in
-    let r = stop.taken in
-    let t = full.taken in
-    let at = stop.fault foreseen known in
+    let t = full.taken.read in
+    let at = faults.fault foreseen known in
     let fault = at.1 in
     let both = agree_on bytes r.version t.version r.start t.start r.records t.records at.0 t.rest fault.rules t.rules fault.whole (t.begins known) in
     elim both.2 [
       | inl longer ↦
-          go_on r.version t.version bytes r.start t.start r.records t.records f at.0 t.rest r.arrivals t.arrivals longer.0 fault r.arrived stop.few t.arrived full.beyond t.rules (t.size known) both.0 both.1 longer.1 longer.2
+          go_on r.version t.version bytes r.start t.start r.records t.records f at.0 t.rest told.arrivals full.taken.arrivals longer.0 fault told.arrived told.few full.taken.arrived full.beyond t.rules (t.size known) both.0 both.1 longer.1 longer.2
       | inr shorter ↦
-          (let le = no_fewer t.records r.records (shorter.0 ∷ shorter.1) t.arrivals r.arrivals shorter.2 t.arrived r.arrived in
-          let few = stop.few in
+          (let le = no_fewer t.records r.records (shorter.0 ∷ shorter.1) full.taken.arrivals told.arrivals shorter.2 full.taken.arrived told.arrived in
+          let few = told.few in
           let beyond = full.beyond in
           omega (arith, le, few, beyond))
     ]
 
 pub faulty_not_full : FaultyNotFull
 faulty_not_full terms others input ahead old new before after f number known foreseen (inl first) full =
-    let t = full.taken in
-    no_header_fault t.version (unwrap_or input []) t.start t.records t.rest f t.rules (t.begins known) (t.size known) (first.fault foreseen known)
+    let t = full.taken.read in
+    no_header_fault t.version (unwrap_or input []) t.start t.records t.rest f t.rules (t.begins known) (t.size known) (first.0.fault foreseen known)
 faulty_not_full terms others input ahead old new before after f number known foreseen (inr stop) full =
-    after_not_full terms others input ahead old new before after f number known foreseen stop full
+    after_not_full terms others input ahead old new before after f number known foreseen stop.0 stop.1 stop.2 full
 
 -- ---- what is written
 
@@ -127,41 +127,41 @@ same_text terms s t xs ys start same =
 
 pub one_limit : OneLimit
 one_limit terms input old new other number another known given a b =
-    let r = a.taken in
-    let t = b.taken in
+    let r = a.taken.read in
+    let t = b.taken.read in
     let both = agree_on (unwrap_or input []) r.version t.version r.start t.start r.records t.records r.rest t.rest r.rules t.rules (r.begins known) (t.begins known) in
-    let first : take max_messages r.arrivals ≡ take max_messages t.arrivals = same_limit max_messages r.records t.records r.rest t.rest r.arrivals t.arrivals r.arrived t.arrived a.beyond b.beyond both.2 in (
+    let first : take max_messages a.taken.arrivals ≡ take max_messages b.taken.arrivals = same_limit max_messages r.records t.records r.rest t.rest a.taken.arrivals b.taken.arrivals a.taken.arrived b.taken.arrived a.beyond b.beyond both.2 in (
       grows_once old new other _ _ given (same_text terms r.start t.start _ _ both.1 first) a.written b.written,
       a.is_number ∙ sym b.is_number,
     )
 
 same_after : (terms : Terms) (input ahead following old new other : Option (List ℕ)) (f g : CaptureFault) → is_some input ≡ true → is_some old ≡ true → f ≡ g
-    → StopsAfter (replies_told terms) input ahead old new f → StopsAfter (replies_told terms) input following old other g → new ≡ other
-same_after terms input ahead following old new other f g known given same a b =
-    let r = a.taken in
-    let t = b.taken in
+    → (r t : RecordsRead input) → FaultsNext input ahead r f → FaultsNext input following t g
+    → TellsAll (replies_told terms) r.start r.records old new → TellsAll (replies_told terms) t.start t.records old other → new ≡ other
+same_after terms input ahead following old new other f g known given same r t at after a b =
     let both = agree_on (unwrap_or input []) r.version t.version r.start t.start r.records t.records r.rest t.rest r.rules t.rules (r.begins known) (t.begins known) in
     let place = ap (λ (k : CaptureFault). k.at) same in
-    let i = a.at in
-    let j = b.at in
+    let i = at.at in
+    let j = after.at in
     let records = same_records r.records t.records r.rest t.rest (omega (arith, place, i, j)) both.2 in
-    let arrivals = one_list_of_arrivals t.records r.arrivals t.arrivals (subst (λ (l : List Record). AreArrivals l r.arrivals) records r.arrived) t.arrived in
-    grows_once old new other _ _ given (same_text terms r.start t.start r.arrivals t.arrivals both.1 arrivals) a.written b.written
+    let arrivals = one_list_of_arrivals t.records a.arrivals b.arrivals (subst (λ (l : List Record). AreArrivals l a.arrivals) records a.arrived) b.arrived in
+    grows_once old new other _ _ given (same_text terms r.start t.start a.arrivals b.arrivals both.1 arrivals) a.written b.written
 
 same_written : (terms : Terms) (input ahead following old new other : Option (List ℕ)) (f g : CaptureFault) → is_some input ≡ true → is_some old ≡ true → f ≡ g
     → Stops terms input ahead old new f → Stops terms input following old other g → new ≡ other
-same_written terms input ahead following old new other f g known given same (inl a) (inl b) = grows_once old new other first_line first_line given refl a.written b.written
+same_written terms input ahead following old new other f g known given same (inl a) (inl b) = grows_once old new other first_line first_line given refl a.1 b.1
 same_written terms input ahead following old new other f g known given same (inl a) (inr b) =
     let place = ap (λ (k : CaptureFault). k.at) same in
-    let i = a.at in
-    let j = b.at in
+    let i = a.0.at in
+    let j = b.1.at in
     absurd (omega (arith, place, i, j))
 same_written terms input ahead following old new other f g known given same (inr a) (inl b) =
     let place = ap (λ (k : CaptureFault). k.at) same in
-    let i = a.at in
-    let j = b.at in
+    let i = a.1.at in
+    let j = b.0.at in
     absurd (omega (arith, place, i, j))
-same_written terms input ahead following old new other f g known given same (inr a) (inr b) = same_after terms input ahead following old new other f g known given same a b
+same_written terms input ahead following old new other f g known given same (inr a) (inr b) =
+    same_after terms input ahead following old new other f g known given same a.0 b.0 a.1 b.1 a.2 b.2
 
 pub one_fault : OneFault
 one_fault terms input ahead following old new other f g known given foreseen expected a b =

@@ -3,35 +3,29 @@ use Rattle.std.proofs.Common.{◌≡◌, ℕ, ◌+◌, ◌-◌, max, Bool, true,
 use Rattle.std.specs.Prelude.{if◌then◌else◌}
 use Rattle.std.specs.List.{list_any}
 use Rattle.std.specs.Option.{option_map}
-use Rattle.paths.specs.Targets.{asked}
-use Rattle.paths.specs.Resolution.{outcome}
-use Rattle.paths.specs.Snapshots.{file_of}
+use Rattle.paths.specs.Reference.{asked, outcome, file_of}
 use Rattle.paths.specs.declared.file.File.{File}
 use Rattle.paths.specs.declared.resolution.Outcome.{Outcome}
 use Rattle.paths.specs.declared.resolution.Outcome.TheVariants as outcomes
-use Rattle.cost_model.specs.Services.{CostTable}
+use Rattle.cost_model.specs.Reference.{CostTable}
 use Rattle.http_requests.specs.declared.messages.Fault.TheVariants as faults
 use Rattle.http_requests.specs.declared.messages.Meaning.{Meaning}
 use Rattle.http_requests.specs.declared.messages.Meaning.TheVariants.{Request, Bad}
 use Rattle.admission.specs.declared.control.Outlook.{Outlook}
 use Rattle.admission.specs.declared.control.Decision.TheVariants.{Admitted, Rejected}
-use Rattle.admission.specs.Rules.{Rules}
-use Rattle.admission.specs.Requests.{Offer, served, last_finish, finish_after, is_rejected}
-use Rattle.admission.specs.Decisions.{decide, decided, outlook}
+use Rattle.admission.specs.Reference.{Rules, Offer, served, last_finish, finish_after, is_rejected, decide, decided}
+use Rattle.admission.specs.Decisions.{outlook}
 use Rattle.admission.specs.After.{ControllerAfter}
 use Rattle.admission.specs.Standing.{policies_of}
 use Rattle.admission.proofs.RequestLemmas.{last_finish-push}
-use Rattle.responses.specs.Replies.{status_of}
+use Rattle.responses.specs.Reference.{status_of}
 use Rattle.responses.specs.declared.slip.Given.{Given}
 use Rattle.responses.specs.declared.slip.Slip.{Slip}
-use Rattle.explaining.specs.declared.row.Row.{Row}
-use Rattle.explaining.specs.Rows.{heading, row_text}
-use Rattle.arrivals.specs.Arrivals.{Arrival}
+use Rattle.decision_table.specs.declared.row.Row.{Row}
+use Rattle.decision_table.specs.Rows.{heading, row_text}
+use Rattle.arrivals.specs.Reference.{Arrival}
 use Rattle.arrivals.specs.declared.incoming.Origin.{Origin}
-use Rattle.replay.specs.Choices.{Terms}
-use Rattle.replay.specs.Answers.{given, outcome_answer, is_unmodified, is_head}
-use Rattle.replay.specs.Offers.{service_of, offer_at, offers_of, rejects, is_turned_away, handled_next}
-use Rattle.replay.specs.Replies.{slip_of}
+use Rattle.replay.specs.Reference.{Terms, given, outcome_answer, is_unmodified, is_head, service_of, offer_at, offers_of, rejects, is_turned_away, handled_next, slip_of}
 use Rattle.replay.specs.Fronts.{sight_of}
 use Rattle.replay.specs.Serving.{DeskAfter}
 use Rattle.replay.specs.Telling.{IsTelling}

@@ -1,8 +1,6 @@
 -- The answer to a message, at any type of pages: its text and its status do not depend on that type.
 use Rattle.std.proofs.Common.{◌≡◌, ℕ, Bool, true, false, List, Option, refl, sym, ap, ◌∙◌}
-use Rattle.paths.specs.Snapshots.{file_of}
-use Rattle.paths.specs.Targets.{asked}
-use Rattle.paths.specs.Resolution.{outcome}
+use Rattle.paths.specs.Reference.{file_of, asked, outcome}
 use Rattle.paths.specs.declared.file.File.{File}
 use Rattle.paths.specs.declared.resolution.Outcome.{Outcome}
 use Rattle.paths.specs.declared.resolution.Outcome.TheVariants as outcomes
@@ -12,11 +10,8 @@ use Rattle.responses.specs.declared.slip.Link.{Link}
 use Rattle.responses.specs.declared.slip.Given.{Given}
 use Rattle.responses.specs.declared.slip.Given.TheVariants.{Page, Known, Unmodified, Moved, Plain}
 use Rattle.responses.specs.declared.slip.Slip.{Slip}
-use Rattle.responses.specs.Replies.{reply_text, status_of}
-use Rattle.replay.specs.Choices.{Terms}
-use Rattle.replay.specs.Answers.{is_unmodified, is_head, file_answer, outcome_answer, answer, given}
-use Rattle.replay.specs.Offers.{Handled}
-use Rattle.replay.specs.Replies.{slip_of, reply_of}
+use Rattle.responses.specs.Reference.{reply_text, status_of}
+use Rattle.replay.specs.Reference.{Terms, is_unmodified, is_head, file_answer, outcome_answer, answer, given, Handled, slip_of, reply_of}
 
 -- the same answer, at another type of pages
 abbrev pub at_pages : {X Y : Type 0} → Given X → Given Y

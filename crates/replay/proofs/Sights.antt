@@ -1,17 +1,16 @@
 -- What is known of the items of both floors.
 use Rattle.std.proofs.Common.{◌≡◌, ℕ, zero, suc, ◌+◌, List, [], ◌∷◌, ◌++◌, ◌≤◌, nat_le, length, drop, map, refl, sym, ap, ◌∙◌, arith, add-one}
-use Rattle.std.specs.Prelude.{flat_map}
-use Rattle.std.specs.List.{range_with_len}
+use Rattle.std.specs.Prelude.{flat_map, Bool, true, false, ◌&&◌, Option, nat_lt, if◌then◌else◌}
+use Rattle.std.specs.List.{range_with_len, list_all}
 use Rattle.replay.specs.declared.ticket.Ticket.{Ticket}
 use Rattle.replay.specs.declared.back.BackState.{BackState}
 use Rattle.replay.specs.declared.back.BackState.TheVariants.{Due as Waits, Fetched, Rendered}
-use Rattle.std.specs.Prelude.{Bool, true, false, ◌&&◌, nat_lt, if◌then◌else◌}
-use Rattle.std.specs.List.{list_all}
 use Rattle.responses.specs.declared.slip.Link.{Link}
 use Rattle.responses.specs.declared.slip.Slip.{Slip}
 use Rattle.responses.specs.declared.slip.Given.{Given}
 use Rattle.responses.specs.declared.slip.Given.TheVariants as givens
-use Rattle.responses.specs.Replies.{reply_text, OnlyHead, HasLocation}
+use Rattle.responses.specs.Reference.{reply_text}
+use Rattle.responses.specs.Replies.{OnlyHead, HasLocation}
 use Rattle.replay.specs.declared.ticket.Due.{Due}
 use Rattle.replay.specs.declared.ticket.Due.TheVariants.{Page, Told}
 use Rattle.replay.specs.Backs.{only_head, has_location, can_render, is_due, is_back, due_at, reply_in, reply_to, back_after, back_step, slip_of_ticket, told, given_elsewhere, due_elsewhere, ticket_elsewhere, slip_elsewhere, elsewhere}
@@ -23,19 +22,15 @@ use Rattle.paths.specs.declared.file.File.{File}
 use Rattle.paths.proofs.Locations.{outcome_is}
 use Rattle.http_requests.specs.declared.messages.Meaning.{Meaning}
 use Rattle.http_requests.specs.declared.messages.Meaning.TheVariants.{Request, Bad}
-use Rattle.cost_model.specs.Services.{CostTable}
+use Rattle.cost_model.specs.Reference.{CostTable, service}
 use Rattle.replay.specs.declared.sight.Sight.{Sight}
 use Rattle.replay.specs.declared.sight.Sight.TheVariants.{Unseen, Asked, Found, Priced}
 use Rattle.arrivals.specs.declared.incoming.Incoming.{Incoming}
 use Rattle.replay.specs.declared.sight.Sighted.{Sighted}
-use Rattle.std.specs.Prelude.{Option}
-use Rattle.paths.specs.Targets.{asked}
-use Rattle.paths.specs.Resolution.{outcome}
+use Rattle.paths.specs.Reference.{asked, outcome}
 use Rattle.paths.specs.declared.resolution.Outcome.{Outcome}
 use Rattle.http_requests.specs.declared.messages.Version.{Version}
-use Rattle.cost_model.specs.Services.{service}
-use Rattle.replay.specs.Answers.{is_head, answers_head}
-use Rattle.replay.specs.Offers.{is_unmodified_file, length_given}
+use Rattle.replay.specs.Reference.{is_head, answers_head, is_unmodified_file, length_given}
 use Rattle.replay.specs.Fronts.{each_sighted, floor_sight, floor_step, front_value, seen_as, sight_of, unseen, unseen_at, IsSight}
 
 abbrev pub sighted : Incoming → Sight → Sighted

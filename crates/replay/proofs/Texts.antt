@@ -1,9 +1,9 @@
 -- What is told of messages: its text, of one more message and to its end.
 use Rattle.std.proofs.Common.{◌≡◌, ℕ, List, [], ◌++◌, length, Option}
 use Rattle.std.specs.Io.KnownBytes.{Appends}
-use Rattle.paths.proofs.Appending.{appends_none, appends_then, prefix_then}
-use Rattle.paths.specs.Devices.{AppendsPrefix}
-use Rattle.arrivals.specs.Arrivals.{Arrival}
+use Rattle.devices.proofs.Appending.{appends_none, appends_then, prefix_then}
+use Rattle.devices.specs.Devices.{AppendsPrefix}
+use Rattle.arrivals.specs.Reference.{Arrival}
 use Rattle.replay.specs.Telling.{Telling, IsTelling, Told, ToldInPart}
 
 -- ---- messages that come after others

@@ -3,11 +3,9 @@ use Rattle.std.proofs.Common.{◌≡◌, ℕ, zero, suc, ◌+◌, ◌<◌, ◌�
 use Rattle.std.specs.List.{list_all}
 use Rattle.std.proofs.lemmas.List.{map-append, length-append, length-map}
 use Rattle.paths.specs.declared.file.File.{File}
-use Rattle.cost_model.specs.Services.{CostTable}
-use Rattle.replay.specs.Choices.{Terms}
-use Rattle.arrivals.specs.Arrivals.{Arrival}
-use Rattle.replay.specs.Offers.{handled_next, handled_after}
-use Rattle.replay.specs.Replies.{slip_of}
+use Rattle.cost_model.specs.Reference.{CostTable}
+use Rattle.replay.specs.Reference.{Terms, handled_next, handled_after, slip_of}
+use Rattle.arrivals.specs.Reference.{Arrival}
 use Rattle.replay.specs.Serving.{DeskAfter, AreBy}
 use Rattle.replay.specs.Fronts.{front_value, sight_of}
 use Rattle.replay.specs.Backs.{is_back, slip_of_ticket}

@@ -5,15 +5,13 @@ use Rattle.std.proofs.lemmas.List.{length-append, length-map, length-take-le, dr
 use Rattle.std.proofs.lemmas.Grind.{flat_map-append, common_steps}
 use Rattle.std.proofs.Math.Seq.{take-append_seam, drop-append_seam}
 use Rattle.std.specs.Io.KnownBytes.{Appends}
-use Rattle.paths.proofs.Appending.{prefix_then, prefix_none, appends_then, prefix_first}
-use Rattle.paths.specs.Devices.{AppendsPrefix}
+use Rattle.devices.proofs.Appending.{prefix_then, prefix_none, appends_then, prefix_first}
+use Rattle.devices.specs.Devices.{AppendsPrefix}
 use Rattle.paths.specs.declared.file.File.{File}
-use Rattle.cost_model.specs.Services.{CostTable}
-use Rattle.responses.specs.Records.{record_text}
-use Rattle.replay.specs.Choices.{Terms}
-use Rattle.arrivals.specs.Arrivals.{Arrival}
-use Rattle.replay.specs.Offers.{Handled}
-use Rattle.replay.specs.Replies.{slip_of, replies_of, reply_of}
+use Rattle.cost_model.specs.Reference.{CostTable}
+use Rattle.responses.specs.Reference.{record_text}
+use Rattle.replay.specs.Reference.{Terms, Handled, slip_of, replies_of, reply_of}
+use Rattle.arrivals.specs.Reference.{Arrival}
 use Rattle.replay.specs.Serving.{DeskAfter, records_after, Written, WrittenInPart}
 use Rattle.replay.specs.Fronts.{front_value}
 use Rattle.replay.specs.Backs.{slip_of_ticket, reply_to}

@@ -3,15 +3,13 @@ use Rattle.std.proofs.Common.{◌≡◌, ℕ, suc, ◌+◌, ◌<◌, List, [], �
 use Rattle.std.proofs.lemmas.List.{append_assoc, map-append, length-map}
 use Rattle.std.proofs.lemmas.Grind.{flat_map-append}
 use Rattle.std.proofs.Math.Seq.{take-suc}
-use Rattle.paths.proofs.Appending.{appends_none, appends_then, prefix_then}
+use Rattle.devices.proofs.Appending.{appends_none, appends_then, prefix_then}
 use Rattle.http_requests.specs.declared.messages.Message.{Message}
-use Rattle.responses.specs.Records.{record_text}
+use Rattle.responses.specs.Reference.{record_text}
 use Rattle.arrivals.specs.declared.incoming.Origin.{Origin}
-use Rattle.replay.specs.Choices.{Terms}
-use Rattle.arrivals.specs.Arrivals.{Arrival}
+use Rattle.replay.specs.Reference.{Terms, handled_next, handled_after, handled, reply_of, replies_of, first_line, last_line, text_before_stop}
+use Rattle.arrivals.specs.Reference.{Arrival}
 use Rattle.arrivals.specs.Connections.{arrivals_with}
-use Rattle.replay.specs.Offers.{handled_next, handled_after, handled}
-use Rattle.replay.specs.Replies.{reply_of, replies_of, first_line, last_line, text_before_stop}
 use Rattle.replay.specs.Telling.{IsTelling, replies_told}
 use Rattle.replay.specs.Serving.{records_after, Written, WrittenInPart}
 use Rattle.replay.proofs.Offering.{handled_more, handled_one, handled_count}

@@ -1,23 +1,9 @@
 -- What an operator sets.
-use Rattle.std.specs.Prelude.{◌≡◌, ℕ, ◌≤◌, ◌&&◌, List, nat_eq, nat_le, Option, Some, None, if◌then◌else◌}
-use Rattle.stage_graph.specs.Layouts.{Layout}
+use Rattle.std.specs.Prelude.{◌≡◌, ℕ, ◌≤◌, ◌&&◌, nat_eq, nat_le, Option, Some, None, if◌then◌else◌}
 use Rattle.stage_graph.specs.After.{last_cut}
-use Rattle.cost_model.specs.Services.{CostTable}
-use Rattle.admission.specs.Rules.{Rules}
-use Rattle.paths.specs.declared.file.File.{File}
 use Rattle.replay.specs.declared.settings.SettingsFault.{SettingsFault}
 use Rattle.replay.specs.declared.settings.SettingsFault.TheVariants.{Front, Back, Batch, Cache, Retry}
-
--- the graphs of the two floors, the records of a batch, the bytes of the cache, the service times, the policies of the
--- tiers, and the seconds that a rejected request is told to wait
-pub record Choice : Type 0 where
-  pub front : Layout
-  pub back : Layout
-  pub batch : ℕ
-  pub cache : ℕ
-  pub costs : CostTable
-  pub policies : List Rules
-  pub retry_after : ℕ
+use Rattle.replay.specs.Reference.{Choice}
 
 -- how many steps a request takes on the front floor and on the back floor, the most records of a batch, the most bytes
 -- of the cache, and the longest wait of a rejected request, in seconds
@@ -57,13 +43,3 @@ pub record IsChoice (c : Choice) : Type 0 where
   pub batch : (1 ≤ c.batch) × (c.batch ≤ max_batch)
   pub cache : c.cache ≤ max_cache
   pub retry_after : c.retry_after ≤ max_retry_after
-
--- What an answer depends on besides its capture. The graphs of the floors, the batch and the cache are none of it.
-pub record Terms : Type 0 where
-  pub files : List File
-  pub costs : CostTable
-  pub policies : List Rules
-  pub retry_after : ℕ
-
-abbrev pub terms_of : List File → Choice → Terms
-terms_of files c = record { files = files; costs = c.costs; policies = c.policies; retry_after = c.retry_after }

@@ -1,11 +1,10 @@
 -- What an offer changes at the desk.
 use Rattle.std.specs.Prelude.{◌≡◌, ℕ, Bool, List, [], ◌∷◌, ◌++◌, if◌then◌else◌}
 use Rattle.std.specs.List.{list_any}
-use Rattle.admission.specs.Requests.{Offer}
+use Rattle.admission.specs.Reference.{Offer}
 use Rattle.admission.specs.After.{ControllerAfter}
 use Rattle.admission.specs.Standing.{policies_of}
-use Rattle.replay.specs.Offers.{rejects}
-use Rattle.replay.specs.Counting.{samples_of}
+use Rattle.replay.specs.Reference.{rejects, samples_of}
 use Rattle.replay.specs.declared.totals.Totals.{Totals}
 use Rattle.replay.specs.declared.desk.Desk.{Desk}
 

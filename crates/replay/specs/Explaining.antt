@@ -1,23 +1,16 @@
 -- The table of decisions on a capture: a row for each message, in the order of their arrival.
-use Rattle.std.specs.Prelude.{◌≡◌, ℕ, ◌≤◌, List, [], ◌∷◌, ◌++◌, length, Option, Some, None}
+use Rattle.std.specs.Prelude.{◌≡◌, ℕ, List, [], ◌∷◌, ◌++◌, length, Option, Some, None}
 use Rattle.std.specs.Io.KnownBytes.{Appends}
-use Rattle.captures.specs.declared.record.Record.{Record}
-use Rattle.captures.specs.declared.version.Version.{Version}
-use Rattle.captures.specs.Captures.{IsCapture, IsCaptureText}
 use Rattle.http_requests.specs.declared.messages.Meaning.{Meaning}
 use Rattle.http_requests.specs.declared.messages.Meaning.TheVariants.{Request, Bad}
-use Rattle.admission.specs.Requests.{Offer}
-use Rattle.admission.specs.Decisions.{decide, decided, outlook}
-use Rattle.explaining.specs.declared.row.Offered.{Offered}
-use Rattle.explaining.specs.declared.row.Row.{Row}
-use Rattle.explaining.specs.Rows.{heading, row_text}
-use Rattle.arrivals.specs.Arrivals.{Arrival, AreArrivals}
-use Rattle.replay.specs.Choices.{Terms}
-use Rattle.replay.specs.Offers.{offer_at, offers_of, handled_next, handled}
-use Rattle.replay.specs.Counting.{status_for, rejected_of, summary_of}
+use Rattle.admission.specs.Reference.{Offer, decide, decided}
+use Rattle.admission.specs.Decisions.{outlook}
+use Rattle.decision_table.specs.declared.row.Offered.{Offered}
+use Rattle.decision_table.specs.declared.row.Row.{Row}
+use Rattle.decision_table.specs.Rows.{heading, row_text}
+use Rattle.arrivals.specs.Reference.{Arrival}
+use Rattle.replay.specs.Reference.{Terms, offer_at, offers_of, handled_next, status_for, outcome_of, ArrivedCapture}
 use Rattle.replay.specs.Telling.{Telling}
-use Rattle.paths.specs.KnownText.{WhereKnown}
-use Rattle.replay.specs.Outcomes.{max_messages}
 use Rattle.replay.specs.declared.summary.Outcome.{Outcome}
 
 -- an offer after those of the earlier messages: what it finds, and the decision on it
@@ -78,14 +71,6 @@ rows_told terms = record {
 -- The table of a capture, and that it was written: the input is the text of a capture with this start and these
 -- records, of which these are the arrivals; and the outcome is that of `Answers`.
 pub record Explains (terms : Terms) (input old new : Option (List ℕ)) (outcome : Outcome) : Type 0 where
-  pub version : Version
-  pub start : ℕ
-  pub records : List Record
-  pub arrivals : List Arrival
-  pub rules : IsCapture version start records
-  pub capture : WhereKnown input (λ bytes. IsCaptureText version bytes start records)
-  pub arrived : AreArrivals records arrivals
-  pub few : length arrivals ≤ max_messages
-  pub written : Appends old new (table terms arrivals)
-  pub rejected : outcome.rejected ≡ rejected_of (handled terms arrivals)
-  pub summary : outcome.summary ≡ summary_of terms arrivals
+  pub read : ArrivedCapture input
+  pub written : Appends old new (table terms read.arrivals)
+  pub outcome_is : outcome ≡ outcome_of terms read.arrivals

@@ -7,35 +7,27 @@ use Rattle.std.specs.Io.KnownBytes.{Appends}
 use Rattle.captures.specs.declared.record.Record.{Record}
 use Rattle.captures.specs.declared.record.Record.TheVariants.{Piece}
 use Rattle.captures.specs.declared.version.Version.TheVariants.{One}
-use Rattle.captures.specs.Captures.{IsCapture, IsCaptureText}
-use Rattle.paths.specs.Targets.{asked}
-use Rattle.paths.specs.Resolution.{outcome}
+use Rattle.captures.specs.Reference.{IsCapture, IsCaptureText}
+use Rattle.paths.specs.Reference.{asked, outcome}
+use Rattle.devices.specs.Reference.{WhereKnown}
 use Rattle.paths.specs.declared.file.File.{File}
 use Rattle.paths.specs.declared.resolution.Outcome.{Outcome as Resolved}
-use Rattle.http_requests.specs.Framing.{MessagesOf}
+use Rattle.http_requests.specs.Reference.{MessagesOf}
 use Rattle.http_requests.specs.declared.messages.Meaning.{Meaning}
 use Rattle.http_requests.specs.declared.messages.Meaning.TheVariants.{Request, Bad}
-use Rattle.cost_model.specs.Services.{CostTable, service}
+use Rattle.cost_model.specs.Reference.{CostTable, service}
 use Rattle.responses.specs.declared.slip.Slip.{Slip}
 use Rattle.responses.specs.declared.slip.Status.TheVariants.{ServiceUnavailable}
 use Rattle.responses.specs.declared.slip.Given.{Given}
 use Rattle.responses.specs.declared.slip.Given.TheVariants.{Plain}
-use Rattle.responses.specs.Replies.{reply_text, status_of}
-use Rattle.responses.specs.Statuses.{statuses}
+use Rattle.responses.specs.Reference.{reply_text, status_of, statuses}
 use Rattle.admission.specs.declared.control.Control.{Control}
-use Rattle.admission.specs.Rules.{Rules}
-use Rattle.admission.specs.Requests.{Offer, served, samples, is_rejected}
-use Rattle.admission.specs.Controls.{controls_until}
+use Rattle.admission.specs.Reference.{Rules, Offer, served, samples, is_rejected, controls_until, tick_from}
 use Rattle.admission.specs.OneTier.{decide_alone, decided_alone}
-use Rattle.admission.specs.After.{tick_from}
 use Rattle.replay.specs.declared.summary.Counts.{Counts}
-use Rattle.arrivals.specs.Arrivals.{Arrival, Precedes, text_of, messages_of}
-use Rattle.replay.specs.Answers.{is_head, answers_head, link_of, answer}
-use Rattle.replay.specs.Offers.{Handled, length_given, is_unmodified_file}
-use Rattle.replay.specs.Counting.{bypassed_of, rejected_of}
-use Rattle.paths.specs.KnownText.{WhereKnown}
-use Rattle.replay.specs.Outcomes.{max_messages}
-use Rattle.replay.specs.Replies.{replies_text}
+use Rattle.arrivals.specs.Reference.{Arrival, Precedes, text_of, messages_of}
+use Rattle.replay.specs.Reference.{is_head, answers_head, link_of, answer, Handled, length_given, is_unmodified_file}
+use Rattle.replay.specs.Reference.{bypassed_of, rejected_of, max_messages, replies_text}
 
 -- what an answer depended on besides its capture: the rules are those of the one policy
 pub record FormerTerms : Type 0 where

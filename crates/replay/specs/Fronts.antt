@@ -1,15 +1,14 @@
 -- The steps that a message takes before it is decided on.
 use Rattle.std.specs.Prelude.{ℕ, List, [], ◌∷◌, slice_index_or, nat_lt, if◌then◌else◌}
 use Rattle.stage_graph.specs.Steps.{value_of}
-use Rattle.paths.specs.Targets.{asked}
-use Rattle.paths.specs.Resolution.{outcome, IsOutcome}
+use Rattle.paths.specs.Reference.{asked, outcome}
+use Rattle.paths.specs.Resolution.{IsOutcome}
 use Rattle.paths.specs.declared.file.File.{File}
 use Rattle.http_requests.specs.declared.messages.Fault.TheVariants.{Block}
 use Rattle.http_requests.specs.declared.messages.Meaning.{Meaning}
 use Rattle.http_requests.specs.declared.messages.Meaning.TheVariants.{Request, Bad}
-use Rattle.cost_model.specs.Services.{CostTable, service}
-use Rattle.replay.specs.Answers.{is_head}
-use Rattle.replay.specs.Offers.{is_unmodified_file, length_given}
+use Rattle.cost_model.specs.Reference.{CostTable, service}
+use Rattle.replay.specs.Reference.{is_head, is_unmodified_file, length_given}
 use Rattle.replay.specs.declared.sight.Sight.{Sight}
 use Rattle.replay.specs.declared.sight.Sight.TheVariants.{Unseen, Asked, Found, Priced}
 use Rattle.arrivals.specs.declared.incoming.Incoming.{Incoming}

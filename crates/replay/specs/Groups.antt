@@ -1,7 +1,7 @@
 -- The replies to messages that were decided on, a group of them at a time.
 use Rattle.std.specs.Prelude.{ℕ, List, map, flat_map}
 use Rattle.paths.specs.declared.file.File.{File}
-use Rattle.responses.specs.Records.{record_text}
+use Rattle.responses.specs.Reference.{record_text}
 use Rattle.replay.specs.Backs.{slip_of_ticket, reply_to}
 use Rattle.replay.specs.declared.ticket.Ticket.{Ticket}
 

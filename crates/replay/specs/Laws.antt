@@ -1,24 +1,23 @@
 -- What follows from the definitions.
-use Rattle.std.specs.Prelude.{◌≡◌, ℕ, ◌+◌, ◌-◌, Bool, List, [], ◌∷◌, ◌++◌, length, take, Option, Some, None}
-use Rattle.std.specs.Prelude.{true, false, is_some}
+use Rattle.std.specs.Prelude.{◌≡◌, ℕ, ◌+◌, ◌-◌, Bool, List, [], ◌∷◌, ◌++◌, length, take, Option, Some, None, true}
+use Rattle.std.specs.Prelude.{false, is_some, map, filter, ◌==◌}
 use Rattle.captures.specs.declared.record.Record.{Record}
 use Rattle.captures.specs.declared.version.Version.TheVariants.{One}
 use Rattle.captures.specs.declared.capture_fault.CaptureFault.{CaptureFault}
 use Rattle.captures.specs.CaptureFaults.{is_unforeseen_kind}
 use Rattle.captures.specs.Upgrades.{IsUpgrade}
-use Rattle.admission.specs.Rules.{rules_of}
-use Rattle.admission.specs.Requests.{Offer, is_rejected}
+use Rattle.admission.specs.Reference.{rules_of, Offer, is_rejected}
 use Rattle.admission.specs.declared.control.Decision.TheVariants.{Admitted}
-use Rattle.explaining.specs.declared.row.Offered.{Offered}
+use Rattle.decision_table.specs.declared.row.Offered.{Offered}
 use Rattle.paths.specs.declared.file.File.{File}
 use Rattle.replay.specs.declared.summary.Outcome.{Outcome}
 use Rattle.replay.specs.declared.summary.Tally.{Tally}
-use Rattle.arrivals.specs.Arrivals.{Arrival, AreArrivals}
-use Rattle.replay.specs.Choices.{Choice, Terms, terms_of}
-use Rattle.replay.specs.Offers.{Handled, handled, handled_next}
+use Rattle.arrivals.specs.Reference.{Arrival, AreArrivals, text_of}
+use Rattle.http_requests.specs.Reference.{MessagesOf}
+use Rattle.replay.specs.Reference.{Choice, Terms, terms_of, Handled, handled, handled_next, Answers, max_messages}
+use Rattle.replay.specs.Reference.{replies_of}
 use Rattle.replay.specs.Explaining.{offered_after, row_of}
-use Rattle.replay.specs.Outcomes.{Answers, Stops, StopsFull, max_messages}
-use Rattle.replay.specs.Replies.{replies_of}
+use Rattle.replay.specs.Outcomes.{Stops, StopsFull}
 use Rattle.replay.specs.Former.{FormerTerms, FormerOutcome, FormerAnswers}
 
 -- settings with the same service times, policies and wait have the same answers, whatever their graphs, batch and cache
@@ -61,6 +60,16 @@ OneLimit = (terms : Terms) (input old new other : Option (List ℕ)) (number ano
     → is_some input ≡ true → is_some old ≡ true
     → StopsFull terms input old new number → StopsFull terms input old other another
     → (new ≡ other) × (number ≡ another)
+
+-- The replies of a connection, in the order of the text, are those to messages that are, in their order, the messages
+-- of its text.
+abbrev pub RepliesInRequestOrder : Type 0
+RepliesInRequestOrder = (terms : Terms) (input old new : Option (List ℕ)) (outcome : Outcome)
+    → (answers : Answers terms input old new outcome) → (conn : ℕ) → (own : List Handled)
+    × (filter (λ reply. reply.1 == conn)
+    (replies_of terms answers.read.capture.start (handled terms answers.read.arrivals))
+    ≡ replies_of terms answers.read.capture.start own)
+    × MessagesOf (text_of conn answers.read.capture.records) (map (λ h. h.arrival.message) own)
 
 -- more arrivals change nothing of the numbers and the rejections of those before
 abbrev pub HandledBegin : Type 0
@@ -132,14 +141,14 @@ in_tiers former = record {
 -- the answer to a capture of version 1 is the former one, with the first policy
 abbrev pub SameInVersionOne : Type 0
 SameInVersionOne = (terms : Terms) (input old new : Option (List ℕ)) (outcome : Outcome)
-    → (answers : Answers terms input old new outcome) → answers.version ≡ One
+    → (answers : Answers terms input old new outcome) → answers.read.capture.version ≡ One
     → (former : FormerOutcome) × FormerAnswers (former_terms terms) input old new former × (outcome ≡ in_tiers former)
 
 -- and each former answer is that to a capture of version 1, whatever the policies of tiers 1 to 3
 abbrev pub FormerAnswersHold : Type 0
 FormerAnswersHold = (terms : Terms) (input old new : Option (List ℕ)) (former : FormerOutcome)
     → FormerAnswers (former_terms terms) input old new former
-    → (answers : Answers terms input old new (in_tiers former)) × (answers.version ≡ One)
+    → (answers : Answers terms input old new (in_tiers former)) × (answers.read.capture.version ≡ One)
 
 -- a capture of version 1 and its upgraded text have the same answers, whatever the policies of tiers 1 to 3
 abbrev pub UpgradeKeepsAnswers : Type 0

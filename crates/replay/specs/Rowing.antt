@@ -6,7 +6,7 @@ use Rattle.responses.specs.declared.slip.Status.{Status}
 use Rattle.responses.specs.declared.slip.Status.TheVariants.{ServiceUnavailable}
 use Rattle.responses.specs.declared.slip.Given.{Given}
 use Rattle.responses.specs.declared.slip.Given.TheVariants.{Plain}
-use Rattle.explaining.specs.declared.row.Offered.{Offered}
+use Rattle.decision_table.specs.declared.row.Offered.{Offered}
 use Rattle.replay.specs.declared.sight.Sight.{Sight}
 use Rattle.replay.specs.declared.sight.Sight.TheVariants.{Priced}
 

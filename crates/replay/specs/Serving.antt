@@ -1,22 +1,16 @@
 -- How an engine stands between two messages, and between two records.
 use Rattle.std.specs.Prelude.{◌≡◌, ℕ, ◌+◌, ◌<◌, ◌≤◌, List, ◌++◌, length, take, All, Option, flat_map}
 use Rattle.std.specs.Io.KnownBytes.{Appends}
-use Rattle.paths.specs.Devices.{AppendsPrefix}
+use Rattle.devices.specs.Devices.{AppendsPrefix}
 use Rattle.captures.specs.declared.record.Record.{Record}
 use Rattle.captures.specs.declared.record.Record.TheVariants.{Piece, End, Tier}
-use Rattle.captures.specs.declared.version.Version.{Version}
-use Rattle.captures.specs.Captures.{IsCapture, IsCaptureText}
-use Rattle.responses.specs.Records.{record_text}
+use Rattle.responses.specs.Reference.{record_text}
 use Rattle.admission.specs.After.{ControllerAfter}
 use Rattle.admission.specs.Standing.{policies_of}
-use Rattle.replay.specs.Choices.{Terms}
-use Rattle.arrivals.specs.Arrivals.{Arrival, AreArrivals}
+use Rattle.replay.specs.Reference.{Terms, ArrivedCapture, offers_of, handled_after, max_messages, replies_of}
+use Rattle.replay.specs.Reference.{outcome_of}
+use Rattle.arrivals.specs.Reference.{Arrival, AreArrivals}
 use Rattle.arrivals.specs.Connections.{HaveRead}
-use Rattle.replay.specs.Offers.{offers_of, handled, handled_after}
-use Rattle.replay.specs.Counting.{rejected_of, summary_of}
-use Rattle.paths.specs.KnownText.{WhereKnown}
-use Rattle.replay.specs.Outcomes.{max_messages}
-use Rattle.replay.specs.Replies.{replies_of}
 use Rattle.replay.specs.Telling.{Telling, Told, ToldInPart, replies_told}
 use Rattle.replay.specs.Totals.{totals_of}
 use Rattle.arrivals.specs.declared.connections.Connection.{Connection}
@@ -105,16 +99,8 @@ abbrev pub ServesInPart : Terms → ℕ → List Record → List Arrival → Lis
 ServesInPart terms start records arrivals rs old new =
     TellsInPart (replies_told terms) start records arrivals rs old new
 
--- these records were all of a capture, and its messages were told of: as `Answers`, whatever is told
+-- a whole capture was told of: as `Answers`, whatever is told
 pub record HasTold (t : Telling) (terms : Terms) (input old new : Option (List ℕ)) (outcome : Outcome) : Type 0 where
-  pub version : Version
-  pub start : ℕ
-  pub records : List Record
-  pub arrivals : List Arrival
-  pub rules : IsCapture version start records
-  pub capture : WhereKnown input (λ bytes. IsCaptureText version bytes start records)
-  pub arrived : AreArrivals records arrivals
-  pub few : length arrivals ≤ max_messages
-  pub written : Appends old new (t.whole start arrivals)
-  pub rejected : outcome.rejected ≡ rejected_of (handled terms arrivals)
-  pub summary : outcome.summary ≡ summary_of terms arrivals
+  pub read : ArrivedCapture input
+  pub written : Appends old new (t.whole read.capture.start read.arrivals)
+  pub outcome_is : outcome ≡ outcome_of terms read.arrivals

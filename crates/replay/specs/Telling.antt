@@ -1,12 +1,11 @@
 -- What a replay writes of the messages of a capture, one after another: their replies, or the rows of a table.
 use Rattle.std.specs.Prelude.{◌≡◌, ℕ, List, [], ◌++◌, length, flat_map, Option}
 use Rattle.std.specs.Io.KnownBytes.{Appends}
-use Rattle.paths.specs.Devices.{AppendsPrefix}
-use Rattle.responses.specs.Records.{record_text}
-use Rattle.arrivals.specs.Arrivals.{Arrival}
-use Rattle.replay.specs.Choices.{Terms}
-use Rattle.replay.specs.Offers.{handled, handled_after}
-use Rattle.replay.specs.Replies.{first_line, last_line, replies_of, text_before_stop, replies_text}
+use Rattle.devices.specs.Devices.{AppendsPrefix}
+use Rattle.responses.specs.Reference.{record_text}
+use Rattle.arrivals.specs.Reference.{Arrival}
+use Rattle.replay.specs.Reference.{Terms, handled, handled_after, first_line, last_line, replies_of, text_before_stop}
+use Rattle.replay.specs.Reference.{replies_text}
 
 -- The texts that are written of a capture, by its start and its arrivals: the first line; what stands after these
 -- messages, while others may still come; what is written of messages that come after the earlier ones; what is written

@@ -1,9 +1,9 @@
 -- The messages of a batch between the two floors.
 use Rattle.std.specs.Prelude.{◌≡◌, ◌<◌, ◌≤◌, List, [], ◌∷◌, ◌++◌, map}
-use Rattle.captures.specs.Captures.{max_tick}
+use Rattle.captures.specs.Reference.{max_tick}
 use Rattle.paths.specs.declared.file.File.{File}
-use Rattle.cost_model.specs.Services.{CostTable}
-use Rattle.arrivals.specs.Arrivals.{Arrival}
+use Rattle.cost_model.specs.Reference.{CostTable}
+use Rattle.arrivals.specs.Reference.{Arrival}
 use Rattle.replay.specs.Serving.{AreBy}
 use Rattle.replay.specs.Fronts.{front_value}
 use Rattle.arrivals.specs.declared.incoming.Incoming.{Incoming}

@@ -1,10 +1,9 @@
 -- What the engines count of the messages that they answered.
 use Rattle.std.specs.Prelude.{ℕ, ◌+◌, Bool, List, length, map, if◌then◌else◌}
-use Rattle.responses.specs.Statuses.{statuses}
-use Rattle.replay.specs.Choices.{Terms}
-use Rattle.arrivals.specs.Arrivals.{Arrival}
-use Rattle.replay.specs.Offers.{offers_of, handled}
-use Rattle.replay.specs.Counting.{counts_of, bypassed_of, rejected_of, samples_of, with_status}
+use Rattle.responses.specs.Reference.{statuses}
+use Rattle.replay.specs.Reference.{Terms, offers_of, handled, counts_of, bypassed_of, rejected_of, samples_of}
+use Rattle.arrivals.specs.Reference.{Arrival}
+use Rattle.replay.specs.Counting.{with_status}
 use Rattle.replay.specs.declared.summary.Counts.{Counts}
 use Rattle.replay.specs.declared.totals.Totals.{Totals}
 

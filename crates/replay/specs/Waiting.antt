@@ -2,14 +2,15 @@
 use Rattle.std.specs.Prelude.{◌≡◌, ℕ, ◌≤◌, List, [], ◌++◌, map}
 use Rattle.captures.specs.declared.record.Record.{Record}
 use Rattle.captures.specs.declared.version.Version.{Version}
-use Rattle.captures.specs.Captures.{IsCapture, max_text_bytes, sizes_of}
-use Rattle.arrivals.specs.Arrivals.{Arrival}
+use Rattle.captures.specs.Reference.{IsCapture, max_text_bytes}
+use Rattle.captures.specs.Captures.{sizes_of}
+use Rattle.arrivals.specs.Reference.{Arrival}
 use Rattle.arrivals.specs.Batches.{pieces_to, origins_of, tiers_of}
 use Rattle.arrivals.specs.Places.{Place, place_at}
 use Rattle.arrivals.specs.declared.connections.Connection.{Connection}
 use Rattle.arrivals.specs.declared.incoming.Incoming.{Incoming}
 use Rattle.arrivals.specs.declared.incoming.Origin.{Origin}
-use Rattle.replay.specs.Choices.{Terms}
+use Rattle.replay.specs.Reference.{Terms}
 use Rattle.replay.specs.Serving.{Serves, DeskAfter}
 use Rattle.replay.specs.Ticketing.{AreOf, InTime}
 use Rattle.replay.specs.declared.desk.Desk.{Desk}

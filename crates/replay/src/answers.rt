@@ -3,12 +3,12 @@
 ghost use Rattle.std.specs.Prelude.{◌≡◌, ◌<◌, ◌≤◌, ◌&&◌, true, length};
 ghost use Rattle.admission.specs.Limits.{MAX_SERVICE};
 ghost use Rattle.paths.specs.Resolution.{IsOutcome};
-ghost use Rattle.paths.specs.Snapshots.{file_of};
-ghost use Rattle.page_cache.specs.Media.{media_of};
-ghost use Rattle.cost_model.specs.Services.{service};
-ghost use Rattle.replay.specs.Answers.{fault_status, is_unmodified, outcome_answer, answers_head, link_of};
+ghost use Rattle.paths.specs.Reference.{file_of};
+ghost use Rattle.page_cache.specs.Reference.{media_of};
+ghost use Rattle.cost_model.specs.Reference.{service};
+ghost use Rattle.replay.specs.Reference.{fault_status, is_unmodified, outcome_answer, answers_head, link_of};
+ghost use Rattle.replay.specs.Reference.{is_unmodified_file, length_given};
 ghost use Rattle.replay.specs.Backs.{told, only_head, has_location, is_due};
-ghost use Rattle.replay.specs.Offers.{is_unmodified_file, length_given};
 
 use crate::ticket::Due;
 use cost_model::{Costs, service};

@@ -1,9 +1,10 @@
 //! Counting replies by status, and messages that are no requests.
 
 ghost use Rattle.std.specs.Prelude.{◌≡◌, ◌-◌, ◌^◌};
-ghost use Rattle.responses.specs.Replies.{status_of};
+ghost use Rattle.responses.specs.Reference.{status_of};
 ghost use Rattle.replay.specs.Backs.{told};
-ghost use Rattle.replay.specs.Counting.{AreBelow, with_status, breaks_a_rule};
+ghost use Rattle.replay.specs.Reference.{breaks_a_rule};
+ghost use Rattle.replay.specs.Counting.{AreBelow, with_status};
 
 use crate::summary::Counts;
 use crate::ticket::Due;

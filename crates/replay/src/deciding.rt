@@ -2,12 +2,9 @@
 
 ghost use Rattle.std.specs.Prelude.{◌≡◌, ◌<◌, ◌≤◌, ◌+◌, ◌++◌, true, List, length, map, IfOk, OnOk};
 ghost use Rattle.std.specs.List.{list_all};
-ghost use Rattle.captures.specs.Captures.{max_start, max_tick};
-ghost use Rattle.replay.specs.Choices.{terms_of};
-ghost use Rattle.arrivals.specs.Arrivals.{Arrival};
-ghost use Rattle.replay.specs.Offers.{handled_next, handled_after};
-ghost use Rattle.replay.specs.Outcomes.{max_messages};
-ghost use Rattle.replay.specs.Replies.{slip_of};
+ghost use Rattle.captures.specs.Reference.{max_start, max_tick};
+ghost use Rattle.replay.specs.Reference.{terms_of, handled_next, handled_after, max_messages, slip_of};
+ghost use Rattle.arrivals.specs.Reference.{Arrival};
 ghost use Rattle.replay.specs.Serving.{DeskAfter, AreBy};
 ghost use Rattle.replay.specs.Steps.{DecidesNext};
 ghost use Rattle.replay.specs.Fronts.{sight_of};

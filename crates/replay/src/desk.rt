@@ -1,13 +1,10 @@
 //! The desk: the controller and the totals, which see each message in its order.
 
 ghost use Rattle.std.specs.Prelude.{◌≡◌, ◌<◌, ◌≤◌, ◌∷◌, ◌&&◌, [], true, Bool, List, length, IfOk};
-ghost use Rattle.admission.specs.Requests.{Offer};
-ghost use Rattle.admission.specs.After.{ControllerAfter, tick_from};
+ghost use Rattle.admission.specs.Reference.{Offer, tick_from};
+ghost use Rattle.admission.specs.After.{ControllerAfter};
 ghost use Rattle.admission.specs.Standing.{policies_of};
-ghost use Rattle.replay.specs.Choices.{terms_of};
-ghost use Rattle.replay.specs.Answers.{answers_head, given};
-ghost use Rattle.replay.specs.Offers.{offer_at};
-ghost use Rattle.replay.specs.Counting.{samples_of};
+ghost use Rattle.replay.specs.Reference.{terms_of, answers_head, given, offer_at, samples_of};
 ghost use Rattle.replay.specs.Deciding.{Decides};
 ghost use Rattle.replay.specs.Fronts.{sight_of};
 ghost use Rattle.replay.specs.Backs.{told, only_head, has_location, is_due};

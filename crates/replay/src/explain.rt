@@ -1,17 +1,17 @@
 //! The table of decisions of a capture.
 
 ghost use Rattle.std.specs.Prelude.{◌≡◌, ◌-◌, ◌<◌, ◌^◌, IfOk, IfErr};
-ghost use Rattle.paths.specs.Devices.{CanFail, CountsBy};
-ghost use Rattle.replay.specs.Choices.{terms_of};
+ghost use Rattle.devices.specs.Devices.{CanFail, CountsBy};
+ghost use Rattle.replay.specs.Outcomes.{Leaves, reader_failures, writer_failures};
+ghost use Rattle.replay.specs.Reference.{terms_of};
 ghost use Rattle.replay.specs.Explaining.{Explains, rows_told};
-ghost use Rattle.replay.specs.Outcomes.{IfCapture, IfTooMany, IfCutShort, StopsTelling, StopsBeyond, IsCutOff};
-ghost use Rattle.replay.specs.Outcomes.{reader_failures, writer_failures};
 
 use crate::plain::replay_telling;
 use crate::rows::Rows;
 use crate::summary::Outcome;
 use crate::{ReplayFault, Settings};
-use paths::{Input, Output, Snapshot, Tree};
+use devices::{Input, Output};
+use paths::{Snapshot, Tree};
 use std::alloc::Global;
 use std::io::{Read, Write};
 
@@ -34,16 +34,10 @@ pub fn explain_replay<F: Tree, R: Read, W: Write>(
     requires snapshot { snapshot.now ≡ F.files }
     requires reading { CanFail reader.old }
     requires writing { CanFail writer.old }
-    // Read, and each other fault of the capture, only with the rows of the messages of the whole records before it.
-    ensures stops { IfErr result (λ f. IfCapture f
-        (StopsTelling (rows_told (terms_of F.files settings.now))
-        reader.old.bytes reader.new.bytes writer.old.bytes writer.new.bytes)) }
-    // Too many messages, only with the rows of those within the limit.
-    ensures many { IfErr result (λ f. IfTooMany f
-        (StopsBeyond (rows_told (terms_of F.files settings.now)) reader.old.bytes writer.old.bytes writer.new.bytes)) }
-    // After a failed write and out of memory, a prefix of what was due stands.
-    ensures part { IfErr result (λ f. IfCutShort f
-        (IsCutOff (rows_told (terms_of F.files settings.now)) reader.old.bytes writer.old.bytes writer.new.bytes)) }
+    // After a fault of the capture, the rows of the messages of the whole records before it stand; after too many
+    // messages, those of the messages within the limit; else a prefix of what was due.
+    ensures fault { IfErr result (Leaves (rows_told (terms_of F.files settings.now))
+        reader.old.bytes reader.new.bytes writer.old.bytes writer.new.bytes) }
     // A device is blamed only where it failed in this call.
     ensures reads { CountsBy reader_failures reader.old.failures reader.new.failures result }
     ensures writes { CountsBy writer_failures writer.old.failures writer.new.failures result }

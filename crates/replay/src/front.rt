@@ -1,16 +1,16 @@
 //! The front floor: what answers each message of a part, and how long that takes.
 
-ghost use Rattle.std.specs.Prelude.{◌≡◌, ◌++◌, ℕ, List, IfOk, OnOk, IfErr, length, map, flat_map, slice_index_or};
+ghost use Rattle.std.specs.Prelude.{◌≡◌, ◌++◌, List, IfOk, OnOk, IfErr, length, map, flat_map};
 ghost use Rattle.std.specs.List.{range_with_len};
 ghost use Rattle.stage_graph.specs.After.{last_cut, with_steps};
 ghost use Rattle.stage_graph.specs.Through.{HasGoneThrough};
 ghost use Rattle.stage_graph.specs.declared.event.Event.{Event};
-ghost use Rattle.replay.specs.Fronts.{front_value};
+ghost use Rattle.replay.specs.Fronts.{front_value, unseen_at, IsSight};
 ghost use Rattle.stage_graph.specs.Steps.{value_of};
-ghost use Rattle.paths.specs.Targets.{asked};
-ghost use Rattle.paths.specs.Resolution.{outcome, IsOutcome};
+ghost use Rattle.paths.specs.Reference.{asked, outcome};
+ghost use Rattle.paths.specs.Resolution.{IsOutcome};
 ghost use Rattle.replay.specs.declared.sight.Sight.TheVariants.{Unseen, Found};
-ghost use Rattle.replay.specs.Fronts.{floor_sight, floor_step, seen_as, unseen_at, message_at, each_sighted, IsSight};
+ghost use Rattle.replay.specs.Fronts.{floor_sight, floor_step, seen_as, message_at, each_sighted};
 
 use crate::answers::{answers_head, service_of};
 use crate::server::Server;
@@ -32,7 +32,7 @@ const LAST_STEP: usize = 2;
 /// Names the messages of a front floor, and the costs.
 pub trait Fronts {
     ghost use Rattle.std.specs.Prelude.{List};
-    ghost use Rattle.cost_model.specs.Services.{CostTable};
+    ghost use Rattle.cost_model.specs.Reference.{CostTable};
     ghost use Rattle.arrivals.specs.declared.incoming.Incoming.{Incoming};
 
     ghost messages: { List Incoming };

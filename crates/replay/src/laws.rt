@@ -2,7 +2,7 @@
 
 ghost use Rattle.replay.specs.Laws.{AnsweredNotFaulty, AnsweredNotFull, DueBegin, FaultyNotFull, OneFault, OneLimit};
 ghost use Rattle.replay.specs.Laws.{FloorsChangeNothing, FormerAnswersHold, HandledBegin, OneAnswer, SameInVersionOne};
-ghost use Rattle.replay.specs.Laws.{RowsAgree, StartsOnceFree, UpgradeKeepsAnswers};
+ghost use Rattle.replay.specs.Laws.{RepliesInRequestOrder, RowsAgree, StartsOnceFree, UpgradeKeepsAnswers};
 
 /// The graphs of the floors, the records of a batch and the bytes of the cache change no answer.
 pub fn floors_change_nothing()
@@ -12,6 +12,11 @@ pub fn floors_change_nothing()
 /// A capture has one answer.
 pub fn one_answer()
     ensures { OneAnswer }
+{}
+
+/// Each connection's replies stand in its request order.
+pub fn replies_in_request_order()
+    ensures { RepliesInRequestOrder }
 {}
 
 /// Of an answer, a fault of its capture, and messages beyond the limit, no input of known bytes has two, whatever the

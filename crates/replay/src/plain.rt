@@ -1,26 +1,23 @@
 //! The plain engine: one thread, message by message.
 
-ghost use Rattle.std.specs.Prelude.{◌≡◌, ◌+◌, ◌≤◌, ◌<◌, ◌-◌, ◌^◌, ◌⊎◌, ◌∷◌, [], List, ◌++◌};
-ghost use Rattle.std.specs.Prelude.{IfOk, IfErr, OnOk, OnErr};
+ghost use Rattle.std.specs.Prelude.{◌≡◌, ◌+◌, ◌≤◌, ◌<◌, ◌-◌, ◌^◌, ◌⊎◌, ◌∷◌, [], List, ◌++◌, IfOk, IfErr, OnOk, OnErr};
 ghost use Rattle.std.specs.Io.KnownBytes.{Appends};
-ghost use Rattle.paths.specs.Devices.{CanFail, CountsBy, AppendsPrefix};
+ghost use Rattle.devices.specs.Devices.{CanFail, CountsBy, AppendsPrefix};
 ghost use Rattle.captures.specs.declared.version.Version.{Version as AVersion};
-ghost use Rattle.captures.specs.Captures.{IsRecord, size_of, sizes_of, max_start, max_text_bytes};
+ghost use Rattle.captures.specs.Reference.{IsRecord, max_start, max_text_bytes};
+ghost use Rattle.captures.specs.Captures.{size_of, sizes_of};
 ghost use Rattle.captures.specs.declared.record.Record.{Record as ARecord};
-ghost use Rattle.replay.specs.Choices.{Terms, terms_of};
-ghost use Rattle.arrivals.specs.Arrivals.{Arrival};
-ghost use Rattle.replay.specs.Replies.{first_line, last_line};
-ghost use Rattle.replay.specs.Telling.{IsTelling};
+ghost use Rattle.replay.specs.Reference.{Terms, terms_of, first_line, last_line, summary_of, tally_of, Answers};
+ghost use Rattle.arrivals.specs.Reference.{Arrival};
+ghost use Rattle.replay.specs.Telling.{IsTelling, replies_told};
+ghost use Rattle.replay.specs.Outcomes.{IfTooMany, IfCutShort, IsOwn, IsWriteOrMemory, Leaves, reader_failures};
+ghost use Rattle.replay.specs.Outcomes.{writer_failures};
 ghost use Rattle.replay.specs.Serving.{IsLater, Serves, DeskAfter, HasTold};
 ghost use Rattle.replay.specs.Steps.{AnswersRecord, FillsWithRecord, AnswersRecordInPart};
-ghost use Rattle.replay.specs.Counting.{summary_of, tally_of};
 ghost use Rattle.arrivals.specs.Tiers.{AreTiers};
-ghost use Rattle.admission.specs.Requests.{Offer};
+ghost use Rattle.admission.specs.Reference.{Offer};
 ghost use Rattle.admission.specs.After.{ControllerAfter};
 ghost use Rattle.admission.specs.Standing.{policies_of};
-ghost use Rattle.replay.specs.Outcomes.{Answers, IfCapture, IfTooMany, IfCutShort, IsCutShort, IsOwn};
-ghost use Rattle.replay.specs.Outcomes.{Stops, StopsFull, reader_failures, writer_failures};
-ghost use Rattle.replay.specs.Outcomes.{IsWriteOrMemory, StopsTelling, StopsBeyond, IsCutOff};
 
 use crate::answering::answer_all;
 use crate::desk::Desk;
@@ -33,8 +30,9 @@ use crate::{MAX_MESSAGES, ReplayFault, Settings, Summary, Tally};
 use admission::Controller;
 use arrivals::{Connections, Origin, Series, Tiers};
 use captures::{CaptureReader, Record};
+use devices::{Input, Output};
 use http_requests::Message;
-use paths::{Input, Output, Snapshot, Tree};
+use paths::{Snapshot, Tree};
 use responses::HeadRenderer;
 use std::alloc::{AllocError, Global};
 use std::io::{Read, Write};
@@ -170,13 +168,8 @@ pub(crate) fn replay_telling<T: Tells, F: Tree, R: Read, W: Write>(
     requires snapshot { snapshot.now ≡ F.files }
     requires reading { CanFail reader.old }
     requires writing { CanFail writer.old }
-    ensures stops { IfErr result (λ f. IfCapture f
-        (StopsTelling (T.telling (terms_of F.files settings.now))
-        reader.old.bytes reader.new.bytes writer.old.bytes writer.new.bytes)) }
-    ensures many { IfErr result (λ f. IfTooMany f
-        (StopsBeyond (T.telling (terms_of F.files settings.now)) reader.old.bytes writer.old.bytes writer.new.bytes)) }
-    ensures part { IfErr result (λ f. IfCutShort f
-        (IsCutOff (T.telling (terms_of F.files settings.now)) reader.old.bytes writer.old.bytes writer.new.bytes)) }
+    ensures fault { IfErr result (Leaves (T.telling (terms_of F.files settings.now))
+        reader.old.bytes reader.new.bytes writer.old.bytes writer.new.bytes) }
     ensures reads { CountsBy reader_failures reader.old.failures reader.new.failures result }
     ensures writes { CountsBy writer_failures writer.old.failures writer.new.failures result }
     ensures ok { IfOk result (HasTold (T.telling (terms_of F.files settings.now)) (terms_of F.files settings.now)
@@ -242,15 +235,10 @@ pub fn plain_replay<F: Tree, R: Read, W: Write>(
     requires snapshot { snapshot.now ≡ F.files }
     requires reading { CanFail reader.old }
     requires writing { CanFail writer.old }
-    // Read, and each other fault of the capture, only with the replies to the messages of the whole records before it.
-    ensures stops { IfErr result (λ f. IfCapture f
-        (Stops (terms_of F.files settings.now) reader.old.bytes reader.new.bytes writer.old.bytes writer.new.bytes)) }
-    // Too many messages, only with the replies to those within the limit.
-    ensures many { IfErr result (λ f. IfTooMany f
-        (StopsFull (terms_of F.files settings.now) reader.old.bytes writer.old.bytes writer.new.bytes)) }
-    // After a failed write and out of memory, a prefix of what was due stands.
-    ensures part { IfErr result (λ f. IfCutShort f
-        (IsCutShort (terms_of F.files settings.now) reader.old.bytes writer.old.bytes writer.new.bytes)) }
+    // After a fault of the capture, the replies of the messages of the whole records before it stand; after too many
+    // messages, those of the messages within the limit; else a prefix of what was due.
+    ensures fault { IfErr result (Leaves (replies_told (terms_of F.files settings.now))
+        reader.old.bytes reader.new.bytes writer.old.bytes writer.new.bytes) }
     // A device is blamed only where it failed in this call.
     ensures reads { CountsBy reader_failures reader.old.failures reader.new.failures result }
     ensures writes { CountsBy writer_failures writer.old.failures writer.new.failures result }

@@ -3,7 +3,7 @@
 ghost use Rattle.std.specs.Prelude.{◌≡◌};
 
 use captures::{CaptureFault, CaptureFaultKind};
-use paths::Failed;
+use devices::Failed;
 use responses::Write;
 use stage_graph::Unrun;
 use std::alloc::AllocError;

@@ -1,23 +1,20 @@
 //! A batch: both floors, the decisions between them, and the writing.
 
-ghost use Rattle.std.specs.Prelude.{◌≡◌, ◌<◌, ◌≤◌, ◌-◌, ◌+◌, ◌^◌, ℕ, List, flat_map, length, IfErr, OnOk};
-ghost use Rattle.std.specs.Prelude.{OnErr, true};
+ghost use Rattle.std.specs.Prelude.{◌≡◌, ◌<◌, ◌≤◌, ◌-◌, ◌+◌, ℕ, List, flat_map, length, IfErr, OnOk, OnErr, true};
 ghost use Rattle.std.specs.List.{list_all};
 ghost use Rattle.replay.specs.Backs.{is_back};
 ghost use Rattle.replay.specs.declared.back.BackState.TheVariants.{Due as Waits};
 ghost use Rattle.replay.specs.Groups.{records_of};
-ghost use Rattle.captures.specs.Captures.{max_start};
-ghost use Rattle.responses.specs.Records.{record_text};
-ghost use Rattle.arrivals.specs.Arrivals.{Arrival};
+ghost use Rattle.captures.specs.Reference.{max_start};
+ghost use Rattle.responses.specs.Reference.{record_text};
+ghost use Rattle.arrivals.specs.Reference.{Arrival};
 ghost use Rattle.arrivals.specs.Batches.{joined};
-ghost use Rattle.replay.specs.Choices.{terms_of};
-ghost use Rattle.replay.specs.Outcomes.{writer_failures, IsOwn, IsWriteOrMemory, IfTooMany};
-ghost use Rattle.replay.specs.Outcomes.{IfCutShort, max_messages};
-ghost use Rattle.replay.specs.Steps.{DecidesComing, WritesComing, WritesComingInPart};
-ghost use Rattle.replay.specs.Steps.{WritesFirst, WritesFirstInPart};
+ghost use Rattle.replay.specs.Reference.{terms_of, max_messages};
+ghost use Rattle.replay.specs.Outcomes.{writer_failures, IsOwn, IsWriteOrMemory, IfTooMany, IfCutShort};
+ghost use Rattle.replay.specs.Steps.{DecidesComing, WritesComing, WritesComingInPart, WritesFirst, WritesFirstInPart};
 ghost use Rattle.replay.specs.Waiting.{Upcoming};
 ghost use Rattle.std.specs.Io.KnownBytes.{Appends};
-ghost use Rattle.paths.specs.Devices.{CanFail, CountsBy, AppendsPrefix};
+ghost use Rattle.devices.specs.Devices.{CanFail, CountsBy, AppendsPrefix};
 
 use crate::back::run_back;
 use crate::deciding::decide_all;
@@ -29,8 +26,9 @@ use crate::shifted::Shifted;
 use crate::ticket::Ticket;
 use crate::{MAX_MESSAGES, ReplayFault};
 use arrivals::{Incoming, Series};
+use devices::Output;
 use http_requests::Meaning;
-use paths::{Output, Tree};
+use paths::Tree;
 use responses::{Reply, write_reply};
 use stage_graph::Gate;
 use std::io::Write;

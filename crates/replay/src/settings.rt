@@ -1,7 +1,8 @@
 //! What an operator may set.
 
 ghost use Rattle.std.specs.Prelude.{◌≡◌, Some, None, IfOk, IfErr};
-ghost use Rattle.replay.specs.Choices.{Choice, settings_fault};
+ghost use Rattle.replay.specs.Reference.{Choice};
+ghost use Rattle.replay.specs.Choices.{settings_fault};
 
 use admission::Policy;
 use cost_model::Costs;
@@ -53,7 +54,8 @@ pub struct Settings {
 }
 
 impl Model for Settings {
-    ghost use Rattle.replay.specs.Choices.{Choice, IsChoice};
+    ghost use Rattle.replay.specs.Reference.{Choice};
+    ghost use Rattle.replay.specs.Choices.{IsChoice};
 
     ghost Value = { Choice };
 

@@ -1,14 +1,13 @@
 //! The staged engine: batch by batch, each over floors of threads.
 
-ghost use Rattle.std.specs.Prelude.{◌≡◌, ◌<◌, ◌≤◌, ◌-◌, ◌+◌, ◌^◌, ◌⊎◌, [], List};
-ghost use Rattle.std.specs.Prelude.{IfOk, IfErr, OnOk};
-ghost use Rattle.paths.specs.Devices.{CanFail, BlamedOnce, CountsBy};
-ghost use Rattle.captures.specs.Captures.{max_start};
+ghost use Rattle.std.specs.Prelude.{◌≡◌, ◌<◌, ◌≤◌, ◌-◌, ◌+◌, ◌^◌, ◌⊎◌, [], List, IfOk, IfErr, OnOk};
+ghost use Rattle.devices.specs.Devices.{CanFail, BlamedOnce, CountsBy};
+ghost use Rattle.captures.specs.Reference.{max_start};
 ghost use Rattle.captures.specs.declared.record.Record.{Record as ARecord};
-ghost use Rattle.arrivals.specs.Arrivals.{Arrival};
-ghost use Rattle.replay.specs.Choices.{terms_of};
-ghost use Rattle.replay.specs.Outcomes.{Answers, IfCapture, IfTooMany, IfCutShort, IsCutShort, IsOwn, Stops};
-ghost use Rattle.replay.specs.Outcomes.{StopsFull, reader_failures, writer_failures};
+ghost use Rattle.arrivals.specs.Reference.{Arrival};
+ghost use Rattle.replay.specs.Reference.{terms_of, Answers};
+ghost use Rattle.replay.specs.Outcomes.{IfTooMany, IfCutShort, IsOwn, Leaves, reader_failures, writer_failures};
+ghost use Rattle.replay.specs.Telling.{replies_told};
 ghost use Rattle.replay.specs.Steps.{AnswersBatch, FillsWithBatch, AnswersBatchInPart};
 ghost use Rattle.replay.specs.Waiting.{ComeNext, Waiting};
 
@@ -23,8 +22,9 @@ use crate::{MAX_MESSAGES, ReplayFault, Settings};
 use admission::Controller;
 use arrivals::{Ending, Origin, Seats, Tiers, parts_of, read_batch};
 use captures::CaptureReader;
+use devices::{Input, Output};
 use page_cache::PageCache;
-use paths::{Input, Output, Snapshot, Tree};
+use paths::{Snapshot, Tree};
 use stage_graph::Gate;
 use std::alloc::Global;
 use std::io::{Read, Write};
@@ -102,15 +102,10 @@ pub fn staged_replay<
     requires snapshot { snapshot.now ≡ F.files }
     requires reading { CanFail reader.old }
     requires writing { CanFail writer.old }
-    // Read, and each other fault of the capture, only with the replies to the messages of the whole records before it.
-    ensures stops { IfErr result (λ f. IfCapture f
-        (Stops (terms_of F.files settings.now) reader.old.bytes reader.new.bytes writer.old.bytes writer.new.bytes)) }
-    // Too many messages, only with the replies to those within the limit.
-    ensures many { IfErr result (λ f. IfTooMany f
-        (StopsFull (terms_of F.files settings.now) reader.old.bytes writer.old.bytes writer.new.bytes)) }
-    // After a failed write and out of memory, a prefix of what was due stands.
-    ensures part { IfErr result (λ f. IfCutShort f
-        (IsCutShort (terms_of F.files settings.now) reader.old.bytes writer.old.bytes writer.new.bytes)) }
+    // After a fault of the capture, the replies of the messages of the whole records before it stand; after too many
+    // messages, those of the messages within the limit; else a prefix of what was due.
+    ensures fault { IfErr result (Leaves (replies_told (terms_of F.files settings.now))
+        reader.old.bytes reader.new.bytes writer.old.bytes writer.new.bytes) }
     // A device is blamed only where it failed in this call. A read that failed may not be reported: where the messages
     // before it are too many, where they can't be written, and where memory runs out.
     ensures reads { BlamedOnce reader_failures reader.old.failures reader.new.failures result }

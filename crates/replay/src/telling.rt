@@ -2,10 +2,10 @@
 
 ghost use Rattle.std.specs.Prelude.{◌≡◌, ◌<◌, ◌≤◌, ◌-◌, ◌+◌, ◌^◌, List, OnOk, OnErr, IfErr};
 ghost use Rattle.std.specs.Io.KnownBytes.{Appends};
-ghost use Rattle.paths.specs.Devices.{CanFail, CountsBy, AppendsPrefix};
-ghost use Rattle.captures.specs.Captures.{max_start, max_tick};
-ghost use Rattle.arrivals.specs.Arrivals.{Arrival};
-ghost use Rattle.replay.specs.Choices.{Terms, terms_of};
+ghost use Rattle.devices.specs.Devices.{CanFail, CountsBy, AppendsPrefix};
+ghost use Rattle.captures.specs.Reference.{max_start, max_tick};
+ghost use Rattle.arrivals.specs.Reference.{Arrival};
+ghost use Rattle.replay.specs.Reference.{Terms, terms_of};
 ghost use Rattle.replay.specs.Outcomes.{writer_failures, IsWriteOrMemory};
 ghost use Rattle.replay.specs.Serving.{DeskAfter, AreBy};
 ghost use Rattle.replay.specs.Telling.{Telling, IsTelling};
@@ -15,8 +15,9 @@ use crate::desk::Desk;
 use crate::server::Server;
 use crate::{MAX_MESSAGES, ReplayFault};
 use arrivals::Origin;
+use devices::Output;
 use http_requests::Meaning;
-use paths::{Output, Tree};
+use paths::Tree;
 use responses::HeadRenderer;
 use std::alloc::Global;
 use std::io::Write;
@@ -24,7 +25,7 @@ use std::io::Write;
 /// What a replay writes of the messages of a capture, one after another: their replies, or the rows of a table.
 /// `telling` has the texts.
 pub(crate) trait Tells {
-    ghost use Rattle.replay.specs.Choices.{Terms};
+    ghost use Rattle.replay.specs.Reference.{Terms};
     ghost use Rattle.replay.specs.Telling.{Telling};
 
     ghost telling: { Terms → Telling };

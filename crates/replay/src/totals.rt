@@ -1,8 +1,9 @@
 //! The figures so far.
 
 ghost use Rattle.std.specs.Prelude.{◌≡◌, ◌-◌, ◌<◌, ◌^◌, []};
-ghost use Rattle.responses.specs.Replies.{status_of};
-ghost use Rattle.replay.specs.Counting.{AreBelow, breaks_a_rule};
+ghost use Rattle.responses.specs.Reference.{status_of};
+ghost use Rattle.replay.specs.Reference.{breaks_a_rule};
+ghost use Rattle.replay.specs.Counting.{AreBelow};
 ghost use Rattle.replay.specs.Totals.{no_counts, noted};
 ghost use Rattle.replay.specs.Backs.{told};
 

@@ -1,10 +1,10 @@
 //! Both engines: rows, faults, limits, gates, and devices that fail.
 mod batches;
-mod devices;
 mod faults;
 mod gates;
 mod many;
 mod memory;
+mod poor_devices;
 mod rejections;
 mod rows;
 mod running;

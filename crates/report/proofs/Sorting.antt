@@ -7,7 +7,7 @@ use Rattle.std.proofs.lemmas.List.Edits.{swap_is}
 use Rattle.std.proofs.lemmas.List.Sorted.{IsPermutation-keeps, IsNonDecreasingBy-from_sort}
 use mathlib.Core.Path.{◌∙◌}
 use lib.ListN.{get_or, set}
-use Rattle.admission.specs.Percentile.{insert_sorted, sorted}
+use Rattle.admission.specs.Reference.{insert_sorted, sorted}
 use Rattle.admission.specs.Tally.{remove_one}
 use Rattle.admission.proofs.SortLemmas.{insert-front, insert-none, insert-swap, remove-insert}
 

@@ -1,9 +1,9 @@
 -- The text of a report (docs/FORMATS.md, "Report").
 use Rattle.std.specs.Prelude.{ℕ, ◌+◌, ◌-◌, ◌*◌, ◌/◌, List, [], ◌∷◌, ◌++◌, length, Option, Some, None, codes, decimal}
 use Rattle.std.specs.Prelude.{flat_map, slice_get, zip, Bool, nat_lt, if◌then◌else◌}
-use Rattle.admission.specs.Percentile.{sorted}
+use Rattle.admission.specs.Reference.{sorted}
 use Rattle.admission.specs.declared.control.Control.{Control}
-use Rattle.responses.specs.Statuses.{statuses}
+use Rattle.responses.specs.Reference.{statuses}
 use Rattle.replay.specs.declared.summary.Outcome.{Outcome}
 use Rattle.replay.specs.declared.summary.Counts.{Counts}
 use Rattle.replay.specs.declared.summary.Tally.{Tally}

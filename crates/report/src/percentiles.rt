@@ -1,7 +1,7 @@
 //! Percentiles by the nearest rank.
 
 ghost use Rattle.std.specs.Prelude.{◌≡◌, ◌≤◌, IfOk};
-ghost use Rattle.admission.specs.Percentile.{sorted};
+ghost use Rattle.admission.specs.Reference.{sorted};
 ghost use Rattle.report.specs.Reports.{percentile, rank};
 
 use std::alloc::{AllocError, Global};

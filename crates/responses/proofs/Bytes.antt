@@ -3,13 +3,12 @@ use Rattle.std.proofs.Common.{◌≡◌, ℕ, zero, suc, ◌/◌, ◌%◌, ◌==
 use Rattle.std.proofs.lemmas.Bool.Decides.{nat_tests}
 use Rattle.std.proofs.lemmas.List.Elements.{All-cons, All-nil}
 use Rattle.std.specs.List.{list_all}
-use Rattle.std.specs.Char.{is_ascii_digit}
+use Rattle.std.specs.Char.{is_ascii_digit, is_ascii_graphic}
 use Rattle.std.specs.Fmt.{digits, digits_onto, digit_glyph}
 use Rattle.httparse.specs.Grammar.{AllPass, is_value_byte, is_ows}
 use Rattle.page_cache.specs.declared.media.MediaType.{MediaType}
 use Rattle.page_cache.specs.declared.media.MediaType.TheVariants.{Html, Css, JavaScript, Json, Plain, Svg, Png, Jpeg, Gif, OctetStream}
-use Rattle.page_cache.specs.Media.{media_text}
-use Rattle.std.specs.Char.{is_ascii_graphic}
+use Rattle.page_cache.specs.Reference.{media_text}
 
 pub both : (a b : Bool) → a && b ≡ true → (a ≡ true) × (b ≡ true)
 both true true h = (refl, refl)

@@ -13,7 +13,7 @@ use Rattle.responses.proofs.Bytes.{both, Good, joined}
 use Rattle.httpdate.proofs.CalendarLemmas.{days_of_years_closed, days_of_months_all}
 use Rattle.httpdate.proofs.Theorems.{date_text_is}
 use Rattle.httpdate.proofs.ValidLemmas.{is_valid_complete}
-use Rattle.responses.specs.Dates.{year_from, month_from, parts_at, imf_date}
+use Rattle.responses.specs.Reference.{year_from, month_from, parts_at, imf_date}
 
 -- the year that was found is one of those that were looked at, the day lies in it, and no day was lost
 record InYear (most year day : ℕ) (found : ℕ × ℕ) : Type 0 where

@@ -15,8 +15,8 @@ use Rattle.responses.specs.declared.slip.Status.TheVariants.{BadRequest, NotFoun
 use Rattle.responses.specs.declared.slip.Given.{Given}
 use Rattle.responses.specs.declared.slip.Given.TheVariants.{Page, Known, Unmodified, Moved, Plain}
 use Rattle.responses.specs.declared.slip.Slip.{Slip}
-use Rattle.responses.specs.Dates.{imf_date}
-use Rattle.responses.specs.Replies.{status_words, status_of, content_type, content_length, last_modified, location_of, allow_of, retry_after_of, connection_of, field_line, fields_of, head_text, HasLocation}
+use Rattle.responses.specs.Reference.{imf_date, status_words, status_of, content_type, content_length, last_modified, location_of, allow_of, retry_after_of, connection_of, field_line, fields_of, head_text}
+use Rattle.responses.specs.Replies.{HasLocation}
 use Rattle.responses.proofs.Bytes.{Good, passes, decimal_value, media_value, location_value}
 use Rattle.responses.proofs.DateLemmas.{good_imf_date}
 

@@ -2,10 +2,11 @@
 use Rattle.std.proofs.Common.{◌≡◌, ℕ, List, [], ◌++◌, length, codes, decimal, Some, true, false, cond, sym, ap, ◌∙◌}
 use Rattle.std.proofs.lemmas.List.{append_assoc, append-nil}
 use Rattle.paths.specs.declared.file.File.{File}
-use Rattle.page_cache.specs.Media.{media_of, media_text, entity_fields}
+use Rattle.page_cache.specs.Reference.{media_of, media_text}
+use Rattle.page_cache.specs.Media.{entity_fields}
 use Rattle.page_cache.specs.Pages.{page_fields}
 use Rattle.responses.specs.declared.slip.Slip.{Slip}
-use Rattle.responses.specs.Replies.{field_line, head_text, content_of, reply_text}
+use Rattle.responses.specs.Reference.{field_line, head_text, content_of, reply_text}
 
 -- the two fields that a page holds are those of the table
 page_fields_are : (f : File) → page_fields f ≡ field_line (codes "Content-Type") (Some (media_text (media_of f.name))) ++ field_line (codes "Content-Length") (Some (decimal (length f.bytes)))

@@ -10,7 +10,7 @@ use Rattle.std.proofs.lemmas.Fmt.{decimal_is_IsNumeral, decimal_nonempty}
 use Rattle.httparse.specs.Grammar.{Field, ResponseHead, status_code, is_ows, skip_ows, trim_ows}
 use Rattle.httparse.proofs.TrimLemmas.{trim_ows_space}
 use Rattle.httparse.proofs.GrammarLemmas.{response_unique}
-use Rattle.http_requests.specs.Heads.{is_given, lines_of, values_of}
+use Rattle.http_requests.specs.Reference.{is_given, lines_of, values_of}
 use Rattle.paths.specs.declared.file.File.{File}
 use Rattle.responses.specs.declared.slip.Given.{Given}
 use Rattle.responses.specs.declared.slip.Given.TheVariants.{Page, Known, Unmodified, Moved, Plain}
@@ -18,8 +18,8 @@ use Rattle.responses.specs.declared.slip.Slip.{Slip}
 use Rattle.std.specs.Str.Parse.{digits_value}
 use Rattle.responses.specs.declared.slip.Status.{Status}
 use Rattle.responses.specs.declared.slip.Status.TheVariants.{BadRequest, NotFound, MethodNotAllowed, ContentTooLarge, NotImplemented, ServiceUnavailable}
-use Rattle.responses.specs.Dates.{imf_date}
-use Rattle.responses.specs.Replies.{content_type, last_modified, location_of, allow_of, retry_after_of, connection_of, plain_status, status_of, content_length, content_of, fields_of, head_text, body_text, reply_text, HasLocation, OnlyHead}
+use Rattle.responses.specs.Reference.{imf_date, content_type, last_modified, location_of, allow_of, retry_after_of, connection_of, plain_status, status_of, content_length, content_of, fields_of, head_text, body_text, reply_text}
+use Rattle.responses.specs.Replies.{HasLocation, OnlyHead}
 use Rattle.responses.specs.Messages.{told_length, body_length, is_bodyless, Reads, IsHead, IsReply}
 use Rattle.responses.proofs.Bytes.{both, decimal_digits, decimal_no_space}
 use Rattle.responses.proofs.Heads.{add_field, parsed, in_words, head_of, head_printed, head_valid}

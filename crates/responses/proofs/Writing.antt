@@ -3,7 +3,7 @@ use Rattle.std.proofs.Common.{◌≡◌, ℕ, ◌+◌, ◌<◌, List, [], ◌∷
 use Rattle.std.proofs.lemmas.List.{append_assoc, length-append, take-append-le}
 use Rattle.std.proofs.Math.Seq.{take-add, take-append-add}
 use Rattle.std.specs.Io.KnownBytes.{Appends}
-use Rattle.responses.specs.Records.{record_line, record_text}
+use Rattle.responses.specs.Reference.{record_line, record_text}
 
 -- a record in the parts in which it is written
 pub record_parts : (reply : ℕ × ℕ × List ℕ) (line shown front body : List ℕ) → shown ≡ line → line ≡ record_line reply.0 reply.1 (length front + length body) → reply.2 ≡ front ++ body

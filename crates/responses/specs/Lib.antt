@@ -1,5 +1,3 @@
-pub mod Dates
 pub mod Messages
-pub mod Records
+pub mod Reference
 pub mod Replies
-pub mod Statuses

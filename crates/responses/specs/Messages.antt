@@ -1,10 +1,10 @@
 -- A reply as a client reads it from a connection (RFC 9112): a head by the grammar of `httparse`, and then as many
 -- bytes of body as the head tells.
-use Rattle.std.specs.Prelude.{◌≡◌, ℕ, ◌/◌, ◌==◌, ◌||◌, Bool, true, false, List, [], ◌∷◌, ◌++◌, length}
-use Rattle.std.specs.Prelude.{Option, Some, None, codes, if◌then◌else◌}
+use Rattle.std.specs.Prelude.{◌≡◌, ℕ, ◌/◌, ◌==◌, ◌||◌, Bool, true, false, List, [], ◌∷◌, ◌++◌, length, Option, Some}
+use Rattle.std.specs.Prelude.{None, codes, if◌then◌else◌}
 use Rattle.std.specs.Str.Parse.{digits_value}
 use Rattle.httparse.specs.Grammar.{ResponseHead, ReadsResponse, status_code}
-use Rattle.http_requests.specs.Heads.{is_given, is_numeral, lines_of, values_of}
+use Rattle.http_requests.specs.Reference.{is_given, is_numeral, lines_of, values_of}
 
 -- the number of a lone Content-Length: one digit or more, and nothing else (RFC 9110, 8.6)
 abbrev pub told_length : List (List ℕ) → Option ℕ

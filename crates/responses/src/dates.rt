@@ -1,7 +1,7 @@
 //! The texts of dates, each kept for the next head of the same second.
 ghost use Rattle.std.specs.Prelude.{◌≡◌, ◌≤◌};
 ghost use Rattle.paths.specs.Snapshots.{max_time};
-ghost use Rattle.responses.specs.Dates.{imf_date};
+ghost use Rattle.responses.specs.Reference.{imf_date};
 
 use httpdate::HttpDate;
 

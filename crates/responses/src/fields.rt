@@ -3,9 +3,9 @@
 ghost use Rattle.std.specs.Prelude.{◌≡◌, ◌≤◌, ◌++◌, OnOk, decimal, codes, min};
 ghost use Rattle.std.specs.Option.{option_map};
 ghost use Rattle.paths.specs.Snapshots.{max_time};
-ghost use Rattle.responses.specs.Dates.{imf_date};
-ghost use Rattle.responses.specs.Replies.{plain_words, status_words, content_type, content_length, last_modified};
-ghost use Rattle.responses.specs.Replies.{location_of, allow_of, retry_after_of, connection_of, field_line};
+ghost use Rattle.responses.specs.Reference.{imf_date, plain_words, status_words, content_type, content_length};
+ghost use Rattle.responses.specs.Reference.{last_modified, location_of, allow_of, retry_after_of, connection_of};
+ghost use Rattle.responses.specs.Reference.{field_line};
 
 use crate::dates::DateText;
 use crate::head::{push_date, push_field, push_number};

@@ -2,8 +2,7 @@
 
 ghost use Rattle.std.specs.Prelude.{◌≡◌, ◌≤◌, ◌++◌, OnOk, Some, codes, decimal};
 ghost use Rattle.paths.specs.Snapshots.{max_time};
-ghost use Rattle.responses.specs.Dates.{imf_date};
-ghost use Rattle.responses.specs.Replies.{field_line};
+ghost use Rattle.responses.specs.Reference.{imf_date, field_line};
 
 use crate::dates::DateText;
 use itoa::Buffer;

@@ -1,14 +1,15 @@
 //! A reply as a record of the replies text.
 
 ghost use Rattle.std.specs.Prelude.{◌≡◌, ◌<◌, ◌≤◌, ◌+◌, ◌-◌, ◌^◌, ◌++◌, [], ◌∷◌, decimal};
-ghost use Rattle.paths.specs.Devices.{CanFail, WritesProperPrefix, CountsFailed};
+ghost use Rattle.devices.specs.Devices.{CanFail, WritesProperPrefix, CountsFailed};
 ghost use Rattle.arrayvec.specs.ArrayVec.{array_vec_len};
-ghost use Rattle.responses.specs.Records.{record_line, record_text};
+ghost use Rattle.responses.specs.Reference.{record_line, record_text};
 
 use crate::Reply;
 use arrayvec::ArrayVec;
+use devices::{Failed, Output};
 use itoa::Buffer;
-use paths::{Failed, Output, Tree};
+use paths::Tree;
 use std::io;
 use thiserror::Error;
 

@@ -2,7 +2,7 @@
 
 ghost use Rattle.std.specs.Prelude.{◌≡◌, ◌≤◌, [], OnOk};
 ghost use Rattle.paths.specs.Snapshots.{max_time};
-ghost use Rattle.responses.specs.Replies.{head_text};
+ghost use Rattle.responses.specs.Reference.{head_text};
 
 use crate::Slip;
 use crate::dates::Dates;

@@ -1,12 +1,12 @@
 //! All that a reply is made of: the slip, and its parts.
 
 ghost use Rattle.std.specs.Prelude.{◌≡◌, slice_get};
-ghost use Rattle.responses.specs.Replies.{plain_status, status_of};
-ghost use Rattle.responses.specs.Statuses.{statuses};
+ghost use Rattle.responses.specs.Reference.{plain_status, status_of, statuses};
 
 use crate::SharedPage;
+use devices::Bytes;
 use page_cache::MediaType;
-use paths::{Bytes, Tree};
+use paths::Tree;
 
 /// What a reply tells of its connection (RFC 9112, section 9.3).
 #[derive(Clone, Copy, Debug, PartialEq, Eq)]

@@ -3,8 +3,9 @@ ghost use Rattle.std.specs.Prelude.{◌≡◌, ◌≤◌, ◌<◌, true, length}
 ghost use Rattle.std.specs.List.{list_all};
 ghost use Rattle.responses.specs.Replies.{OnlyHead, HasLocation};
 
+use devices::{Bytes, Input, Output};
 use page_cache::Page;
-use paths::{Bytes, Input, Output, Snapshot, Tree};
+use paths::{Snapshot, Tree};
 use responses::{Given, Link, SharedPage, Slip, render, write_reply};
 use std::alloc::Global;
 use std::marker::Brand;

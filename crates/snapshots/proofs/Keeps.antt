@@ -5,9 +5,10 @@ use Rattle.std.proofs.Math.Seq.{get_or-append_seam}
 use Rattle.std.proofs.lemmas.List.{append_assoc, length-append, map-append}
 use Rattle.std.proofs.lemmas.List.Elements.{filter-append}
 use Rattle.std.proofs.lemmas.Grind.{flat_map-append}
-use Rattle.paths.specs.Ascii.{line_feed}
+use Rattle.devices.specs.Reference.{line_feed}
+use Rattle.paths.specs.Reference.{no_file, file_of}
 use Rattle.paths.specs.declared.file.File.{File}
-use Rattle.paths.specs.Snapshots.{no_file, file_of, file_text, last_line, text_before_end, snapshot_text, max_text_bytes, IsSnapshot, Follows}
+use Rattle.paths.specs.Snapshots.{file_text, last_line, text_before_end, snapshot_text, max_text_bytes, IsSnapshot, Follows}
 use Rattle.paths.proofs.OneList.{header}
 use Rattle.snapshots.specs.declared.so_far.SoFar.{SoFar}
 use Rattle.snapshots.specs.Keeping.{last_name, lengths_within, IsSoFar, Grown}

@@ -8,9 +8,9 @@ use Rattle.std.proofs.lemmas.List.{take_at, take_all}
 use Rattle.std.proofs.lemmas.List.Folds.{list_any_more}
 use Rattle.std.proofs.lemmas.List.Elements.{filter_more}
 use Rattle.std.proofs.lemmas.Slice.Eq.{starts_is}
-use Rattle.paths.specs.Ascii.{slash}
+use Rattle.paths.specs.Reference.{slash, file_of, no_file, lies_in}
 use Rattle.paths.specs.declared.file.File.{File}
-use Rattle.paths.specs.Snapshots.{file_of, no_file, comes_before, lies_in, IsSnapshot}
+use Rattle.paths.specs.Snapshots.{comes_before, IsSnapshot}
 use Rattle.paths.proofs.Names.{not_true, order_by_last, begins_between}
 use Rattle.snapshots.specs.Keeping.{last_name, lengths_within}
 

@@ -6,9 +6,11 @@ use Rattle.std.proofs.lemmas.Bool.{cases_lt, ne_eqb}
 use Rattle.std.proofs.lemmas.Bool.Decides.{nat_tests}
 use Rattle.std.proofs.lemmas.Fmt.{length-decimal-le}
 use Rattle.paths.specs.declared.file.File.{File}
-use Rattle.paths.specs.Snapshots.{max_time, max_file_bytes, max_files, max_name_bytes, max_text_bytes, is_name, comes_before, lies_in, file_text, text_before_end, snapshot_text, IsFile, IsSnapshot, IsSnapshotText, Follows}
+use Rattle.paths.specs.Reference.{lies_in}
+use Rattle.paths.specs.Snapshots.{max_time, max_file_bytes, max_files, max_name_bytes, max_text_bytes, is_name, comes_before, file_text, text_before_end, snapshot_text, IsFile, IsSnapshot, IsSnapshotText, Follows}
 use Rattle.paths.proofs.Names.{order_by_last}
-use Rattle.paths.proofs.NoFault.{pass, follows_prefix}
+use Rattle.devices.proofs.Again.{pass}
+use Rattle.paths.proofs.NoFault.{follows_prefix}
 use Rattle.paths.proofs.FilesOrFault.{rules_more}
 use Rattle.snapshots.specs.declared.so_far.SoFar.{SoFar}
 use Rattle.snapshots.specs.Rules.{is_good_name, broken_rule}

@@ -3,9 +3,9 @@ use Rattle.std.proofs.Common.{◌≡◌, ℕ, ◌+◌, Bool, true, false, List, 
 use Rattle.std.proofs.lemmas.Fmt.{length-decimal-le}
 use Rattle.std.proofs.lemmas.List.{append_assoc, length-append}
 use Rattle.std.specs.Io.KnownBytes.{Appends}
-use Rattle.paths.proofs.Appending.{appends_then, prefix_first, prefix_all, prefix_then}
-use Rattle.paths.specs.Ascii.{line_feed}
-use Rattle.paths.specs.Devices.{AppendsPrefix}
+use Rattle.devices.proofs.Appending.{appends_then, prefix_first, prefix_all, prefix_then}
+use Rattle.devices.specs.Reference.{line_feed}
+use Rattle.devices.specs.Devices.{AppendsPrefix}
 use Rattle.paths.specs.declared.file.File.{File}
 use Rattle.paths.specs.Snapshots.{file_line, file_text, last_line, text_before_end, snapshot_text, IsSnapshotText}
 use Rattle.paths.proofs.FilesOrFault.{rules_none, rules_more}

@@ -3,8 +3,9 @@ use Rattle.std.specs.Prelude.{◌≡◌, ℕ, ◌+◌, ◌-◌, ◌^◌, not, Li
 use Rattle.std.specs.Prelude.{Some, None, nat_eq, nat_lt, nat_le, if◌then◌else◌}
 use Rattle.std.specs.List.{list_any, filter, starts_with}
 use Rattle.paths.specs.declared.file.File.{File}
-use Rattle.paths.specs.Snapshots.{max_time, max_file_bytes, max_files, max_text_bytes, comes_before, lies_in, file_of}
-use Rattle.paths.specs.Snapshots.{file_text, text_before_end}
+use Rattle.paths.specs.Reference.{lies_in, file_of}
+use Rattle.paths.specs.Snapshots.{max_time, max_file_bytes, max_files, max_text_bytes, comes_before, file_text}
+use Rattle.paths.specs.Snapshots.{text_before_end}
 use Rattle.snapshots.specs.Rules.{is_good_name}
 use Rattle.snapshots.specs.declared.write_fault.WriteFault.{WriteFault}
 use Rattle.snapshots.specs.declared.write_fault.WriteFault.TheVariants.{Time, Size, Count, Name, Order, Conflict, Text}

@@ -4,7 +4,8 @@ use Rattle.std.specs.Prelude.{if◌then◌else◌}
 use Rattle.std.specs.List.{list_all, list_any}
 use Rattle.paths.specs.declared.file.File.{File}
 use Rattle.paths.specs.Snapshots.{max_time, max_file_bytes, max_files, max_name_bytes, max_text_bytes, is_name}
-use Rattle.paths.specs.Snapshots.{comes_before, lies_in, snapshot_text}
+use Rattle.paths.specs.Snapshots.{comes_before, snapshot_text}
+use Rattle.paths.specs.Reference.{lies_in}
 use Rattle.snapshots.specs.declared.write_fault.WriteFault.{WriteFault}
 use Rattle.snapshots.specs.declared.write_fault.WriteFault.TheVariants.{Time, Size, Count, Name, Order, Conflict, Text}
 

@@ -1,7 +1,7 @@
 -- A writer of a snapshot's text, which takes file after file.
 use Rattle.std.specs.Prelude.{◌≡◌, ℕ, ◌+◌, ◌≤◌, List, length, Option, Some, None, Result, Ok, Err, MatchResult}
 use Rattle.std.specs.Io.KnownBytes.{Appends}
-use Rattle.paths.specs.Devices.{CountsBy}
+use Rattle.devices.specs.Devices.{CountsBy}
 use Rattle.paths.specs.declared.file.File.{File}
 use Rattle.paths.specs.Snapshots.{max_text_bytes, text_before_end, snapshot_text, IsSnapshot}
 use Rattle.snapshots.specs.declared.write_fault.WriteFault.{WriteFault}

@@ -2,7 +2,8 @@
 
 ghost use Rattle.std.specs.Prelude.{◌≡◌, ◌++◌, ◌∷◌, [], length, take, nat_eq, IfOk, Bool, if◌then◌else◌};
 ghost use Rattle.std.specs.List.{list_any, starts_with, filter};
-ghost use Rattle.paths.specs.Snapshots.{comes_before, lies_in};
+ghost use Rattle.paths.specs.Reference.{lies_in};
+ghost use Rattle.paths.specs.Snapshots.{comes_before};
 
 use std::alloc::{AllocError, Global};
 

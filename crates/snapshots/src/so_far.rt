@@ -1,8 +1,7 @@
 //! What the rules ask of the files so far.
 
-ghost use Rattle.std.specs.Prelude.{◌≡◌, ◌≢◌, ◌≤◌, ◌<◌, ◌-◌, ◌^◌, [], length, decimal};
-ghost use Rattle.std.specs.Prelude.{IfOk, IfErr, IfSome, Err, Some};
-ghost use Rattle.paths.specs.Devices.{CanFail, AppendsPrefix};
+ghost use Rattle.std.specs.Prelude.{◌≡◌, ◌≢◌, ◌≤◌, ◌<◌, ◌-◌, ◌^◌, [], length, decimal, IfOk, IfErr, IfSome, Err, Some};
+ghost use Rattle.devices.specs.Devices.{CanFail, AppendsPrefix};
 ghost use Rattle.paths.specs.Snapshots.{file_text, text_before_end, max_name_bytes, max_file_bytes};
 ghost use Rattle.snapshots.specs.Keeping.{a_file, broken_by, Grown};
 ghost use Rattle.snapshots.specs.Rules.{is_good_name};
@@ -10,8 +9,9 @@ ghost use Rattle.snapshots.specs.Writers.{Took, refused_for, Counts};
 
 use crate::WriteFault;
 use crate::names::Names;
+use devices::Output;
 use itoa::Buffer;
-use paths::{MAX_FILE_BYTES, MAX_FILES, MAX_NAME_BYTES, MAX_TEXT_BYTES, MAX_TIME, Output, is_name};
+use paths::{MAX_FILE_BYTES, MAX_FILES, MAX_NAME_BYTES, MAX_TEXT_BYTES, MAX_TIME, is_name};
 use std::alloc::{AllocError, Global};
 use std::io::Write;
 

@@ -2,12 +2,12 @@
 
 ghost use Rattle.std.specs.Prelude.{◌≡◌, ◌<◌, ◌-◌, ◌^◌, ◌++◌, ◌∷◌, [], codes, decimal, IfOk};
 ghost use Rattle.std.specs.String.{string_bytes};
-ghost use Rattle.paths.specs.Ascii.{line_feed};
-ghost use Rattle.paths.specs.Devices.{CanFail, WritesProperPrefix, CountsFailed};
+ghost use Rattle.devices.specs.Reference.{line_feed};
+ghost use Rattle.devices.specs.Devices.{CanFail, WritesProperPrefix, CountsFailed};
 ghost use Rattle.paths.specs.Snapshots.{file_line};
 ghost use Rattle.snapshots.specs.Keeping.{a_file};
 
-use paths::{Failed, Output};
+use devices::{Failed, Output};
 use std::alloc::{AllocError, Global};
 use std::io::Write;
 

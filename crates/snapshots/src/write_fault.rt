@@ -2,7 +2,7 @@
 
 ghost use Rattle.std.specs.Prelude.{◌≡◌};
 
-use paths::Failed;
+use devices::Failed;
 use std::alloc::AllocError;
 use thiserror::Error;
 

@@ -1,7 +1,7 @@
 //! The writer of a snapshot, file by file.
 
 ghost use Rattle.std.specs.Prelude.{◌≡◌, ◌≢◌, ◌<◌, ◌-◌, ◌^◌, ◌++◌, [], ◌∷◌, ℕ, List, Option, OnOk, IfOk, IfErr};
-ghost use Rattle.paths.specs.Devices.{CanFail, AppendsPrefix, WritesPrefix};
+ghost use Rattle.devices.specs.Devices.{CanFail, AppendsPrefix, WritesPrefix};
 ghost use Rattle.paths.specs.declared.file.File.{File as AFile};
 ghost use Rattle.paths.specs.Snapshots.{text_before_end, snapshot_text, IsSnapshotText};
 ghost use Rattle.snapshots.specs.Keeping.{a_file};
@@ -11,7 +11,7 @@ ghost use Rattle.snapshots.specs.Writers.{Took, refused_for, Counts};
 use crate::WriteFault;
 use crate::so_far::SoFar;
 use crate::texts::{file_head, last_line, write_file};
-use paths::Output;
+use devices::Output;
 use std::alloc::Global;
 use std::io::Write;
 use std::marker::Model;

@@ -1,5 +1,6 @@
 //! What no clause says: that the definitions mean what the rules say, and that calls succeed.
-use paths::{Bytes, File};
+use devices::Bytes;
+use paths::File;
 use std::alloc::{AllocError, Global};
 
 mod failing;

@@ -3,12 +3,11 @@ use Rattle.std.proofs.Common.{◌≡◌, ℕ, zero, suc, ◌+◌, ◌<◌, Bool,
 use Rattle.std.specs.List.{list_all, range_with_len}
 use Rattle.std.specs.Option.{option_map}
 use Rattle.std.proofs.lemmas.List.{length-map}
-use Rattle.stage_graph.specs.Layouts.{Layout, IsPlan}
+use Rattle.stage_graph.specs.Layouts.{Layout, IsPlan, stage_at, is_last}
 use Rattle.stage_graph.specs.Floors.{State, opening, after, after_all, standing, is_legal_from_opening, all_left, all_done, is_stop, has_stop}
 use Rattle.stage_graph.specs.After.{with_steps, slot_mark, last_cut, Parts, FloorAfter}
 use Rattle.stage_graph.specs.declared.event.Event.{Event}
 use Rattle.stage_graph.specs.declared.event.Event.TheVariants.{Feed, Take, Give, Back, Leave, Halt}
-use Rattle.stage_graph.specs.Layouts.{stage_at, is_last}
 use Rattle.stage_graph.proofs.Sizes.{IsSized-standing}
 use Rattle.stage_graph.proofs.Sound.{by_bool}
 use Rattle.stage_graph.proofs.Lists.{same_full, from_slots}

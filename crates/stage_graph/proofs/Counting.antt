@@ -1,26 +1,21 @@
 -- How often a number is taken.
-use Rattle.std.proofs.Common.{◌≡◌, ℕ, ◌+◌, ◌<◌, ◌≤◌, Bool, true, false, cond, List, [], ◌∷◌, length, get_or, nat_le, nat_lt, nat_eq, refl, sym, ap, ◌∙◌, arith}
+use Rattle.std.proofs.Common.{◌≡◌, ℕ, ◌+◌, ◌<◌, ◌≤◌, Bool, true, false, cond, List, [], ◌∷◌, length, get_or, nat_le, nat_lt, nat_eq, refl, sym, ap, ◌∙◌, arith, zero-add, take}
 use Rattle.std.specs.List.{sum_by, range_with_len}
 use Rattle.std.proofs.lemmas.List.Sums.{sum_by-cons}
-use Rattle.std.proofs.lemmas.Bool.{ltb-true, eqb-true}
+use Rattle.std.proofs.lemmas.Bool.{ltb-true, eqb-true, eq-eqb, le-leb}
 use Rattle.std.proofs.lemmas.Bool.Decides.{nat_tests}
 use Rattle.stage_graph.specs.Layouts.{Layout, IsPlan, stages, stage_at, is_last}
-use Rattle.stage_graph.specs.Floors.{State, opening, is_allowed, after, after_all, is_legal, standing, is_legal_from_opening}
+use Rattle.stage_graph.specs.Floors.{State, opening, is_allowed, after, after_all, is_legal, standing, is_legal_from_opening, all_done, all_left}
 use Rattle.stage_graph.specs.Places.{one_at}
 use Rattle.stage_graph.proofs.Weights.{Weights, of_slot, total}
 use Rattle.stage_graph.specs.Counts.{KeepsBounds, is_take, takes_of, is_feed, feeds_of, is_give, gives_of}
 use Rattle.stage_graph.specs.declared.event.Event.{Event}
 use Rattle.stage_graph.specs.declared.event.Event.TheVariants.{Feed, Take, Give, Back, Leave, Halt}
-use Rattle.std.proofs.Common.{zero-add}
-use Rattle.std.proofs.lemmas.Bool.{eq-eqb, le-leb}
-use Rattle.stage_graph.specs.Floors.{all_done}
 use Rattle.stage_graph.proofs.Sizes.{IsSized-standing}
 use Rattle.stage_graph.proofs.Weighing.{get_or-le-sum_from}
 use Rattle.stage_graph.proofs.Leaving.{all_true-get}
 use Rattle.stage_graph.proofs.Histories.{and_left, and_right, legal-take}
 use Rattle.stage_graph.proofs.Capacities.{capacities_hold}
-use Rattle.std.proofs.Common.{take}
-use Rattle.stage_graph.specs.Floors.{all_left}
 use Rattle.stage_graph.specs.Through.{IsWhole}
 use Rattle.stage_graph.proofs.Sound.{short_enough, by_bool, lost, gained, total_after, total-opening, range_within, IsPlaced, IsPlaced-after, IsPlaced-opening}
 

@@ -1,5 +1,5 @@
 -- A floor that all workers have left and that isn't stopped has every number done.
-use Rattle.std.proofs.Common.{◌≡◌, ℕ, zero, suc, ◌+◌, ◌-◌, ◌<◌, ◌≤◌, Bool, true, false, cond, ◌&&◌, ◌||◌, List, [], ◌∷◌, length, get_or, set, take, refl, sym, ap, ◌∙◌, subst, arith, Option, Some, None, nat_lt, nat_le, replicate, zero-add, inl, inr}
+use Rattle.std.proofs.Common.{◌≡◌, ℕ, zero, suc, ◌+◌, ◌-◌, ◌<◌, ◌≤◌, Bool, true, false, cond, ◌&&◌, ◌||◌, List, [], ◌∷◌, length, get_or, set, take, refl, sym, ap, ◌∙◌, subst, arith, Option, Some, None, nat_lt, nat_le, replicate, zero-add, inl, inr, add-one}
 use Rattle.std.specs.List.{sum_by, list_all}
 use Rattle.std.specs.Option.{is_none}
 use Rattle.std.proofs.lemmas.Bool.{ltb-true, ltb-false, lt-ltb, leb-true, leb-false}
@@ -15,7 +15,6 @@ use Rattle.stage_graph.proofs.Histories.{and_left, and_right, and_both}
 use Rattle.stage_graph.proofs.Causes.{none_is, at_is, may_feed, may_take, may_leave}
 use Rattle.stage_graph.proofs.Moves.{give_known}
 use Rattle.stage_graph.proofs.Sound.{IsPlaced, IsPlaced-after, IsPlaced-opening, IsPlaced-standing, by_bool}
-use Rattle.std.proofs.Common.{add-one}
 use Rattle.std.proofs.lemmas.List.Sums.{sum_by-cons}
 
 -- no number in the backlog, in a queue up to stage k, or in a hand of a stage before k

@@ -1,17 +1,14 @@
 -- Lists of items beside lists of numbers.
-use Rattle.std.proofs.Common.{◌≡◌, ℕ, ◌+◌, ◌<◌, Bool, true, false, cond, List, [], ◌∷◌, length, get_or, set, drop, map, nat_eq, refl, sym, ap, ◌∙◌, arith, Option, Some, None}
+use Rattle.std.proofs.Common.{◌≡◌, ℕ, ◌+◌, ◌<◌, Bool, true, false, cond, List, [], ◌∷◌, length, get_or, set, drop, map, nat_eq, refl, sym, ap, ◌∙◌, arith, Option, Some, None, is_some, not, Result, Ok, Err, OnOk, take, zero, suc, slice_get, add-one, drop-cons, ◌||◌, ◌&&◌, nat_le, subst, inl, inr}
 use Rattle.std.proofs.lemmas.List.{get_or_read, get_or-set_same, get_or-set_other, length-map}
 use Rattle.std.proofs.Math.Dec.{eqb-suc-zero}
 use Rattle.std.specs.List.{list_all, range_with_len}
-use Rattle.std.specs.Option.{option_map}
+use Rattle.std.specs.Option.{option_map, is_none}
 use Rattle.stage_queue.specs.Placed.{placing_fault, fault_of}
 use Rattle.stage_queue.specs.declared.slots.Placing.{Placing}
 use Rattle.std.proofs.lemmas.Bool.{eqb-true, eq-eqb, lt-ltb}
-use Rattle.std.proofs.Common.{is_some, not, Result, Ok, Err, OnOk, take, zero, suc, slice_get, add-one, drop-cons, ◌||◌, ◌&&◌, nat_le}
-use Rattle.std.specs.Option.{is_none}
 use Rattle.stage_graph.specs.After.{with_steps}
 use Rattle.std.proofs.lemmas.Bool.Decides.{eqb_tells}
-use Rattle.std.proofs.Common.{subst, inl, inr}
 use Rattle.stage_graph.specs.Floors.{is_nil, is_at, first, idle_before, all_true}
 
 pub is_nil-length : {A : Type 0} (xs : List A) → nat_eq (length xs) 0 ≡ is_nil xs

@@ -1,7 +1,6 @@
 -- What a legal history leaves.
-use Rattle.std.proofs.Common.{◌≡◌, ◌≢◌, ℕ, zero, suc, ◌+◌, ◌-◌, ◌*◌, ◌<◌, ◌≤◌, Bool, true, false, cond, ◌&&◌, List, [], ◌∷◌, ◌++◌, length, get_or, set, refl, sym, ap, ◌∙◌, arith, Option, Some, None, nat_lt, replicate}
+use Rattle.std.proofs.Common.{◌≡◌, ◌≢◌, ℕ, zero, suc, ◌+◌, ◌-◌, ◌*◌, ◌<◌, ◌≤◌, Bool, true, false, cond, ◌&&◌, List, [], ◌∷◌, ◌++◌, length, get_or, set, refl, sym, ap, ◌∙◌, arith, Option, Some, None, nat_lt, replicate, inl, inr, zero-add, zero-mul}
 use Rattle.std.specs.List.{sum_by, range_with_len}
-use Rattle.std.proofs.Common.{inl, inr}
 use Rattle.std.proofs.lemmas.Bool.{ltb-true, ltb-false, lt-ltb, eq-eqb, eqb-false}
 use Rattle.std.proofs.lemmas.Bool.Decides.{eqb_tells}
 use Rattle.std.proofs.lemmas.List.Sums.{sum_by-cons}
@@ -12,7 +11,6 @@ use Rattle.stage_graph.specs.Places.{one_at}
 use Rattle.stage_graph.proofs.Weights.{sum_from, Weights, of_hand, of_slot, of_flag, total, of_number, numbers, to_come}
 use Rattle.stage_graph.specs.declared.event.Cause.{Cause}
 use Rattle.stage_graph.specs.declared.event.Cause.TheVariants.{NotHeld}
-use Rattle.std.proofs.Common.{zero-add, zero-mul}
 use Rattle.std.proofs.lemmas.List.FromFn.{length-range_with_len}
 use Rattle.stage_graph.specs.declared.event.Event.{Event}
 use Rattle.stage_graph.specs.declared.event.Event.TheVariants.{Feed, Take, Give, Back, Leave, Halt}

@@ -3,7 +3,8 @@ use Rattle.std.proofs.Common.{◌≡◌, ℕ, zero, suc, ◌+◌, ◌-◌, ◌*�
 use Rattle.std.specs.Prelude.{sum_by}
 use Rattle.std.specs.List.{range_with_len}
 use Rattle.std.proofs.lemmas.List.Sums.{sum_by-cons}
-use Rattle.token_bucket.specs.Accrual.{accrual, AccrualSplits}
+use Rattle.token_bucket.specs.Reference.{accrual}
+use Rattle.token_bucket.specs.Accrual.{AccrualSplits}
 
 -- the sum over n ticks from s on
 unfoldable total : (ℕ → ℕ) → ℕ → ℕ → ℕ

@@ -3,7 +3,7 @@ use Rattle.std.proofs.Common.{◌≡◌, ℕ, ◌+◌, ◌-◌, ◌*◌, ◌<◌
 use Rattle.std.specs.Prelude.{count_by, nat_lt, if◌then◌else◌}
 use Rattle.std.proofs.lemmas.List.Sums.{sum_by_push}
 use Rattle.std.proofs.lemmas.Bool.{lt-ltb, le-ltb, ltb-false}
-use Rattle.token_bucket.specs.Limits.{TOKEN}
+use Rattle.token_bucket.specs.Reference.{TOKEN}
 use Rattle.token_bucket.specs.Calls.{Call, tick_after, rate_after, takes_token, clock, rate_at, accrued, balance, least_balance}
 use Rattle.token_bucket.specs.After.{last_rate, IsForward, IsCovered}
 use Rattle.token_bucket.proofs.AccrualLemmas.{accrual-split, accrual-agree, accrual-constant, accrual-none}

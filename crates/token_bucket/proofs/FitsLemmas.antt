@@ -1,6 +1,6 @@
 -- A bucket that fits the calls before one more call, and the bucket after it.
 use Rattle.std.proofs.Common.{◌≡◌, ℕ, ◌+◌, ◌-◌, ◌*◌, ◌≤◌, min, Bool, true, false, cond, refl, sym, ◌∙◌, arith}
-use Rattle.token_bucket.specs.Limits.{TOKEN}
+use Rattle.token_bucket.specs.Reference.{TOKEN}
 use Rattle.token_bucket.specs.Calls.{Call, Past, made, and_then, tick_after, rate_after, takes_token, clock, credit_of}
 use Rattle.token_bucket.specs.After.{last_rate, IsForward, IsCovered, BucketAfter}
 use Rattle.token_bucket.specs.Standing.{Standing}

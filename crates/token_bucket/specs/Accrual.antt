@@ -1,14 +1,6 @@
 -- What a bucket gains while time passes.
-use Rattle.std.specs.Prelude.{◌≡◌, ℕ, ◌+◌, ◌-◌, ◌≤◌, List, sum_by}
-use Rattle.std.specs.List.{range_with_len}
-
--- the ticks s, s + 1, .. below t
-abbrev pub ticks : ℕ → ℕ → List ℕ
-ticks s t = range_with_len s (t - s)
-
--- the sum of the rates of the ticks from s on below t
-unfoldable pub accrual : (ℕ → ℕ) → ℕ → ℕ → ℕ
-accrual rate s t = sum_by rate (ticks s t)
+use Rattle.std.specs.Prelude.{◌≡◌, ℕ, ◌+◌, ◌≤◌}
+use Rattle.token_bucket.specs.Reference.{accrual}
 
 -- the ticks from s to t and those from t to u are the ticks from s to u
 abbrev pub AccrualSplits : Type 0

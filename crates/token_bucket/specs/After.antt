@@ -1,6 +1,6 @@
 -- What a bucket keeps of the calls on it.
 use Rattle.std.specs.Prelude.{◌≡◌, ℕ, ◌+◌, ◌*◌, ◌≤◌, List, [], ◌∷◌, count_by}
-use Rattle.token_bucket.specs.Limits.{TOKEN}
+use Rattle.token_bucket.specs.Reference.{TOKEN}
 use Rattle.token_bucket.specs.Calls.{Call, Past, tick_after, rate_after, takes_token, clock, accrued, credit_of}
 use Rattle.token_bucket.specs.Standing.{Standing}
 

@@ -1,7 +1,8 @@
-pub mod Limits
 pub mod Accrual
-pub mod Calls
-pub mod Standing
 pub mod After
+pub mod Calls
+pub mod Limits
 pub mod Ranges
+pub mod Reference
 pub mod Running
+pub mod Standing

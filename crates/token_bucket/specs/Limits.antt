@@ -1,10 +1,6 @@
 -- The limits of a bucket, by their numbers; the code has constants of the same names.
 use Rattle.std.specs.Prelude.{ℕ}
 
--- how many units make a token
-abbrev pub TOKEN : ℕ
-TOKEN = 1000000000
-
 -- the greatest depth, in tokens
 abbrev pub MAX_DEPTH : ℕ
 MAX_DEPTH = 1000000

@@ -1,6 +1,7 @@
 -- The ranges that each `Bucket` keeps.
 use Rattle.std.specs.Prelude.{◌*◌, ◌≤◌}
-use Rattle.token_bucket.specs.Limits.{TOKEN, MAX_DEPTH, MAX_RATE, MAX_TICK}
+use Rattle.token_bucket.specs.Reference.{TOKEN}
+use Rattle.token_bucket.specs.Limits.{MAX_DEPTH, MAX_RATE, MAX_TICK}
 use Rattle.token_bucket.specs.Standing.{Standing}
 
 pub record IsInRange (b : Standing) : Type 0 where

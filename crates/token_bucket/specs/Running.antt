@@ -1,6 +1,6 @@
 -- The running credit: what one more call makes of the credit before it.
 use Rattle.std.specs.Prelude.{◌≡◌, ℕ, ◌+◌, ◌-◌, ◌*◌, ◌≤◌, min, if◌then◌else◌}
-use Rattle.token_bucket.specs.Limits.{TOKEN}
+use Rattle.token_bucket.specs.Reference.{TOKEN}
 use Rattle.token_bucket.specs.Calls.{Call, Past, and_then, tick_after, rate_after, takes_token, credit_of}
 use Rattle.token_bucket.specs.Standing.{Standing}
 use Rattle.token_bucket.specs.After.{BucketAfter}

@@ -2,7 +2,7 @@
 
 use anyhow::{Result, bail};
 use command_line::Engine;
-use runs::Wanted;
+use program::Wanted;
 use std::alloc::Global;
 
 /// What the requests are like.

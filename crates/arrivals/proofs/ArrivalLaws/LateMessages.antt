@@ -5,8 +5,9 @@ use Rattle.std.proofs.lemmas.Bool.{cases_lt}
 use Rattle.std.proofs.lemmas.List.{length-append, take-append-le, drop-append-le}
 use Rattle.http_requests.specs.declared.messages.Message.{Message}
 use Rattle.http_requests.specs.declared.messages.Meaning.{Meaning}
-use Rattle.http_requests.specs.Framing.{blank_len, IsWhole, IsOver, IsNext, Messages, closes}
-use Rattle.http_requests.proofs.FrontLemmas.{blank_append, blank_kept, front_kept, ends_within, ends_append, next_within}
+use Rattle.http_requests.specs.Reference.{blank_len, IsWhole, IsOver, IsNext, Messages, closes}
+use Rattle.http_requests.proofs.FrontLemmas.{blank_append, blank_kept, front_kept, next_within}
+use Rattle.http_requests.proofs.EndLaws.{ends_within, ends_longer, ends_shorter}
 
 -- a message takes two bytes at least
 front_two : (s : List ℕ) (w : Meaning) (k : ℕ) → (IsWhole s w k ⊎ IsOver s w k) → 2 ≤ k
@@ -22,8 +23,8 @@ front_shorter s y w k le (inl h) =
       e = h.e;
       verdict = h.verdict;
       block = record {
-        ends = rw (← ends_append s y h.e e) h.block.ends;
-        first = λ i below ends. h.block.first i below (rw (ends_append s y i (omega (arith, below, e))) ends);
+        ends = ends_shorter s y h.e e h.block.ends;
+        first = λ i below ends. h.block.first i below (ends_longer s y i (omega (arith, below, e)) ends);
         short = h.block.short;
       };
       says = rw (← take-append-le h.e s y e) h.says;
@@ -34,7 +35,7 @@ front_shorter s y w k le (inl h) =
 front_shorter s y w k le (inr h) =
     let is = h.k_is in
     inr (record {
-      none = λ e short ends. h.none e short (rw (ends_append s y e (omega (arith, is, le, short))) ends);
+      none = λ e short ends. h.none e short (ends_longer s y e (omega (arith, is, le, short)) ends);
       what_is = h.what_is;
       k_is = h.k_is;
       within = omega (arith, is, le);

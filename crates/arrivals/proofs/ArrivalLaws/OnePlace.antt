@@ -7,8 +7,8 @@ use Rattle.std.proofs.lemmas.Option.{none-some, same_Some}
 use Rattle.std.proofs.lemmas.List.{length-append}
 use Rattle.captures.specs.declared.record.Record.{Record}
 use Rattle.captures.specs.declared.record.Record.TheVariants.{Piece, End, Tier}
-use Rattle.captures.specs.Captures.{tier_of}
-use Rattle.arrivals.specs.Arrivals.{bytes_to, text_of, Arrival, ArrivesWith, Precedes}
+use Rattle.captures.specs.Reference.{tier_of}
+use Rattle.arrivals.specs.Reference.{bytes_to, text_of, Arrival, ArrivesWith, Precedes}
 
 own_bytes : (tick c : ℕ) (bytes : List ℕ) → bytes_to c (Piece tick c bytes) ≡ bytes
 own_bytes tick c bytes = elim (eqb_tells c c) [

@@ -1,7 +1,7 @@
 //! Out of memory: `checks/refuse_growths.py` refuses each growth of this test in turn, and two in a row.
 
 use super::Seats;
-use paths::Bytes;
+use devices::Bytes;
 use std::alloc::{AllocError, Global};
 
 /// The connections of some pieces: of many that wait at one seat, and of the first at another.

@@ -2,12 +2,12 @@
 //! bytes of the input were the text of just these records, or the fault is the first of the text.
 ghost use Rattle.std.specs.Prelude.{◌≡◌, ◌<◌, ◌-◌, ◌^◌, [], true, IfOk, IfErr};
 ghost use Rattle.std.specs.Option.{is_some, unwrap_or};
-ghost use Rattle.paths.specs.Devices.{CanFail};
-ghost use Rattle.captures.specs.Captures.{IsCaptureText};
+ghost use Rattle.devices.specs.Devices.{CanFail};
+ghost use Rattle.captures.specs.Reference.{IsCaptureText};
 ghost use Rattle.captures.specs.CaptureFaults.{IsForeseen, IsFirstFault, CountsFault};
 
 use captures::{CaptureFault, CaptureFaultKind, CaptureReader, Record, Version};
-use paths::Input;
+use devices::Input;
 use std::alloc::Global;
 use std::io::Read;
 

@@ -4,7 +4,7 @@ ghost use Rattle.std.specs.Prelude.{◌≡◌, ◌≤◌};
 use crate::tests::collecting::collect;
 use crate::tests::{fault, fault_of};
 use captures::{CaptureFault, CaptureFaultKind as Kind, CaptureReader, Record};
-use paths::Input;
+use devices::Input;
 use std::alloc::Global;
 use std::io::Read;
 use test_devices::Flaky;

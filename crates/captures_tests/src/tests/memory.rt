@@ -1,7 +1,7 @@
 //! Out of memory: `checks/refuse_growths.py` refuses each growth in turn.
 use crate::tests::{is_end, is_piece};
 use captures::{CaptureFaultKind as Kind, CaptureReader};
-use paths::Input;
+use devices::Input;
 
 /// Only a piece takes memory. A growth that is refused is answered so, with the record, and then again; else the
 /// answers are right.

@@ -2,7 +2,7 @@
 use crate::tests::collecting::collect;
 use crate::tests::{is_end, is_piece};
 use captures::{CaptureReader, Version};
-use paths::Input;
+use devices::Input;
 use std::test::Fail;
 
 /// A request of 32 bytes.

@@ -4,7 +4,7 @@ ghost use Rattle.std.specs.Prelude.{◌≡◌, ◌≤◌};
 use crate::tests::collecting::collect;
 use crate::tests::{fault, fault_of, is_piece, is_tier};
 use captures::{CaptureFaultKind as Kind, Version};
-use paths::Input;
+use devices::Input;
 use std::test::Fail;
 
 /// A request of 32 bytes.

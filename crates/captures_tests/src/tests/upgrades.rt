@@ -1,7 +1,7 @@
 //! Captures upgraded to version 2.
 use crate::tests::fault;
 use captures::{CaptureFaultKind as Kind, UpgradeFault, upgrade};
-use paths::{Input, Output};
+use devices::{Input, Output};
 use std::alloc::Global;
 use test_devices::{Flaky, Slow};
 

@@ -3,8 +3,8 @@ ghost use Rattle.std.specs.Prelude.{◌≤◌};
 
 use crate::tests::inspect_bytes;
 use captures::CaptureFaultKind as Kind;
+use devices::Input;
 use inspection::{InspectFault, inspect};
-use paths::Input;
 use test_devices::Flaky;
 
 static CAPTURE: &str =

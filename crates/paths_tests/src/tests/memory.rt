@@ -1,7 +1,8 @@
 //! Out of memory: `checks/refuse_growths.py` refuses each growth in turn.
 use super::names::{found, text_of};
 use crate::tests::{fault, fault_of};
-use paths::{Input, Outcome, Snapshot, SnapshotFault, SnapshotFaultKind as Kind, resolve};
+use devices::Input;
+use paths::{Outcome, Snapshot, SnapshotFault, SnapshotFaultKind as Kind, resolve};
 use test_devices::Flaky;
 
 static ONE: &str = "haboob-snapshot 1\nfile 784111777 7 3\na/b.txt\nhi\n\nend 1\n";

@@ -1,6 +1,7 @@
 //! The snapshot text, entry by entry.
 use crate::tests::{EMPTY, fault, fault_of, snapshot};
-use paths::{Input, Snapshot, SnapshotFault, SnapshotFaultKind as Kind};
+use devices::Input;
+use paths::{Snapshot, SnapshotFault, SnapshotFaultKind as Kind};
 use std::alloc::{AllocError, Global};
 use std::test::Fail;
 use test_devices::Flaky;

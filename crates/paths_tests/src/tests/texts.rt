@@ -1,7 +1,7 @@
 //! Lines and runs at the end of what a text may take.
-ghost use Rattle.paths.specs.Devices.{CanFail};
+ghost use Rattle.devices.specs.Devices.{CanFail};
 
-use paths::{Input, Line, Stop, number, read_byte_of, read_line, read_long_line, read_run};
+use devices::{Input, Line, Stop, number, read_byte_of, read_line, read_long_line, read_run};
 
 /// A text, how many bytes of it may be taken, and the length of its first line.
 static LINES: [(&str, usize, Result<usize, Stop>); 13] = [

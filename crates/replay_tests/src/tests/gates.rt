@@ -3,7 +3,7 @@ use super::running::{
     A, DEFAULT_SHAPE, Engine, FILES, Shape, capture_of, default_costs, default_policy, is_same,
     outline, run_devices, run_engine, shaped,
 };
-use paths::{Input, Output};
+use devices::{Input, Output};
 use replay::Settings;
 use stage_graph::{Gate, NoGate};
 use std::alloc::{AllocError, AllocGlobal, Global};

@@ -2,7 +2,7 @@
 use super::running::{
     A, DEFAULT_SHAPE, Engine, FILES, Shape, default_costs, default_policy, run, run_devices, shaped,
 };
-use paths::{Input, Output};
+use devices::{Input, Output};
 use replay::{ReplayFault, Settings};
 use stage_graph::NoGate;
 use std::alloc::{AllocError, AllocGlobal, Global};

@@ -1,10 +1,11 @@
 //! Runs both engines on texts in memory.
 ghost use Rattle.std.specs.Prelude.{◌≡◌, ◌<◌, ◌-◌, ◌^◌};
-ghost use Rattle.paths.specs.Devices.{CanFail};
+ghost use Rattle.devices.specs.Devices.{CanFail};
 
 use admission::Policy;
 use cost_model::Costs;
-use paths::{Input, Output, Snapshot, Tree};
+use devices::{Input, Output};
+use paths::{Snapshot, Tree};
 use replay::{Outcome, ReplayFault, Settings, Tally, plain_replay, staged_replay};
 use stage_graph::{Gate, NoGate, Plan};
 use std::alloc::{AllocError, Global};

@@ -1,5 +1,5 @@
 //! Out of memory: `checks/refuse_growths.py` refuses each growth in turn.
-use paths::{Bytes, Output};
+use devices::{Bytes, Output};
 use responses::{Given, Link, Slip, Status, render, write_reply};
 use std::marker::Brand;
 

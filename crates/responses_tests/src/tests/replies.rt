@@ -1,7 +1,8 @@
 //! Replies byte for byte.
 use crate::tests::{page, record, snapshot};
+use devices::Input;
 use page_cache::MediaType;
-use paths::{Input, Outcome, Snapshot, resolve};
+use paths::{Outcome, Snapshot, resolve};
 use responses::{Given, Link, Status};
 use std::marker::Brand;
 use std::test::Fail;

@@ -1,6 +1,6 @@
 //! A writer that takes a byte at a time, and one that fails at one of its writes.
 use crate::tests::page;
-use paths::Output;
+use devices::Output;
 use responses::{Given, Link, Slip, Status, Write, render, write_reply};
 use std::marker::Brand;
 use std::test::Fail;

@@ -1,7 +1,7 @@
 //! Writes that fail.
 use crate::tests::writing::write_files;
 use crate::tests::{ALL, Entry, files_of};
-use paths::Output;
+use devices::Output;
 use snapshots::WriteFault;
 use std::test::Fail;
 use test_devices::Slow;

@@ -1,8 +1,8 @@
 //! The greatest sizes and numbers, and those one past them.
 ghost use Rattle.std.specs.Prelude.{◌<◌, ◌-◌, ◌^◌};
-ghost use Rattle.paths.specs.Devices.{CanFail};
+ghost use Rattle.devices.specs.Devices.{CanFail};
 
-use paths::Output;
+use devices::Output;
 use snapshots::{SnapshotWriter, WriteFault};
 use std::alloc::{AllocError, Global};
 use std::io;

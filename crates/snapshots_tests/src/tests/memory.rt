@@ -1,5 +1,5 @@
 //! Out of memory: `checks/refuse_growths.py` refuses each growth in turn.
-use paths::Output;
+use devices::Output;
 use snapshots::{SnapshotWriter, WriteFault};
 use std::io;
 use std::io::Write;

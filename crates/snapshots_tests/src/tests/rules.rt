@@ -1,7 +1,7 @@
 //! Files that break a rule: nothing of them is written, and the next file is judged as if they hadn't been there.
 use crate::tests::writing::write_allowed;
 use crate::tests::{ALL, Entry, files_of};
-use paths::Output;
+use devices::Output;
 use snapshots::WriteFault;
 use std::test::Fail;
 use test_devices::Slow;

@@ -1,7 +1,8 @@
 //! Texts that are written, and read back.
 use crate::tests::writing::write_files;
 use crate::tests::{ALL, Entry, files_of};
-use paths::{Input, Output, Snapshot};
+use devices::{Input, Output};
+use paths::Snapshot;
 use std::test::Fail;
 use test_devices::Slow;
 

@@ -1,11 +1,12 @@
 //! Callers of the writer. What they promise follows from its clauses alone.
 ghost use Rattle.std.specs.Prelude.{◌<◌, ◌-◌, ◌^◌, OnOk};
 ghost use Rattle.std.specs.Io.KnownBytes.{Appends};
-ghost use Rattle.paths.specs.Devices.{CanFail};
+ghost use Rattle.devices.specs.Devices.{CanFail};
 ghost use Rattle.paths.specs.Snapshots.{snapshot_text, IsSnapshotText};
 ghost use Rattle.snapshots.specs.Writers.{Counts};
 
-use paths::{File, Output};
+use devices::Output;
+use paths::File;
 use snapshots::{SnapshotWriter, WriteFault};
 use std::alloc::Global;
 use std::io::Write;

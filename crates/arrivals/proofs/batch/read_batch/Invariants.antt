@@ -5,7 +5,8 @@ use Rattle.captures.specs.declared.record.Record.{Record}
 use Rattle.captures.specs.declared.progress.Stage.TheVariants.{Reading}
 use Rattle.arrivals.specs.Batches.{origins_of, tiers_of}
 use Rattle.arrivals.specs.Tiers.{AreTiers}
-use Rattle.captures.specs.Captures.{sizes_of, max_piece_bytes}
+use Rattle.captures.specs.Reference.{max_piece_bytes}
+use Rattle.captures.specs.Captures.{sizes_of}
 use Rattle.arrivals.specs.Gathering.{Adds, piece_count, enough_bytes}
 use Rattle.arrivals.proofs.batch.read_batch.Given as goal
 

@@ -1,8 +1,8 @@
 use Rattle.std.proofs.Common.{List, ℕ, subst, ◌∙◌}
 use Rattle.std.proofs.lemmas.Result.{err_from_is_err_and}
 use Rattle.std.specs.Io.KnownBytes.{Appends}
-use Rattle.paths.specs.Devices.{AppendsPrefix}
-use Rattle.paths.proofs.Appending.{prefix_none, proper_is_prefix}
+use Rattle.devices.specs.Devices.{AppendsPrefix}
+use Rattle.devices.proofs.Appending.{prefix_none, proper_is_prefix}
 use Rattle.captures.proofs.record_writer.write_first_line.Goals as goal
 
 pub returns-in_err-line-clause-prefix : goal.returns-in_err-line-clause-prefix

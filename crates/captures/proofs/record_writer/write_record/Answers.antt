@@ -1,4 +1,4 @@
-use Rattle.paths.proofs.Appending.{writes_then, prefix_first}
+use Rattle.devices.proofs.Appending.{writes_then, prefix_first}
 use Rattle.captures.specs.Writing.{line_of, rest_of}
 use Rattle.captures.proofs.WritingLemmas.{line_then}
 use Rattle.captures.proofs.record_writer.write_record.Goals as goal

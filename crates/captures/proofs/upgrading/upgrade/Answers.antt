@@ -1,21 +1,16 @@
 use Rattle.std.proofs.Common.{◌∙◌, ◌++◌, ◌∷◌, [], ℕ, List, Option, refl, arith, rules}
-use Rattle.paths.proofs.Appending.{prefix_all}
-use Rattle.captures.specs.Upgrades.{Stops, IfCapture, upgrade_fault}
-use Rattle.captures.proofs.UpgradeLemmas.{told, told_short, told_unless, told_memory, told_reads, told_writes, own_capture, passed_on, fits_own, gave_more, first_written, first_prefix, more_written, more_prefix, stops_first, stops_after, short_among, all_read, moved, own_errs, short_errs, part_end, ok_end}
+use Rattle.devices.proofs.Appending.{prefix_all}
+use Rattle.captures.specs.Upgrades.{Leaves, upgrade_fault}
+use Rattle.captures.proofs.UpgradeLemmas.{leaves_told, leaves_first, own_leaves, told_reads, told_writes, passed_on, fits_own, gave_more, first_written, first_prefix, more_written, more_prefix, stops_first, stops_after, short_among, all_read, moved, part_end, ok_end}
 use Rattle.std.proofs.lemmas.List.{length_push}
 use Rattle.captures.proofs.upgrading.upgrade.Goals as goal
 
-pub returns-in-Err-clause-stops : goal.returns-in-Err-clause-stops
-returns-in-Err-clause-stops g c =
+pub returns-in-Err-clause-fault : goal.returns-in-Err-clause-fault
+returns-in-Err-clause-fault g c =
     let given = rw c.in-Err.is at c.open.follows.holds-at-none in
     rw c.from.ensures
-    (told c.in-Err.fault _ (stops_first c.args.reader.now.bytes _ c.args.writer.now.bytes c.in-Err.fault c.in-Err.ensures.at c.in-Err.ensures.fault given.1))
-
-pub returns-in-Err-clause-part : goal.returns-in-Err-clause-part
-returns-in-Err-clause-part g c = rw c.from.ensures (told_unless c.in-Err.fault _ c.in-Err.ensures.memory)
-
-pub returns-in-Err-clause-memory : goal.returns-in-Err-clause-memory
-returns-in-Err-clause-memory g c = rw c.from.ensures (told_memory c.in-Err.fault)
+    (leaves_first c.args.reader.now.bytes _ c.args.writer.now.bytes _ c.in-Err.fault
+    (stops_first c.args.reader.now.bytes _ c.args.writer.now.bytes c.in-Err.fault c.in-Err.ensures.at c.in-Err.ensures.fault given.1) c.in-Err.ensures.memory)
 
 pub returns-in-Err-clause-reads : goal.returns-in-Err-clause-reads
 returns-in-Err-clause-reads g c = rw (c.from.ensures, told_reads c.in-Err.fault) (search rules)
@@ -23,18 +18,11 @@ returns-in-Err-clause-reads g c = rw (c.from.ensures, told_reads c.in-Err.fault)
 pub returns-in-Err-clause-writes : goal.returns-in-Err-clause-writes
 returns-in-Err-clause-writes g c = rw (c.from.ensures, told_writes c.in-Err.fault) (omega arith)
 
-pub returns-in_err-write_first_line-clause-stops : goal.returns-in_err-write_first_line-clause-stops
-returns-in_err-write_first_line-clause-stops g c =
-    passed_on c.from_residual.result _ _ (λ f same. rw same (own_capture c.in_err-write_first_line.field-0.0 _ c.in_err-write_first_line.ensures.own)) c.from_residual.ensures.1
-
-pub returns-in_err-write_first_line-clause-part : goal.returns-in_err-write_first_line-clause-part
-returns-in_err-write_first_line-clause-part g c =
+pub returns-in_err-write_first_line-clause-fault : goal.returns-in_err-write_first_line-clause-fault
+returns-in_err-write_first_line-clause-fault g c =
     let prefix = rw c.start.ensures at c.in_err-write_first_line.ensures.prefix in
-    short_errs c.from_residual.result _ (short_among _ _ _ _ _ _ [] _ c.in-Ok.ensures.ok (first_prefix c.in-Ok.capture.progress.start _ _ prefix))
-
-pub returns-in_err-write_first_line-clause-memory : goal.returns-in_err-write_first_line-clause-memory
-returns-in_err-write_first_line-clause-memory g c =
-    passed_on c.from_residual.result _ _ (λ f same. rw same (own_capture c.in_err-write_first_line.field-0.0 _ c.in_err-write_first_line.ensures.own)) c.from_residual.ensures.1
+    let cut = short_among _ _ _ _ _ _ [] _ c.in-Ok.ensures.ok (first_prefix c.in-Ok.capture.progress.start _ _ prefix) in
+    passed_on c.from_residual.result _ _ (λ f same. rw same (own_leaves _ _ _ _ c.in_err-write_first_line.field-0.0 c.in_err-write_first_line.ensures.own cut)) c.from_residual.ensures.1
 
 pub loop-next-init : goal.loop-next-init
 loop-next-init g c = (
@@ -49,38 +37,24 @@ loop-next-init g c = (
   c.in_ok-write_first_line.ensures.count,
 )
 
-pub returns-in-Err-next_record-clause-stops : goal.returns-in-Err-next_record-clause-stops
-returns-in-Err-next_record-clause-stops g c =
+pub returns-in-Err-next_record-clause-fault : goal.returns-in-Err-next_record-clause-fault
+returns-in-Err-next_record-clause-fault g c =
     let inv = c.loop-next.invariant.0 in
     rw c.from-in-Err-next_record.ensures
-    (moved (λ (w : Option (List ℕ)). IfCapture (upgrade_fault c.in-Err-next_record.fault) (Stops c.args.reader.now.bytes w c.args.writer.now.bytes c.loop-next.writer.bytes)) _ c.next_record.new.self.input.now.bytes
-    (told c.in-Err-next_record.fault _ (stops_after _ _ _ _ _ _ _ inv.0 _ c.next_record.new.self.progress _ inv.1 inv.2 (c.in-Err-next_record.ensures.next _ _ _ _ inv.1) (c.in-Err-next_record.ensures.failed _ _ _ _ inv.1))) (search rules))
-
-pub returns-in-Err-next_record-clause-part : goal.returns-in-Err-next_record-clause-part
-returns-in-Err-next_record-clause-part g c =
-    let inv = c.loop-next.invariant.0 in
-    rw c.from-in-Err-next_record.ensures (told_short c.in-Err-next_record.fault _ (short_among _ _ _ _ _ _ inv.0 _ inv.1 (prefix_all _ _ _ inv.2)))
-
-pub returns-in-Err-next_record-clause-memory : goal.returns-in-Err-next_record-clause-memory
-returns-in-Err-next_record-clause-memory g c = rw c.from-in-Err-next_record.ensures (told_memory c.in-Err-next_record.fault)
+    (moved (λ (w : Option (List ℕ)). Leaves c.args.reader.now.bytes w c.args.writer.now.bytes c.loop-next.writer.bytes (upgrade_fault c.in-Err-next_record.fault)) _ c.next_record.new.self.input.now.bytes
+    (leaves_told c.args.reader.now.bytes _ c.args.writer.now.bytes c.loop-next.writer.bytes c.in-Err-next_record.fault
+    (stops_after _ _ _ _ _ _ _ inv.0 _ c.next_record.new.self.progress _ inv.1 inv.2 (c.in-Err-next_record.ensures.next _ _ _ _ inv.1) (c.in-Err-next_record.ensures.failed _ _ _ _ inv.1))
+    (short_among _ _ _ _ _ _ inv.0 _ inv.1 (prefix_all _ _ _ inv.2))) (search rules))
 
 pub returns-in-Err-next_record-clause-writes : goal.returns-in-Err-next_record-clause-writes
 returns-in-Err-next_record-clause-writes g c = rw (c.from-in-Err-next_record.ensures, told_writes c.in-Err-next_record.fault) (omega (arith, c.loop-next.invariant.3))
 
-pub returns-in_err-write_record-clause-stops : goal.returns-in_err-write_record-clause-stops
-returns-in_err-write_record-clause-stops g c =
-    passed_on c.from_residual-in_err-write_record.result _ _ (λ f same. rw same (own_capture c.in_err-write_record.field-0.0 _ c.in_err-write_record.ensures.own)) c.from_residual-in_err-write_record.ensures.1
-
-pub returns-in_err-write_record-clause-part : goal.returns-in_err-write_record-clause-part
-returns-in_err-write_record-clause-part g c =
+pub returns-in_err-write_record-clause-fault : goal.returns-in_err-write_record-clause-fault
+returns-in_err-write_record-clause-fault g c =
     let inv = c.loop-next.invariant.0 in
     let fits = gave_more _ _ _ _ inv.0 _ _ _ c.in-Ok-Some.field-0-is (c.in-Ok-Some.ensures.next _ _ _ _ inv.1) in
-    short_errs c.from_residual-in_err-write_record.result _
-    (short_among _ _ _ _ _ _ (inv.0 ++ c.in-Ok-Some.next ∷ []) _ fits (more_prefix _ inv.0 c.in-Ok-Some.next _ _ _ inv.2 c.in_err-write_record.ensures.prefix))
-
-pub returns-in_err-write_record-clause-memory : goal.returns-in_err-write_record-clause-memory
-returns-in_err-write_record-clause-memory g c =
-    passed_on c.from_residual-in_err-write_record.result _ _ (λ f same. rw same (own_capture c.in_err-write_record.field-0.0 _ c.in_err-write_record.ensures.own)) c.from_residual-in_err-write_record.ensures.1
+    let cut = short_among _ _ _ _ _ _ (inv.0 ++ c.in-Ok-Some.next ∷ []) _ fits (more_prefix _ inv.0 c.in-Ok-Some.next _ _ _ inv.2 c.in_err-write_record.ensures.prefix) in
+    passed_on c.from_residual-in_err-write_record.result _ _ (λ f same. rw same (own_leaves _ _ _ _ c.in_err-write_record.field-0.0 c.in_err-write_record.ensures.own cut)) c.from_residual-in_err-write_record.ensures.1
 
 pub loop-next-preserved-in_ok-write_record : goal.loop-next-preserved-in_ok-write_record
 loop-next-preserved-in_ok-write_record g c =
@@ -112,16 +86,10 @@ loop-next-preserved g c =
       c.in_ok-write_record.ensures.count ∙ inv.3,
     )
 
-pub returns-clause-stops : goal.returns-clause-stops
-returns-clause-stops g c = own_errs c.write_last_line.result _ c.write_last_line.ensures.own
-
-pub returns-clause-memory : goal.returns-clause-memory
-returns-clause-memory g c = own_errs c.write_last_line.result _ c.write_last_line.ensures.own
-
-pub returns-clause-part : goal.returns-clause-part
-returns-clause-part g c =
+pub returns-clause-fault : goal.returns-clause-fault
+returns-clause-fault g c =
     let inv = c.loop-next.invariant.0 in
-    part_end c.write_last_line.result _ _ _ _ _ _ _ inv.0 inv.3 inv.1.rules inv.2 (all_read _ _ _ _ inv.0 _ _ c.in-Ok-None.field-0-is (c.in-Ok-None.ensures.next _ _ _ _ inv.1)) c.write_last_line.ensures.prefix
+    part_end c.write_last_line.result _ _ _ _ _ _ _ _ inv.0 inv.3 inv.1.rules inv.2 (all_read _ _ _ _ inv.0 _ _ c.in-Ok-None.field-0-is (c.in-Ok-None.ensures.next _ _ _ _ inv.1)) c.write_last_line.ensures.prefix c.write_last_line.ensures.own
 
 pub returns-clause-ok : goal.returns-clause-ok
 returns-clause-ok g c =

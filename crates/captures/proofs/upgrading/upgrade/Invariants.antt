@@ -2,7 +2,7 @@ use Rattle.std.proofs.Common.{◌≡◌, List, length}
 use Rattle.std.specs.Io.KnownBytes.{Appends}
 use Rattle.captures.specs.declared.version.Version.TheVariants.{Two}
 use Rattle.captures.specs.declared.record.Record.{Record}
-use Rattle.captures.specs.Captures.{text_before_stop}
+use Rattle.captures.specs.Reference.{text_before_stop}
 use Rattle.captures.specs.Readers.{ReaderAfter}
 use Rattle.captures.proofs.upgrading.upgrade.Given as goal
 

@@ -8,7 +8,7 @@ pub returns : goal.returns
 unfolding command_line
 returns c =
     let start : app_of c.after_help.result ≡ program_of (new_app (codes "haboob")) =
-    rw (c.after_help.ensures, c.about.ensures, c.subcommand_required.ensures, c.no_binary_name.ensures, c.in_ok-bin_name.ensures.0) (ap program_of c.new.ensures.app) in
+    rw (c.after_help.ensures, c.about.ensures, c.version.ensures, c.subcommand_required.ensures, c.no_binary_name.ensures, c.in_ok-bin_name.ensures.0) (ap program_of c.new.ensures.app) in
     let one = c.in_ok-subcommand.ensures.shape c.in_ok-replay.ensures.local
     ∙ ap₂ with_subcommand start (ap (λ (a : App). a.top) c.in_ok-replay.ensures.app) in
     let two = c.in_ok-subcommand-2.ensures.shape c.in_ok-upgrade.ensures.local

@@ -1,7 +1,7 @@
 use Rattle.std.proofs.Common.{◌≡◌, ◌+◌, sym, ◌∙◌, refl, true, false, arith}
-use Rattle.http_requests.proofs.FrontLemmas.{ends_within}
+use Rattle.http_requests.proofs.EndLaws.{ends_within}
 use Rattle.http_requests.proofs.FoundLemmas.{slice_says}
-use Rattle.http_requests.specs.Framing.{closes}
+use Rattle.http_requests.specs.Reference.{closes}
 use Rattle.http_requests.proofs.CountLemmas.{step_waits, step_over, step_short, step_whole}
 use Rattle.http_requests.proofs.counting.next_step.Goals as goal
 

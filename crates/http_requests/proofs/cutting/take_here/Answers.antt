@@ -1,6 +1,6 @@
 use Rattle.std.proofs.Common.{◌≡◌, ◌+◌, ◌-◌, length, take, drop, refl, ◌∙◌, arith}
 use Rattle.std.proofs.lemmas.Grind.{common_steps}
-use Rattle.http_requests.proofs.FrontLemmas.{ends_within}
+use Rattle.http_requests.proofs.EndLaws.{ends_within}
 use Rattle.http_requests.proofs.FoundLemmas.{begins_whole, begins_over, waits_found, alone, empty_len, found_some, slice_says}
 use Rattle.http_requests.proofs.cutting.take_here.Goals as goal
 

@@ -2,7 +2,7 @@
 use Rattle.std.proofs.Common.{◌≡◌, ℕ, ◌<◌, true, not, nat_eq, get_or, List, refl, arith}
 use Rattle.std.proofs.lemmas.Bool.{agree_below, agree_below_at}
 use Rattle.http_requests.specs.declared.heads.TheConstants.{HOST_MAP}
-use Rattle.http_requests.specs.Heads.{is_host_byte}
+use Rattle.http_requests.specs.Reference.{is_host_byte}
 use Rattle.http_requests.proofs.heads.is_host_byte.Goals as goal
 
 from_table : (table : List ℕ) (b : ℕ) → b < 256

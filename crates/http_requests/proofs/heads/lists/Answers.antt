@@ -3,7 +3,7 @@ use Rattle.std.proofs.lemmas.Iterator.Search.{any_from_yields_List}
 use Rattle.std.proofs.lemmas.Iterator.Splits.{YieldsList-from_slice_split}
 use Rattle.std.specs.Prelude.{◌==◌}
 use Rattle.httparse.specs.Grammar.{trim_ows}
-use Rattle.http_requests.specs.Heads.{same_text}
+use Rattle.http_requests.specs.Reference.{same_text}
 use Rattle.http_requests.proofs.heads.lists.Goals as goal
 
 pub returns : goal.returns

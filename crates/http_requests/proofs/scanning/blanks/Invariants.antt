@@ -1,5 +1,5 @@
 use Rattle.std.proofs.Common.{◌≤◌, ◌≡◌, ◌+◌, ◌-◌, length, drop}
-use Rattle.http_requests.specs.Framing.{blank_len}
+use Rattle.http_requests.specs.Reference.{blank_len}
 use Rattle.http_requests.proofs.scanning.blanks.Given as goal
 
 abbrev pub invariant-loop-i : goal.invariant-loop-i

@@ -1,7 +1,7 @@
 use Rattle.std.proofs.Common.{◌≡◌, ℕ, List, ◌≤◌, ◌⊎◌, inl, inr, length, arith}
 use Rattle.std.specs.Prelude.{min, Option, Some, None, IfNone}
 use Rattle.std.proofs.lemmas.Bool.{cases_lt}
-use Rattle.http_requests.specs.Framing.{NoBlock}
+use Rattle.http_requests.specs.Reference.{NoBlock}
 use Rattle.http_requests.specs.Scanning.{NoEndIn}
 use Rattle.http_requests.proofs.EndLemmas.{no_end_first, none_left}
 use Rattle.http_requests.proofs.scanning.block_end.Goals as goal

@@ -1,7 +1,8 @@
-use Rattle.std.proofs.Common.{◌≡◌, ℕ, ◌-◌, ◌≤◌, List, length, take, drop, arith, length-drop}
+use Rattle.std.proofs.Common.{◌≡◌, ℕ, ◌+◌, ◌-◌, ◌≤◌, List, length, take, drop, ap, arith, length-drop}
 use Rattle.std.proofs.lemmas.Grind.{common_steps}
-use Rattle.http_requests.specs.Framing.{EndsAt, blank_len}
-use Rattle.http_requests.proofs.FrontLemmas.{ends_within, blank_fixed}
+use Rattle.http_requests.specs.Reference.{EndsAt, blank_len}
+use Rattle.http_requests.proofs.EndLaws.{ends_within}
+use Rattle.http_requests.proofs.FrontLemmas.{blank_fixed}
 use Rattle.http_requests.proofs.scanning.find.Goals.{then-start-eq0, else-start-eq0}
 use Rattle.http_requests.proofs.scanning.find.Goals as goal
 
@@ -29,3 +30,14 @@ returns-in-Some c =
     let e = ends_within _ _ block.ends in
     let n : c.in-Some.len ≤ length c.args.r.now - c.blanks-start.result = rw (← length-drop c.blanks-start.result c.args.r.now) e.1 in
     (c.blanks-start.ensures.is, (let w = c.blanks-start.ensures.within in omega (arith, n, w)), block)
+
+pub returns-then-r-start-ge-MAX_BLOCK_BYTES : goal.returns-then-r-start-ge-MAX_BLOCK_BYTES
+returns-then-r-start-ge-MAX_BLOCK_BYTES c =
+    let none = rw (same_rest c.args.r.now c.blanks-start.result) at c.in-None.ensures.none in
+    let is = c.blanks-start.ensures.is in
+    (ap (λ n. n + 8192) is, rw (← is) none, (let t = c.if-r-start-ge-MAX_BLOCK_BYTES.true in let w = c.blanks-start.ensures.within in omega (arith, t, w)))
+
+pub returns-else-r-start-ge-MAX_BLOCK_BYTES : goal.returns-else-r-start-ge-MAX_BLOCK_BYTES
+returns-else-r-start-ge-MAX_BLOCK_BYTES c =
+    let none = rw (same_rest c.args.r.now c.blanks-start.result) at c.in-None.ensures.none in
+    (c.blanks-start.ensures.is, c.blanks-start.ensures.within, none, (let t = c.if-r-start-ge-MAX_BLOCK_BYTES.false in omega (arith, t)))

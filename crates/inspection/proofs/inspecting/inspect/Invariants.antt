@@ -1,7 +1,7 @@
 use Rattle.std.proofs.Common.{◌≡◌, List}
 use Rattle.captures.specs.declared.record.Record.{Record}
 use Rattle.captures.specs.Readers.{ReaderAfter}
-use Rattle.arrivals.specs.Arrivals.{Arrival}
+use Rattle.arrivals.specs.Reference.{Arrival}
 use Rattle.inspection.specs.Running.{Holds}
 use Rattle.inspection.proofs.inspecting.inspect.Given as goal
 

@@ -1,5 +1,6 @@
 use Rattle.std.proofs.Common.{◌++◌, codes, ap, sym, ◌∙◌}
-use Rattle.paths.specs.Resolution.{joined, slash_before}
+use Rattle.paths.specs.Reference.{joined}
+use Rattle.paths.specs.Resolution.{slash_before}
 use Rattle.paths.proofs.Locating.{joined_push}
 use Rattle.paths.proofs.resolution.index_name.Goals as goal
 

@@ -1,5 +1,5 @@
 use Rattle.std.proofs.Common.{◌≡◌, take}
-use Rattle.paths.specs.Resolution.{joined}
+use Rattle.paths.specs.Reference.{joined}
 use Rattle.paths.proofs.resolution.join.Given as goal
 
 abbrev pub invariant-loop-at : goal.invariant-loop-at

@@ -1,7 +1,6 @@
 use Rattle.std.proofs.Common.{◌≡◌, ◌∷◌, take, string_bytes}
 use Rattle.std.specs.List.{flat_map}
-use Rattle.paths.specs.Ascii.{slash}
-use Rattle.paths.specs.Resolution.{location_byte}
+use Rattle.paths.specs.Reference.{slash, location_byte}
 use Rattle.paths.proofs.resolution.location_of.Given as goal
 
 abbrev pub invariant-loop-segment : goal.invariant-loop-segment

@@ -1,5 +1,5 @@
 use Rattle.std.proofs.Common.{◌≡◌, drop}
-use Rattle.paths.specs.Targets.{has_good_escapes}
+use Rattle.paths.specs.Reference.{has_good_escapes}
 use Rattle.paths.proofs.target.has_good_escapes.Given as goal
 
 abbrev pub invariant-loop-at : goal.invariant-loop-at

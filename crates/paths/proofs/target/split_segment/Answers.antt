@@ -1,5 +1,5 @@
 use Rattle.std.proofs.Common.{◌==◌}
-use Rattle.paths.specs.Ascii.{slash}
+use Rattle.paths.specs.Reference.{slash}
 use Rattle.paths.proofs.Segmenting.{split_some, split_none}
 use Rattle.paths.proofs.target.split_segment.Goals as goal
 

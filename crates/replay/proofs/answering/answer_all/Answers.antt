@@ -1,9 +1,9 @@
 use Rattle.std.proofs.Common.{◌≡◌, ℕ, ◌+◌, List, [], ◌∷◌, ◌++◌, refl, sym, ap, ◌∙◌, subst, arith, append-nil, take, get_or}
 use Rattle.std.proofs.lemmas.Grind.{common_steps}
 use Rattle.std.proofs.lemmas.List.{append_assoc}
-use Rattle.paths.specs.Devices.{Device}
-use Rattle.replay.specs.Choices.{terms_of}
-use Rattle.arrivals.specs.Arrivals.{Arrival}
+use Rattle.devices.specs.Devices.{Device}
+use Rattle.replay.specs.Reference.{terms_of}
+use Rattle.arrivals.specs.Reference.{Arrival}
 use Rattle.arrivals.specs.Connections.{arrivals_with}
 use Rattle.replay.specs.Telling.{Told}
 use Rattle.replay.proofs.Writing.{arrivals_step}

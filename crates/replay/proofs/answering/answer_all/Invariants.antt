@@ -1,6 +1,6 @@
 use Rattle.std.proofs.Common.{◌≡◌, ℕ, ◌+◌, ◌++◌, List, take}
-use Rattle.replay.specs.Choices.{terms_of}
-use Rattle.arrivals.specs.Arrivals.{Arrival}
+use Rattle.replay.specs.Reference.{terms_of}
+use Rattle.arrivals.specs.Reference.{Arrival}
 use Rattle.arrivals.specs.Connections.{arrivals_with}
 use Rattle.replay.specs.Serving.{DeskAfter}
 use Rattle.replay.specs.Telling.{Told}

@@ -1,7 +1,7 @@
 use Rattle.std.proofs.Common.{ℕ, List, subst}
-use Rattle.paths.specs.Devices.{AppendsPrefix}
-use Rattle.paths.proofs.Appending.{proper_is_prefix}
-use Rattle.responses.specs.Records.{record_text}
+use Rattle.devices.specs.Devices.{AppendsPrefix}
+use Rattle.devices.proofs.Appending.{proper_is_prefix}
+use Rattle.responses.specs.Reference.{record_text}
 use Rattle.replay.proofs.Judging.{on_err}
 use Rattle.replay.proofs.answering.answer_ticket.Goals as goal
 

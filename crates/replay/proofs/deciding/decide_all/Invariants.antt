@@ -1,6 +1,6 @@
 use Rattle.std.specs.Vec.Iter.{into_iter_items}
 use Rattle.std.proofs.Common.{vec_len}
-use Rattle.replay.specs.Choices.{terms_of}
+use Rattle.replay.specs.Reference.{terms_of}
 use Rattle.replay.proofs.Ticketed.{Settled}
 use Rattle.replay.proofs.deciding.decide_all.Given as goal
 

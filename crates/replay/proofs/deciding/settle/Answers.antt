@@ -1,6 +1,5 @@
 use Rattle.std.proofs.Common.{arith}
-use Rattle.replay.specs.Choices.{terms_of}
-use Rattle.replay.specs.Offers.{offers_of}
+use Rattle.replay.specs.Reference.{terms_of, offers_of}
 use Rattle.replay.specs.Backs.{told}
 use Rattle.replay.proofs.Offering.{offers_few, last_by}
 use Rattle.replay.proofs.Judging.{answered_is, samples_are, counts_kept, stands_after}

@@ -1,5 +1,5 @@
 use Rattle.std.proofs.Common.{ℕ, List, Option}
-use Rattle.replay.specs.Choices.{Terms, terms_of}
+use Rattle.replay.specs.Reference.{Terms, terms_of}
 use Rattle.replay.specs.Serving.{HasTold}
 use Rattle.replay.specs.Explaining.{Explains, rows_told}
 use Rattle.replay.specs.declared.summary.Outcome.{Outcome}
@@ -9,19 +9,7 @@ use Rattle.replay.proofs.explain.explain_replay.Goals as goal
 -- what was told is the table
 explains_told : (terms : Terms) (input old new : Option (List ℕ)) (outcome : Outcome)
     → HasTold (rows_told terms) terms input old new outcome → Explains terms input old new outcome
-explains_told terms input old new outcome h = record {
-  version = h.version;
-  start = h.start;
-  records = h.records;
-  arrivals = h.arrivals;
-  rules = h.rules;
-  capture = h.capture;
-  arrived = h.arrived;
-  few = h.few;
-  written = h.written;
-  rejected = h.rejected;
-  summary = h.summary;
-}
+explains_told terms input old new outcome h = record { read = h.read; written = h.written; outcome_is = h.outcome_is }
 
 pub returns-clause-ok : goal.returns-clause-ok
 returns-clause-ok g c =

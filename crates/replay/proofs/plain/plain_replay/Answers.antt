@@ -1,8 +1,7 @@
 use Rattle.std.proofs.Common.{ℕ, List, Option}
-use Rattle.replay.specs.Choices.{Terms, terms_of}
+use Rattle.replay.specs.Reference.{Terms, terms_of, Answers}
 use Rattle.replay.specs.Telling.{replies_told}
 use Rattle.replay.specs.Serving.{HasTold}
-use Rattle.replay.specs.Outcomes.{Answers}
 use Rattle.replay.specs.declared.summary.Outcome.{Outcome}
 use Rattle.replay.proofs.Judging.{if_ok}
 use Rattle.replay.proofs.plain.plain_replay.Goals as goal
@@ -10,19 +9,7 @@ use Rattle.replay.proofs.plain.plain_replay.Goals as goal
 -- what was told are the replies
 answers_told : (terms : Terms) (input old new : Option (List ℕ)) (outcome : Outcome)
     → HasTold (replies_told terms) terms input old new outcome → Answers terms input old new outcome
-answers_told terms input old new outcome h = record {
-  version = h.version;
-  start = h.start;
-  records = h.records;
-  arrivals = h.arrivals;
-  rules = h.rules;
-  capture = h.capture;
-  arrived = h.arrived;
-  few = h.few;
-  written = h.written;
-  rejected = h.rejected;
-  summary = h.summary;
-}
+answers_told terms input old new outcome h = record { read = h.read; written = h.written; outcome_is = h.outcome_is }
 
 pub returns-clause-ok : goal.returns-clause-ok
 returns-clause-ok g c =

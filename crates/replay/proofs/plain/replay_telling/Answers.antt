@@ -1,23 +1,32 @@
 use Rattle.std.proofs.Common.{◌∙◌, [], ◌∷◌, ◌++◌, ℕ, List, Option, refl, sym, ap, subst, inl, inr, rules}
 use Rattle.std.specs.Io.KnownBytes.{Appends}
-use Rattle.paths.proofs.Appending.{prefix_all}
-use Rattle.replay.specs.Choices.{terms_of}
-use Rattle.replay.specs.Outcomes.{StopsTelling, IsCutOff}
+use Rattle.devices.proofs.Appending.{prefix_all}
+use Rattle.replay.specs.Reference.{terms_of}
 use Rattle.replay.proofs.Texts.{text_begun, text_told}
-use Rattle.replay.proofs.Judging.{stands_none, cut_short, passed_on, on_many, on_cut}
+use Rattle.replay.proofs.Judging.{stands_none, passed_on, on_many, on_cut}
 use Rattle.arrivals.proofs.Gathering.{gave_some}
-use Rattle.replay.proofs.ByRecord.{serves_none, no_tiers, sizes_left, is_later, gave_end, all_told, ends_short, told, told_short, own_capture, halts_first, halts_told, halts_full, cut_among, cut_part}
+use Rattle.replay.proofs.ByRecord.{serves_none, no_tiers, sizes_left, is_later, gave_end, all_told, ends_short, leaves_told, own_leaves, short_leaves, halts_first, halts_told, halts_full, cut_among, cut_part}
 use Rattle.replay.proofs.plain.replay_telling.Goals as goal
 
-pub returns-in-Err-clause-stops : goal.returns-in-Err-clause-stops
-returns-in-Err-clause-stops g c = rw c.from.ensures (told _ (StopsTelling (g.T.Tells.telling (terms_of g.F.Tree.files c.args.settings.now)) c.args.reader.now.bytes _ c.args.writer.now.bytes c.begin.new.writer.bytes)
-    (halts_first (g.T.Tells.telling (terms_of g.F.Tree.files c.args.settings.now)) c.args.reader.now.bytes _ c.args.writer.now.bytes c.begin.new.writer.bytes _ (c.in_ok-begin.ensures.written (terms_of g.F.Tree.files c.args.settings.now)) c.in-Err.ensures.at c.in-Err.ensures.fault (rw c.in-Err.is at c.open.follows.holds-at-none).1))
+pub returns-in_err-begin-clause-fault : goal.returns-in_err-begin-clause-fault
+returns-in_err-begin-clause-fault g c =
+    passed_on c.from_residual.result _ _
+    (λ f same. rw same (short_leaves (g.T.Tells.telling (terms_of g.F.Tree.files c.args.settings.now)) c.args.reader.now.bytes _ _ _ c.in_err-begin.field-0.0 c.in_err-begin.ensures.own (inl (c.in_err-begin.ensures.part (terms_of g.F.Tree.files c.args.settings.now)))))
+    c.from_residual.ensures.1
 
-pub returns-in-Err-clause-part : goal.returns-in-Err-clause-part
-returns-in-Err-clause-part g c = rw c.from.ensures (told_short _ (IsCutOff (g.T.Tells.telling (terms_of g.F.Tree.files c.args.settings.now)) c.args.reader.now.bytes c.args.writer.now.bytes c.begin.new.writer.bytes) (inl (prefix_all c.args.writer.now.bytes c.begin.new.writer.bytes _ (c.in_ok-begin.ensures.written (terms_of g.F.Tree.files c.args.settings.now)))))
+pub returns-in-Err-clause-fault : goal.returns-in-Err-clause-fault
+returns-in-Err-clause-fault g c =
+    let written = c.in_ok-begin.ensures.written (terms_of g.F.Tree.files c.args.settings.now) in
+    rw c.from.ensures
+    (leaves_told (g.T.Tells.telling (terms_of g.F.Tree.files c.args.settings.now)) c.args.reader.now.bytes _ c.args.writer.now.bytes c.begin.new.writer.bytes c.in-Err.fault
+    (halts_first (g.T.Tells.telling (terms_of g.F.Tree.files c.args.settings.now)) c.args.reader.now.bytes _ c.args.writer.now.bytes c.begin.new.writer.bytes _ written c.in-Err.ensures.at c.in-Err.ensures.fault (rw c.in-Err.is at c.open.follows.holds-at-none).1)
+    (inl (prefix_all c.args.writer.now.bytes c.begin.new.writer.bytes _ written)))
 
-pub returns-in_err-new-clause-part : goal.returns-in_err-new-clause-part
-returns-in_err-new-clause-part g c = cut_short c.from_residual-in_err-new.result _ (inl (prefix_all c.args.writer.now.bytes c.begin.new.writer.bytes _ (c.in_ok-begin.ensures.written (terms_of g.F.Tree.files c.args.settings.now))))
+pub returns-in_err-new-clause-fault : goal.returns-in_err-new-clause-fault
+returns-in_err-new-clause-fault g c =
+    passed_on c.from_residual-in_err-new.result _ _
+    (λ f same. rw same (inl (prefix_all c.args.writer.now.bytes c.begin.new.writer.bytes _ (c.in_ok-begin.ensures.written (terms_of g.F.Tree.files c.args.settings.now)))))
+    c.from_residual-in_err-new.ensures.1
 
 pub loop-next-init : goal.loop-next-init
 loop-next-init g c =
@@ -37,16 +46,11 @@ loop-next-init g c =
       rw c.start.ensures c.in-Ok.ensures.ok.rules.in_time,
     )
 
-pub returns-in-Err-next_record-clause-stops : goal.returns-in-Err-next_record-clause-stops
-returns-in-Err-next_record-clause-stops g c =
+pub returns-in-Err-next_record-clause-fault : goal.returns-in-Err-next_record-clause-fault
+returns-in-Err-next_record-clause-fault g c =
     let inv = c.loop-next.invariant.0 in
     halts_told (g.T.Tells.telling (terms_of g.F.Tree.files c.args.settings.now)) (terms_of g.F.Tree.files c.args.settings.now) inv.0 c.args.reader.now.bytes _ _ c.next_record.new.self.input.now.bytes _ _ _ inv.1 inv.2 _ _ _ c.in-Err-next_record.fault c.from-in-Err-next_record.result c.from-in-Err-next_record.ensures inv.3 inv.4 inv.6
     (c.in-Err-next_record.ensures.next _ _ _ _ inv.3) (c.in-Err-next_record.ensures.failed _ _ _ _ inv.3) (search rules)
-
-pub returns-in-Err-next_record-clause-part : goal.returns-in-Err-next_record-clause-part
-returns-in-Err-next_record-clause-part g c =
-    let inv = c.loop-next.invariant.0 in
-    rw c.from-in-Err-next_record.ensures (told_short _ (IsCutOff (g.T.Tells.telling (terms_of g.F.Tree.files c.args.settings.now)) c.args.reader.now.bytes c.args.writer.now.bytes c.loop-next.writer.bytes) (cut_among (g.T.Tells.telling (terms_of g.F.Tree.files c.args.settings.now)) (terms_of g.F.Tree.files c.args.settings.now) _ _ _ _ _ _ _ _ _ _ _ inv.3 inv.4 inv.6))
 
 pub answer_record-requires-clause-record : goal.answer_record-requires-clause-record
 answer_record-requires-clause-record g c = (c.loop-next.capture.progress.version, rw c.in-Ok-Some.field-0-is at c.in-Ok-Some.ensures.limits)
@@ -62,33 +66,25 @@ answer_record-requires-clause-room g c =
       is_later inv.0 _ inv.1 inv.2 c.in-Ok-Some.next fits.rules inv.4.arrived,
     )
 
-pub returns-in_err-answer_record-clause-stops : goal.returns-in_err-answer_record-clause-stops
-returns-in_err-answer_record-clause-stops g c =
-    passed_on c.from_residual-in_err-answer_record.result _ _ (λ f same. rw same (own_capture c.in_err-answer_record.field-0.0 _ c.in_err-answer_record.ensures.own)) c.from_residual-in_err-answer_record.ensures.1
-
-pub returns-in_err-answer_record-clause-many : goal.returns-in_err-answer_record-clause-many
-returns-in_err-answer_record-clause-many g c =
-    let inv = c.loop-next.invariant.0 in
-    let fits = gave_some inv.0 _ _ _ inv.1 _ _ _ c.in-Ok-Some.field-0-is (c.in-Ok-Some.ensures.next _ _ _ _ inv.3) in
-    passed_on c.from_residual-in_err-answer_record.result _ _
-    (λ f same. rw same (on_many c.in_err-answer_record.field-0.0 _ _
-    (λ n full. halts_full (g.T.Tells.telling (terms_of g.F.Tree.files c.args.settings.now)) inv.0 _ _ _ _ _ _ n inv.1 inv.2 (c.in-Ok-Some.next ∷ []) _ (c.in_ok-begin.ensures.texts (terms_of g.F.Tree.files c.args.settings.now)) fits inv.6 full.0 (full.1 inv.1 inv.2 inv.5 inv.4))
-    c.in_err-answer_record.ensures.many))
-    c.from_residual-in_err-answer_record.ensures.1
-
-pub returns-in_err-answer_record-clause-part : goal.returns-in_err-answer_record-clause-part
-returns-in_err-answer_record-clause-part g c =
+pub returns-in_err-answer_record-clause-fault : goal.returns-in_err-answer_record-clause-fault
+returns-in_err-answer_record-clause-fault g c =
     let inv = c.loop-next.invariant.0 in
     let terms = terms_of g.F.Tree.files c.args.settings.now in
+    let t = g.T.Tells.telling terms in
+    let laws = c.in_ok-begin.ensures.texts terms in
     let fits = gave_some inv.0 _ _ _ inv.1 _ _ _ c.in-Ok-Some.field-0-is (c.in-Ok-Some.ensures.next _ _ _ _ inv.3) in
+    let fault = c.in_err-answer_record.field-0.0 in
+    let says = c.in_err-answer_record.ensures in
     passed_on c.from_residual-in_err-answer_record.result _ _
-    (λ f same. rw same (on_cut c.in_err-answer_record.field-0.0 _ _
+    (λ f same. rw same (own_leaves t _ _ _ _ fault says.own
+    (on_many fault _ _ (λ n full. halts_full t inv.0 _ _ _ _ _ _ n inv.1 inv.2 (c.in-Ok-Some.next ∷ []) _ laws fits inv.6 full.0 (full.1 inv.1 inv.2 inv.5 inv.4)) says.many)
+    (on_cut fault _ _
     (λ short. elim short [
-      | inl none ↦ cut_among (g.T.Tells.telling terms) terms _ _ _ _ _ _ _ _ _ _ _ inv.3 inv.4
-          (subst (λ (w : Option (List ℕ)). Appends c.args.writer.now.bytes w ((g.T.Tells.telling terms).so_far c.loop-next.desk.start inv.2)) (sym none) inv.6)
-      | inr part ↦ cut_part (g.T.Tells.telling terms) inv.0 _ _ _ _ _ _ inv.1 inv.2 (c.in-Ok-Some.next ∷ []) _ (c.in_ok-begin.ensures.texts (terms_of g.F.Tree.files c.args.settings.now)) fits inv.6 (part inv.1 inv.2 inv.5 inv.4)
+      | inl none ↦ cut_among t terms _ _ _ _ _ _ _ _ _ _ _ inv.3 inv.4
+          (subst (λ (w : Option (List ℕ)). Appends c.args.writer.now.bytes w (t.so_far c.loop-next.desk.start inv.2)) (sym none) inv.6)
+      | inr part ↦ cut_part t inv.0 _ _ _ _ _ _ inv.1 inv.2 (c.in-Ok-Some.next ∷ []) _ laws fits inv.6 (part inv.1 inv.2 inv.5 inv.4)
     ])
-    c.in_err-answer_record.ensures.part))
+    says.part)))
     c.from_residual-in_err-answer_record.ensures.1
 
 pub loop-next-preserved-in_ok-answer_record : goal.loop-next-preserved-in_ok-answer_record
@@ -135,17 +131,21 @@ loop-next-preserved g c =
       rw one.start inv.4,
     )
 
-pub returns-in_err-outcome-clause-part : goal.returns-in_err-outcome-clause-part
-returns-in_err-outcome-clause-part g c =
+pub returns-in_err-outcome-clause-fault : goal.returns-in_err-outcome-clause-fault
+returns-in_err-outcome-clause-fault g c =
     let inv = c.loop-next.invariant.0 in
-    cut_short c.from_residual-in_err-outcome.result _ (cut_among (g.T.Tells.telling (terms_of g.F.Tree.files c.args.settings.now)) (terms_of g.F.Tree.files c.args.settings.now) _ _ _ _ _ _ _ _ _ _ _ inv.3 inv.4 inv.6)
+    passed_on c.from_residual-in_err-outcome.result _ _
+    (λ f same. rw same (cut_among (g.T.Tells.telling (terms_of g.F.Tree.files c.args.settings.now)) (terms_of g.F.Tree.files c.args.settings.now) _ _ _ _ _ _ _ _ _ _ _ inv.3 inv.4 inv.6))
+    c.from_residual-in_err-outcome.ensures.1
 
-pub returns-in_err-finish-clause-part : goal.returns-in_err-finish-clause-part
-returns-in_err-finish-clause-part g c =
+pub returns-in_err-finish-clause-fault : goal.returns-in_err-finish-clause-fault
+returns-in_err-finish-clause-fault g c =
     let inv = c.loop-next.invariant.0 in
-    cut_short c.from_residual-in_err-finish.result _
+    passed_on c.from_residual-in_err-finish.result _ _
+    (λ f same. rw same (short_leaves (g.T.Tells.telling (terms_of g.F.Tree.files c.args.settings.now)) _ _ _ _ c.in_err-finish.field-0.0 c.in_err-finish.ensures.own
     (ends_short (g.T.Tells.telling (terms_of g.F.Tree.files c.args.settings.now)) (terms_of g.F.Tree.files c.args.settings.now) inv.0 _ _ inv.1 inv.2 _ _ _ _ _ _ (c.in_ok-begin.ensures.texts (terms_of g.F.Tree.files c.args.settings.now)) inv.3.rules
-    (gave_end inv.0 _ _ _ inv.1 _ _ c.in-Ok-None.field-0-is (c.in-Ok-None.ensures.next _ _ _ _ inv.3)) inv.4 inv.6 (c.in_err-finish.ensures.part (terms_of g.F.Tree.files c.args.settings.now)) refl)
+    (gave_end inv.0 _ _ _ inv.1 _ _ c.in-Ok-None.field-0-is (c.in-Ok-None.ensures.next _ _ _ _ inv.3)) inv.4 inv.6 (c.in_err-finish.ensures.part (terms_of g.F.Tree.files c.args.settings.now)) refl)))
+    c.from_residual-in_err-finish.ensures.1
 
 pub returns-clause-ok : goal.returns-clause-ok
 returns-clause-ok g c =

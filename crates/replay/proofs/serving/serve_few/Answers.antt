@@ -1,5 +1,5 @@
 use Rattle.std.proofs.Common.{◌∙◌, sym, refl}
-use Rattle.replay.specs.Choices.{terms_of}
+use Rattle.replay.specs.Reference.{terms_of}
 use Rattle.replay.proofs.Upcoming.{none_stands, none_written, sighted_are, replies_are, ok_all, ok_more, err_more, unwritten, no_messages}
 use Rattle.replay.proofs.serving.serve_few.Goals as goal
 

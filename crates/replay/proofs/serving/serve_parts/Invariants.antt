@@ -1,7 +1,7 @@
 use Rattle.std.proofs.Common.{◌≡◌}
 use Rattle.std.specs.Vec.Iter.{into_iter_items}
 use Rattle.arrivals.specs.Batches.{joined}
-use Rattle.replay.specs.Choices.{terms_of}
+use Rattle.replay.specs.Reference.{terms_of}
 use Rattle.replay.proofs.Upcoming.{Served}
 use Rattle.replay.proofs.serving.serve_parts.Given as goal
 

@@ -1,5 +1,5 @@
 use Rattle.std.proofs.Common.{◌∙◌}
-use Rattle.paths.proofs.Appending.{proper_is_prefix}
+use Rattle.devices.proofs.Appending.{proper_is_prefix}
 use Rattle.replay.proofs.Upcoming.{reply_cut, reply_more}
 use Rattle.replay.proofs.Judging.{on_err}
 use Rattle.replay.proofs.serving.write_replies.Goals as goal

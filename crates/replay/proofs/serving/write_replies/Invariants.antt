@@ -1,7 +1,7 @@
 use Rattle.std.proofs.Common.{◌≡◌, take}
 use Rattle.std.specs.Prelude.{flat_map}
 use Rattle.std.specs.Io.KnownBytes.{Appends}
-use Rattle.responses.specs.Records.{record_text}
+use Rattle.responses.specs.Reference.{record_text}
 use Rattle.replay.proofs.serving.write_replies.Given as goal
 
 -- the replies so far are written

@@ -1,28 +1,32 @@
 use Rattle.std.proofs.Common.{◌≡◌, ◌∙◌, [], ◌++◌, ℕ, List, Option, refl, sym, ap, subst, inl, inr, rules}
 use Rattle.std.specs.Io.KnownBytes.{Appends}
-use Rattle.paths.proofs.Appending.{prefix_all}
-use Rattle.replay.specs.Choices.{terms_of}
-use Rattle.replay.specs.Offers.{handled}
-use Rattle.replay.specs.Replies.{replies_of, text_before_stop}
-use Rattle.replay.specs.Outcomes.{Stops, IsCutShort, capture_fault}
-use Rattle.replay.proofs.Judging.{stands_none, cut_short, passed_on, on_many, on_cut}
-use Rattle.replay.proofs.ByRecord.{serves_none, no_tiers, first_written, more_written, answers_all, ends_in_part, told, told_short, stops_first, stops_told, left_first, stops_full, short_among, short_part, blamed_told}
+use Rattle.devices.proofs.Appending.{prefix_all}
+use Rattle.replay.specs.Reference.{terms_of, handled, replies_of, text_before_stop}
+use Rattle.replay.specs.Outcomes.{capture_fault}
+use Rattle.replay.specs.Telling.{replies_told}
+use Rattle.replay.proofs.Judging.{stands_none, passed_on, on_many, on_cut}
+use Rattle.replay.proofs.ByRecord.{serves_none, no_tiers, first_written, more_written, answers_all, ends_in_part, leaves_told, own_leaves, short_leaves, stops_first, stops_told, left_first, stops_full, short_among, short_part, blamed_told}
 use Rattle.replay.specs.Waiting.{connections_of}
 use Rattle.replay.proofs.ByBatch.{come_next, waits_none}
 use Rattle.replay.proofs.staged.staged_replay.Goals as goal
 
-pub returns-in-Err-clause-stops : goal.returns-in-Err-clause-stops
-returns-in-Err-clause-stops g c = rw c.from.ensures (told _ (Stops (terms_of g.F.Tree.files c.args.settings.now) c.args.reader.now.bytes _ c.args.writer.now.bytes c.write_first_line.new.writer.bytes)
-    (stops_first (terms_of g.F.Tree.files c.args.settings.now) c.args.reader.now.bytes _ c.args.writer.now.bytes c.write_first_line.new.writer.bytes _ c.in_ok-write_first_line.ensures.written c.in-Err.ensures.at c.in-Err.ensures.fault (rw c.in-Err.is at c.open.follows.holds-at-none).1))
+pub returns-in_err-write_first_line-clause-fault : goal.returns-in_err-write_first_line-clause-fault
+returns-in_err-write_first_line-clause-fault g c =
+    passed_on c.from_residual.result _ _
+    (λ f same. rw same (short_leaves (replies_told (terms_of g.F.Tree.files c.args.settings.now)) c.args.reader.now.bytes _ _ _ c.in_err-write_first_line.field-0.0 c.in_err-write_first_line.ensures.own (inl c.in_err-write_first_line.ensures.part)))
+    c.from_residual.ensures.1
 
-pub returns-in-Err-clause-part : goal.returns-in-Err-clause-part
-returns-in-Err-clause-part g c = rw c.from.ensures (told_short _ (IsCutShort (terms_of g.F.Tree.files c.args.settings.now) c.args.reader.now.bytes c.args.writer.now.bytes c.write_first_line.new.writer.bytes) (inl (prefix_all c.args.writer.now.bytes c.write_first_line.new.writer.bytes _ c.in_ok-write_first_line.ensures.written)))
+pub returns-in-Err-clause-fault : goal.returns-in-Err-clause-fault
+returns-in-Err-clause-fault g c = rw c.from.ensures
+    (leaves_told (replies_told (terms_of g.F.Tree.files c.args.settings.now)) c.args.reader.now.bytes _ c.args.writer.now.bytes c.write_first_line.new.writer.bytes c.in-Err.fault
+    (stops_first (terms_of g.F.Tree.files c.args.settings.now) c.args.reader.now.bytes _ c.args.writer.now.bytes c.write_first_line.new.writer.bytes _ c.in_ok-write_first_line.ensures.written c.in-Err.ensures.at c.in-Err.ensures.fault (rw c.in-Err.is at c.open.follows.holds-at-none).1)
+    (inl (prefix_all c.args.writer.now.bytes c.write_first_line.new.writer.bytes _ c.in_ok-write_first_line.ensures.written)))
 
-pub returns-in_err-new-clause-part : goal.returns-in_err-new-clause-part
-returns-in_err-new-clause-part g c = cut_short c.from_residual-in_err-new.result _ (inl (prefix_all c.args.writer.now.bytes c.write_first_line.new.writer.bytes _ c.in_ok-write_first_line.ensures.written))
+pub returns-in_err-new-clause-fault : goal.returns-in_err-new-clause-fault
+returns-in_err-new-clause-fault g c = passed_on c.from_residual-in_err-new.result _ _ (λ f same. rw same (inl (prefix_all c.args.writer.now.bytes c.write_first_line.new.writer.bytes _ c.in_ok-write_first_line.ensures.written))) c.from_residual-in_err-new.ensures.1
 
-pub returns-in_err-new-2-clause-part : goal.returns-in_err-new-2-clause-part
-returns-in_err-new-2-clause-part g c = cut_short c.from_residual-in_err-new-2.result _ (inl (prefix_all c.args.writer.now.bytes c.write_first_line.new.writer.bytes _ c.in_ok-write_first_line.ensures.written))
+pub returns-in_err-new-2-clause-fault : goal.returns-in_err-new-2-clause-fault
+returns-in_err-new-2-clause-fault g c = passed_on c.from_residual-in_err-new-2.result _ _ (λ f same. rw same (inl (prefix_all c.args.writer.now.bytes c.write_first_line.new.writer.bytes _ c.in_ok-write_first_line.ensures.written))) c.from_residual-in_err-new-2.ensures.1
 
 pub loop-floors-init : goal.loop-floors-init
 loop-floors-init g c =
@@ -43,10 +47,12 @@ loop-floors-init g c =
       waits_none _ c.new-seats.ensures,
     )
 
-pub returns-in_err-batch-clause-part : goal.returns-in_err-batch-clause-part
-returns-in_err-batch-clause-part g c =
+pub returns-in_err-batch-clause-fault : goal.returns-in_err-batch-clause-fault
+returns-in_err-batch-clause-fault g c =
     let inv = c.loop-floors.invariant.0 in
-    cut_short c.from_residual-in_err-batch.result _ (short_among (terms_of g.F.Tree.files c.args.settings.now) _ _ _ _ _ _ _ _ _ _ _ inv.3 inv.4 inv.6)
+    passed_on c.from_residual-in_err-batch.result _ _
+    (λ f same. rw same (short_among (terms_of g.F.Tree.files c.args.settings.now) _ _ _ _ _ _ _ _ _ _ _ inv.3 inv.4 inv.6))
+    c.from_residual-in_err-batch.ensures.1
 
 pub serve_batch-requires-clause-next : goal.serve_batch-requires-clause-next
 serve_batch-requires-clause-next g c = λ κs lives.
@@ -58,40 +64,30 @@ serve_batch-requires-clause-next g c = λ κs lives.
     let next = come_next terms _ _ _ inv.0.1 b.0 inv.0.2 _ _ _ _ _ inv.0.0 inv.0.4 inv.5 b.1 (c.deref.ensures.value ∙ tiers.0) on.fits refl in
     (inv.0.1, b.0, inv.0.2, next)
 
-pub returns-in_err-seats-clause-many : goal.returns-in_err-seats-clause-many
-returns-in_err-seats-clause-many g c =
+pub returns-in_err-seats-clause-fault : goal.returns-in_err-seats-clause-fault
+returns-in_err-seats-clause-fault g c =
     let inv = c.loop-floors.invariant in
     let terms = terms_of g.F.Tree.files c.args.settings.now in
     let b = c.in_ok-batch.ensures.batch in
     let tiers = b.2 inv.0.1 inv.0.5 in
     let on = b.3 inv.0.0 _ _ inv.0.1 inv.0.3 in
     let next = come_next terms _ _ _ inv.0.1 b.0 inv.0.2 _ _ _ _ _ inv.0.0 inv.0.4 inv.5 b.1 (c.deref.ensures.value ∙ tiers.0) on.fits refl in
+    let fault = c.in_err-seats.field-0.0 in
+    let says = c.in_err-seats.ensures in
     passed_on c.from_residual-in_err-seats.result _ _
-    (λ f same. rw same (on_many c.in_err-seats.field-0.0 _ _
-    (λ n full. stops_full terms inv.0.0 _ _ _ _ _ _ n inv.0.1 inv.0.2 b.0 _ on.fits inv.0.6 full.0 (full.1 inv.0.1 b.0 inv.0.2 next))
-    c.in_err-seats.ensures.many))
-    c.from_residual-in_err-seats.ensures.1
-
-pub returns-in_err-seats-clause-part : goal.returns-in_err-seats-clause-part
-returns-in_err-seats-clause-part g c =
-    let inv = c.loop-floors.invariant in
-    let terms = terms_of g.F.Tree.files c.args.settings.now in
-    let b = c.in_ok-batch.ensures.batch in
-    let tiers = b.2 inv.0.1 inv.0.5 in
-    let on = b.3 inv.0.0 _ _ inv.0.1 inv.0.3 in
-    let next = come_next terms _ _ _ inv.0.1 b.0 inv.0.2 _ _ _ _ _ inv.0.0 inv.0.4 inv.5 b.1 (c.deref.ensures.value ∙ tiers.0) on.fits refl in
-    passed_on c.from_residual-in_err-seats.result _ _
-    (λ f same. rw same (on_cut c.in_err-seats.field-0.0 _ _
+    (λ f same. rw same (own_leaves (replies_told terms) _ _ _ _ fault says.own
+    (on_many fault _ _ (λ n full. stops_full terms inv.0.0 _ _ _ _ _ _ n inv.0.1 inv.0.2 b.0 _ on.fits inv.0.6 full.0 (full.1 inv.0.1 b.0 inv.0.2 next)) says.many)
+    (on_cut fault _ _
     (λ short. elim short [
       | inl none ↦ short_among terms _ _ _ _ _ _ _ _ _ _ _ inv.0.3 inv.0.4
           (subst (λ (w : Option (List ℕ)). Appends c.args.writer.now.bytes w (text_before_stop (replies_of terms c.loop-floors.desk.start (handled terms inv.0.2)))) (sym none) inv.0.6)
       | inr part ↦ short_part terms inv.0.0 _ _ _ _ _ _ inv.0.1 inv.0.2 b.0 _ on.fits inv.0.6 (part inv.0.1 b.0 inv.0.2 next)
     ])
-    c.in_err-seats.ensures.part))
+    says.part)))
     c.from_residual-in_err-seats.ensures.1
 
-pub returns-in-Fault-clause-stops : goal.returns-in-Fault-clause-stops
-returns-in-Fault-clause-stops g c = left_first _ _ _ c.read_batch.new.capture.input.now.bytes _ _ _ (search rules) (λ left.
+pub returns-in-Fault-clause-fault : goal.returns-in-Fault-clause-fault
+returns-in-Fault-clause-fault g c = left_first _ _ _ c.read_batch.new.capture.input.now.bytes _ _ _ (search rules) (λ left.
     let gives = c.from-in-Fault.ensures in
     let same = c.in-Fault.fault-is in
     let is : c.from-in-Fault.result ≡ capture_fault c.in-Fault.fault = cc in
@@ -106,23 +102,6 @@ returns-in-Fault-clause-stops g c = left_first _ _ _ c.read_batch.new.capture.in
     let ends = rw c.in-Fault.is at on.ends in
     stops_told terms inv.0.0 c.args.reader.now.bytes _ _ c.read_batch.new.capture.input.now.bytes _ _ _ (inv.0.1 ++ b.0) (inv.0.2 ++ more.more) _ _ _ c.in-Fault.fault c.from-in-Fault.result is on.fits more.serves
     (more_written terms c.loop-floors.desk.start inv.0.2 more.more _ _ _ inv.0.6 (rw one.start at more.written)) ends.0 ends.1 left)
-
-pub returns-in-Fault-clause-part : goal.returns-in-Fault-clause-part
-returns-in-Fault-clause-part g c =
-    let gives = c.from-in-Fault.ensures in
-    let same = c.in-Fault.fault-is in
-    let is : c.from-in-Fault.result ≡ capture_fault c.in-Fault.fault = cc in
-    let inv = c.loop-floors.invariant in
-    let terms = terms_of g.F.Tree.files c.args.settings.now in
-    let b = c.in_ok-batch.ensures.batch in
-    let tiers = b.2 inv.0.1 inv.0.5 in
-    let on = b.3 inv.0.0 _ _ inv.0.1 inv.0.3 in
-    let next = come_next terms _ _ _ inv.0.1 b.0 inv.0.2 _ _ _ _ _ inv.0.0 inv.0.4 inv.5 b.1 (c.deref.ensures.value ∙ tiers.0) on.fits refl in
-    let one = c.in_ok-seats.ensures in
-    let more = one.serves inv.0.1 b.0 inv.0.2 next in
-    rw is
-    (told_short _ (IsCutShort terms c.args.reader.now.bytes c.args.writer.now.bytes c.serve_batch.new.writer.bytes)
-    (short_among terms _ _ _ _ _ _ _ _ _ _ _ on.fits more.serves (more_written terms c.loop-floors.desk.start inv.0.2 more.more _ _ _ inv.0.6 (rw one.start at more.written))))
 
 pub returns-in-Fault-clause-reads : goal.returns-in-Fault-clause-reads
 returns-in-Fault-clause-reads g c =
@@ -159,8 +138,8 @@ loop-floors-preserved g c =
       one.idle,
     )
 
-pub returns-in_err-outcome-clause-part : goal.returns-in_err-outcome-clause-part
-returns-in_err-outcome-clause-part g c =
+pub returns-in_err-outcome-clause-fault : goal.returns-in_err-outcome-clause-fault
+returns-in_err-outcome-clause-fault g c =
     let inv = c.loop-floors.invariant in
     let terms = terms_of g.F.Tree.files c.args.settings.now in
     let b = c.in_ok-batch.ensures.batch in
@@ -169,11 +148,12 @@ returns-in_err-outcome-clause-part g c =
     let next = come_next terms _ _ _ inv.0.1 b.0 inv.0.2 _ _ _ _ _ inv.0.0 inv.0.4 inv.5 b.1 (c.deref.ensures.value ∙ tiers.0) on.fits refl in
     let one = c.in_ok-seats.ensures in
     let more = one.serves inv.0.1 b.0 inv.0.2 next in
-    cut_short c.from_residual-in_err-outcome.result _
-    (short_among terms _ _ _ _ _ _ _ _ _ _ _ on.fits more.serves (more_written terms c.loop-floors.desk.start inv.0.2 more.more _ _ _ inv.0.6 (rw one.start at more.written)))
+    passed_on c.from_residual-in_err-outcome.result _ _
+    (λ f same. rw same (short_among terms _ _ _ _ _ _ _ _ _ _ _ on.fits more.serves (more_written terms c.loop-floors.desk.start inv.0.2 more.more _ _ _ inv.0.6 (rw one.start at more.written))))
+    c.from_residual-in_err-outcome.ensures.1
 
-pub returns-in_err-write_last_line-clause-part : goal.returns-in_err-write_last_line-clause-part
-returns-in_err-write_last_line-clause-part g c =
+pub returns-in_err-write_last_line-clause-fault : goal.returns-in_err-write_last_line-clause-fault
+returns-in_err-write_last_line-clause-fault g c =
     let inv = c.loop-floors.invariant in
     let terms = terms_of g.F.Tree.files c.args.settings.now in
     let b = c.in_ok-batch.ensures.batch in
@@ -182,9 +162,11 @@ returns-in_err-write_last_line-clause-part g c =
     let next = come_next terms _ _ _ inv.0.1 b.0 inv.0.2 _ _ _ _ _ inv.0.0 inv.0.4 inv.5 b.1 (c.deref.ensures.value ∙ tiers.0) on.fits refl in
     let one = c.in_ok-seats.ensures in
     let more = one.serves inv.0.1 b.0 inv.0.2 next in
-    cut_short c.from_residual-in_err-write_last_line.result _
+    passed_on c.from_residual-in_err-write_last_line.result _ _
+    (λ f same. rw same (short_leaves (replies_told terms) _ _ _ _ c.in_err-write_last_line.field-0.0 c.in_err-write_last_line.ensures.own
     (ends_in_part terms inv.0.0 _ _ (inv.0.1 ++ b.0) (inv.0.2 ++ more.more) _ _ _ _ _ _ on.fits.rules
-    (rw c.in-End.is at on.ends) more.serves (more_written terms c.loop-floors.desk.start inv.0.2 more.more _ _ _ inv.0.6 (rw one.start at more.written)) c.in_err-write_last_line.ensures.part refl)
+    (rw c.in-End.is at on.ends) more.serves (more_written terms c.loop-floors.desk.start inv.0.2 more.more _ _ _ inv.0.6 (rw one.start at more.written)) c.in_err-write_last_line.ensures.part refl)))
+    c.from_residual-in_err-write_last_line.ensures.1
 
 pub returns-clause-ok : goal.returns-clause-ok
 returns-clause-ok g c =

@@ -3,10 +3,8 @@ use Rattle.std.specs.Io.KnownBytes.{Appends}
 use Rattle.captures.specs.declared.version.Version.{Version}
 use Rattle.captures.specs.Readers.{ReaderAfter}
 use Rattle.captures.specs.declared.record.Record.{Record}
-use Rattle.replay.specs.Choices.{terms_of}
-use Rattle.arrivals.specs.Arrivals.{Arrival}
-use Rattle.replay.specs.Offers.{handled}
-use Rattle.replay.specs.Replies.{replies_of, text_before_stop}
+use Rattle.replay.specs.Reference.{terms_of, handled, replies_of, text_before_stop}
+use Rattle.arrivals.specs.Reference.{Arrival}
 use Rattle.replay.specs.Serving.{Serves}
 use Rattle.arrivals.specs.Tiers.{AreTiers}
 use Rattle.replay.specs.Waiting.{Waiting, connections_of}

@@ -1,6 +1,6 @@
 use Rattle.std.proofs.Common.{rules, length-append}
 use Rattle.std.proofs.lemmas.Slice.Zip.{zip_turn, zip_end}
-use Rattle.responses.specs.Statuses.{statuses}
+use Rattle.responses.specs.Reference.{statuses}
 use Rattle.report.proofs.Lines.{status_lines-more, status_lines-all}
 use Rattle.report.proofs.reports.write_statuses.Goals as goal
 

@@ -1,4 +1,4 @@
-use Rattle.paths.specs.Snapshots.{file_of}
+use Rattle.paths.specs.Reference.{file_of}
 use Rattle.responses.proofs.Joining.{page_fields_added}
 use Rattle.responses.proofs.fields.push_content.Goals as goal
 

@@ -1,8 +1,8 @@
 use Rattle.std.proofs.Common.{ℕ, List, ◌++◌, [], ◌∷◌, refl, sym, ◌∙◌}
 use Rattle.std.proofs.lemmas.List.{append_assoc}
 use Rattle.std.proofs.lemmas.Result.{err_from_is_err_and}
-use Rattle.paths.proofs.Appending.{appends_then, stopped_first, stopped_in}
-use Rattle.responses.specs.Records.{record_text}
+use Rattle.devices.proofs.Appending.{appends_then, stopped_first, stopped_in}
+use Rattle.responses.specs.Reference.{record_text}
 use Rattle.responses.proofs.Writing.{record_parts}
 use Rattle.responses.proofs.record.write_record.Goals as goal
 

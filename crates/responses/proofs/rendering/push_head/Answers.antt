@@ -1,7 +1,6 @@
 use Rattle.std.proofs.Common.{◌++◌, ◌∙◌, ap, codes, decimal, min, Some}
 use Rattle.std.specs.Option.{option_map}
-use Rattle.responses.specs.Dates.{imf_date}
-use Rattle.responses.specs.Replies.{field_line, status_words, content_type, content_length, last_modified, location_of, allow_of, retry_after_of, connection_of}
+use Rattle.responses.specs.Reference.{imf_date, field_line, status_words, content_type, content_length, last_modified, location_of, allow_of, retry_after_of, connection_of}
 use Rattle.responses.proofs.Joining.{head_joined}
 use Rattle.responses.proofs.rendering.push_head.Goals as goal
 

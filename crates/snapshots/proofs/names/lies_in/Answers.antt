@@ -1,7 +1,7 @@
 use Rattle.std.proofs.Common.{◌&&◌, [], ◌∷◌, length, drop, nat_eq, sym, ap, ◌∙◌}
 use Rattle.std.specs.List.{starts_with}
 use Rattle.std.proofs.lemmas.List.{take_rest}
-use Rattle.paths.specs.Ascii.{slash}
+use Rattle.paths.specs.Reference.{slash}
 use Rattle.snapshots.proofs.Prefixes.{lies_split}
 use Rattle.snapshots.proofs.names.lies_in.Goals as goal
 

@@ -1,5 +1,5 @@
 use Rattle.std.proofs.Common.{◌++◌, ◌∷◌, []}
-use Rattle.paths.proofs.Appending.{writes_proper_then, proper_first}
+use Rattle.devices.proofs.Appending.{writes_proper_then, proper_first}
 use Rattle.snapshots.proofs.texts.write_file.Goals as goal
 
 pub returns-in-Ok-clause-prefix : goal.returns-in-Ok-clause-prefix

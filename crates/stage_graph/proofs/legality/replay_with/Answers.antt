@@ -1,6 +1,5 @@
-use Rattle.std.proofs.Common.{◌≡◌, arith, sym, ◌∙◌, true, false, take, length, get_or}
+use Rattle.std.proofs.Common.{◌≡◌, arith, sym, ◌∙◌, true, false, take, length, get_or, ◌<◌}
 use Rattle.stage_graph.specs.Floors.{standing, is_allowed, is_legal_from_opening}
-use Rattle.std.proofs.Common.{◌<◌}
 use Rattle.std.proofs.lemmas.List.{get_or_default}
 use Rattle.stage_graph.specs.declared.event.Event.TheVariants.{Feed}
 use Rattle.stage_graph.proofs.Replaying.{refused_at}

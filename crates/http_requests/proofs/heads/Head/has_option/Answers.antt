@@ -2,7 +2,7 @@ use Rattle.std.proofs.Common.{sym, ◌∙◌, ap}
 use Rattle.std.specs.List.{list_any, slice_split}
 use Rattle.std.specs.Prelude.{◌==◌}
 use Rattle.httparse.specs.Grammar.{trim_ows}
-use Rattle.http_requests.specs.Heads.{same_text}
+use Rattle.http_requests.specs.Reference.{same_text}
 use Rattle.http_requests.specs.Lines.{lines_at}
 use Rattle.http_requests.proofs.HeadLemmas.{option_once, option_absent}
 use Rattle.http_requests.proofs.heads.Head.has_option.Goals as goal

@@ -1,5 +1,5 @@
 use Rattle.std.specs.Prelude.{take, codes}
-use Rattle.http_requests.specs.Heads.{values_of}
+use Rattle.http_requests.specs.Reference.{values_of}
 use Rattle.http_requests.specs.Lines.{AreLines}
 use Rattle.http_requests.proofs.HeadLemmas.{lines_from}
 use Rattle.http_requests.proofs.heads.Head.host_lines.Given as goal

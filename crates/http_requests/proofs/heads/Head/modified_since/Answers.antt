@@ -1,6 +1,6 @@
 use Rattle.std.proofs.Common.{◌≡◌, ℕ, Bool, true, false, List, [], ◌∷◌, refl, sym, ◌∙◌, ap}
 use Rattle.std.specs.Prelude.{Option, Some, None, MatchBool, not, ◌&&◌}
-use Rattle.http_requests.specs.Heads.{IsOnlySecond, IsSecondOf, is_get_or_head}
+use Rattle.http_requests.specs.Reference.{IsOnlySecond, IsSecondOf, is_get_or_head}
 use Rattle.http_requests.proofs.HeadLemmas.{there}
 use Rattle.http_requests.proofs.heads.Head.modified_since.Goals as goal
 

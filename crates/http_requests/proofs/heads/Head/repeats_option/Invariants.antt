@@ -1,5 +1,5 @@
 use Rattle.std.specs.Prelude.{◌≡◌, false, take}
-use Rattle.http_requests.specs.Heads.{has_option}
+use Rattle.http_requests.specs.Reference.{has_option}
 use Rattle.http_requests.proofs.HeadLemmas.{lines_from}
 use Rattle.http_requests.proofs.heads.Head.repeats_option.Given as goal
 

@@ -2,7 +2,7 @@ use Rattle.std.proofs.Common.{◌≡◌, ℕ, List, length, refl, arith, ap, ◌
 use Rattle.std.specs.Prelude.{codes}
 use Rattle.httparse.specs.declared.spans.Span.{Span}
 use Rattle.http_requests.specs.declared.heads.Lines.{Lines}
-use Rattle.http_requests.specs.Heads.{same_text}
+use Rattle.http_requests.specs.Reference.{same_text}
 use Rattle.http_requests.specs.Lines.{and_if}
 use Rattle.http_requests.proofs.HeadLemmas.{kept_line}
 use Rattle.http_requests.proofs.heads.Noted.add.Goals as goal

@@ -1,6 +1,6 @@
 use Rattle.std.proofs.Common.{◌-◌, is_lt, nat_cmp, arith, ap, ◌∙◌}
 use Rattle.std.specs.Cmp.Lexicographic.{slice_cmp}
-use Rattle.paths.specs.Snapshots.{file_of}
+use Rattle.paths.specs.Reference.{file_of}
 use Rattle.paths.proofs.Names.{order_by_last}
 use Rattle.paths.proofs.snapshot.Snapshot.precedes.Goals as goal
 

@@ -1,6 +1,6 @@
 use Rattle.std.proofs.Common.{◌≡◌, ◌-◌, length}
 use Rattle.paths.specs.Snapshots.{text_before_end, max_text_bytes, max_files}
-use Rattle.paths.proofs.Taking.{Takes}
+use Rattle.devices.proofs.Taking.{Takes}
 use Rattle.paths.proofs.snapshot.Snapshot.read_front.Given as goal
 
 abbrev pub invariant-loop-files : goal.invariant-loop-files

@@ -1,6 +1,6 @@
 use Rattle.std.proofs.Common.{ap, ◌∙◌}
 use Rattle.paths.specs.declared.file.File.{File}
-use Rattle.paths.specs.Snapshots.{no_file}
+use Rattle.paths.specs.Reference.{no_file}
 use Rattle.paths.proofs.Names.{above_shared}
 use Rattle.paths.proofs.snapshot.Snapshot.shared_with_last.Goals as goal
 

@@ -1,4 +1,4 @@
-use Rattle.paths.specs.Targets.{asked}
+use Rattle.paths.specs.Reference.{asked}
 use Rattle.paths.proofs.Locations.{outcome_is}
 use Rattle.replay.proofs.Sights.{priced}
 use Rattle.replay.proofs.desk.Desk.decide.Goals as goal

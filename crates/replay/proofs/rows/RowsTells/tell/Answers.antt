@@ -1,8 +1,8 @@
 use Rattle.std.proofs.Common.{subst, arith}
 use Rattle.std.specs.Io.KnownBytes.{Appends}
-use Rattle.paths.specs.Devices.{AppendsPrefix}
-use Rattle.paths.proofs.Appending.{prefix_none, proper_is_prefix}
-use Rattle.replay.specs.Choices.{terms_of}
+use Rattle.devices.specs.Devices.{AppendsPrefix}
+use Rattle.devices.proofs.Appending.{prefix_none, proper_is_prefix}
+use Rattle.replay.specs.Reference.{terms_of}
 use Rattle.replay.proofs.Offering.{last_by}
 use Rattle.replay.proofs.Judging.{on_err}
 use Rattle.replay.proofs.RowByRow.{costs_known, foreseen, row_written}

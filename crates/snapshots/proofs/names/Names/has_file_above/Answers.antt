@@ -1,5 +1,5 @@
 use Rattle.std.proofs.Common.{take, sym, ap, ◌∙◌}
-use Rattle.paths.specs.Snapshots.{lies_in}
+use Rattle.paths.specs.Reference.{lies_in}
 use Rattle.snapshots.proofs.Prefixes.{none_more, none_at_all}
 use Rattle.snapshots.proofs.names.Names.has_file_above.Goals as goal
 

@@ -1,6 +1,6 @@
 use Rattle.std.proofs.Common.{◌≡◌, take, false}
 use Rattle.std.specs.List.{list_any}
-use Rattle.paths.specs.Snapshots.{lies_in}
+use Rattle.paths.specs.Reference.{lies_in}
 use Rattle.snapshots.proofs.names.Names.has_file_above.Given as goal
 
 abbrev pub invariant-loop-len : goal.invariant-loop-len

@@ -1,6 +1,6 @@
 use Rattle.std.proofs.Common.{◌∙◌, sym, ap, length, arith}
 use Rattle.std.proofs.lemmas.Result.{err_from_is_err_and}
-use Rattle.paths.proofs.Appending.{proper_is_prefix}
+use Rattle.devices.proofs.Appending.{proper_is_prefix}
 use Rattle.snapshots.specs.Keeping.{a_file}
 use Rattle.snapshots.proofs.Rulings.{rule_is}
 use Rattle.snapshots.proofs.Taken.{took_more, part_more}

@@ -1,6 +1,6 @@
 use Rattle.std.proofs.Common.{◌∙◌}
 use Rattle.std.proofs.lemmas.Result.{err_from_is_err_and}
-use Rattle.paths.proofs.Appending.{proper_is_prefix}
+use Rattle.devices.proofs.Appending.{proper_is_prefix}
 use Rattle.snapshots.proofs.Taken.{all_ended, part_ended, none_ended}
 use Rattle.snapshots.proofs.writer.SnapshotWriter.finish.Goals as goal
 

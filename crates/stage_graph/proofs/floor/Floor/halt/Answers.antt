@@ -1,7 +1,6 @@
-use Rattle.std.proofs.Common.{◌≡◌, None, arith, ap}
+use Rattle.std.proofs.Common.{◌≡◌, None, arith, ap, refl}
 use Rattle.stage_graph.specs.Floors.{standing, halt_cause}
 use Rattle.stage_graph.proofs.Sound.{room_for}
-use Rattle.std.proofs.Common.{refl}
 use Rattle.stage_graph.specs.declared.event.Event.TheVariants.{Halt}
 use Rattle.stage_graph.proofs.Moves.{halt_stands}
 use Rattle.std.specs.Option.{is_none}

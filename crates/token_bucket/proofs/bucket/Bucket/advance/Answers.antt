@@ -1,5 +1,5 @@
 use Rattle.std.proofs.Common.{◌-◌, ◌*◌, ◌≤◌, ◌∙◌, arith}
-use Rattle.token_bucket.specs.Limits.{TOKEN}
+use Rattle.token_bucket.specs.Reference.{TOKEN}
 use Rattle.token_bucket.specs.Calls.{Advance}
 use Rattle.token_bucket.proofs.FitsLemmas.{fits_then, filled_credit}
 use Rattle.token_bucket.proofs.bucket.Bucket.advance.Goals as goal

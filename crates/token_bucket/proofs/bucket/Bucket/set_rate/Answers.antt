@@ -1,5 +1,5 @@
 use Rattle.std.proofs.Common.{◌*◌, arith}
-use Rattle.token_bucket.specs.Limits.{TOKEN}
+use Rattle.token_bucket.specs.Reference.{TOKEN}
 use Rattle.token_bucket.specs.Calls.{SetRate}
 use Rattle.token_bucket.proofs.FitsLemmas.{fits_then, still_credit_untaken}
 use Rattle.token_bucket.proofs.bucket.Bucket.set_rate.Goals as goal

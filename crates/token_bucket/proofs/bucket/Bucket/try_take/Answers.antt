@@ -1,5 +1,5 @@
 use Rattle.std.proofs.Common.{◌*◌, true, false, arith}
-use Rattle.token_bucket.specs.Limits.{TOKEN}
+use Rattle.token_bucket.specs.Reference.{TOKEN}
 use Rattle.token_bucket.specs.Calls.{TryTake}
 use Rattle.token_bucket.proofs.FitsLemmas.{fits_then, still_credit, still_credit_untaken}
 use Rattle.token_bucket.proofs.bucket.Bucket.try_take.Goals as goal

@@ -1,0 +1,401 @@
+#!/usr/bin/env python3
+"""Goes the whole round with a real server: records it, fits costs to it, replays, and compares what comes out.
+
+    checks/against_server.py [--seconds N] [--keep FOLDER] PROGRAM
+
+nginx, with the lines that tools/sweep.py prints for it, stands before a backend whose costs are known (so much for a
+file, for each KiB of it, for an error), first of one process and then of four. For --seconds (25 without it) clients
+that wait for nobody ask it, in bursts too, each on a connection of its own. tcpdump records the packets, nginx its log,
+both on 127.0.0.1. Then, for each backend and of both recordings:
+
+  - tools/calibrate.py finds the number of processes, and costs that are those of the backend;
+  - the replay under the settings of the limit turns as many away as nginx did, second by second;
+  - the percentiles of the replay are those that were measured: by the program where it has one server, or as many as
+    the backend; and by the best fit of tools/calibrate.py.
+
+Prints what was measured and what was found, and then how many comparisons failed. Exits with 1 where one did. It needs
+root, nginx, tcpdump and the libraries of the tools, and takes about two minutes.
+"""
+import argparse
+import asyncio
+import collections
+import contextlib
+import csv
+import os
+import pathlib
+import random
+import re
+import shutil
+import signal
+import socket
+import subprocess
+import sys
+import tempfile
+import time
+
+TOOLS = pathlib.Path(__file__).resolve().parent.parent / "tools"
+sys.dont_write_bytecode = True  # the folders stay as they are
+sys.path.insert(0, str(TOOLS))
+import server_lines
+import settings_documents
+
+PYTHON = "/usr/bin/python3"
+NEEDED = ("nginx", "tcpdump", PYTHON)
+HOST = "127.0.0.1"
+FILE, KIB, ERROR = 0.010, 0.00012, 0.004  # seconds that the backend works on a file, a KiB of it, an error
+SIZES = {"small.txt": 2_000, "page.html": 20_000, "picture.png": 100_000}
+LONGEST = 10  # seconds that a request, a start or an end may take
+COST_PERCENT, TIME_PERCENT, AWAY_PERCENT = 10, 10, 2
+SLACK = 600  # microseconds that nginx and the clients add to a time
+PRIORITY = 10  # in real time, of servers and clients, which mostly wait: other work on the machine doesn't slow them
+
+# A round: its name, the backend's processes, the requests a second and the size of a burst, and nginx's limit.
+Round = collections.namedtuple("Round", "name processes pace burst rate depth")
+ROUNDS = (Round("one process", 1, 35, 35, 60, 20), Round("four processes", 4, 140, 130, 240, 60))
+
+LOG_FORMAT = (
+    '$remote_addr - $remote_user [$time_local] "$request" $status $body_bytes_sent "$http_referer" "$http_user_agent" '
+    '$msec $request_time $host "$http_if_modified_since" "$http_if_none_match"')
+CONFIGURATION = """\
+daemon off; worker_processes 1; pid {folder}/nginx.pid; error_log {folder}/error.log; user root;
+events {{ worker_connections 4096; }}
+http {{
+  log_format timed '{log_format}';
+  access_log {folder}/access.log timed;
+  client_body_temp_path {folder}; proxy_temp_path {folder}; fastcgi_temp_path {folder}; uwsgi_temp_path {folder};
+  scgi_temp_path {folder};
+  {zones}
+  server {{
+    listen {host}:{port} backlog=4096;
+    {limits}
+    location / {{ proxy_pass http://{host}:{backend}; proxy_read_timeout 60s; }}
+  }}
+}}
+"""
+
+
+def cost_of(name):
+    """The status of a name, its bytes, and the seconds that the backend works on it."""
+    if name not in SIZES:
+        return 404, b"none\n", ERROR
+    return 200, b"x" * SIZES[name], FILE + KIB * SIZES[name] / 1024
+
+
+def answer_one(client, ready):
+    """Answers one request, whose work begins when the process is ready; returns when it ends."""
+    with client:
+        client.settimeout(LONGEST)
+        begin = max(time.monotonic(), ready)
+        text = b""
+        while b"\r\n\r\n" not in text:
+            data = client.recv(65_536)
+            if not data:
+                return ready
+            text += data
+        status, body, cost = cost_of(text.split(b" ", 2)[1].decode().partition("?")[0].strip("/"))
+        end = begin + cost
+        time.sleep(max(0, end - time.monotonic()))
+        client.sendall(b"HTTP/1.0 %d X\r\nContent-Length: %d\r\n\r\n%s" % (status, len(body), body))
+        return end
+
+
+def serve(listener):
+    """Answers connections one after another, for ever."""
+    ready = 0.0
+    while True:
+        client, _ = listener.accept()
+        with contextlib.suppress(OSError):
+            ready = answer_one(client, ready)
+
+
+def begin_backend(processes):
+    """The processes of a backend, and its port."""
+    listener = socket.create_server((HOST, 0), backlog=4096)
+    children = []
+    for _ in range(processes):
+        child = os.fork()
+        if not child:
+            try:
+                serve(listener)
+            finally:
+                os._exit(0)
+        children.append(child)
+    return children, listener.getsockname()[1]
+
+
+def free_port():
+    """A port that nobody listens on."""
+    with socket.create_server((HOST, 0)) as listener:
+        return listener.getsockname()[1]
+
+
+def wait_until(condition, what):
+    """Waits until something holds."""
+    end = time.monotonic() + LONGEST
+    while not condition():
+        if time.monotonic() > end:
+            sys.exit("%s: not within %d seconds" % (what, LONGEST))
+        time.sleep(0.02)
+
+
+def answers_at(port):
+    """Whether somebody listens on a port."""
+    with contextlib.suppress(OSError), socket.create_connection((HOST, port), 1):
+        return True
+    return False
+
+
+@contextlib.contextmanager
+def running(words, end_signal, **options):
+    """A process that is ended afterwards."""
+    process = subprocess.Popen(list(map(str, words)), stdin=subprocess.DEVNULL, **options)
+    try:
+        yield process
+    finally:
+        process.send_signal(end_signal)
+        process.wait(LONGEST)
+
+
+def limits_of(a_round):
+    """The lines of a round's limit as tools/sweep.py prints them: those of http { }, and those of server { }."""
+    rate = 1000 * a_round.rate
+    lines = server_lines.nginx({0: settings_documents.Policy(rate, rate, rate, a_round.depth)})
+    is_zone = [line.startswith("limit_req_zone") for line in lines]
+    return ("\n".join(line for line, holds in zip(lines, is_zone) if holds == of) for of in (True, False))
+
+
+@contextlib.contextmanager
+def hurried():
+    """Lets this process, and those that it begins meanwhile, run before others."""
+    os.sched_setscheduler(0, os.SCHED_RR, os.sched_param(PRIORITY))
+    try:
+        yield
+    finally:
+        os.sched_setscheduler(0, os.SCHED_OTHER, os.sched_param(0))
+
+
+@contextlib.contextmanager
+def servers(folder, a_round):
+    """A backend and nginx before it; gives nginx's port."""
+    children, backend = begin_backend(a_round.processes)
+    try:
+        port = free_port()
+        zones, limits = limits_of(a_round)
+        (folder / "nginx.conf").write_text(CONFIGURATION.format(
+            folder=folder, host=HOST, port=port, backend=backend, zones=zones, limits=limits,
+            log_format=LOG_FORMAT))
+        with running(["nginx", "-c", folder / "nginx.conf"], signal.SIGQUIT, stderr=subprocess.DEVNULL):
+            wait_until(lambda: answers_at(port), "nginx")
+            yield port
+    finally:
+        for child in children:
+            os.kill(child, signal.SIGKILL)
+            os.waitpid(child, 0)
+
+
+def plan(a_round, seconds):
+    """When each request is sent, and for what: on average `pace` a second, and each two seconds a burst within 50
+    milliseconds."""
+    random_ = random.Random(a_round.name)
+    times = []
+    now = 0.0
+    while now < seconds:
+        now += random_.expovariate(a_round.pace)
+        times.append(now)
+    for second in range(1, int(seconds), 2):
+        times += [second + 0.05 * random_.random() for _ in range(a_round.burst)]
+    names = random_.choices((*SIZES, "none"), (50, 35, 5, 10), k=len(times))
+    return [(when, "/%s?n=%d" % (name, number)) for number, (when, name) in enumerate(zip(sorted(times), names))]
+
+
+async def ask(port, begin, when, target, failures):
+    """Sends one request at its time, and reads its answer."""
+    await asyncio.sleep(max(0, begin + when - time.monotonic()))
+    try:
+        reader, writer = await asyncio.open_connection(HOST, port)
+        writer.write(b"GET %s HTTP/1.1\r\nHost: site\r\nConnection: close\r\n\r\n" % target.encode())
+        await asyncio.wait_for(reader.read(-1), LONGEST)
+        writer.close()
+    except (OSError, asyncio.TimeoutError) as error:
+        failures.append(error)
+
+
+async def ask_all(port, requests):
+    """Sends all requests, each at its time whatever becomes of the others; returns how many failed."""
+    begin, failures = time.monotonic() + 0.5, []
+    await asyncio.gather(*(ask(port, begin, when, target, failures) for when, target in requests))
+    return len(failures)
+
+
+def record(folder, a_round, seconds):
+    """Records a round; returns its port."""
+    requests = plan(a_round, seconds)
+    with hurried(), servers(folder, a_round) as port:
+        words = ["tcpdump", "-i", "lo", "-s", "0", "-B", "65536", "-U", "-w", folder / "site.pcap",
+                 "tcp port %d" % port]
+        with running(words, signal.SIGINT, stderr=subprocess.DEVNULL):
+            wait_until(lambda: (folder / "site.pcap").exists(), "tcpdump")
+            time.sleep(1)
+            failed = asyncio.run(ask_all(port, requests))
+            time.sleep(1)
+    print("%s: %d requests in %d seconds, %d failed" % (a_round.name, len(requests), seconds, failed), flush=True)
+    if failed:
+        sys.exit("requests failed: the round says nothing")
+    return port
+
+
+def run(*words):
+    """What a command prints; ends the script where it fails."""
+    ran = subprocess.run(list(map(str, words)), capture_output=True, text=True)
+    if ran.returncode:
+        sys.exit("%s: status %d: %s" % (" ".join(map(str, words)), ran.returncode, ran.stderr.strip()))
+    return ran.stdout
+
+
+class Comparisons:
+    """Compares figures, and counts those that differ too much."""
+
+    def __init__(self):
+        self.failed = self.made = 0
+
+    def near(self, what, found, real, percent, slack=0):
+        """Compares a figure with the one that it should be."""
+        is_near = abs(found - real) <= percent / 100 * abs(real) + slack
+        self.made += 1
+        self.failed += not is_near
+        print("  %-52s %10.0f for %10.0f%s" %
+              (what, found, real, "" if is_near else "   FAILED (%g%%)" % percent), flush=True)
+
+    def true(self, what, holds):
+        """Notes whether something holds."""
+        self.made += 1
+        self.failed += not holds
+        print("  %-52s %s" % (what, "yes" if holds else "NO   FAILED"), flush=True)
+
+
+def decisions_of_log(folder):
+    """The statuses of requests by their numbers, and the times of those that were answered, by nginx's log."""
+    statuses, times = {}, {}
+    for line in (folder / "access.log").read_text().splitlines():
+        found = re.search(r'[?]n=([0-9]+) HTTP/1.1" ([0-9]{3}) .* ([0-9]+[.][0-9]{3}) ([0-9]+[.][0-9]{3}) site', line)
+        if found:
+            statuses[int(found[1])] = int(found[2])
+            times[int(found[1])] = round(1e6 * float(found[4]))
+    return statuses, times
+
+
+def decisions_of_table(path):
+    """The statuses and response times of requests by their numbers, by a table of decisions."""
+    statuses, times = {}, {}
+    with open(path, newline="") as file:
+        for row in csv.DictReader(file):
+            number = int(row["target"].partition("?n=")[2])
+            statuses[number] = int(row["status"])
+            if row["decision"] == "admitted":
+                times[number] = int(row["finish"]) - int(row["tick"])
+    return statuses, times
+
+
+def percentile(times, percent):
+    """The time at rank ceil(percent * m / 100) of m."""
+    return sorted(times)[-(-percent * len(times) // 100) - 1]
+
+
+def calibrated(folder, name, port, comparisons, a_round):
+    """The fit of a recording: what was printed of the best one, and the settings."""
+    settings, page = folder / (name + ".toml"), folder / (name + ".html")
+    source = folder / {"pcap": "site.pcap", "log": "access.log"}[name]
+    words = ["--port", port] if name == "pcap" else []
+    text = run(PYTHON, TOOLS / "calibrate.py", *words, "--output", settings, "--page", page, source)
+    print("".join("  | %s\n" % line for line in text.splitlines()), end="")
+    found = re.search(
+        r"^best: (\d+) servers?, (?:no delay|delay (\d+)): file (\d+), kib (\d+), error (\d+)", text, re.M)
+    comparisons.true("by %s %d servers" % (name, a_round.processes), int(found[1]) == a_round.processes)
+    for part, figure, real in zip(("file", "kib", "error"), found.groups()[2:], (FILE, KIB, ERROR)):
+        comparisons.near("by %s costs.%s" % (name, part), int(figure) + (int(found[2] or 0) if part != "kib" else 0),
+                         1e6 * real, COST_PERCENT, 2 if part == "kib" else SLACK)
+    missed = re.search(r"^best:.*\n.*misses of all times: p50 ([+-]\d+)%, p90 ([+-]\d+)%, p99 ([+-]\d+)%", text, re.M)
+    for percent, figure in zip((50, 90, 99), missed.groups()):
+        comparisons.near("by %s p%d of the best fit, in percent" %
+                         (name, percent), 100 + int(figure), 100, TIME_PERCENT)
+    return settings, found
+
+
+def settings_for(folder, program, a_round, costs, found):
+    """A document for the replay of a round, and whether the program has as many servers as were found."""
+    text = costs.read_text()
+    has_servers = re.search(r"^servers = ", run(program, "settings"), re.M)
+    if has_servers and int(found[1]) > 1:
+        text = "[costs]\nservers = %s\ndelay = %s\nfile = %s\nkib = %s\nerror = %s\n" % (
+            found[1], found[2] or 0, *found.groups()[2:])
+    rate = 1000 * a_round.rate
+    path = folder / "replay.toml"
+    path.write_text("%s\n[policy]\nrate = %d\nrate_min = %d\nrate_max = %d\ndepth = %d\n" % (
+        text, rate, rate, rate, a_round.depth))
+    return path, int(found[1]) == 1 or bool(has_servers)
+
+
+def compare_decisions(comparisons, name, real, found, times):
+    """Compares who was turned away: each second of the plan, and in all."""
+    away, away_real, apart = 0, 0, 0
+    seconds = collections.defaultdict(lambda: [0, 0])
+    for number, status in real.items():
+        seconds[int(times[number])][0] += status == 503
+        seconds[int(times[number])][1] += found.get(number) == 503
+    for counts in seconds.values():
+        away_real, away, apart = away_real + counts[0], away + counts[1], apart + abs(counts[0] - counts[1])
+    comparisons.true("by %s all %d requests are there" % (name, len(real)), set(real) == set(found))
+    comparisons.near("by %s turned away" % name, away, away_real, AWAY_PERCENT)
+    comparisons.near("by %s turned away, second by second" % name, away_real + apart, away_real, AWAY_PERCENT)
+
+
+def compare_round(folder, program, a_round, port, comparisons, seconds):
+    """Replays a recorded round, and compares."""
+    site = folder / "site"
+    site.mkdir()
+    for name, size in SIZES.items():
+        (site / name).write_bytes(b"x" * size)
+    run(program, "snapshot", "--folder", site, "--output", folder / "site.snapshot")
+    real, real_times = decisions_of_log(folder)
+    planned = dict(enumerate(when for when, _ in plan(a_round, seconds)))
+    run(PYTHON, TOOLS / "capture_from_pcap.py", "--port", port,
+        "--output", folder / "pcap.capture", folder / "site.pcap")
+    run(PYTHON, TOOLS / "capture_from_log.py", "--log-format", LOG_FORMAT, "--output", folder / "log.capture",
+        folder / "access.log")
+    for name in ("pcap", "log"):
+        costs, found = calibrated(folder, name, port, comparisons, a_round)
+        settings, is_same = settings_for(folder, program, a_round, costs, found)
+        table = folder / (name + ".csv")
+        run(program, "explain", "--snapshot", folder / "site.snapshot", "--capture", folder / (name + ".capture"),
+            "--settings", settings, "--messages", table)
+        statuses, times = decisions_of_table(table)
+        compare_decisions(comparisons, name, real, statuses, planned)
+        answered = [time for number, time in real_times.items() if real[number] != 503]
+        for percent in (50, 90, 99) if is_same else ():
+            comparisons.near("by %s replayed p%d" % (name, percent), percentile(times.values(), percent),
+                             percentile(answered, percent), TIME_PERCENT, SLACK)
+
+
+def main():
+    parser = argparse.ArgumentParser(description=__doc__, formatter_class=argparse.RawDescriptionHelpFormatter)
+    parser.add_argument("program")
+    parser.add_argument("--seconds", type=int, default=25, metavar="N", help="how long each round is recorded")
+    parser.add_argument("--keep", metavar="FOLDER", help="keep what was recorded in this new folder")
+    options = parser.parse_args()
+    missing = [name for name in NEEDED if not shutil.which(name)]
+    if missing or os.geteuid():
+        sys.exit("needs %s" % (", ".join(missing) or "root, as tcpdump does"))
+    comparisons = Comparisons()
+    for a_round in ROUNDS:
+        with tempfile.TemporaryDirectory() as temporary:
+            folder = pathlib.Path(temporary)
+            port = record(folder, a_round, options.seconds)
+            if options.keep:
+                shutil.copytree(folder, pathlib.Path(options.keep, a_round.name.replace(" ", "_")))
+            compare_round(folder, os.path.abspath(options.program), a_round, port, comparisons, options.seconds)
+    print("%d comparisons, %d failed" % (comparisons.made, comparisons.failed))
+    return int(comparisons.failed > 0)
+
+
+if __name__ == "__main__":
+    sys.exit(main())

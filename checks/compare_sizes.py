@@ -1,0 +1,124 @@
+#!/usr/bin/env python3
+"""Compares large replays with those of reference.py, with memory enough: a program that gives up above some size, or
+that answers otherwise there, is found.
+
+    checks/compare_sizes.py PROGRAM
+
+Each replay is compared as those of compare_replays.py are: both engines, the table of decisions, what the capture
+holds, the settings, and the upgrade. Exits with 1 where anything differs.
+"""
+import os
+import sys
+
+# The folder stays as it is.
+sys.dont_write_bytecode = True
+import compare_replays
+import reference
+from compare_replays import FILES, REQUEST, START, Comparison, capture_text, snapshot_text
+
+OPEN = b"[policy]\ndepth = 1000000\nrate = 1000000000\nrate_max = 1000000000\n"
+# The shortest request.
+SHORTEST = b"G / HTTP/1.1\nHost:\n\n"
+WRONG = b"G / HTTP/1.1\n\n"
+LAST = reference.LAST_CONNECTION[2]
+
+
+def floor(**keys):
+    """A table of settings for the floors."""
+    return b"[floor]\n" + "".join("%s = %s\n" % pair for pair in keys.items()).encode()
+
+
+def pieces(count, connections=50, data=REQUEST):
+    """So many pieces of the same bytes, over so many connections."""
+    return [(number, number % connections, data) for number in range(count)]
+
+
+def with_fault(records, instead):
+    """The text of a capture whose last line is another."""
+    text = capture_text(None, 1, START, records, False)
+    return text[:text.rindex(b"stop")] + instead
+
+
+def late_faults():
+    """Name, capture and settings of replays with a fault after many records, in batches of many sizes."""
+    for count in (4_096, 5_000, 100_000):
+        for batch in (1_000, 4_096, 65_536):
+            for name, instead in (("a wrong record", b"peice 0 0 0\n"), ("cut", b""), ("a tick before the last", b"end 0 7\n")):
+                if count < 100_000 or (batch, name) in ((1_000, "cut"), (65_536, "a wrong record")):
+                    settings = OPEN + floor(batch=batch)
+                    yield "%s after %d, batch %d" % (name, count, batch), with_fault(pieces(count), instead), settings
+
+
+def sized_captures():
+    """Name, version, records and settings of replays with much of one thing."""
+    yield "10,000 pieces a batch", 1, pieces(20_000), OPEN + floor(batch=10_000)
+    most = SHORTEST * (reference.PIECE_LIMIT // len(SHORTEST))
+    yield "the most requests of a piece", 1, pieces(3, 2, most), OPEN
+    yield "the most requests of a piece, turned away", 1, pieces(3, 2, most), b"[policy]\nevery = 4096\n"
+    yield "every connection", 2, pieces(LAST + 1, LAST + 1), OPEN + floor(batch=30_000)
+    yield "a fault on every connection", 2, pieces(LAST + 1, LAST + 1, WRONG), OPEN + floor(batch=65_536)
+    given = [("tier", LAST, 3), ("tier", LAST - 1, 2)]
+    yield "tiers of the last connections", 2, given + [(0, LAST - 1, REQUEST), (1, LAST, REQUEST * 20)], None
+    byte_by_byte = [(at, at % 2, b"%c" % byte) for at, byte in enumerate(REQUEST * 300)]
+    yield "bytes", 1, [(at, 5, data) for at, _, data in byte_by_byte], OPEN + floor(batch=5_000)
+    window = b"window = 4096\nevery = 4096\n"
+    yield "the widest window", 1, pieces(20_000), OPEN + window
+    yield "twenty thousand controls", 1, pieces(20_000), OPEN + b"every = 1\nwindow = 1\n"
+    yield "the most workers", 1, pieces(3_000), OPEN + floor(front_workers=[16] * 3, back_workers=[16] * 2)
+    narrow = floor(front_capacities=[1] * 3, back_capacities=[1] * 2, front_workers=[16] * 3, back_workers=[16] * 2)
+    yield "the most workers, room for one", 1, pieces(3_000), OPEN + narrow
+    yield "the longest queues", 1, pieces(9_000), OPEN + floor(front_capacities=[4096] * 3, back_capacities=[4096] * 2)
+    head = b"POST /a.txt HTTP/1.1\r\nHost: a\r\nContent-Length: 65536\r\n\r\n"
+    bodies = [(at, at % 500, data) for at, data in enumerate([head] * 500 + [b"x" * 65_536] * 500)]
+    yield "bodies of 500 connections at once", 1, bodies, OPEN
+
+
+def sized_snapshots():
+    """Name, files, records and settings of replays of large snapshots."""
+    names = [b"%04d.html" % number for number in range(3_000)]
+    asked = [(at, at % 7, b"GET /%b HTTP/1.1\r\nHost: a\r\n\r\n" % names[at * 7 % 3_000]) for at in range(9_000)]
+    for cache in (0, 100_000, 1_000_000):
+        yield "3,000 pages, cache %d" % cache, [(name, START, name) for name in names], asked, OPEN + floor(cache=cache)
+    long = sorted("é" * (length // 2) + "x" * (length % 2) for length in range(1, reference.NAME_LIMIT + 1))
+    long = [(name.encode(), START, b"") for name in sorted(long, key=str.encode)]
+    targets = ["/" + "".join("%%%02X" % byte for byte in name) for name, _, _ in long[::40]]
+    asked = [(at, at, b"GET %b HTTP/1.1\r\nHost: a\r\n\r\n" % text.encode()) for at, text in enumerate(targets)]
+    yield "names of all lengths", long, asked, OPEN
+    folders = b"/".join([b"d"] * 512) + b"e"
+    asked = [(0, 0, b"GET /%b HTTP/1.1\r\nHost: a\r\n\r\n" % folders)]
+    yield "the deepest folder", [(folders, START, b"deep\n")], asked, OPEN
+    large = [(b"%d.bin" % number, START, b"%d" % number * (reference.FILE_LIMIT - number)) for number in range(4)]
+    asked = [(at, at, b"GET /%d.bin HTTP/1.1\r\nHost: a\r\n\r\n" % (at % 4)) for at in range(8)]
+    yield "the largest files", large, asked, OPEN + floor(cache=0)
+
+
+def documents():
+    """Name and text of settings that are large."""
+    yield "a key of 5,000 bytes", b"[policy]\n" + b"k" * 5_000 + b" = 1\n"
+    yield "a list of 10,000", b"[floor]\nfront_cuts = [" + b"1, " * 10_000 + b"]\n"
+    yield "an integer past 64 bits", b"[policy]\ndepth = 9223372036854775808\n"
+    whole = b"[policy]\ndepth = 7\n"
+    yield "the longest document", whole + b"#" * (reference.SETTINGS_LIMIT - len(whole))
+
+
+def main():
+    if len(sys.argv) != 2:
+        sys.exit(__doc__)
+    comparison = Comparison(os.path.abspath(sys.argv[1]))
+    for name, capture, settings in late_faults():
+        comparison.compare(name, compare_replays.SNAPSHOT, capture, settings)
+    for name, version, records, settings in sized_captures():
+        capture = capture_text(None, version, START, records, False)
+        comparison.compare(name, snapshot_text(None, FILES, False), capture, settings)
+    for name, files, records, settings in sized_snapshots():
+        capture = capture_text(None, 1, START, records, False)
+        comparison.compare(name, snapshot_text(None, files, False), capture, settings)
+    for name, document in documents():
+        comparison.settings(name, document)
+    counts = comparison.replays, comparison.tables, comparison.upgrades, comparison.wrong
+    print("%d replays, %d tables and inspections, %d upgrades, %d wrong" % counts)
+    return comparison.wrong != 0
+
+
+if __name__ == "__main__":
+    sys.exit(main())

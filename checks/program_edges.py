@@ -1,0 +1,435 @@
+#!/usr/bin/env python3
+"""Attacks the program at its edges, the files and folders that others change while it runs, and looks at what stands
+after it.
+
+A folder is changed between the listing and the reading of it (the program waits there for the reader of its output, a
+pipe), at an opening of a file or a folder and at the first read (with a C compiler, by attack.c), and by a process that
+swaps a file or a folder for a link 1,000 times: never a byte of another file comes into the snapshot. Standard output
+is an input or another output; standard devices are closed; a file is full by its limit; inode numbers are equal.
+"""
+import mmap
+import os
+import resource
+import shutil
+import signal
+import subprocess
+import sys
+import tempfile
+import time
+
+# The folder stays as it is.
+sys.dont_write_bytecode = True
+from program_parts import (
+    FILES,
+    FIRST_RUN,
+    GOOD,
+    OLD,
+    OPEN_REPLIES,
+    OPEN_REPORT,
+    SECONDS,
+    Report,
+    contents,
+    first_files,
+    program_of,
+    snapshot_text,
+)
+
+HERE = os.path.dirname(os.path.abspath(__file__))
+SECRET = b"a byte of another file"
+# How often a file is swapped at least, and how many snapshots are made meanwhile.
+SWAPS, RACES = 1000, 200
+# How many bytes a file may have where there is a limit.
+LIMIT = 512
+PLAIN = {b"a": b"first", b"d/b": b"second", b"z": b"last"}
+WHOLE = snapshot_text(sorted(PLAIN.items()))
+# The same while the folder is away.
+OTHERS = snapshot_text([(b"a", b"first"), (b"z", b"last")])
+
+
+def made(folder):
+    """Makes the folder `tree` with files, and beside it the folder `other` with files of the same names."""
+    for name, data in PLAIN.items():
+        for top, text in ((b"tree", data), (b"other", SECRET)):
+            path = os.path.join(os.fsencode(folder), top, name)
+            os.makedirs(os.path.dirname(path), exist_ok=True)
+            with open(path, "wb") as file:
+                file.write(text)
+            os.utime(path, (784111777, 784111777))
+
+
+def told(fault):
+    """The status and the line of what can't be taken into a snapshot."""
+    return (6 if fault.startswith(b"read:") else 4), b"haboob: " + fault + b"\n"
+
+
+# A command for a shell between the listing and the reading, and then the status and the line; without a line the whole
+# snapshot stands in the output.
+BETWEEN = [
+    ("a file becomes a link to another", "ln -sf ../other/a tree/a", told(b"folder: Changed a")),
+    ("a file becomes a pipe", "rm tree/a; mkfifo tree/a", told(b"folder: Changed a")),
+    ("a file becomes a folder", "rm tree/a; mkdir tree/a", told(b"folder: Changed a")),
+    ("a file becomes another", "mv other/a tree/a", told(b"folder: Changed a")),
+    ("a file becomes a hard link of another", "ln -f other/a tree/a", told(b"folder: Changed a")),
+    ("a file goes away", "rm tree/a", told(b"read: folder a")),
+    ("a folder becomes a link to another", "mv tree/d d; ln -s ../other/d tree/d", told(b"folder: Changed d/b")),
+    ("a folder becomes another", "mv tree/d d; mv other/d tree/d", told(b"folder: Changed d/b")),
+    ("a folder becomes a pipe", "mv tree/d d; mkfifo tree/d", told(b"folder: Changed d/b")),
+    ("a folder goes away", "mv tree/d d", told(b"read: folder d/b")),
+    ("the folder itself becomes a link to another", "mv tree kept; ln -s other tree", (0, b"")),
+    ("nothing is changed", "true", (0, b"")),
+]
+
+
+def waits(child):
+    """Whether a process comes to wait; the program does so at its output, a pipe that nobody has opened."""
+    until = time.monotonic() + SECONDS
+    calm = 0
+    while calm < 5 and time.monotonic() < until and child.poll() is None:
+        with open("/proc/%d/stat" % child.pid, "rb") as file:
+            calm = calm + 1 if file.read().rpartition(b")")[2].split()[0] == b"S" else 0
+        time.sleep(0.005)
+    return calm == 5
+
+
+def ended(child):
+    """Status and line of a run that is to end by itself."""
+    try:
+        line = child.communicate(timeout=SECONDS)[1]
+    except subprocess.TimeoutExpired:
+        child.kill()
+        child.communicate()
+        return None, b"(it hangs)"
+    return child.returncode, line
+
+
+def between(program, folder, command, words=()):
+    """Status, line and output of a snapshot, with a command between the listing and the reading."""
+    made(folder)
+    pipe = os.path.join(folder, "pipe")
+    os.mkfifo(pipe)
+    words = ["snapshot", "--folder", "tree", "--output", "pipe", *words]
+    child = subprocess.Popen([program, *words], cwd=folder, stdin=subprocess.DEVNULL, stderr=subprocess.PIPE)
+    if not waits(child):
+        return (*ended(child), b"(it doesn't wait)")
+    subprocess.run(["sh", "-c", command], cwd=folder, check=True)
+    with subprocess.Popen(["cat", pipe], stdout=subprocess.PIPE) as reader:
+        got = ended(child)
+        return (*got, reader.communicate()[0])
+
+
+def check_between(report, program):
+    for name, command, wanted in BETWEEN:
+        with tempfile.TemporaryDirectory() as folder:
+            got = between(program, folder, command)
+        good = got[:2] == wanted and SECRET not in got[2] and (wanted[0] != 0 or got[2] == WHOLE)
+        report.see_told("between: " + name, good, got)
+    with tempfile.TemporaryDirectory() as folder:
+        got = between(program, folder, "ln -sf ../other/a tree/a; rm tree/z", ["--skip"])
+    wanted = 0, b"haboob: skipped 2\n", snapshot_text([(b"d/b", b"second")])
+    report.see_told("between: two are left out", got == wanted, got)
+
+
+# When a command is run: before which opening of what has a path that ends so, or before the first read of it; and then
+# the command, the status and the line.
+AT_CALLS = [
+    ("a file becomes a link when it is opened", "/a", 1, False, "ln -sf ../other/a tree/a", told(b"folder: Changed a")),
+    ("a file becomes another", "/a", 1, False, "mv other/a tree/a", told(b"folder: Changed a")),
+    ("a file grows when it is read", "/a", 1, True, "printf x >>tree/a", told(b"folder: Changed a")),
+    ("a file shrinks", "/a", 1, True, "printf x >tree/a", told(b"folder: Changed a")),
+    ("a file is written anew", "/a", 1, True, "sleep 0.1; printf other >tree/a", told(b"folder: Changed a")),
+    (
+        "a file is written anew, and gets its old time",
+        "/a",
+        1,
+        True,
+        "sleep 0.1; printf other >tree/a; touch -d @784111777 tree/a",
+        told(b"folder: Changed a"),
+    ),
+    (
+        "a folder becomes a link when it is listed",
+        "/d/",
+        1,
+        False,
+        "mv tree/d d; ln -s ../other/d tree/d",
+        told(b"folder: Changed d/"),
+    ),
+    (
+        "a folder becomes a link when a file in it is opened",
+        "/d/",
+        2,
+        False,
+        "mv tree/d d; ln -s ../other/d tree/d",
+        told(b"folder: Changed d/b"),
+    ),
+]
+
+
+def attacked(program, shim, folder, name, opening, is_at_read, command):
+    """Status, line and output of a snapshot, with a command at a call."""
+    made(folder)
+    world = {**os.environ, "LD_PRELOAD": shim, "NAME": name, "OPENING": str(opening), "ATTACK": command}
+    if is_at_read:
+        world["READING"] = "1"
+    words = ["snapshot", "--folder", "tree", "--output", "output"]
+    how = {"cwd": folder, "env": world, "stdin": subprocess.DEVNULL, "stderr": subprocess.PIPE}
+    got = ended(subprocess.Popen([program, *words], **how))
+    return (*got, contents(os.path.join(folder, "output")))
+
+
+def check_at_calls(report, program):
+    """Whether there is a compiler for the attacks."""
+    compiler = shutil.which(os.environ.get("CC", "cc"))
+    if compiler is None:
+        return False
+    with tempfile.TemporaryDirectory() as room:
+        shim = os.path.join(room, "attack.so")
+        source = os.path.join(HERE, "attack.c")
+        subprocess.run([compiler, "-shared", "-fPIC", "-O1", "-o", shim, source, "-ldl"], check=True)
+        for name, path, opening, is_at_read, command, wanted in AT_CALLS:
+            with tempfile.TemporaryDirectory() as folder:
+                got = attacked(program, shim, folder, path, opening, is_at_read, command)
+            report.see_told("at a call: " + name, got[:2] == wanted and SECRET not in got[2], got)
+    return True
+
+
+def swap_file(count):
+    """Swaps a file for a link to another and back, for ever; count[0] says how often."""
+    os.link("tree/a", "kept")
+    while True:
+        os.symlink("../other/a", "link")
+        os.rename("link", "tree/a")
+        os.link("kept", "again")
+        os.rename("again", "tree/a")
+        count[0] = count[0] + 1
+
+
+def swap_folder(count):
+    """Does the same with a folder."""
+    while True:
+        os.rename("tree/d", "kept")
+        os.symlink("../other/d", "tree/d")
+        os.unlink("tree/d")
+        os.rename("kept", "tree/d")
+        count[0] = count[0] + 1
+
+
+def swapping(folder, swap):
+    """Starts a process that swaps. Its number, and its count of swaps."""
+    count = memoryview(mmap.mmap(-1, 8)).cast("Q")
+    child = os.fork()
+    if child == 0:
+        try:
+            os.chdir(folder)
+            swap(count)
+        finally:
+            os._exit(1)
+    return child, count
+
+
+def is_running(child):
+    """Whether a process hasn't come to its end; it is still to be waited for."""
+    return os.waitid(os.P_PID, child, os.WEXITED | os.WNOHANG | os.WNOWAIT) is None
+
+
+def check_races(report, program):
+    """Snapshots of a folder in which another process swaps: whatever comes of them, no other file is in them."""
+    for name, swap in (("file", swap_file), ("folder", swap_folder)):
+        wrong, ends = [], {}
+        with tempfile.TemporaryDirectory() as folder:
+            made(folder)
+            child, count = swapping(folder, swap)
+            output = os.path.join(folder, "output")
+            words = [program, "snapshot", "--folder", "tree", "--output", "output"]
+            while (sum(ends.values()) < RACES or count[0] < SWAPS) and is_running(child):
+                got = ended(subprocess.Popen(words, cwd=folder, stdin=subprocess.DEVNULL, stderr=subprocess.PIPE))
+                text = contents(output)
+                ends[got[0]] = ends.get(got[0], 0) + 1
+                if got[0] not in (0, 4, 6) or SECRET in text or (got[0] == 0 and text not in (WHOLE, OTHERS)):
+                    wrong.append((*got, text))
+            os.kill(child, signal.SIGKILL)
+            os.waitpid(child, 0)
+        good = not wrong and count[0] >= SWAPS and sum(ends.values()) >= RACES
+        report.see("a race: a %s is swapped" % name, good, (len(wrong), wrong[:1], ends))
+
+
+def check_unknown_lengths(report, program):
+    """Files that tell of no bytes and have some, and one that tells of more than it may have."""
+    with tempfile.TemporaryDirectory() as folder:
+        output = os.path.join(folder, "output")
+        words = [program, "snapshot", "--folder", "/proc/sys/kernel/random", "--output", output]
+        ran = subprocess.run(words, capture_output=True, timeout=SECONDS)
+        got = ran.returncode, ran.stderr, contents(output)
+        report.see_told("a length of 0 with bytes", got == (*told(b"folder: Changed boot_id"), first_files([])), got)
+        ran = subprocess.run([*words, "--skip"], capture_output=True, timeout=SECONDS)
+        got = ran.returncode, ran.stderr[:16], contents(output)
+        report.see_told("the same, skipped", got == (0, b"haboob: skipped ", snapshot_text([])), got)
+        made(folder)
+        os.truncate(os.path.join(folder, "tree", "a"), 1 << 40)
+        words[3] = "tree"
+        ran = subprocess.run(words, cwd=folder, capture_output=True, timeout=SECONDS)
+        got = ran.returncode, ran.stderr, contents(output)
+        report.see_told("a sparse file of a TiB", got == (*told(b"folder: Size a"), first_files([])), got)
+
+
+REPLAY = ["replay", *GOOD, "--settings", "settings"]
+EXPLAIN = ["explain", *GOOD[:4], "--messages", "replies", "--settings", "settings"]
+CLASHES = [
+    # what standard output is, the words, the line; each file keeps its bytes
+    ("replies", ["replay", *GOOD], b"haboob: open: replies\n"),
+    ("twin of replies", ["replay", *GOOD], b"haboob: open: replies\n"),
+    ("snapshot", ["replay", *GOOD], b"haboob: open: report\n"),
+    ("capture", ["replay", *GOOD], b"haboob: open: report\n"),
+    ("settings", REPLAY, b"haboob: open: report\n"),
+    ("snapshot", ["replay", *GOOD[:4], "--replies", "new"], b"haboob: open: report\n"),
+    ("replies", EXPLAIN, b"haboob: open: messages\n"),
+    ("capture", EXPLAIN, b"haboob: open: report\n"),
+    ("settings", EXPLAIN, b"haboob: open: report\n"),
+    ("capture", ["inspect", "--capture", "capture"], b"haboob: open: report\n"),
+    ("settings", ["settings", "--settings", "settings"], b"haboob: open: report\n"),
+    ("first", [], b"haboob: open: replies\n"),
+]
+
+
+def clash(program, folder, name, words):
+    """Status and line of a run with this file as standard output, and the files that it changed."""
+    files = {**FILES, "replies": OLD, "first": FIRST_RUN}
+    for one, data in files.items():
+        with open(os.path.join(folder, one), "wb") as file:
+            file.write(data)
+    os.link(os.path.join(folder, "replies"), os.path.join(folder, "twin of replies"))
+    with open(os.path.join(folder, name), "ab") as out, open(os.path.join(folder, "first"), "rb") as given:
+        ran = subprocess.run(
+            [program, *words], cwd=folder, stdin=given, stdout=out, stderr=subprocess.PIPE, timeout=SECONDS
+        )
+    changed = [one for one, data in files.items() if contents(os.path.join(folder, one)) != data]
+    changed += ["new"] * os.path.exists(os.path.join(folder, "new"))
+    return ran.returncode, ran.stderr, changed
+
+
+def check_clashes(report, program):
+    for name, words, line in CLASHES:
+        with tempfile.TemporaryDirectory() as folder:
+            got = clash(program, folder, name, words)
+        report.see_told("%s into %s" % (" ".join(words[:1]), name), got == (6, line, []), got)
+    with tempfile.TemporaryDirectory() as folder:
+        got = clash(program, folder, "other", ["replay", *GOOD])
+        texts = contents(os.path.join(folder, "replies")), contents(os.path.join(folder, "other"))
+    good = got == (0, b"", ["replies"]) and texts == (OPEN_REPLIES, OPEN_REPORT)
+    report.see_told("replay into another file", good, (*got, texts))
+
+
+def shell(program, folder, command):
+    """The status of a shell's command in a folder with the files of a replay and a tree; `$haboob` is the program."""
+    for name, data in {**FILES, "output": OLD}.items():
+        with open(os.path.join(folder, name), "wb") as file:
+            file.write(data)
+    made(folder)
+    world = {**os.environ, "haboob": program}
+    return subprocess.run(["sh", "-c", command], cwd=folder, env=world, timeout=SECONDS).returncode
+
+
+# A command with standard devices closed or full, and then the status and what stands in the file `output`.
+DEPTH = b"haboob: settings: Range policy.depth\n"
+REPLAY_TO = '"$haboob" replay --snapshot snapshot --capture capture --replies output '
+SNAPSHOT_TO = 'ln -s z tree/y; "$haboob" snapshot --folder tree --output output --skip '
+DEVICES = [
+    ("no standard output", REPLAY_TO + ">&-", 6, OPEN_REPLIES),
+    ("no standard device", REPLAY_TO + "<&- >&- 2>&-", 6, OPEN_REPLIES),
+    ("no standard input and output", REPLAY_TO + "<&- >&-", 6, OPEN_REPLIES),
+    ("no standard error, a fault", REPLAY_TO + "--settings depth 2>&-", 3, OLD),
+    ("no standard error, a count", SNAPSHOT_TO + "2>&-", 0, WHOLE),
+    ("no standard device, a count", SNAPSHOT_TO + "<&- >&- 2>&-", 0, WHOLE),
+    ("a full standard error, a count", SNAPSHOT_TO + "2>/dev/full", 0, WHOLE),
+    ("standard error into the output", REPLAY_TO + "--settings depth 2>>output", 3, OLD + DEPTH),
+]
+
+
+def check_devices(report, program):
+    for name, command, status, wanted in DEVICES:
+        with tempfile.TemporaryDirectory() as folder:
+            got = shell(program, folder, "{ " + command + "; } 2>/dev/null" if "2>" not in command else command)
+            text = contents(os.path.join(folder, "output"))
+        report.see("devices: " + name, (got, text) == (status, wanted), (got, text))
+
+
+def limited():
+    resource.setrlimit(resource.RLIMIT_FSIZE, (LIMIT, LIMIT))
+
+
+def check_limit(report, program):
+    """A limit of a file's size: its signal ends the program; where that is ignored, a write fails."""
+    for name, is_default, wanted in (
+        ("the signal", True, (-signal.SIGXFSZ, b"")),
+        ("ignored", False, (6, b"haboob: write: replies\n")),
+    ):
+        with tempfile.TemporaryDirectory() as folder:
+            shell(program, folder, "true")
+            # Python ignores the signal, and a process that it starts does so unless it is asked for the default.
+            ran = subprocess.run(
+                [program, "replay", *GOOD],
+                cwd=folder,
+                stdin=subprocess.DEVNULL,
+                capture_output=True,
+                timeout=SECONDS,
+                preexec_fn=limited,
+                restore_signals=is_default,
+            )
+            got = ran.returncode, ran.stderr, contents(os.path.join(folder, "replies"))
+        report.see_told("a limit of file size: " + name, got == (*wanted, OPEN_REPLIES[:LIMIT]), got)
+
+
+# Two file systems of the user's own, each with a file of the same inode number.
+TWO_DISKS = """
+mkdir one two && mount -t tmpfs none one && mount -t tmpfs none two || exit 99
+cp capture one/capture && cp output two/replies || exit 99
+test "$(stat -c %i one/capture)" = "$(stat -c %i two/replies)" || exit 98
+"$haboob" replay --snapshot snapshot --capture one/capture --replies two/replies >report || exit
+cat two/replies report >output
+"""
+
+
+def check_equal_numbers(report, program):
+    """Whether two file systems could be mounted: files of equal inode numbers on them are two files."""
+    with tempfile.TemporaryDirectory() as folder:
+        command = "unshare --user --map-root-user --mount sh -c '%s'" % TWO_DISKS.replace("'", "'\\''")
+        got = shell(program, folder, command) if shutil.which("unshare") else 99
+        text = contents(os.path.join(folder, "output"))
+    if got in (1, 98, 99):
+        return False
+    report.see("equal inode numbers on two file systems", (got, text) == (0, OPEN_REPLIES + OPEN_REPORT), (got, text))
+    return True
+
+
+def check_without_proc(report, program):
+    """Whether /proc could be hidden: a folder is then refused, and nothing is written."""
+    with tempfile.TemporaryDirectory() as folder:
+        inside = 'mount -t tmpfs none /proc || exit 99; "$haboob" snapshot --folder tree --output output --skip 2>line'
+        command = "unshare --user --map-root-user --mount sh -c '%s'" % inside
+        got = shell(program, folder, command) if shutil.which("unshare") else 99
+        if got in (1, 99):
+            return False
+        texts = contents(os.path.join(folder, "line")), contents(os.path.join(folder, "output"))
+    report.see("without /proc", (got, *texts) == (6, b"haboob: open: folder\n", OLD), (got, texts))
+    return True
+
+
+def main():
+    program = program_of(__doc__)
+    report = Report()
+    check_between(report, program)
+    if not check_at_calls(report, program):
+        print("no C compiler: attacks at a call were not tried")
+    check_races(report, program)
+    check_unknown_lengths(report, program)
+    check_clashes(report, program)
+    check_devices(report, program)
+    check_limit(report, program)
+    if not check_equal_numbers(report, program):
+        print("no file systems can be mounted: equal inode numbers were not tried")
+    if not check_without_proc(report, program):
+        print("/proc can't be hidden: a folder without it was not tried")
+    return report.end()
+
+
+if __name__ == "__main__":
+    sys.exit(main())

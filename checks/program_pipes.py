@@ -1,0 +1,312 @@
+#!/usr/bin/env python3
+"""Runs the program from standard input to standard output, on pipes, files, closed and full devices, and compares its
+status, its line on standard error and what it wrote with a table.
+"""
+import os
+import resource
+import subprocess
+import sys
+import tempfile
+import threading
+import time
+
+# The folder stays as it is.
+sys.dont_write_bytecode = True
+from program_parts import (
+    FIRST_LINE,
+    FIRST_RUN,
+    HEADER,
+    ONE,
+    PIECE,
+    REPLIES,
+    REQUEST,
+    SECONDS,
+    SNAPSHOT,
+    Report,
+    program_of,
+)
+
+# The memory that a run has where it is to have little, in bytes: less than the file that its snapshot announces.
+MEMORY = 16_000_000
+
+
+def long_run(count):
+    """A run whose replies are more than any buffer or pipe holds."""
+    pieces = b"".join(b"piece %d %d 32\n" % (number, number % 100) + REQUEST + b"\n" for number in range(count))
+    return SNAPSHOT + HEADER + pieces + b"stop %d\n" % count
+
+
+LONG = long_run(5000)
+
+# How the input comes: its bytes from a pipe, from a file, slowly byte by byte; or a directory, or nothing at all.
+# How the replies go: into a pipe that is read, a file, a full device, a pipe that nobody reads, nowhere.
+# Then the status, the line on standard error, and what was written (None: it can't be seen).
+TABLE = [
+    # name, input, bytes, output, status, line, replies
+    ("first run from a pipe", "pipe", FIRST_RUN, "pipe", 0, b"", REPLIES),
+    ("first run from a file", "file", FIRST_RUN, "file", 0, b"", REPLIES),
+    ("first run byte by byte", "slow", FIRST_RUN, "pipe", 0, b"", REPLIES),
+    ("no records", "pipe", SNAPSHOT + HEADER + b"stop 0\n", "pipe", 0, b"", FIRST_LINE + b"stop 0\n"),
+    ("empty input from a pipe", "pipe", b"", "pipe", 4, b"haboob: snapshot: entry 0: Cut\n", b""),
+    ("empty input from a file", "file", b"", "file", 4, b"haboob: snapshot: entry 0: Cut\n", b""),
+    ("another header", "pipe", b"haboob-snapshot 2\nend 0\n", "pipe", 4, b"haboob: snapshot: entry 0: Header\n", b""),
+    (
+        "names out of order",
+        "pipe",
+        b"haboob-snapshot 1\nfile 0 1 0\nb\n\nfile 0 1 0\na\n\nend 2\n",
+        "pipe",
+        4,
+        b"haboob: snapshot: entry 2: Order\n",
+        b"",
+    ),
+    (
+        "a name in a file",
+        "pipe",
+        b"haboob-snapshot 1\nfile 0 1 0\na\n\nfile 0 3 0\na/b\n\nend 2\n",
+        "pipe",
+        4,
+        b"haboob: snapshot: entry 2: Conflict\n",
+        b"",
+    ),
+    (
+        "a bad name",
+        "pipe",
+        b"haboob-snapshot 1\nfile 0 4 0\na//b\n\nend 1\n",
+        "pipe",
+        4,
+        b"haboob: snapshot: entry 1: Name\n",
+        b"",
+    ),
+    (
+        "another count of files",
+        "pipe",
+        b"haboob-snapshot 1\nfile 0 1 0\na\n\nend 2\n",
+        "pipe",
+        4,
+        b"haboob: snapshot: entry 2: Count\n",
+        b"",
+    ),
+    ("a snapshot cut", "pipe", SNAPSHOT[:-1], "pipe", 4, b"haboob: snapshot: entry 2: Cut\n", b""),
+    ("a long line", "pipe", b"x" * 65, "pipe", 4, b"haboob: snapshot: entry 0: Header\n", b""),
+    ("nothing after the snapshot", "pipe", SNAPSHOT, "pipe", 5, b"haboob: capture: record 0: Cut\n", FIRST_LINE),
+    (
+        "another capture",
+        "pipe",
+        SNAPSHOT + b"haboob-capture 3 0\n",
+        "pipe",
+        5,
+        b"haboob: capture: record 0: Header\n",
+        FIRST_LINE,
+    ),
+    ("no last line", "file", SNAPSHOT + HEADER + PIECE, "file", 5, b"haboob: capture: record 2: Cut\n", ONE),
+    (
+        "another count of records",
+        "pipe",
+        SNAPSHOT + HEADER + PIECE + b"stop 2\n",
+        "pipe",
+        5,
+        b"haboob: capture: record 2: Count\n",
+        ONE,
+    ),
+    ("a byte after", "pipe", FIRST_RUN + b".", "pipe", 5, b"haboob: capture: record 2: Trailing\n", ONE),
+    (
+        "ticks that fall",
+        "pipe",
+        SNAPSHOT + HEADER + PIECE.replace(b"piece 0", b"piece 7") + PIECE,
+        "pipe",
+        5,
+        b"haboob: capture: record 2: Tick\n",
+        ONE,
+    ),
+    (
+        "a piece after an end",
+        "pipe",
+        SNAPSHOT + HEADER + b"end 0 0\n" + PIECE,
+        "pipe",
+        5,
+        b"haboob: capture: record 2: Ended\n",
+        FIRST_LINE,
+    ),
+    (
+        "a connection too high",
+        "pipe",
+        SNAPSHOT + HEADER + b"piece 0 4096 1\nx\n",
+        "pipe",
+        5,
+        b"haboob: capture: record 1: Connection\n",
+        FIRST_LINE,
+    ),
+    (
+        "a tier too high",
+        "pipe",
+        SNAPSHOT + b"haboob-capture 2 0\ntier 0 4\n",
+        "pipe",
+        5,
+        b"haboob: capture: record 1: Tier\n",
+        FIRST_LINE,
+    ),
+    (
+        "a tier after a piece",
+        "pipe",
+        SNAPSHOT + HEADER.replace(b"capture 1", b"capture 2") + PIECE + b"tier 0 1\n",
+        "pipe",
+        5,
+        b"haboob: capture: record 2: Tier\n",
+        ONE,
+    ),
+    (
+        "a tier in version 1",
+        "pipe",
+        SNAPSHOT + HEADER + b"tier 0 1\n",
+        "pipe",
+        5,
+        b"haboob: capture: record 1: Kind\n",
+        FIRST_LINE,
+    ),
+    (
+        "a piece of no bytes",
+        "pipe",
+        SNAPSHOT + HEADER + b"piece 0 0 0\n\n",
+        "pipe",
+        5,
+        b"haboob: capture: record 1: Length\n",
+        FIRST_LINE,
+    ),
+    ("a directory as input", "directory", b"", "pipe", 6, b"haboob: read: snapshot\n", b""),
+    ("no input", "closed", b"", "pipe", 6, b"haboob: read: snapshot\n", b""),
+    ("a full device", "pipe", FIRST_RUN, "full", 6, b"haboob: write: replies\n", None),
+    ("a full device, and a long run", "file", LONG, "full", 6, b"haboob: write: replies\n", None),
+    ("a full device, and a fault of the capture", "pipe", SNAPSHOT, "full", 6, b"haboob: write: replies\n", None),
+    ("a full device, and a fault of the snapshot", "pipe", b"", "full", 4, b"haboob: snapshot: entry 0: Cut\n", None),
+    ("a closed pipe", "pipe", FIRST_RUN, "dead", 6, b"haboob: write: replies\n", None),
+    ("a closed pipe, and a long run", "file", LONG, "dead", 6, b"haboob: write: replies\n", None),
+    ("no output", "pipe", FIRST_RUN, "closed", 6, b"haboob: write: replies\n", None),
+]
+
+
+def feed(pipe, data, slowly):
+    """Writes the input; the program may end before it has read all of it."""
+    try:
+        if slowly:
+            for byte in data:
+                os.write(pipe, bytes([byte]))
+                time.sleep(0.0005)
+        else:
+            while data:
+                data = data[os.write(pipe, data) :]
+    except BrokenPipeError:
+        pass
+    os.close(pipe)
+
+
+def open_input(kind, data, folder):
+    """The program's standard input, and the thread that writes it."""
+    if kind in ("pipe", "slow"):
+        reader, writer = os.pipe()
+        os.set_inheritable(writer, False)
+        return reader, threading.Thread(target=feed, args=(writer, data, kind == "slow"))
+    if kind == "directory":
+        return os.open(folder, os.O_RDONLY), None
+    if kind == "closed":
+        return None, None
+    name = os.path.join(folder, "input")
+    with open(name, "wb") as file:
+        file.write(data)
+    return os.open(name, os.O_RDONLY), None
+
+
+def open_output(kind, folder):
+    """The program's standard output, and what reads it: a file's name, or None."""
+    if kind == "full":
+        return os.open("/dev/full", os.O_WRONLY), None
+    if kind == "dead":
+        reader, writer = os.pipe()
+        os.close(reader)
+        return writer, None
+    if kind == "file":
+        name = os.path.join(folder, "output")
+        return os.open(name, os.O_WRONLY | os.O_CREAT | os.O_TRUNC), name
+    return subprocess.PIPE, None
+
+
+def close_in_child(given, taken):
+    """Closes the devices that the program is not to have."""
+
+    def close():
+        if given == "closed":
+            os.close(0)
+        if taken == "closed":
+            os.close(1)
+
+    return close
+
+
+def run(program, given, data, taken, folder):
+    """The status, the line on standard error and the replies of one run."""
+    stdin, feeder = open_input(given, data, folder)
+    stdout, name = open_output(taken, folder)
+    child = subprocess.Popen(
+        [program],
+        stdin=subprocess.DEVNULL if stdin is None else stdin,
+        stdout=stdout,
+        stderr=subprocess.PIPE,
+        preexec_fn=close_in_child(given, taken),
+    )
+    for device in (stdin, stdout):
+        if device is not None and device >= 0:
+            os.close(device)
+    if feeder:
+        feeder.start()
+    try:
+        replies, line = child.communicate(timeout=SECONDS)
+    except subprocess.TimeoutExpired:
+        child.kill()
+        replies, line = child.communicate()
+        line = b"(it hangs) " + line
+    if feeder:
+        feeder.join()
+    if name:
+        with open(name, "rb") as file:
+            replies = file.read()
+    return child.returncode, line, replies
+
+
+def silent_error(program):
+    """The status, with a fault of the snapshot, where standard error can't be written."""
+    with open("/dev/full", "wb") as full:
+        child = subprocess.Popen([program], stdin=subprocess.DEVNULL, stdout=subprocess.DEVNULL, stderr=full)
+        return child.wait(timeout=SECONDS)
+
+
+def little_memory(program):
+    """The status and the line where there is no memory for the file that the snapshot announces."""
+
+    def limit():
+        resource.setrlimit(resource.RLIMIT_AS, (MEMORY, MEMORY))
+
+    child = subprocess.run(
+        [program],
+        input=b"haboob-snapshot 1\nfile 0 1 16777216\na\n",
+        capture_output=True,
+        preexec_fn=limit,
+        timeout=SECONDS,
+    )
+    return child.returncode, child.stderr, child.stdout
+
+
+def main():
+    program = program_of(__doc__)
+    report = Report()
+    for name, given, data, taken, status, line, replies in TABLE:
+        with tempfile.TemporaryDirectory() as folder:
+            got = run(program, given, data, taken, folder)
+        report.see_told(name, got[:2] == (status, line) and replies in (None, got[2]), got)
+    got = silent_error(program)
+    report.see("an error that can't be written", got == 4, got)
+    got = little_memory(program)
+    report.see_told("little memory", got == (7, b"haboob: memory\n", b""), got)
+    return report.end()
+
+
+if __name__ == "__main__":
+    sys.exit(main())

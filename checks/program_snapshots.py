@@ -1,0 +1,370 @@
+#!/usr/bin/env python3
+"""Runs `haboob snapshot` on folders of many kinds, as a user who may not read everything, and compares status, line and
+output with a table. No file of a folder changes.
+"""
+import os
+import sys
+import tempfile
+
+# The folder stays as it is.
+sys.dont_write_bytecode = True
+from program_parts import (
+    CAPTURE,
+    FOLDER,
+    GOOD,
+    OLDEST,
+    OPEN_REPLIES,
+    OPEN_REPORT,
+    PIPE,
+    SOCKET,
+    Closed,
+    Link,
+    Report,
+    Sparse,
+    Twin,
+    command,
+    contents,
+    copy_of,
+    first_files,
+    in_folder,
+    is_told,
+    program_of,
+    remove,
+    snapshot_text,
+)
+
+# What is in the folder `tree` (TIME is the time of each file where none is given).
+ORDERED = {b"a/b": b"slash", b"a.b": b"dot", b"a0": b"digit", b"a!c": b"", b"a/b.d/c": b"deep"}
+IN_ORDER = [(b"a!c", b""), (b"a.b", b"dot"), (b"a/b", b"slash"), (b"a/b.d/c", b"deep"), (b"a0", b"digit")]
+ODD = {
+    b"with space": b"1",
+    b"line\nfeed": b"2",
+    "\u00e9\U0001f600".encode(): b"3",
+    b".hidden": b"4",
+    b"..a": b"5",
+    b"back\\slash": b"6",
+    b"-": b"7",
+}
+KINDS = {b"a": b"1", b"b": Link(b"a"), b"c": PIPE, b"d": SOCKET, b"e": Link(b"none"), b"f/g": Link(b".."), b"z": b"2"}
+LONGEST_FOLDERS = b"x" * 255 + b"/" + b"y" * 255 + b"/" + b"z" * 255 + b"/"
+LONGEST = LONGEST_FOLDERS + b"w" * 127 + b"/" + b"n" * 128
+TOO_LONG = LONGEST_FOLDERS + b"w" * 127 + b"/" + b"n" * 129
+TREE = ["--folder", "tree", "--output", "output"]
+SKIP = TREE + ["--skip"]
+DEEP = b"/".join([b"d" * 250] * 17)
+MANY = {b"%04d/f" % number: b"" for number in range(1100)}
+CHAIN = b"d/" * 500 + b"f"
+CASES = {b"B": b"1", b"a": b"2", b"C/x": b"3", b"b/x": b"4", b"A/x": b"5"}
+HIDDEN = "\u0085\u061c\u200e\u200f\u2028\u2029\u202a\u202e\u2066\u2069\ufeff\x9b\x7f\x1b".encode()
+
+# What is in the folder, the words after `snapshot`, and then the status, the text on standard error (None: a text of
+# the command line), and what stands in the output, which held an older text.
+SNAPSHOTS = [
+    ("an order that isn't that of the folders", ORDERED, TREE, 0, b"", snapshot_text(IN_ORDER)),
+    (
+        "the same, by a path with a slash",
+        ORDERED,
+        ["--folder", "./tree/", "--output", "output"],
+        0,
+        b"",
+        snapshot_text(IN_ORDER),
+    ),
+    ("the same, by a link", ORDERED, ["--folder", "linked", "--output", "output"], 0, b"", snapshot_text(IN_ORDER)),
+    ("the same, nothing to skip", ORDERED, SKIP, 0, b"haboob: skipped 0\n", snapshot_text(IN_ORDER)),
+    ("an empty folder", {}, TREE, 0, b"", snapshot_text([])),
+    ("empty folders in it", {b"a": FOLDER, b"b/c": FOLDER}, TREE, 0, b"", snapshot_text([])),
+    ("an empty file", {b"a": b""}, TREE, 0, b"", snapshot_text([(b"a", b"")])),
+    ("odd names", ODD, TREE, 0, b"", snapshot_text(sorted(ODD.items()))),
+    (
+        "times",
+        {b"a": (b"1", -1), b"b": (b"2", 0), b"c": (b"3", 4_000_000_000)},
+        TREE,
+        0,
+        b"",
+        snapshot_text([(b"a", b"1", 0), (b"b", b"2", 0), (b"c", b"3", 4_000_000_000)]),
+    ),
+    ("a link", KINDS, TREE, 4, b"haboob: folder: Link b\n", first_files([(b"a", b"1")])),
+    (
+        "links, a pipe and a socket, skipped",
+        KINDS,
+        SKIP,
+        0,
+        b"haboob: skipped 5\n",
+        snapshot_text([(b"a", b"1"), (b"z", b"2")]),
+    ),
+    ("a pipe", {b"a": b"1", b"c/d": PIPE}, TREE, 4, b"haboob: folder: Special c/d\n", first_files([(b"a", b"1")])),
+    ("a socket", {b"c": SOCKET}, TREE, 4, b"haboob: folder: Special c\n", first_files([])),
+    (
+        "a link with a line feed in its name",
+        {b"c\nd": Link(b"a")},
+        TREE,
+        4,
+        b"haboob: folder: Link c?d\n",
+        first_files([]),
+    ),
+    (
+        "a name that is no UTF-8",
+        {b"a": b"1", b"\xff": b"2", b"z": b"3"},
+        TREE,
+        4,
+        b"haboob: folder: Name ./\n",
+        first_files([]),
+    ),
+    (
+        "one in another folder",
+        {b"a": b"1", b"b/\xff": b"2", b"b/c": b"3"},
+        TREE,
+        4,
+        b"haboob: folder: Name b/\n",
+        first_files([(b"a", b"1")]),
+    ),
+    (
+        "names that are no UTF-8, skipped",
+        {b"a": b"1", b"\xff": b"2", b"b/\xfe\xff": b"2", b"b/c": b"3"},
+        SKIP,
+        0,
+        b"haboob: skipped 2\n",
+        snapshot_text([(b"a", b"1"), (b"b/c", b"3")]),
+    ),
+    ("a name of 1024 bytes", {LONGEST: b"1"}, TREE, 0, b"", snapshot_text([(LONGEST, b"1")])),
+    ("a name of 1025 bytes", {TOO_LONG: b"1"}, TREE, 4, b"haboob: folder: Name %s\n" % TOO_LONG, first_files([])),
+    (
+        "a name of 1025 bytes, skipped",
+        {TOO_LONG: b"1", b"a": b"2"},
+        SKIP,
+        0,
+        b"haboob: skipped 1\n",
+        snapshot_text([(b"a", b"2")]),
+    ),
+    (
+        "folders that are too deep",
+        {b"a": b"2", DEEP: FOLDER},
+        SKIP,
+        0,
+        b"haboob: skipped 1\n",
+        snapshot_text([(b"a", b"2")]),
+    ),
+    (
+        "the same, told by the first that is too long",
+        {b"a": b"2", DEEP: FOLDER},
+        TREE,
+        4,
+        b"haboob: folder: Name %s\n" % (5 * (b"d" * 250 + b"/")),
+        first_files([(b"a", b"2")]),
+    ),
+    ("a file of 16 MiB", {b"a": Sparse(16_777_216)}, TREE, 0, b"", snapshot_text([(b"a", bytes(16_777_216))])),
+    (
+        "a file of a byte more",
+        {b"a": b"1", b"b": Sparse(16_777_217), b"c": b"2"},
+        TREE,
+        4,
+        b"haboob: folder: Size b\n",
+        first_files([(b"a", b"1")]),
+    ),
+    (
+        "a file of a byte more, skipped",
+        {b"a": b"1", b"b": Sparse(16_777_217), b"c": b"2"},
+        SKIP,
+        0,
+        b"haboob: skipped 1\n",
+        snapshot_text([(b"a", b"1"), (b"c", b"2")]),
+    ),
+    (
+        "a text past its limit",
+        {b"%02d" % n: Sparse(16_777_216) for n in range(64)},
+        ["--folder", "tree", "--output", "/dev/null"],
+        4,
+        b"haboob: folder: Text 63\n",
+        OLDEST,
+    ),
+    (
+        "a file that may not be read",
+        {b"a": b"1", b"b": Closed(b"2"), b"c": b"3"},
+        TREE,
+        6,
+        b"haboob: read: folder b\n",
+        first_files([(b"a", b"1")]),
+    ),
+    (
+        "a folder that may not be read",
+        {b"a": b"1", b"b/c": Closed(None), b"c": b"3"},
+        TREE,
+        6,
+        b"haboob: read: folder b/c/\n",
+        first_files([(b"a", b"1")]),
+    ),
+    (
+        "both, skipped",
+        {b"a": b"1", b"b": Closed(b"2"), b"d/e": Closed(None), b"z": b"3"},
+        SKIP,
+        0,
+        b"haboob: skipped 2\n",
+        snapshot_text([(b"a", b"1"), (b"z", b"3")]),
+    ),
+    ("no such folder", {}, ["--folder", "none", "--output", "output"], 6, b"haboob: open: folder\n", OLDEST),
+    ("no name of a folder", {}, ["--folder", "", "--output", "output"], 6, b"haboob: open: folder\n", OLDEST),
+    ("a file as folder", {}, ["--folder", "output", "--output", "output"], 6, b"haboob: open: folder\n", OLDEST),
+    (
+        "a folder that may not be read, and skip",
+        {b"a": Closed(None)},
+        ["--folder", "tree/a", "--output", "output", "--skip"],
+        6,
+        b"haboob: open: folder\n",
+        OLDEST,
+    ),
+    (
+        "a file of the folder as output",
+        {b"a": b"1", b"b": b"2"},
+        ["--folder", "tree", "--output", "tree/a"],
+        6,
+        b"haboob: open: output\n",
+        OLDEST,
+    ),
+    (
+        "the same by a link",
+        {b"a": b"1", b"b": b"2"},
+        ["--folder", "tree", "--output", "to_a"],
+        6,
+        b"haboob: open: output\n",
+        OLDEST,
+    ),
+    (
+        "a file of the folder as output, and skip",
+        {b"a": b"1", b"b": b"2"},
+        ["--folder", "tree", "--output", "tree/a", "--skip"],
+        6,
+        b"haboob: open: output\n",
+        OLDEST,
+    ),
+    ("over a thousand folders", MANY, TREE, 0, b"", snapshot_text(sorted(MANY.items()))),
+    ("five hundred folders in one another", {CHAIN: b"1"}, TREE, 0, b"", snapshot_text([(CHAIN, b"1")])),
+    ("a file in a folder .git", {b".git/x": b"1"}, TREE, 0, b"", snapshot_text([(b".git/x", b"1")])),
+    (
+        "two names of one file",
+        {b"a": b"1", b"b": Twin(b"tree/a")},
+        TREE,
+        0,
+        b"",
+        snapshot_text([(b"a", b"1"), (b"b", b"1")]),
+    ),
+    ("capitals before small letters", CASES, TREE, 0, b"", snapshot_text(sorted(CASES.items()))),
+    (
+        "times with a fraction",
+        {b"a": (b"1", 1.75), b"b": (b"2", -0.25), b"c": (b"3", 784_111_777.999)},
+        TREE,
+        0,
+        b"",
+        snapshot_text([(b"a", b"1", 1), (b"b", b"2", 0), (b"c", b"3", 784_111_777)]),
+    ),
+    (
+        "a link with hidden characters in its name",
+        {b"c" + HIDDEN + b"\xc3\xa9d": Link(b"a")},
+        TREE,
+        4,
+        b"haboob: folder: Link c??????????????\xc3\xa9d\n",
+        first_files([]),
+    ),
+    ("the same by a hard link", {b"a": b"1", b"b": Twin(b"output")}, TREE, 6, b"haboob: open: output\n", OLDEST),
+    (
+        "no folder for the output",
+        {},
+        ["--folder", "tree", "--output", "none/output"],
+        6,
+        b"haboob: open: output\n",
+        OLDEST,
+    ),
+    ("a folder as output", {}, ["--folder", "tree", "--output", "tree"], 6, b"haboob: open: output\n", OLDEST),
+    (
+        "a full device as output",
+        {b"a": b"1"},
+        ["--folder", "tree", "--output", "/dev/full"],
+        6,
+        b"haboob: write: output\n",
+        OLDEST,
+    ),
+    ("no folder named", {}, ["--output", "output"], 2, None, OLDEST),
+    ("no output named", {}, ["--folder", "tree"], 2, None, OLDEST),
+    ("help", {}, ["--help"], 2, None, OLDEST),
+]
+
+
+def snapshot(program, tree, words):
+    """The status, the text on standard error and the output of one snapshot; the folder's files keep their bytes."""
+    folder = tempfile.mkdtemp()
+    try:
+        in_folder(folder, tree)
+        got = command(program, ["snapshot", *words], folder)
+        for name, kind in tree.items():
+            if (
+                isinstance(kind, bytes)
+                and kind not in (PIPE, SOCKET, FOLDER)
+                and contents(os.path.join(folder.encode(), b"tree", name)) != kind
+            ):
+                return (*got, b"the file %s was changed" % name)
+        return (*got, contents(os.path.join(folder, "output")))
+    finally:
+        remove(folder)
+
+
+def output_inside(program, skip):
+    """An output in the folder itself is none of its files; a second time it is one, and isn't overwritten."""
+    folder = tempfile.mkdtemp()
+    words = ["snapshot", "--folder", "tree", "--output", "tree/new"] + ["--skip"] * skip
+    try:
+        in_folder(folder, {b"a": b"1", b"z": b"2"})
+        first = command(program, words, folder)
+        text = contents(os.path.join(folder, "tree/new"))
+        second = command(program, words, folder)
+        kept = contents(os.path.join(folder, "tree/new"))
+    finally:
+        remove(folder)
+    want, line = snapshot_text([(b"a", b"1"), (b"z", b"2")]), b"haboob: skipped 0\n" * skip
+    return (first, text, second, kept) == ((0, line), want, (6, b"haboob: open: output\n"), want)
+
+
+def many_files(program):
+    """One file more than a snapshot may have is told, or left out."""
+    folder = tempfile.mkdtemp()
+    try:
+        in_folder(folder, {b"%05d" % number: b"" for number in range(65_537)})
+        told = command(program, ["snapshot", *TREE], folder)
+        skipped = command(program, ["snapshot", *SKIP], folder)
+        text = contents(os.path.join(folder, "output"))
+    finally:
+        remove(folder)
+    want = snapshot_text([(b"%05d" % number, b"") for number in range(65_536)])
+    return (told, skipped, text) == ((4, b"haboob: folder: Count 65536\n"), (0, b"haboob: skipped 1\n"), want)
+
+
+def round_trip(program):
+    """A folder's snapshot serves its file."""
+    folder = tempfile.mkdtemp()
+    try:
+        in_folder(folder, {b"a.txt": b"hi\n"})
+        with open(os.path.join(folder, "capture"), "wb") as file:
+            file.write(CAPTURE)
+        made = command(program, ["snapshot", "--folder", "tree", "--output", "snapshot"], folder)
+        played = command(program, ["replay", *GOOD], folder)
+        return (made, played, contents(os.path.join(folder, "replies"))) == ((0, b""), (0, OPEN_REPORT), OPEN_REPLIES)
+    finally:
+        remove(folder)
+
+
+def main():
+    program = program_of(__doc__)
+    report = Report()
+    alone = copy_of(program)
+    for name, tree, words, status, line, output in SNAPSHOTS:
+        got = snapshot(alone, tree, words)
+        good = (got[0], got[2]) == (status, output) and is_told(got[1], line)
+        report.see_told("snapshot: " + name, good, (*got[:2], got[2][:2000]))
+    report.see("snapshot: an output in the folder", output_inside(alone, False), False)
+    report.see("snapshot: an output in the folder, and skip", output_inside(alone, True), False)
+    report.see("snapshot: too many files", many_files(alone), False)
+    report.see("snapshot: a replay of it", round_trip(alone), False)
+    os.remove(alone)
+    return report.end()
+
+
+if __name__ == "__main__":
+    sys.exit(main())

@@ -1,0 +1,133 @@
+#!/usr/bin/env python3
+"""Runs `haboob upgrade`, and compares status, line, output and capture with a table."""
+import os
+import subprocess
+import sys
+import tempfile
+
+# The folder stays as it is.
+sys.dont_write_bytecode = True
+from program_parts import HEADER, OLDEST, PIECE, SECONDS, Report, is_told, program_of
+
+HEADER_TWO = b"haboob-capture 2 784111777\n"
+OLDER = HEADER + PIECE + b"end 5 0\nstop 2\n"
+NEWER = HEADER_TWO + PIECE + b"end 5 0\nstop 2\n"
+UPGRADE = ["--capture", "capture", "--output", "output"]
+
+# A capture, the words after `upgrade`, and then the status, the line on standard error (None: a text of the command
+# line), and what stands in the output, which held an older text (None: there is no output), and in the capture.
+UPGRADES = [
+    ("version 1", OLDER, UPGRADE, 0, b"", NEWER),
+    ("version 2", NEWER, UPGRADE, 0, b"", NEWER),
+    ("options in another order", OLDER, ["--output=output", "--capture=capture"], 0, b"", NEWER),
+    ("a record cut", (HEADER + PIECE)[:-20], UPGRADE, 5, b"haboob: capture: record 1: Cut\n", HEADER_TWO),
+    ("no last line", HEADER + PIECE, UPGRADE, 5, b"haboob: capture: record 2: Cut\n", HEADER_TWO + PIECE),
+    ("an empty capture", b"", UPGRADE, 5, b"haboob: capture: record 0: Cut\n", b""),
+    ("version 3", b"haboob-capture 3 0\nstop 0\n", UPGRADE, 5, b"haboob: capture: record 0: Header\n", b""),
+    (
+        "connection 4096 in version 1",
+        HEADER + b"end 0 4096\nstop 1\n",
+        UPGRADE,
+        5,
+        b"haboob: capture: record 1: Connection\n",
+        HEADER_TWO,
+    ),
+    (
+        "connection 65535 in version 2",
+        HEADER_TWO + b"end 0 65535\nstop 1\n",
+        UPGRADE,
+        0,
+        b"",
+        HEADER_TWO + b"end 0 65535\nstop 1\n",
+    ),
+    ("no such capture", OLDER, ["--capture", "none", "--output", "output"], 6, b"haboob: open: capture\n", OLDEST),
+    ("a folder as capture", OLDER, ["--capture", "folder", "--output", "output"], 6, b"haboob: read: capture\n", b""),
+    (
+        "no folder for the output",
+        OLDER,
+        ["--capture", "capture", "--output", "none/output"],
+        6,
+        b"haboob: open: output\n",
+        OLDEST,
+    ),
+    ("a folder as output", OLDER, ["--capture", "capture", "--output", "folder"], 6, b"haboob: open: output\n", OLDEST),
+    (
+        "a full device as output",
+        OLDER,
+        ["--capture", "capture", "--output", "/dev/full"],
+        6,
+        b"haboob: write: output\n",
+        OLDEST,
+    ),
+    ("a device as output", OLDER, ["--capture", "capture", "--output", "/dev/null"], 0, b"", OLDEST),
+    (
+        "the capture as output",
+        OLDER,
+        ["--capture", "capture", "--output", "capture"],
+        6,
+        b"haboob: open: output\n",
+        OLDEST,
+    ),
+    (
+        "the capture by another name",
+        OLDER,
+        ["--capture", "capture", "--output", "./folder/../capture"],
+        6,
+        b"haboob: open: output\n",
+        OLDEST,
+    ),
+    (
+        "the capture by a link",
+        OLDER,
+        ["--capture", "capture", "--output", "link"],
+        6,
+        b"haboob: open: output\n",
+        OLDEST,
+    ),
+    (
+        "the capture by a hard link",
+        OLDER,
+        ["--capture", "same", "--output", "capture"],
+        6,
+        b"haboob: open: output\n",
+        OLDEST,
+    ),
+    ("no output", OLDER, ["--capture", "capture"], 2, None, OLDEST),
+    ("no capture", OLDER, ["--output", "output"], 2, None, OLDEST),
+    ("an option of replay", OLDER, UPGRADE + ["--engine", "plain"], 2, None, OLDEST),
+    ("help", OLDER, ["--help"], 2, None, OLDEST),
+]
+
+
+def upgrade(program, capture, words, folder):
+    """The status, the text on standard error, the output, the capture after one upgrade, and standard output."""
+    os.mkdir(os.path.join(folder, "folder"))
+    for name, data in [("output", OLDEST), ("capture", capture)]:
+        with open(os.path.join(folder, name), "wb") as file:
+            file.write(data)
+    os.symlink("capture", os.path.join(folder, "link"))
+    os.link(os.path.join(folder, "capture"), os.path.join(folder, "same"))
+    child = subprocess.run(
+        [os.path.abspath(program), "upgrade", *words],
+        cwd=folder,
+        stdin=subprocess.DEVNULL,
+        capture_output=True,
+        timeout=SECONDS,
+    )
+    with open(os.path.join(folder, "output"), "rb") as output, open(os.path.join(folder, "capture"), "rb") as kept:
+        return child.returncode, child.stderr, output.read(), kept.read(), child.stdout
+
+
+def main():
+    program = program_of(__doc__)
+    report = Report()
+    for name, capture, words, status, line, output in UPGRADES:
+        with tempfile.TemporaryDirectory() as folder:
+            got = upgrade(program, capture, words, folder)
+        good = (got[0], *got[2:]) == (status, output, capture, b"") and is_told(got[1], line)
+        report.see_told("upgrade: " + name, good, got)
+    return report.end()
+
+
+if __name__ == "__main__":
+    sys.exit(main())

@@ -1,0 +1,211 @@
+-- What a reader has to believe: the definitions of this crate that the headline stands on, in reading order.
+use Rattle.std.specs.Prelude.{ℕ, List, slice_index_or, ◌+◌, ◌-◌, max, Bool, true, false, [], ◌∷◌, ◌++◌, map, filter}
+use Rattle.std.specs.Prelude.{count_by, sum_by, nat_eq, nat_le, ◌*◌, ◌/◌, length, if◌then◌else◌, Option, slice_get}
+use Rattle.std.specs.Prelude.{zero, suc, min, take, slice_index, unwrap_or, nat_lt}
+use Rattle.std.specs.List.{range_with_len}
+use Rattle.admission.specs.declared.policy.PolicyNumbers.{PolicyNumbers}
+use Rattle.admission.specs.declared.control.Decision.{Decision}
+use Rattle.admission.specs.declared.control.Decision.TheVariants.{Admitted, Rejected}
+use Rattle.circular_buffer.specs.Buffer.{keep_last}
+use Rattle.admission.specs.declared.control.Control.{Control}
+use Rattle.token_bucket.specs.Reference.{TOKEN, accrual}
+
+-- The numbers of a policy, and their ranges.
+
+abbrev pub Rules : Type 0
+Rules = PolicyNumbers
+
+-- the rules of a tier that has no policy
+abbrev pub no_rules : Rules
+no_rules = record {
+  window = 0;
+  every = 0;
+  smoothing = 0;
+  rate = 0;
+  rate_min = 0;
+  rate_max = 0;
+  up = 0;
+  down = 0;
+  target = 0;
+  low = 0;
+  depth = 0;
+}
+
+-- the rules of a tier, among the policies in the order of their tiers
+unfoldable pub rules_of : List Rules → ℕ → Rules
+rules_of policies tier = slice_index_or policies tier no_rules
+
+-- Requests that are offered, decided and served.
+
+-- an offered request: its tier, the tick that it comes at, and how long it takes
+pub record Offer : Type 0 where
+  pub tier : ℕ
+  pub tick : ℕ
+  pub service : ℕ
+
+-- an offered request, and what became of it
+pub record Decided : Type 0 where
+  pub offer : Offer
+  pub decision : Decision
+
+-- an admitted request, and the tick that its service ends at
+pub record Served : Type 0 where
+  pub offer : Offer
+  pub finish : ℕ
+
+-- the requests of this tier, in order
+unfoldable pub of_tier : ℕ → List Decided → List Decided
+of_tier tier requests = filter (λ r. nat_eq r.offer.tier tier) requests
+
+abbrev pub is_admitted : Decision → Bool
+is_admitted (Admitted finish) = true
+is_admitted Rejected = false
+
+abbrev pub is_rejected : Decision → Bool
+is_rejected (Admitted finish) = false
+is_rejected Rejected = true
+
+abbrev pub as_served : Offer → Decision → List Served
+as_served offer (Admitted finish) = record { offer = offer; finish = finish } ∷ []
+as_served offer Rejected = []
+
+-- the admitted requests, in order
+unfoldable pub served : List Decided → List Served
+served [] = []
+served (request ∷ requests) = as_served request.offer request.decision ++ served requests
+
+-- when the last of these requests is finished: the greatest, over each of them, of its arrival and the
+-- services from it on (Lindley)
+unfoldable pub last_finish : List Offer → ℕ
+last_finish [] = 0
+last_finish (offer ∷ offers) = max (offer.tick + sum_by (λ o. o.service) (offer ∷ offers)) (last_finish offers)
+
+-- the offered request's finish, where it is served after these
+abbrev pub finish_after : List Served → Offer → ℕ
+finish_after requests offer = last_finish (map (λ r. r.offer) requests ++ offer ∷ [])
+
+abbrev pub finishes : List Served → List ℕ
+finishes requests = map (λ r. r.finish) requests
+
+-- how many are finished at tick u
+abbrev pub done : List Served → ℕ → ℕ
+done requests u = count_by (λ finish. nat_le finish u) (finishes requests)
+
+-- how long a request took, from its arrival to its finish
+abbrev pub sample : Served → ℕ
+sample request = request.finish - request.offer.tick
+
+abbrev pub samples : List Served → List ℕ
+samples requests = map sample requests
+
+-- The 90th percentile of samples, by the nearest rank.
+
+unfoldable pub insert_sorted : ℕ → List ℕ → List ℕ
+insert_sorted x [] = x ∷ []
+insert_sorted x (y ∷ ys) = if nat_le x y then (x ∷ y ∷ ys) else (y ∷ insert_sorted x ys)
+
+-- the samples from the least to the greatest
+unfoldable pub sorted : List ℕ → List ℕ
+sorted [] = []
+sorted (x ∷ xs) = insert_sorted x (sorted xs)
+
+-- the rank of the 90th percentile of m samples, counted from 1: nine tenths of m, rounded up
+abbrev pub rank : ℕ → ℕ
+rank m = (9 * m + 9) / 10
+
+-- the sample at that rank of the sorted samples, none of no samples
+abbrev pub percentile : List ℕ → Option ℕ
+percentile samples = slice_get (sorted samples) (rank (length samples) - 1)
+
+-- The controls of served requests, and the rate in force.
+
+-- the 90th percentile at control k: of the last samples, at most a window of them, of the first k times `every`
+abbrev pub percentile_at : Rules → List ℕ → ℕ → ℕ
+percentile_at rules taken k = unwrap_or (percentile (keep_last rules.window (take (k * rules.every) taken))) 0
+
+-- the smoothed percentile after a control: `smoothing` thousandths of the one before it, the rest of its own, rounded
+-- down
+abbrev pub smoother : Rules → ℕ → ℕ → ℕ
+smoother rules before own = (rules.smoothing * before + (1000 - rules.smoothing) * own) / 1000
+
+unfoldable pub smoothed_at : Rules → List ℕ → ℕ → ℕ
+smoothed_at rules taken zero = 0
+smoothed_at rules taken (suc k) = smoother rules (smoothed_at rules taken k) (percentile_at rules taken (suc k))
+
+-- the rate after a control: divided where the smoothed percentile is above the target, raised where it is
+-- below the low mark, within rate_min and rate_max
+abbrev pub adjusted : Rules → ℕ → ℕ → ℕ
+adjusted rules smoothed rate =
+    if nat_lt rules.target smoothed then (max rules.rate_min (100 * rate / rules.down))
+    else (if nat_lt (100 * smoothed) (rules.low * rules.target) then (min rules.rate_max (rate + rules.up))
+    else rate)
+
+-- the rate after k controls
+unfoldable pub rate_after : Rules → List ℕ → ℕ → ℕ
+rate_after rules taken zero = rules.rate
+rate_after rules taken (suc k) = adjusted rules (smoothed_at rules taken (suc k)) (rate_after rules taken k)
+
+-- control k, counted from 1, stands at the finish of request k times `every`
+abbrev pub control_at : Rules → List Served → ℕ → Control
+control_at rules requests k = record {
+  instant = slice_index (finishes requests) (k * rules.every - 1);
+  percentile = percentile_at rules (samples requests) k;
+  smoothed = smoothed_at rules (samples requests) k;
+  rate = rate_after rules (samples requests) k;
+}
+
+-- the controls of these requests
+abbrev pub controls_of : Rules → List Served → List Control
+controls_of rules requests = map (control_at rules requests) (range_with_len 1 (length requests / rules.every))
+
+-- those whose instant is at most this tick
+abbrev pub controls_until : Rules → List Served → ℕ → List Control
+controls_until rules requests tick = filter (λ c. nat_le c.instant tick) (controls_of rules requests)
+
+-- the rate in force at tick u: that of the last control whose requests are finished
+abbrev pub rate_at : Rules → List Served → ℕ → ℕ
+rate_at rules requests u = rate_after rules (samples requests) (done requests u / rules.every)
+
+-- What a controller keeps of the offers so far.
+
+-- the tick of the last offer
+unfoldable pub tick_from : ℕ → List Offer → ℕ
+tick_from tick [] = tick
+tick_from tick (offer ∷ offers) = tick_from offer.tick offers
+
+-- Which offered requests are admitted.
+
+-- a full bucket's units, with what accrues from the first of these requests up to `tick`, without the tokens that they
+-- took
+abbrev pub balance : (ℕ → ℕ) → ℕ → ℕ → Decided → List Decided → ℕ
+balance rate full tick request requests =
+    full + accrual rate request.offer.tick tick - TOKEN * count_by (λ r. is_admitted r.decision) (request ∷ requests)
+
+-- the least, over each request that was offered so far and the one that comes now, of the balance from it on
+unfoldable pub least_balance : (ℕ → ℕ) → ℕ → ℕ → List Decided → ℕ
+least_balance rate full tick [] = full
+least_balance rate full tick (request ∷ requests) =
+    min (balance rate full tick request requests) (least_balance rate full tick requests)
+
+-- the credit in units of a request that is offered at `tick` after these of its tier
+abbrev pub credit : Rules → List Decided → ℕ → ℕ
+credit rules past tick = least_balance (rate_at rules (served past)) (rules.depth * TOKEN) tick past
+
+-- a request is admitted exactly where its credit, by the rules of its tier over the requests of its tier, holds a
+-- token; it is served after the admitted requests of all tiers
+abbrev pub decide : List Rules → List Decided → Offer → Decision
+decide policies past offer =
+    if nat_le TOKEN (credit (rules_of policies offer.tier) (of_tier offer.tier past) offer.tick)
+    then (Admitted (finish_after (served past) offer)) else Rejected
+
+abbrev pub decided_next : List Rules → List Decided → Offer → Decided
+decided_next policies past offer = record { offer = offer; decision = decide policies past offer }
+
+-- each offer in turn, decided by those before it
+unfoldable pub decided_from : List Rules → List Decided → List Offer → List Decided
+decided_from policies past [] = past
+decided_from policies past (offer ∷ offers) =
+    decided_from policies (past ++ decided_next policies past offer ∷ []) offers
+
+abbrev pub decided : List Rules → List Offer → List Decided
+decided policies offers = decided_from policies [] offers

@@ -1,0 +1,40 @@
+-- A pass over a capture: it reads record by record, and writes as it reads. Where it stopped at the capture's fault.
+use Rattle.std.specs.Prelude.{◌≡◌, ℕ, ◌+◌, ◌≤◌, ◌⊎◌, false, List, ◌++◌, length, Option, Err}
+use Rattle.devices.specs.Reference.{WhereKnown}
+use Rattle.captures.specs.declared.record.Record.{Record}
+use Rattle.captures.specs.declared.version.Version.{Version}
+use Rattle.captures.specs.declared.capture_fault.CaptureFault.{CaptureFault}
+use Rattle.captures.specs.Reference.{IsCapture, max_text_bytes, text_before_stop}
+use Rattle.captures.specs.CaptureFaults.{is_unforeseen_kind, IsHeaderFault, IsFaultAfter}
+use Rattle.captures.specs.Readers.{FailsFirst, FailsNext}
+
+-- Records that were read: they keep the rules, and their texts are a prefix of the input, within the limit.
+pub record RecordsRead (input : Option (List ℕ)) : Type 0 where
+  pub version : Version
+  pub start : ℕ
+  pub records : List Record
+  pub rest : List ℕ
+  pub rules : IsCapture version start records
+  pub begins : WhereKnown input (λ bytes. bytes ≡ text_before_stop version start records ++ rest)
+  pub size : WhereKnown input (λ bytes. length (text_before_stop version start records) ≤ max_text_bytes)
+
+-- The fault is that of the first line. Where it was a read that failed, what was read is no whole line; `ahead` is what
+-- of the input wasn't read, here and below.
+pub record FaultsAtOnce (input ahead : Option (List ℕ)) (f : CaptureFault) : Type 0 where
+  pub at : f.at ≡ 0
+  pub fault : is_unforeseen_kind f.kind ≡ false → WhereKnown input (λ bytes. IsHeaderFault bytes f)
+  pub failed : FailsFirst input f ahead
+
+-- The fault is that of the record after these. Where it was a read that failed, nothing that was read after them is a
+-- whole record.
+pub record FaultsNext (input ahead : Option (List ℕ)) (read : RecordsRead input) (f : CaptureFault) : Type 0 where
+  pub at : f.at ≡ length read.records + 1
+  pub fault : is_unforeseen_kind f.kind ≡ false
+      → WhereKnown input (λ bytes. IsFaultAfter read.version bytes read.start read.records f)
+  pub failed : FailsNext read.version input read.start read.records (Err f) ahead
+
+-- A pass stopped at a fault of the capture: in the first line, where First holds of what it has written, or at the
+-- record after those that were read whole, where After holds of these.
+abbrev pub StopsAt : (input ahead : Option (List ℕ)) → Type 0 → (RecordsRead input → Type 0) → CaptureFault → Type 0
+StopsAt input ahead First After f = (FaultsAtOnce input ahead f × First)
+    ⊎ ((read : RecordsRead input) × FaultsNext input ahead read f × After read)

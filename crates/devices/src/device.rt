@@ -1,0 +1,133 @@
+//! A reader that is lent to a call, and the count of its failures.
+
+ghost use Rattle.std.specs.Prelude.{◌≡◌, ◌+◌, ◌-◌, ◌<◌, take, IfOk, OnOk, OnErr};
+ghost use Rattle.std.specs.Io.{ReadsAtMost};
+ghost use Rattle.std.specs.Io.KnownBytes.{ReadConsumes};
+ghost use Rattle.devices.specs.Devices.{ByteConsumes, fresh, CanFail};
+ghost use Rattle.devices.specs.Feeds.{NoneAfterFeed};
+
+use crate::window::Window;
+use std::io::Read;
+use std::marker::Model;
+use thiserror::Error;
+
+/// A device failed: it answered an error, or took none of the bytes that it was given.
+#[derive(Clone, Copy, Debug, PartialEq, Eq, Error)]
+#[error("the device failed")]
+pub struct Failed;
+
+/// A reader that is lent to a call, and how often it has failed.
+///
+/// Contracts see the bytes that are ahead, where these are known, and the count of failures. What was read beyond a
+/// line's end, where the input reads ahead, waits in a window, and comes before what the reader has left.
+#[derive(Drop)]
+pub struct Input<R: Read> {
+    reader: R,
+    failures: u64,
+    window: Window,
+    ahead: bool,
+}
+
+impl<R: Read> Model for Input<R> {
+    ghost use Rattle.std.specs.Io.KnownBytes.{prepend_known};
+    ghost use Rattle.devices.specs.Devices.{Device};
+    ghost use Rattle.devices.specs.Devices.{Device};
+
+    ghost Value = { Device };
+
+    ghost view = { λ i. record { bytes = prepend_known i.window (R.remaining i.reader); failures = i.failures } };
+}
+
+impl<R: Read> Input<R> {
+    /// A reader that has not failed yet. No byte is read ahead of the calls that take it.
+    pub fn new(reader: R) -> Input<R>
+        ensures { result ≡ fresh (R.remaining reader) }
+    {
+        Input {
+            reader,
+            failures: 0,
+            window: Window::new(),
+            ahead: false,
+        }
+    }
+
+    /// The same, but lines and single bytes are read by fewer reads, of up to 64 bytes: what came beyond them waits for
+    /// the input's next calls. It is for a reader that nobody reads on after the input.
+    pub fn ahead(reader: R) -> Input<R>
+        ensures { result ≡ fresh (R.remaining reader) }
+    {
+        let mut input = Input::new(reader);
+        input.ahead = true;
+        input
+    }
+
+    /// Whether lines and single bytes may be read with bytes beyond them.
+    pub(crate) fn reads_ahead(&self) -> bool {
+        self.ahead
+    }
+
+    /// How often a call answered [`Failed`].
+    pub fn failures(&self) -> u64
+        ensures { result ≡ self.now.failures }
+    {
+        self.failures
+    }
+
+    /// Makes one read into the beginning of `room`, and answers how many bytes came. None come at the end of the input
+    /// alone, or where there is no room. A read that was interrupted is a failure. Where bytes wait that were read
+    /// ahead, these come, and no read is made.
+    pub fn read_some(&mut self, room: &mut [u8]) -> Result<usize, Failed>
+        requires { CanFail self.old }
+        ensures bound { ReadsAtMost result room.new }
+        ensures bytes { ReadConsumes self.old.bytes self.new.bytes result room.new }
+        ensures ok { OnOk result (self.new.failures ≡ self.old.failures) }
+        ensures err { OnErr result (self.new.failures ≡ self.old.failures + 1) }
+    {
+        if !self.window.is_empty() {
+            return Ok(self.window.take(room));
+        }
+        match self.reader.read(room) {
+            Ok(count) => Ok(count),
+            Err(_) => {
+                self.failures += 1;
+                Err(Failed)
+            }
+        }
+    }
+
+    /// Gives some of the next bytes, at most as many as the room holds, and none after a line feed. Where no byte
+    /// waits, one read is made first, of up to 64 bytes.
+    pub(crate) fn read_to_feed(&mut self, room: &mut [u8]) -> Result<usize, Failed>
+        requires { CanFail self.old }
+        ensures bound { ReadsAtMost result room.new }
+        ensures bytes { ReadConsumes self.old.bytes self.new.bytes result room.new }
+        ensures feed { IfOk result (λ n. NoneAfterFeed (take n room.new)) }
+        ensures ok { OnOk result (self.new.failures ≡ self.old.failures) }
+        ensures err { OnErr result (self.new.failures ≡ self.old.failures + 1) }
+    {
+        if !self.window.is_empty() {
+            return Ok(self.window.take_to_feed(room));
+        }
+        match self.window.fill(&mut self.reader) {
+            Ok(()) => Ok(self.window.take_to_feed(room)),
+            Err(Failed) => {
+                self.failures += 1;
+                Err(Failed)
+            }
+        }
+    }
+
+    /// Makes one read of one byte, where none waits that was read ahead; `None` at the end of the input.
+    pub fn read_byte(&mut self) -> Result<Option<u8>, Failed>
+        requires { CanFail self.old }
+        ensures bytes { ByteConsumes self.old.bytes self.new.bytes result }
+        ensures ok { OnOk result (self.new.failures ≡ self.old.failures) }
+        ensures err { OnErr result (self.new.failures ≡ self.old.failures + 1) }
+    {
+        let mut room = [0];
+        if self.read_some(&mut room)? == 0 {
+            return Ok(None);
+        }
+        Ok(Some(room[0]))
+    }
+}

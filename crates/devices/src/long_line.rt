@@ -1,0 +1,95 @@
+//! Reading a line that announces something, no further than it owes.
+
+ghost use Rattle.std.specs.Prelude.{◌+◌, ◌-◌, ◌<◌, ◌≤◌, length, IfErr, ◌≢◌};
+ghost use Rattle.devices.specs.Devices.{CanFail};
+ghost use Rattle.devices.specs.Texts.{Counts, line_at};
+ghost use Rattle.devices.specs.Parts.{FailsWithin};
+ghost use Rattle.devices.specs.LongLines.{IsOwed, GivesLongLine};
+
+use crate::text::{read_line_ahead, read_some_of};
+use crate::{Input, Line, Stop};
+use std::io::Read;
+
+/// The most bytes that a line owes at once.
+const MAX_OWED: usize = 8;
+
+/// How many bytes a line that begins so has ahead at least, its line feed among them, if it has `least` bytes, and
+/// `longer` where it begins with `kind`.
+fn owed(prefix: &[u8], least: usize, kind: &[u8], longer: usize) -> usize
+    requires least { (1 ≤ least) × (least ≤ MAX_OWED) }
+    requires longer { (least < longer) × (longer ≤ least + MAX_OWED) }
+    ensures owed { IsOwed least kind.now longer prefix.now result }
+    ensures some { 0 < result }
+    ensures limit { result ≤ MAX_OWED }
+    ensures room { length prefix.now < 65 → length prefix.now + result ≤ 65 }
+{
+    if prefix.is_empty() {
+        least
+    } else if prefix.len() == least && prefix.starts_with(kind) {
+        longer - least
+    } else {
+        1
+    }
+}
+
+/// Reads such a line. What it owes is read at once: bytes after a line that is shorter may have been read too.
+fn read_owed_line<R: Read>(
+    input: &mut Input<R>,
+    left: &mut usize,
+    least: usize,
+    kind: &[u8],
+    longer: usize,
+) -> Result<Line, Stop>
+    requires healthy { CanFail input.old }
+    requires least { (1 ≤ least) × (least ≤ 8) }
+    requires longer { (least < longer) × (longer ≤ least + 8) }
+    ensures line { GivesLongLine least kind.now longer input.old.bytes left.old input.new.bytes left.new result }
+    // Where a read failed, no whole line had been taken.
+    ensures part { FailsWithin Stop.Read Stop.Cut line_at input.old.bytes left.old input.new.bytes left.new result }
+    ensures count { Counts input.old.failures input.new.failures result }
+    // It takes no memory.
+    ensures memory { IfErr result (λ e. e ≢ Stop.Memory) }
+{
+    let mut line = Line::new();
+    while line.as_slice().len() < 65 {
+        let mut room = [0; MAX_OWED];
+        let owed = owed(line.as_slice(), least, kind, longer);
+        match read_some_of(input, left, &mut room[..owed]) {
+            Ok(count) => {
+                if line.push_to_feed(&room[..count]) {
+                    return Ok(line);
+                }
+            }
+            Err(stop) => return Err(stop),
+        }
+    }
+    Err(Stop::TooLong)
+}
+
+/// Reads the next line of a text that may take `left` more bytes, of which those that announce something have at
+/// least `least` bytes with the line feed (1 to 8), and where they begin with `kind`, at least `longer` (1 to 8
+/// more). What a line owes is read at once: bytes after a line that is shorter may have been read too. An input that
+/// reads ahead keeps them.
+pub fn read_long_line<R: Read>(
+    input: &mut Input<R>,
+    left: &mut usize,
+    least: usize,
+    kind: &[u8],
+    longer: usize,
+) -> Result<Line, Stop>
+    requires healthy { CanFail input.old }
+    requires least { (1 ≤ least) × (least ≤ 8) }
+    requires longer { (least < longer) × (longer ≤ least + 8) }
+    ensures line { GivesLongLine least kind.now longer input.old.bytes left.old input.new.bytes left.new result }
+    // Where a read failed, no whole line had been taken.
+    ensures part { FailsWithin Stop.Read Stop.Cut line_at input.old.bytes left.old input.new.bytes left.new result }
+    ensures count { Counts input.old.failures input.new.failures result }
+    // It takes no memory.
+    ensures memory { IfErr result (λ e. e ≢ Stop.Memory) }
+{
+    if input.reads_ahead() {
+        read_line_ahead(input, left)
+    } else {
+        read_owed_line(input, left, least, kind, longer)
+    }
+}

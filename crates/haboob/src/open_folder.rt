@@ -1,0 +1,137 @@
+//! Open folders, and what is reached from them. Nothing is reached by a path from the root of the system: so no link is
+//! followed, whoever puts one in a folder's or a file's place meanwhile.
+
+use crate::overwritten::Node;
+use paths::MAX_FILE_BYTES;
+use program::{Contents, FileFault};
+use std::alloc::AllocError;
+use std::fs::{File, Metadata, ReadDir, read_dir, symlink_metadata};
+use std::io;
+use std::io::{ErrorKind, Read};
+use std::os::fd::AsRawFd;
+use std::os::unix::fs::MetadataExt;
+
+/// Why something in a folder can't be read.
+#[derive(Drop)]
+pub enum Unread {
+    Memory,
+    Fault(FileFault),
+}
+
+impl From<AllocError> for Unread {
+    fn from(_refused: AllocError) -> Unread {
+        Unread::Memory
+    }
+}
+
+impl From<io::Error> for Unread {
+    fn from(error: io::Error) -> Unread {
+        match error.kind() {
+            ErrorKind::OutOfMemory => Unread::Memory,
+            ErrorKind::InvalidFilename => Unread::Fault(FileFault::Name),
+            _ => Unread::Fault(FileFault::Read),
+        }
+    }
+}
+
+/// What was looked at is no longer what it was.
+const CHANGED: Unread = Unread::Fault(FileFault::Changed);
+
+/// Whether nobody has changed a file between two looks at it.
+fn is_unchanged(before: &Metadata, after: &Metadata) -> bool {
+    before.len() == after.len()
+        && before.mtime() == after.mtime()
+        && before.mtime_nsec() == after.mtime_nsec()
+        && before.ctime() == after.ctime()
+        && before.ctime_nsec() == after.ctime_nsec()
+}
+
+/// The bytes of an open file, up to the first that is too many. They are what the system tells of it: it has so many
+/// bytes, and wasn't changed while they were read. A time before 1970 is reported as 0.
+fn contents_of(rt: &HostRuntime, file: &File) -> Result<Contents, Unread> {
+    let before = file.metadata()?;
+    if before.len() > MAX_FILE_BYTES {
+        return Err(Unread::Fault(FileFault::Size));
+    }
+    let mut bytes = Vec::with_capacity(rt.alloc(), before.len() as usize + 1)?;
+    file.take(MAX_FILE_BYTES + 1).read_to_end(&mut bytes)?;
+    let after = file.metadata()?;
+    if bytes.len() as u64 != after.len() || !is_unchanged(&before, &after) {
+        return Err(CHANGED);
+    }
+    let mtime = u64::try_from(after.mtime()).unwrap_or(0);
+    Ok(Contents { mtime, bytes })
+}
+
+/// An open folder.
+#[derive(Drop)]
+pub struct OpenFolder<'a> {
+    rt: &'a HostRuntime,
+    file: File,
+}
+
+impl<'a> OpenFolder<'a> {
+    /// Opens the folder of a path, or the one that a link of that path leads to.
+    pub fn open(rt: &'a HostRuntime, path: &str) -> Result<OpenFolder<'a>, Unread> {
+        if path.is_empty() {
+            return Err(Unread::Fault(FileFault::Read));
+        }
+        // With the slash nothing but a folder is opened.
+        let path = format!(in rt.alloc(); "{path}/")?;
+        let file = File::open(rt, path.as_str())?;
+        Ok(OpenFolder { rt, file })
+    }
+
+    /// The path of what has this name in the folder, by the number of the open folder.
+    fn path(&self, name: &str) -> Result<String, AllocError> {
+        let number = self.file.as_raw_fd();
+        format!(in self.rt.alloc(); "/proc/self/fd/{number}/{name}")
+    }
+
+    /// The folder of this name in it.
+    fn enter(&self, name: &str) -> Result<OpenFolder<'a>, Unread> {
+        let mut path = self.path(name)?;
+        let listed = symlink_metadata(self.rt, path.as_str())?;
+        if !listed.is_dir() {
+            return Err(CHANGED);
+        }
+        path.push('/')?;
+        let file = File::open(self.rt, path.as_str())?;
+        if Node::new(&listed) != Node::new(&file.metadata()?) {
+            return Err(CHANGED);
+        }
+        Ok(OpenFolder { rt: self.rt, file })
+    }
+
+    /// The folder that is reached from it by these names, joined by `/`; itself by none.
+    pub fn descend(&self, names: &str) -> Result<OpenFolder<'a>, Unread> {
+        let mut folder = self.enter(".")?;
+        for name in names.split('/') {
+            if !name.is_empty() {
+                folder = folder.enter(name)?;
+            }
+        }
+        Ok(folder)
+    }
+
+    /// What is in it.
+    pub fn entries(&self) -> Result<ReadDir, Unread> {
+        let path = self.path("")?;
+        Ok(read_dir(self.rt, path.as_str())?)
+    }
+
+    /// Reads the file of this name in it, which is to be this one. What isn't a plain file isn't opened: a pipe would
+    /// have the program wait.
+    pub fn read(&self, name: &str, wanted: Option<Node>) -> Result<Contents, Unread> {
+        let path = self.path(name)?;
+        let found = Node::new(&symlink_metadata(self.rt, path.as_str())?);
+        if wanted != Some(found) {
+            return Err(CHANGED);
+        }
+        let file = File::open(self.rt, path.as_str())?;
+        if found != Node::new(&file.metadata()?) {
+            return Err(CHANGED);
+        }
+        contents_of(self.rt, &file)
+    }
+}

@@ -1,6 +1,0 @@
-use Rattle.std.specs.String.{string_bytes}
-use Rattle.options.proofs.WrittenOut.{settings_if_ok}
-use Rattle.options.proofs.written_out.settings_text.Goals as goal
-
-pub returns-clause-settings : goal.returns-clause-settings
-returns-clause-settings c = settings_if_ok string_bytes _ _ c.text_of.result c.in_ok-document.ensures c.text_of.ensures

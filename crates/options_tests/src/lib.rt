@@ -1,5 +1,0 @@
-//! Tests of the crate `options`.
-#![tactic(auto)]
-
-#[cfg(test)]
-mod tests;

@@ -1,5 +1,0 @@
-use Rattle.paths.proofs.Decimals.{number_read}
-use Rattle.paths.proofs.numbers.number.Goals as goal
-
-pub returns : goal.returns
-returns c = number_read _ _ _ c.if-is_empty.ensures c.if-field-gt1.either c.loop-digit-test.false c.loop-digit.invariant.0 c.loop-digit.invariant.1

@@ -1,0 +1,81 @@
+-- The run over one input that holds a snapshot's text and, after it, a capture.
+use Rattle.devices.specs.Devices.{Device, fresh}
+use Rattle.std.specs.Prelude.{◌≡◌, ℕ, true, false, List, [], Option, is_some, unwrap_or, Result, MatchResult}
+use Rattle.devices.specs.Reference.{WhereKnown}
+use Rattle.paths.specs.declared.file.File.{File}
+use Rattle.paths.specs.Snapshots.{IsSnapshot, BeginsWithSnapshot}
+use Rattle.paths.specs.SnapshotFaults.{IsFrontFault, IsForeseen, failures_of}
+use Rattle.captures.specs.CaptureFaults.{is_unforeseen_kind, IsFirstFault}
+use Rattle.replay.specs.declared.summary.Outcome.{Outcome}
+use Rattle.replay.specs.Reference.{Terms, terms_of, Answers}
+use Rattle.replay.specs.Outcomes.{IfCapture, Leaves}
+use Rattle.replay.specs.Telling.{replies_told}
+use Rattle.settings.specs.SettingsTable.{default_choice}
+use Rattle.replay.specs.Outcomes as replays
+use Rattle.program.specs.declared.fault.Fault.{Fault}
+use Rattle.captures.specs.Upgrades as upgrades
+use Rattle.program.specs.declared.fault.Fault.TheVariants.{Snapshot, Replay, Upgrade, Write, Memory}
+use Rattle.program.specs.declared.place.Place.TheVariants.{Replies}
+use Rattle.program.specs.Upgrading.{IsCaptureOfSomeVersion}
+
+-- There are files that keep the rules of a snapshot, and P holds of them and of the rest of the input. Where the bytes
+-- of the input are known, the text of these files stands at their start, and the bytes after it are the rest.
+pub record AfterSnapshot (input : Option (List ℕ)) (P : List File → Option (List ℕ) → Type 0) : Type 0 where
+  pub files : List File
+  pub rest : Option (List ℕ)
+  pub rules : IsSnapshot files
+  pub text : WhereKnown input (λ bytes. BeginsWithSnapshot bytes files (unwrap_or rest []))
+  pub known : WhereKnown input (λ bytes. is_some rest ≡ true)
+  pub after : P files rest
+
+-- the answer of the reference server with the default settings, to this capture, was written
+abbrev pub default_terms : List File → Terms
+default_terms files = terms_of files default_choice
+
+abbrev pub WritesAnswer : Option (List ℕ) → Option (List ℕ) → List File → Option (List ℕ) → Type 0
+WritesAnswer old new files capture = (outcome : Outcome) × Answers (default_terms files) capture old new outcome
+
+-- What a fault of the run says, with what of the input wasn't read, and the output's bytes and failures before and
+-- after. One of the snapshot is its first and nothing was written; one of the replay comes after a whole snapshot, and
+-- says what it says of the rest; memory may run out between the two, and then nothing was written either. None else
+-- comes.
+abbrev pub IsBundleFault : Option (List ℕ) → Option (List ℕ) → Device → Device → Fault
+    → Type 0
+IsBundleFault input ahead old new (Snapshot f) = IsForeseen IsFrontFault input f × (new ≡ old)
+IsBundleFault input ahead old new (Replay f) = AfterSnapshot input
+    (λ files capture. Leaves (replies_told (default_terms files)) capture ahead old.bytes new.bytes f)
+IsBundleFault input ahead old new Memory = new ≡ old
+IsBundleFault input ahead old new other = ⊥
+
+-- how often the reader and the writer failed in a run that answered this fault
+abbrev pub reader_failures : Fault → ℕ
+reader_failures (Snapshot f) = failures_of f.kind
+reader_failures (Replay f) = replays.reader_failures f
+reader_failures (Upgrade f) = upgrades.reader_failures f
+reader_failures other = 0
+
+abbrev pub writer_failures : Fault → ℕ
+writer_failures (Replay f) = replays.writer_failures f
+writer_failures (Upgrade f) = upgrades.writer_failures f
+writer_failures other = 0
+
+-- where the bytes after the snapshot are known, they are the text of a capture
+abbrev pub HoldsCapture : List File → Option (List ℕ) → Type 0
+HoldsCapture files capture = WhereKnown capture IsCaptureOfSomeVersion
+
+-- What a fault of the program says of its input: that of a snapshot or a capture is the first, but for a failed read
+-- and out of memory. Other faults are that the replies can't be written to their end, and out of memory.
+abbrev pub IsProgramFault : Option (List ℕ) → Fault → Type 0
+IsProgramFault input (Snapshot f) = IsForeseen IsFrontFault input f
+IsProgramFault input (Replay f) = AfterSnapshot input (λ files capture. IfCapture f
+    (λ g. is_unforeseen_kind g.kind ≡ false → WhereKnown capture (λ bytes. IsFirstFault bytes g)))
+IsProgramFault input (Write Replies) = Unit {0}
+IsProgramFault input Memory = Unit {0}
+IsProgramFault input other = ⊥
+
+-- what a run says of its input, and of what it was to leave at the device; what of the input wasn't read is what a
+-- reader before the buffer has left
+abbrev pub BundleSays : Option (List ℕ) → Option (List ℕ) → Result Unit Fault → Option (List ℕ) → Type 0
+BundleSays input old ran whole = (ahead : Option (List ℕ)) × (count : ℕ) × MatchResult ran
+    (λ done. AfterSnapshot input (WritesAnswer old whole))
+    (λ f. IsBundleFault input ahead (fresh old) (record { bytes = whole; failures = count }) f)

@@ -1,0 +1,187 @@
+//! All faults of the program, with their status.
+
+ghost use Rattle.std.specs.Prelude.{◌≡◌};
+ghost use Rattle.program.specs.FaultLines.{told, told_entry, told_file, told_record, of_rows, status_of};
+
+use crate::file_fault::{FileFault, FolderFault};
+use crate::place::Place;
+use crate::told::Told;
+use captures::{CaptureFault, CaptureFaultKind, UpgradeFault};
+use command_line::WordFault;
+use paths::{SnapshotFault, SnapshotFaultKind};
+use replay::ReplayFault;
+use settings::{ConfigFault, ConfigFaultKind};
+use std::alloc::AllocError;
+
+/// Why the program didn't do what it was to do.
+#[derive(Debug, PartialEq, Drop)]
+pub enum Fault {
+    /// The words after the program's name ask for nothing that it does.
+    Words(WordFault),
+    /// The settings' first fault.
+    Settings(ConfigFault),
+    /// The snapshot's first fault, or it couldn't be read.
+    Snapshot(SnapshotFault),
+    /// The replay came to no end.
+    Replay(ReplayFault),
+    /// The upgrade came to no end.
+    Upgrade(UpgradeFault),
+    /// What was found in a folder can't be taken into a snapshot.
+    Folder(FolderFault),
+    /// A file couldn't be opened.
+    Open(Place),
+    /// A file couldn't be read.
+    Read(Place),
+    /// A file couldn't be written to its end.
+    Write(Place),
+    /// There was no memory.
+    Memory,
+}
+
+impl From<WordFault> for Fault {
+    ghost use Rattle.program.specs.declared.fault.Fault.TheVariants.{Words};
+
+    ghost from_gives = { λ inner fault. fault ≡ Words inner };
+
+    fn from(inner: WordFault) -> Fault {
+        Fault::Words(inner)
+    }
+}
+
+impl From<ConfigFault> for Fault {
+    ghost use Rattle.program.specs.declared.fault.Fault.TheVariants.{Settings};
+
+    ghost from_gives = { λ inner fault. fault ≡ Settings inner };
+
+    fn from(inner: ConfigFault) -> Fault {
+        Fault::Settings(inner)
+    }
+}
+
+impl From<SnapshotFault> for Fault {
+    ghost use Rattle.program.specs.declared.fault.Fault.TheVariants.{Snapshot};
+
+    ghost from_gives = { λ inner fault. fault ≡ Snapshot inner };
+
+    fn from(inner: SnapshotFault) -> Fault {
+        Fault::Snapshot(inner)
+    }
+}
+
+impl From<ReplayFault> for Fault {
+    ghost use Rattle.program.specs.declared.fault.Fault.TheVariants.{Replay};
+
+    ghost from_gives = { λ inner fault. fault ≡ Replay inner };
+
+    fn from(inner: ReplayFault) -> Fault {
+        Fault::Replay(inner)
+    }
+}
+
+impl From<UpgradeFault> for Fault {
+    ghost use Rattle.program.specs.declared.fault.Fault.TheVariants.{Upgrade};
+
+    ghost from_gives = { λ inner fault. fault ≡ Upgrade inner };
+
+    fn from(inner: UpgradeFault) -> Fault {
+        Fault::Upgrade(inner)
+    }
+}
+
+impl From<AllocError> for Fault {
+    ghost use Rattle.program.specs.declared.fault.Fault.TheVariants.{Memory};
+
+    ghost from_gives = { λ refused fault. fault ≡ Memory };
+
+    fn from(_refused: AllocError) -> Fault {
+        Fault::Memory
+    }
+}
+
+/// What is told of a snapshot's fault.
+fn told_entry(fault: SnapshotFault) -> Told
+    ensures { result ≡ told_entry fault.kind fault }
+{
+    match fault.kind {
+        SnapshotFaultKind::Read => Told::Read(Place::Snapshot),
+        SnapshotFaultKind::Memory => Told::Memory,
+        _ => Told::Entry(fault),
+    }
+}
+
+/// What is told of a capture's fault.
+fn told_record(fault: CaptureFault) -> Told
+    ensures { result ≡ told_record fault.kind fault }
+{
+    match fault.kind {
+        CaptureFaultKind::Read => Told::Read(Place::Capture),
+        CaptureFaultKind::Memory => Told::Memory,
+        _ => Told::Record(fault),
+    }
+}
+
+/// What is told of what was found in a folder.
+pub(crate) fn told_file(fault: FileFault) -> Told
+    ensures { result ≡ told_file fault }
+{
+    match fault {
+        FileFault::Read => Told::Read(Place::Folder),
+        _ => Told::File(fault),
+    }
+}
+
+impl Fault {
+    /// What is told of the fault.
+    pub(crate) fn told(&self) -> Told
+        ensures { result ≡ told self.now }
+    {
+        match self {
+            Fault::Words(WordFault::Words(_)) => Told::Usage,
+            Fault::Words(WordFault::Engine) => Told::Engine,
+            Fault::Settings(fault) if fault.kind != ConfigFaultKind::Memory => {
+                Told::Settings(*fault)
+            }
+            Fault::Snapshot(fault) => told_entry(*fault),
+            Fault::Replay(ReplayFault::Capture(fault)) => told_record(*fault),
+            Fault::Upgrade(UpgradeFault::Capture(fault)) => told_record(*fault),
+            Fault::Replay(ReplayFault::TooMany(number)) => Told::TooMany(*number),
+            Fault::Replay(ReplayFault::Write) => Told::Write(Place::Replies),
+            Fault::Upgrade(UpgradeFault::Write) => Told::Write(Place::Output),
+            Fault::Folder(fault) => told_file(fault.fault),
+            Fault::Open(place) => Told::Open(*place),
+            Fault::Read(place) => Told::Read(*place),
+            Fault::Write(place) => Told::Write(*place),
+            Fault::Words(WordFault::Memory)
+            | Fault::Settings(_)
+            | Fault::Replay(ReplayFault::Memory)
+            | Fault::Upgrade(UpgradeFault::Memory)
+            | Fault::Memory => Told::Memory,
+        }
+    }
+
+    /// The fault of a run that writes rows, of one that writes replies: what was to hold these is the messages' file.
+    pub fn of_rows(self) -> Fault
+        ensures { result ≡ of_rows self }
+    {
+        match self {
+            Fault::Replay(ReplayFault::Write) | Fault::Write(Place::Replies) => {
+                Fault::Write(Place::Messages)
+            }
+            other => other,
+        }
+    }
+
+    /// The status that the program ends with, from 2 to 7.
+    pub fn status(&self) -> u8
+        ensures { result ≡ status_of (told self.now) }
+    {
+        match self.told() {
+            Told::Usage | Told::Engine => 2,
+            Told::Settings(_) => 3,
+            Told::Entry(_) | Told::File(_) => 4,
+            Told::Record(_) | Told::TooMany(_) => 5,
+            Told::Open(_) | Told::Read(_) | Told::Write(_) => 6,
+            Told::Memory => 7,
+        }
+    }
+}

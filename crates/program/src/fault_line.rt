@@ -1,0 +1,190 @@
+//! The one line that tells a fault.
+
+ghost use Rattle.std.specs.Prelude.{◌≡◌, ◌-◌, ◌+◌, ◌<◌, ◌≤◌, ◌^◌, ◌++◌, ◌∷◌, [], length, codes, decimal, option_map};
+ghost use Rattle.devices.specs.Devices.{CanFail, WritesProperPrefix, CountsFailed};
+ghost use Rattle.program.specs.FaultLines.{line_of, named_line, named_line_of, skipped_line, text_of, text_told};
+ghost use Rattle.program.specs.FaultLines.{told_file, usage_of};
+ghost use Rattle.arrayvec.specs.ArrayVec.{array_vec_len};
+ghost use Rattle.settings.specs.ConfigFaults.{fault_text};
+ghost use Rattle.settings.specs.Keys.{path_of};
+
+use crate::fault::{Fault, told_file};
+use crate::file_fault::{FileFault, FolderFault};
+use crate::told::Told;
+use arrayvec::ArrayVec;
+use command_line::WordFault;
+use devices::{Failed, Output};
+use itoa::Buffer;
+use responses::Write;
+use settings::{ConfigFault, Key};
+use std::io;
+
+/// Room for the longest line: `haboob: `, 17 bytes, a number of 64 bits, `: `, 12 bytes and a line feed.
+type Line = ArrayVec<u8, 60>;
+
+/// The line of a prefix and a name, or with another end what stands before that.
+fn plain_line(prefix: &str, name: &str, end: u8) -> Line
+    requires prefix { length prefix.now ≤ 17 }
+    requires name { length name.now ≤ 12 }
+    ensures { result.items ≡ codes "haboob: " ++ prefix.now ++ name.now ++ end ∷ [] }
+{
+    let mut line = Line::new();
+    line.try_extend_from_slice(b"haboob: ").unwrap();
+    line.try_extend_from_slice(prefix.as_bytes()).unwrap();
+    line.try_extend_from_slice(name.as_bytes()).unwrap();
+    line.push(end);
+    line
+}
+
+/// The line of a prefix, a number and a name.
+fn numbered_line(prefix: &str, number: usize, name: &str) -> Line
+    requires prefix { length prefix.now ≤ 17 }
+    requires name { length name.now ≤ 12 }
+    ensures { result.items ≡ codes "haboob: " ++ prefix.now ++ decimal number ++ codes ": " ++ name.now ++ codes "\n" }
+{
+    let mut buffer = Buffer::new();
+    let mut line = Line::new();
+    line.try_extend_from_slice(b"haboob: ").unwrap();
+    line.try_extend_from_slice(prefix.as_bytes()).unwrap();
+    line.try_extend_from_slice(buffer.format(number).as_bytes())
+        .unwrap();
+    line.try_extend_from_slice(b": ").unwrap();
+    line.try_extend_from_slice(name.as_bytes()).unwrap();
+    line.push(b'\n');
+    line
+}
+
+/// The line of a fault of the settings.
+fn settings_line(fault: ConfigFault) -> Line
+    ensures { result.items ≡ codes "haboob: settings: " ++ fault_text fault ++ codes "\n" }
+{
+    let mut line = Line::new();
+    line.try_extend_from_slice(b"haboob: settings: ").unwrap();
+    line.try_extend_from_slice(fault.kind.name().as_bytes())
+        .unwrap();
+    if let Some(key) = fault.key {
+        push_key(&mut line, key);
+    }
+    line.push(b'\n');
+    line
+}
+
+/// Adds a key's place in a document, after a space.
+fn push_key(line: &mut Line, key: Key)
+    requires { array_vec_len line.old ≤ 25 }
+    ensures items { line.new.items ≡ line.old.items ++ codes " " ++ path_of key }
+    ensures len { array_vec_len line.new ≤ array_vec_len line.old + 34 }
+{
+    line.push(b' ');
+    if !key.is_table() {
+        line.try_extend_from_slice(key.table().name().as_bytes())
+            .unwrap();
+        line.push(b'.');
+    }
+    line.try_extend_from_slice(key.name().as_bytes()).unwrap();
+}
+
+/// The line of what is reported. (A fault of usage is told by its text.)
+fn line_of(told: Told) -> Line
+    ensures { result.items ≡ line_of told }
+{
+    match told {
+        Told::Usage => plain_line("", "usage", b'\n'),
+        Told::Engine => plain_line("", "engine", b'\n'),
+        Told::Settings(fault) => settings_line(fault),
+        Told::Entry(fault) => { numbered_line("snapshot: entry ", fault.entry, fault.kind.name()) }
+        Told::Record(fault) => { numbered_line("capture: record ", fault.at, fault.kind.name()) }
+        Told::TooMany(number) => numbered_line("capture: message ", number, "TooMany"),
+        Told::File(fault) => plain_line("folder: ", fault.name(), b'\n'),
+        Told::Open(place) => plain_line("open: ", place.name(), b'\n'),
+        Told::Read(place) => plain_line("read: ", place.name(), b'\n'),
+        Told::Write(place) => plain_line("write: ", place.name(), b'\n'),
+        Told::Memory => plain_line("", "memory", b'\n'),
+    }
+}
+
+/// What stands before the name in the line of what can't be taken.
+fn file_heading(fault: FileFault) -> Line
+    ensures { result.items ≡ codes "haboob: " ++ text_of (told_file fault) ++ codes " " }
+{
+    match fault {
+        FileFault::Read => plain_line("read: ", "folder", b' '),
+        _ => plain_line("folder: ", fault.name(), b' '),
+    }
+}
+
+/// Writes the line of what can't be taken.
+fn write_named<W: io::Write>(writer: &mut Output<W>, fault: &FolderFault) -> Result<(), Failed>
+    requires { CanFail writer.old }
+    ensures line { WritesProperPrefix writer.old.bytes writer.new.bytes result
+        (named_line_of (told_file fault.now.fault) fault.now.name.items) }
+    ensures count { CountsFailed writer.old.failures writer.new.failures result }
+{
+    match writer.write_all(file_heading(fault.fault).as_slice()) {
+        Ok(()) => writer.write_both(&fault.name, b"\n"),
+        Err(failed) => Err(failed),
+    }
+}
+
+/// Writes the one line that tells how many were left out. It takes no memory. At an `Err` the writer failed in this
+/// call, and a prefix of the line stands there.
+pub fn write_skipped<W: io::Write>(count: usize, writer: &mut Output<W>) -> Result<(), Write>
+    requires { CanFail writer.old }
+    ensures line { WritesProperPrefix writer.old.bytes writer.new.bytes result (skipped_line count) }
+    ensures count { CountsFailed writer.old.failures writer.new.failures result }
+{
+    writer.write_all(skipped_line(count).as_slice())?;
+    Ok(())
+}
+
+fn skipped_line(count: usize) -> Line
+    ensures { result.items ≡ skipped_line count }
+{
+    let mut buffer = Buffer::new();
+    let mut line = Line::new();
+    line.try_extend_from_slice(b"haboob: skipped ").unwrap();
+    line.try_extend_from_slice(buffer.format(count).as_bytes())
+        .unwrap();
+    line.push(b'\n');
+    line
+}
+
+impl Fault {
+    /// What the command line says of words that it doesn't take.
+    fn usage(&self) -> Option<&str>
+        ensures { option_map (λ text. text.now) result ≡ usage_of self.now }
+    {
+        match self {
+            Fault::Words(WordFault::Words(text)) => Some(text.as_str()),
+            _ => None,
+        }
+    }
+
+    /// What can't be taken, where the fault is of that.
+    fn named(&self) -> Option<&FolderFault>
+        ensures { option_map (λ f. named_line_of (told_file f.now.fault) f.now.name.items) result
+            ≡ named_line self.now }
+    {
+        match self {
+            Fault::Folder(fault) => Some(fault),
+            _ => None,
+        }
+    }
+
+    /// Writes the one line that tells of the fault, or the text of one on the command line. It takes no memory. At an
+    /// `Err` the writer failed in this call, and a prefix of the line stands there.
+    pub fn write_line<W: io::Write>(&self, writer: &mut Output<W>) -> Result<(), Write>
+        requires { CanFail writer.old }
+        ensures line { WritesProperPrefix writer.old.bytes writer.new.bytes result (text_told self.now) }
+        ensures count { CountsFailed writer.old.failures writer.new.failures result }
+    {
+        if let Some(text) = self.usage() {
+            writer.write_all(text.as_bytes())?;
+        } else if let Some(fault) = self.named() {
+            write_named(writer, fault)?;
+        } else {
+            writer.write_all(line_of(self.told()).as_slice())?;
+        }
+        Ok(())
+    }
+}

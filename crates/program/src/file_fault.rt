@@ -1,0 +1,105 @@
+//! Why a file of a folder can't be taken.
+
+ghost use Rattle.std.specs.Prelude.{◌≡◌, ◌≤◌, length, IfOk};
+ghost use Rattle.program.specs.FaultLines.{file_fault_name, is_hidden, shown_char, shown_name};
+
+use std::alloc::{AllocError, Global};
+
+/// Why something that was found in a folder isn't taken into a snapshot.
+#[derive(Clone, Copy, Debug, PartialEq, Eq)]
+pub enum FileFault {
+    /// The time is past the greatest, 253,402,300,799 seconds since 1970-01-01.
+    Time,
+    /// The file has more than 16,777,216 bytes.
+    Size,
+    /// There are 65,536 files already.
+    Count,
+    /// The name is no UTF-8, longer than 1,024 bytes, or not allowed.
+    Name,
+    /// The name doesn't come after the one before it.
+    Order,
+    /// The name lies in a folder whose name an earlier file has.
+    Conflict,
+    /// With this file the text would have more than 1,073,741,824 bytes.
+    Text,
+    /// It is a symbolic link.
+    Link,
+    /// It is a pipe, a socket or a device.
+    Special,
+    /// It isn't what was found under its name, or it doesn't have as many bytes as the system tells of it.
+    Changed,
+    /// It couldn't be read, or is no longer there.
+    Read,
+}
+
+impl FileFault {
+    /// The word for it in a fault's line.
+    pub(crate) fn name(self) -> &'static str
+        ensures name { result.now ≡ file_fault_name self }
+        ensures short { length result.now ≤ 12 }
+    {
+        match self {
+            FileFault::Time => "Time",
+            FileFault::Size => "Size",
+            FileFault::Count => "Count",
+            FileFault::Name => "Name",
+            FileFault::Order => "Order",
+            FileFault::Conflict => "Conflict",
+            FileFault::Text => "Text",
+            FileFault::Link => "Link",
+            FileFault::Special => "Special",
+            FileFault::Changed => "Changed",
+            FileFault::Read => "Read",
+        }
+    }
+}
+
+/// What can't be taken into a snapshot, and why.
+#[derive(Debug, PartialEq, Drop)]
+pub struct FolderFault {
+    /// Its name from the folder on, as a line shows it: with a question mark for each character that acts on a terminal
+    /// or on how others are shown.
+    pub name: Vec<u8>,
+    pub fault: FileFault,
+}
+
+impl FolderFault {
+    /// The fault of what has this name.
+    pub(crate) fn new(
+        alloc: Global,
+        name: &str,
+        fault: FileFault,
+    ) -> Result<FolderFault, AllocError>
+        ensures name { IfOk result (λ f. f.name.items ≡ shown_name name.now) }
+        ensures fault { IfOk result (λ f. f.fault ≡ fault) }
+    {
+        let shown: String = name.chars().map(shown_char).collect(alloc)?;
+        Ok(FolderFault {
+            name: shown.into_bytes(),
+            fault,
+        })
+    }
+}
+
+/// Whether a character ends a line, acts on a terminal, or says in which direction others are shown.
+fn is_hidden(c: char) -> bool
+    ensures { result ≡ is_hidden c }
+{
+    match c {
+        '\0'..='\x1f'
+        | '\x7f'..='\u{9f}'
+        | '\u{61c}'
+        | '\u{200e}'..='\u{200f}'
+        | '\u{2028}'..='\u{202e}'
+        | '\u{2066}'..='\u{2069}'
+        | '\u{feff}' => true,
+        _ => false,
+    }
+}
+
+/// How a character of a name stands in a line.
+fn shown_char(c: char) -> char
+    ensures { result ≡ shown_char c }
+{
+    if is_hidden(c) { '?' } else { c }
+}

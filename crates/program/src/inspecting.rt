@@ -1,0 +1,125 @@
+//! What a capture holds, written out.
+
+ghost use Rattle.std.specs.Prelude.{◌≡◌, ◌⊎◌, ◌-◌, ◌<◌, ◌^◌, [], OnOk, IfErr};
+ghost use Rattle.std.specs.Io.KnownBytes.{Appends};
+ghost use Rattle.devices.specs.Devices.{CanFail, BlamedOnce, CountsBy};
+ghost use Rattle.inspection.specs.Texts.{inspection_text};
+ghost use Rattle.devices.specs.Reference.{WhereKnown};
+ghost use Rattle.program.specs.Devices.{Refused};
+ghost use Rattle.program.specs.Inspecting.{Inspects, IsInspectFault, IsInspectFilesFault, InspectSays, AtReport};
+ghost use Rattle.program.specs.Inspecting.{is_unwritten};
+ghost use Rattle.program.specs.Replays.{IsReportFault, capture_failures, report_failures};
+ghost use Rattle.program.specs.Upgrading.{IsCaptureOfSomeVersion};
+
+use crate::buffer::{Buffered, Device, ROOM, Stood};
+use crate::fault::Fault;
+use crate::place::Place;
+use crate::program::write_rest;
+use devices::{Input, Output};
+use inspection::{InspectFault, Inspection, inspect, inspection_text};
+use replay::ReplayFault;
+use std::alloc::Global;
+use std::io::{BufReader, Read, Write};
+use std::marker::Brand;
+
+/// Writes the text of an inspection.
+fn write_inspection<W: Write>(
+    alloc: Global,
+    inspection: &Inspection,
+    output: &mut Output<W>,
+) -> Result<(), Fault>
+    requires { CanFail output.old }
+    ensures ok { OnOk result (Appends output.old.bytes output.new.bytes (inspection_text inspection.now)) }
+    ensures fault { IfErr result (IsReportFault (inspection_text inspection.now) output.old output.new) }
+    ensures count { CountsBy report_failures output.old.failures output.new.failures result }
+{
+    let text = inspection_text(alloc, inspection)?;
+    match output.write_all(text.as_bytes()) {
+        Ok(()) => Ok(()),
+        Err(_) => Err(Fault::Write(Place::Report)),
+    }
+}
+
+/// Writes what a capture holds, as a text.
+///
+/// # Errors
+///
+/// `Replay` with the capture's first fault, or where its reader failed, as a replay tells it: the text of what the
+/// whole records before the fault hold is written first, and nothing where the fault is in the first line. `Write` of
+/// the report where the writer failed: a prefix stands. `Memory`, and then nothing is written. No other fault.
+pub fn run_inspect<R: Read, W: Write>(
+    alloc: Global,
+    input: &mut Input<R>,
+    output: &mut Output<W>,
+) -> Result<(), Fault>
+    requires reading { CanFail input.old }
+    requires writing { CanFail output.old }
+    ensures ok { OnOk result (Inspects input.old.bytes output.old.bytes output.new.bytes) }
+    ensures fault { IfErr result (IsInspectFault input.old.bytes input.new.bytes output.old output.new) }
+    // A device is blamed only where it failed in this call. A read that failed may not be reported: where a write fails
+    // after it, or there is no memory.
+    ensures reads { BlamedOnce capture_failures input.old.failures input.new.failures result }
+    ensures writes { CountsBy report_failures output.old.failures output.new.failures result }
+{
+    match inspect(alloc, input) {
+        Ok(inspection) => write_inspection(alloc, &inspection, output),
+        Err(InspectFault::FirstLine(fault)) => Err(Fault::Replay(ReplayFault::Capture(fault))),
+        Err(InspectFault::Stopped { held, fault }) => {
+            write_inspection(alloc, &held, output)?;
+            Err(Fault::Replay(ReplayFault::Capture(fault)))
+        }
+        Err(InspectFault::Memory) => Err(Fault::Memory),
+    }
+}
+
+/// Whether a write failed in a run.
+pub(crate) fn is_unwritten(ran: &Result<(), Fault>) -> bool
+    ensures { result ≡ is_unwritten ran.now }
+{
+    matches!(ran, Err(Fault::Write(Place::Report)))
+}
+
+/// Runs over buffers that were made.
+fn inspect_buffered<N: Stood, R: Read + Drop, W: Write + Drop>(
+    alloc: Global,
+    reader: BufReader<R>,
+    writer: W,
+    waiting: Vec<u8>,
+) -> (Result<(), Fault>, W)
+    requires stood { W.contents writer ≡ N.stood }
+    requires waiting { waiting.items ≡ [] }
+    ensures { AtReport (InspectSays (⟦<BufReader<R> as Read>⟧.remaining reader) (W.contents writer))
+        (W.contents writer) (W.contents result.1) result.0 }
+{
+    let mut output = Output::new(Buffered::<N, W>::new(Device::new(writer), waiting));
+    let ran = run_inspect(alloc, &mut Input::ahead(reader), &mut output);
+    let cut = is_unwritten(&ran);
+    write_rest(output.into_writer(), Place::Report, cut, ran)
+}
+
+/// Writes what a capture holds, with a buffer before each device, and gives the writer back.
+///
+/// # Errors
+///
+/// Those of [`run_inspect`]; `Memory` where there is none for the buffers, and then nothing is written; `Write` of the
+/// report where what its buffer held at the end couldn't be written: it was due before any other fault.
+pub fn inspect_files<R: Read + Drop, W: Write + Drop>(
+    alloc: Global,
+    reader: R,
+    writer: W,
+) -> (Result<(), Fault>, W)
+    ensures device { Refused (W.contents writer) (W.contents result.1) result.0
+        ⊎ AtReport (InspectSays (R.remaining reader) (W.contents writer))
+        (W.contents writer) (W.contents result.1) result.0 }
+    // Where the bytes of the input are known, they were a capture's text, or a fault is their first.
+    ensures ok { OnOk result.0 (WhereKnown (R.remaining reader) IsCaptureOfSomeVersion) }
+    ensures fault { IfErr result.0 (IsInspectFilesFault (R.remaining reader)) }
+{
+    let Ok(waiting) = Vec::with_capacity(alloc, ROOM) else {
+        return (Err(Fault::Memory), writer);
+    };
+    let Ok(reader) = BufReader::with_capacity(alloc, ROOM, reader) else {
+        return (Err(Fault::Memory), writer);
+    };
+    inspect_buffered::<Brand, R, W>(alloc, reader, writer, waiting)
+}

@@ -1,0 +1,5 @@
+//! Tests of the crate `program`.
+#![tactic(auto)]
+
+#[cfg(test)]
+mod tests;

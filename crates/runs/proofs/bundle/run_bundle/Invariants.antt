@@ -1,4 +1,0 @@
-use Rattle.runs.proofs.bundle.run_bundle.Given as goal
-
-abbrev pub ghosts-plain_replay : goal.ghosts-plain_replay
-ghosts-plain_replay g a = record { files = a.snapshot.now }

@@ -1,5 +1,0 @@
-//! Tests of the crate `runs`.
-#![tactic(auto)]
-
-#[cfg(test)]
-mod tests;

@@ -1,0 +1,47 @@
+-- What the definitions say of worked rows, computed.
+use Rattle.std.proofs.Common.{◌≡◌, [], ◌∷◌, codes, pos, Ok, Err, refl}
+use Rattle.admission.specs.Reference.{Rules}
+use Rattle.toml.specs.Data.{Members, no_members, member, integer, table, array, no_items, item}
+use Rattle.settings.specs.declared.config_fault.Key.TheVariants as keys
+use Rattle.settings.specs.declared.policy_key.PolicyTable.TheVariants as tables
+use Rattle.settings.specs.declared.policy_key.PolicyKey.TheVariants as policy
+use Rattle.settings.specs.ConfigFaults.{shape, range, not_known}
+use Rattle.settings.specs.SettingsTable.{settings_of, default_choice, default_policy, policy_in}
+
+depth : settings_of (member (codes "policy") (table (member (codes "depth") (integer (pos 0)) no_members)) no_members) ≡ Err (range (keys.InPolicy tables.Policy policy.Depth))
+unfolding policy_in
+depth = refl
+
+unknown : settings_of (member (codes "colour") (integer (pos 0)) no_members) ≡ Err not_known
+unfolding policy_in
+unknown = refl
+
+deep : settings_of (member (codes "policy") (table (member (codes "depth") (table (member (codes "x") (integer (pos 1)) no_members)) no_members)) no_members) ≡ Err not_known
+unfolding policy_in
+deep = refl
+
+empty_table : settings_of (member (codes "policy") (table (member (codes "depth") (table no_members) no_members)) no_members) ≡ Err (shape (keys.InPolicy tables.Policy policy.Depth))
+unfolding policy_in
+empty_table = refl
+
+tables_in_list : settings_of (member (codes "policy") (array (item (table (member (codes "depth") (integer (pos 1)) no_members)) no_items)) no_members) ≡ Err (shape (keys.Policy tables.Policy))
+unfolding policy_in
+tables_in_list = refl
+
+defaults : settings_of no_members ≡ Ok default_choice
+unfolding policy_in
+defaults = refl
+
+-- a tight bucket in all tiers, and in tier 1 with room for one more
+abbrev tight : Rules
+tight = record default_policy { rate = 1000; rate_min = 1000; rate_max = 1000; depth = 1 }
+
+abbrev tight_document : Members
+tight_document =
+    member (codes "policy") (table (member (codes "depth") (integer (pos 1)) (member (codes "rate") (integer (pos 1000))
+    (member (codes "rate_min") (integer (pos 1000)) (member (codes "rate_max") (integer (pos 1000)) no_members)))))
+    (member (codes "tier1") (table (member (codes "depth") (integer (pos 2)) no_members)) no_members)
+
+tiers : settings_of tight_document ≡ Ok (record default_choice { policies = tight ∷ record tight { depth = 2 } ∷ tight ∷ tight ∷ [] })
+unfolding policy_in
+tiers = refl

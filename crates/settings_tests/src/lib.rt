@@ -1,0 +1,5 @@
+//! Tests of the crate `settings`.
+#![tactic(auto)]
+
+#[cfg(test)]
+mod tests;
