@@ -7,7 +7,8 @@ usage: package_run.py
 checks/README.md has a line of the last good run, which `package.py --record` writes: its date and commit, and for each
 place the first digits of the name that git gives to what stands there. That name is the same in each commit that
 changes nothing there, so the line holds in the commit that brings it in, and after a rebase. Status 1, with a line for
-each reason, where something else stands there now, or is in no commit yet. It needs the clone and no network.
+each reason, where something else stands there now, or is in no commit yet. It needs no network. In a copy that is no
+clone nothing has such a name: it says so, with status 0.
 """
 import argparse
 import datetime
@@ -99,6 +100,9 @@ def reasons(commit, then):
 
 def main() -> int:
     argparse.ArgumentParser(description=__doc__, formatter_class=argparse.RawDescriptionHelpFormatter).parse_args()
+    if not (TOP / ".git").exists():
+        print("no clone: what the last run of checks/package.py saw isn't compared")
+        return 0
     try:
         date, commit, then = recorded(PAGE.read_text())
         found = reasons(commit, then)
