@@ -20,7 +20,7 @@ import standard_output
 from tool_run import Fault
 
 TOOL = "calibrate"
-numpy = tool_run.library(TOOL, "numpy", "python3-numpy")
+numpy = tool_run.library("numpy")
 import cost_fit
 import input_files
 import log_formats
@@ -175,10 +175,17 @@ def remarks(requests, best, single):
                      "describe; perhaps others work on its machine, or its clients do")
     elif worst > GOOD:
         lines.append("NOTE: the held-out check misses by more than %d%%" % GOOD)
-    if single.fit.error > cost_fit.SIMPLER * best.fit.error:
-        lines.append("NOTE: this program has one server and no delay, which fits worse: the mean difference of roots "
-                     "is %.2f in the place of %.2f" % (single.fit.error, best.fit.error))
+    lines.append(assumed(best, single))
     return lines
+
+
+def assumed(best, single):
+    """What the settings assume, and how it shows where it isn't so."""
+    if single is best:
+        return "the settings assume one server and no delay, as this program has; nothing else fits better"
+    return ("NOTE: this program has one server and no delay, which the settings assume and which fits worse: the mean "
+            "difference of roots is %.2f in the place of %.2f. A replay keeps how many it answers a second, and misses "
+            "its times by the percents of the fit with one server" % (single.fit.error, best.fit.error))
 
 
 def without_use(requests):

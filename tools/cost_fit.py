@@ -6,12 +6,11 @@ one for a file, one for each KiB of it, and one for any other answer (docs/RULES
 import collections
 import heapq
 
-import numpy
-
 import tool_run
 
-optimize = tool_run.library("calibrate", "scipy.optimize", "python3-scipy")
-sparse = tool_run.library("calibrate", "scipy.sparse", "python3-scipy")
+numpy = tool_run.library("numpy")
+optimize = tool_run.library("scipy.optimize")
+sparse = tool_run.library("scipy.sparse")
 
 PARTS = ("file", "kib", "error")
 FILE, KIB, ERROR = range(3)

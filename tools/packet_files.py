@@ -6,7 +6,7 @@ import capture_writer
 import tool_run
 from tool_run import Fault
 
-dpkt = tool_run.library("capture_from_pcap", "dpkt", "python3-dpkt")
+dpkt = tool_run.library("dpkt")
 
 # A packet: the time in microseconds since 1970, the kind of link, the bytes, and how many it had on the wire.
 Packet = collections.namedtuple("Packet", "time link data length")

@@ -6,11 +6,12 @@ import math
 import standard_output
 import tool_run
 
-matplotlib = tool_run.library("pages", "matplotlib", "python3-matplotlib")
+matplotlib = tool_run.library("matplotlib")
 matplotlib.use("svg")
 matplotlib.rcParams["svg.hashsalt"] = "haboob"  # so that ids within a page are the same each time
 matplotlib.rcParams["svg.fonttype"] = "none"  # text stays text, in a font of the reader's
-from matplotlib import pyplot
+pyplot = tool_run.library("matplotlib.pyplot")
+ticker = tool_run.library("matplotlib.ticker")
 
 STYLES = ("-", "--", ":", "-.")
 MARKERS = ("o", "s", "^", "x")

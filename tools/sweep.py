@@ -488,7 +488,8 @@ def print_chosen(options, chosen, defaults):
 
 def sweep(options):
     """Does what the command line says."""
-    tool_run.library(TOOL, "tqdm", "python3-tqdm")
+    for name in ("tqdm", "scipy.optimize", "scipy.stats") if options.search else ("tqdm",):
+        tool_run.library(name)  # before anything is made
     folder = pathlib.Path(options.output)
     with runner_of(options) as runner, contextlib.ExitStack() as resources:
         base, defaults = checked_base(options, runner)

@@ -5,8 +5,7 @@ import statistics
 
 import pages
 import settings_documents
-from matplotlib import ticker
-from pages import pyplot
+from pages import pyplot, ticker
 from sweep_figures import ANY, DEFINITIONS, TICKS_IN_MILLISECOND, comparable, several_tiers, worst
 
 MOST_LABELS = 3  # rows that are named beside one mark

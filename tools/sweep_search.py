@@ -43,8 +43,8 @@ def search(ranges, most, run, cost):
 
     `run` gives the combinations of points, `cost` what is to be made small of one. The same for the same answers.
     """
-    optimize = tool_run.library("sweep", "scipy.optimize", "python3-scipy")
-    stats = tool_run.library("sweep", "scipy.stats", "python3-scipy")
+    optimize = tool_run.library("scipy.optimize")
+    stats = tool_run.library("scipy.stats")
     seen = Seen(ranges, most, run)
     size = max(LEAST_POPULATION, min(EACH * len(ranges), most // GENERATIONS))
     begin = stats.qmc.LatinHypercube(len(ranges), seed=SEED).random(size)

@@ -181,18 +181,24 @@ class Fits(Base):
         page = self.page.read_text()
         self.assertEqual(page.count("<svg"), 3)
         self.assertNotIn("src=", page)
-        for text in ("measured", "held out", "Response times by percentile", "90th percentile over time", "by size"):
+        for text in ("measured", "held out", "the settings assume one server and no delay",
+                     "Response times by percentile", "90th percentile over time", "by size"):
             self.assertIn(text, page)
 
     def test_four_servers(self):
-        output, costs = self.calibrated(log_of(simulated(2, 4, (8000, 60, 900), 0, 4_000)))
+        output, costs = self.calibrated(log_of(simulated(2, 4, (8000, 60, 900), 0, 4_000)), "--page", str(self.page))
         servers, delay, found = self.best(output)
         self.assertEqual((servers, delay), (4, 0))
         self.check_near(found, (8000, 60, 900), 5)
         self.assertLessEqual(max(map(abs, self.held_out(output)[:3])), 5)
         # The settings have what one server would cost, and are told as such: it gives as many a second.
         self.assertIn("written: 1 server, no delay: file %d, kib %d, error %d" % tuple(costs.values()), output)
-        self.assertIn("NOTE: this program has one server and no delay, which fits worse", output)
+        self.assertIn("NOTE: this program has one server and no delay, which the settings assume and which fits worse",
+                      output)
+        page = self.page.read_text()
+        self.assertIn("which the settings assume and which fits worse", page)
+        self.assertIn("<td>best fit</td>", page)
+        self.assertIn("<td>one server</td>", page)
         self.check_near([costs["file"] + 12 * costs["kib"]], [(8000 + 12 * 60) / 4], 15)
 
     def test_delay(self):

@@ -1,9 +1,10 @@
 #!/usr/bin/python3
 """Tests of output_file.py, tool_run.py and command_line.py, which all tools use: what stands after a fault, a full
-disk, Ctrl-C and a kill, and what is said of wrong words.
+disk, Ctrl-C and a kill, and what is said of wrong words and of a library that is missing.
 
     python3 tools/test_output_file.py
 """
+import ast
 import os
 import resource
 import signal
@@ -56,6 +57,25 @@ RIGHT_WORDS = {
     "capture_from_pcap": ["--output", "a", "--port", "80", "b"], "timeline": ["--output", "a", "b"],
     "sweep": ["--output", "a", "--snapshot", "b", "--capture", "c", "--set", "policy.depth=1"],
 }
+# Libraries by the packages of Debian that have them (packages.debian.org, by file), and those that each tool can't do
+# without: matplotlib and scipy need numpy.
+PACKAGES = {"distributed": "python3-distributed", "dpkt": "python3-dpkt", "matplotlib": "python3-matplotlib",
+            "numpy": "python3-numpy", "scipy": "python3-scipy", "tqdm": "python3-tqdm"}
+NEEDED = {
+    "calibrate": {"dpkt", "matplotlib", "numpy", "scipy", "tqdm"}, "capture_from_log": {"tqdm"},
+    "capture_from_pcap": {"dpkt", "tqdm"}, "timeline": {"matplotlib", "numpy", "tqdm"},
+    "sweep": {"matplotlib", "numpy", "scipy", "tqdm"},
+}
+SEARCHING = ["--output", "a", "--snapshot", "b", "--capture", "c", "--set", "policy.depth=1..9", "--search", "10",
+             "--at-most", "p99=1"]
+CLUSTER = ["--cluster", "127.0.0.1:1"]
+# Runs a tool that can't import a library; its first word is the library's name, and the second the tool.
+HIDING = """
+import runpy, sys
+sys.modules[sys.argv[1]] = None
+sys.argv[:2] = []
+runpy.run_path(sys.argv[0], run_name="__main__")
+"""
 
 
 class OutputTest(unittest.TestCase):
@@ -349,6 +369,80 @@ class Ends(OutputTest):
         self.assertEqual(ran.returncode, 1)
         self.assertTrue(ran.stderr.endswith(b"/a\\nb\\x1b\\u202e/c: No such file or directory\n"), ran.stderr)
         self.assertEqual(ran.stderr.count(b"\n"), 1)
+
+
+class Libraries(OutputTest):
+    """What a tool says where one of its libraries is missing."""
+
+    def words(self, tool):
+        """Words for a run with inputs that are there, as far as it gets without a program."""
+        if tool == "sweep":
+            return SEARCHING
+        one, port = {"capture_from_log": ("nginx.log", []), "capture_from_pcap": ("loopback.pcap", ["--port", "18098"]),
+                     "timeline": (self.output, []), "calibrate": ("nginx.log", [])}[tool]
+        return [*port, "--output", self.path("new"), os.path.join(TOOLS, "data", one)]
+
+    def said(self, library, tool, words, place=None):
+        """Status and standard error of a tool that can't import a library, and what its folder then holds."""
+        words = [sys.executable, "-c", HIDING, library, place or os.path.join(TOOLS, tool + ".py"), *words]
+        ran = subprocess.run(words, cwd=self.folder, stdin=subprocess.DEVNULL, capture_output=True, timeout=60,
+                             env={**os.environ, "PYTHONPATH": TOOLS})
+        return ran.returncode, ran.stderr.decode(), sorted(os.listdir(self.folder))
+
+    def told(self, tool, library):
+        return 2, "%s: needs %s: apt-get install %s\n" % (tool, library, PACKAGES[library]), ["out"]
+
+    def test_each_that_is_needed(self):
+        """The line has the name of the tool, whichever of its modules needs the library; nothing was written."""
+        for tool, needed in NEEDED.items():
+            for library in sorted(needed):
+                with self.subTest(tool=tool, library=library):
+                    self.assertEqual(self.said(library, tool, self.words(tool)), self.told(tool, library))
+
+    def test_each_that_is_not_needed(self):
+        """A tool goes as far without one as with all."""
+        for tool, needed in NEEDED.items():
+            with_all = self.said("no_library", tool, self.words(tool))[:2]
+            for library in sorted(PACKAGES.keys() - needed):
+                with self.subTest(tool=tool, library=library):
+                    self.assertEqual(self.said(library, tool, self.words(tool))[:2], with_all)
+
+    def test_one_that_an_option_needs(self):
+        status, said, _ = self.said("distributed", "sweep", [*RIGHT_WORDS["sweep"], *CLUSTER])
+        self.assertEqual((status, said), (
+            2, "sweep: --cluster needs distributed: apt-get install python3-distributed\n"))
+
+    def test_by_a_link(self):
+        """As the package has its commands."""
+        link = self.path("haboob-timeline")
+        os.symlink(os.path.join(TOOLS, "timeline.py"), link)
+        self.assertEqual(self.said("matplotlib", "timeline", self.words("timeline"), link)[:2],
+                         self.told("timeline", "matplotlib")[:2])
+
+    def test_that_these_are_all(self):
+        """What the tools and their modules import is of Python, of theirs, or among these."""
+        own = {name.removesuffix(".py") for name in os.listdir(TOOLS)}
+        ahead, seen, imported = list(NEEDED), set(), set()
+        while ahead:
+            name = ahead.pop()
+            seen.add(name)
+            with open(os.path.join(TOOLS, name + ".py"), encoding="utf-8") as file:
+                tree = ast.parse(file.read())
+            found = {name.partition(".")[0] for node in ast.walk(tree) for name in imports_of(node)}
+            ahead += found & own - seen
+            imported |= found - own - sys.stdlib_module_names - {"compression"}  # which Python has from 3.14 on
+        self.assertEqual(imported, PACKAGES.keys())
+
+
+def imports_of(node):
+    """The names that a node of a program imports: by `import`, or by tool_run.library."""
+    if isinstance(node, ast.Import):
+        return [one.name for one in node.names]
+    if isinstance(node, ast.ImportFrom):
+        return [node.module]
+    if isinstance(node, ast.Call) and ast.unparse(node.func).rpartition(".")[2] == "library":
+        return [one.value for one in node.args if isinstance(one, ast.Constant)]
+    return []
 
 
 class Words(unittest.TestCase):

@@ -236,16 +236,17 @@ class Page(Base):
                          ["1", "2", "50.0000", "2", "0"])
 
     def test_formulas(self):
-        """A target that a spreadsheet would take for a formula has an apostrophe before it."""
+        """A target that a spreadsheet would take for a formula has an apostrophe before it; the table escapes it."""
         sent = ["=cmd|' /C calc'!A0", "+1", "-1", "@SUM(A1)"]
-        texts = [rejected(number, 0, target.replace(" ", "%20")) for number, target in enumerate(sent)]
+        told = ["%3Dcmd|'%20/C%20calc'!A0", "%2B1", "%2D1", "%40SUM(A1)"]
+        texts = [rejected(number, 0, target) for number, target in enumerate(told)]
         _, _, texts = self.run_on(HEADING + "".join(texts), "--targets", str(self.targets))
         cells = [row[0] for row in csv.reader(io.StringIO(texts["targets"]))][1:]
         self.assertEqual(sorted(cells), sorted("'" + target for target in sent))
 
     def test_separators(self):
         """Where a semicolon parts cells, as for spreadsheets of many countries, no cell within a target is one."""
-        _, _, texts = self.run_on(HEADING + rejected(0, 0, "/a;=1+1") + rejected(1, 0, "/%22;@b"),
+        _, _, texts = self.run_on(HEADING + rejected(0, 0, "/a%3B=1+1") + rejected(1, 0, "/%22%3B@b"),
                                   "--targets", str(self.targets))
         for separator in ",;":
             rows = list(csv.reader(io.StringIO(texts["targets"]), delimiter=separator))

@@ -25,7 +25,7 @@ import settings_documents
 import spreadsheets
 import steps
 from decision_tables import PERCENTS, TIERS
-from matplotlib import ticker
+from pages import ticker
 from steps import TICKS_IN_SECOND
 from tool_run import Fault
 

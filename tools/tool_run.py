@@ -22,6 +22,9 @@ import time
 
 import output_file
 
+# The libraries of Debian's that the tools use, and the package that has each.
+PACKAGES = {"dpkt": "python3-dpkt", "matplotlib": "python3-matplotlib", "numpy": "python3-numpy",
+            "scipy": "python3-scipy", "tqdm": "python3-tqdm"}
 PROGRESS_STEP = 10.0  # seconds from line to line where standard error is no terminal
 WAITING_STEP = 1.0  # seconds after which who waits for others looks whether a line is due
 
@@ -34,12 +37,19 @@ class Fault(Exception):
         self.status = status
 
 
-def library(tool, name, package):
-    """A library of Debian's; where it is missing, the tool ends with status 2 and a line that names the package."""
+def running():
+    """The name of the tool that runs, whichever module asks for it, also where a link leads to the tool."""
+    return os.path.splitext(os.path.basename(os.path.realpath(sys.argv[0])))[0]
+
+
+def library(name):
+    """A library of Debian's, or a module of one; where it is missing, or one that it needs, the tool ends with status 2
+    and a line that names the package."""
     try:
         return importlib.import_module(name)
-    except ImportError:
-        say("%s: needs %s: apt-get install %s" % (tool, name, package))
+    except ImportError as error:
+        missing = [part for part in ((error.name or "").partition(".")[0], name.partition(".")[0]) if part in PACKAGES]
+        say("%s: needs %s: apt-get install %s" % (running(), missing[0], PACKAGES[missing[0]]))
         sys.exit(2)
     except KeyboardInterrupt:
         sys.exit(130)
@@ -90,7 +100,7 @@ def progress(tool, total, unit):
 
     `update(n)` counts on.
     """
-    tqdm = library(tool, "tqdm", "python3-tqdm")
+    tqdm = library("tqdm")
     if _errors().isatty():
         return tqdm.tqdm(total=total, unit=unit, unit_scale=True)
     return ProgressLines(tool, tqdm.tqdm.format_meter, total, unit)
