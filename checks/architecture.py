@@ -27,7 +27,7 @@ def crates():
     lines = [line for line in read("crates.txt").split("\n") if line and not line.startswith("#")]
     stands = {line.split()[0].rstrip(":"): line.split(":")[1].split() for line in lines}
     own = {name: [other for other in others if other in stands] for name, others in stands.items()}
-    return {name: others for name, others in own.items() if not name.endswith("_tests") and name != "test_devices"}
+    return {name: others for name, others in own.items() if not name.endswith("_tests") and name != "test_support"}
 
 
 def differences(page):

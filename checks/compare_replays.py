@@ -41,7 +41,7 @@ PARTS = {
     "replay": ("status", "line", "replies", "report"),
     "explain": ("status", "line", "table", "report"),
     "inspect": ("status", "line", "capture", "inspection"),
-    "settings": ("status", "line", "document", "text"),
+    "settings": ("status", "line", "document", "text", "words"),
     "upgrade": ("status", "line", "output", "standard output"),
 }
 START = 784111777
@@ -111,7 +111,7 @@ HEAVY_KINDS = {
 METHODS = (
     [b"GET"] * 30
     + [b"HEAD"] * 8
-    + [b"POST", b"PUT", b"DELETE", b"CONNECT", b"OPTIONS", b"TRACE", b"PATCH", b"get", b"GET!", b"G@T"]
+    + [b"POST", b"PUT", b"DELETE", b"CONNECT", b"OPTIONS", b"TRACE", b"PATCH", b"get", b"GET!", b"G@T", b"-1", b"+1"]
 )
 VERSIONS = [b"HTTP/1.1"] * 100 + [b"HTTP/1.0"] * 20 + [b"HTTP/1.2", b"HTTP/2.0", b"http/1.1", b"HTTP/1.1 ", b""]
 ODD_TARGETS = [
@@ -146,6 +146,9 @@ ODD_TARGETS = [
     b"/\xc3\xa9",
     b"/\xff",
     b"a",
+    b"=1+1",
+    b"@a;b",
+    b"-1,+1",
     b"",
     b"/a b",
     b"/index.html",
@@ -902,8 +905,22 @@ def run_inspect(program, capture):
 
 
 def run_settings(program, document):
-    """Status, line on standard error, the document, which stays as it is, and its settings written out."""
-    return run_program(program, ["settings"], {"settings": document}, "settings")
+    """Status, the line of a fault, the document, which stays as it is, its settings written out, and `words` where the
+    line of words after that of the fault is one of that fault."""
+    status, lines, kept, text = run_program(program, ["settings"], {"settings": document}, "settings")
+    line, end, words = lines.partition(b"\n")
+    return status, line + end, kept, text, b"words" if are_words_of(line, words) else words
+
+
+def are_words_of(line, words):
+    """Whether these are words as docs/FORMATS.md ("Settings") has them of the fault that this line tells."""
+    if not line:
+        return not words
+    kind, _, key = line.removeprefix(b"haboob: settings: ").partition(b" ")
+    key = {b"floor.front": b"floor.front_cuts", b"floor.back": b"floor.back_cuts"}.get(key, key)
+    begins = {b"Text": b"the settings ", b"Unknown": b""}.get(kind, key + b" is to be ")
+    holds = b" is no key of the settings; the nearest is " if kind == b"Unknown" else b""
+    return words.startswith(b"haboob: " + begins) and holds in words and words.find(b"\n") == len(words) - 1
 
 
 def run_upgrade(program, capture):
@@ -953,9 +970,10 @@ class Comparison:
     def settings(self, name, document):
         """Compares the settings that are written out, and those of the text that was written."""
         status, line, text = reference.settings_text(document)
-        self.judge("settings", name, (status, line, document, text), run_settings(self.program, document))
+        self.judge("settings", name, (status, line, document, text, b"words"), run_settings(self.program, document))
         if status == 0:
-            self.judge("settings", name + ", read back", (0, b"", text, text), run_settings(self.program, text))
+            wanted = 0, b"", text, text, b"words"
+            self.judge("settings", name + ", read back", wanted, run_settings(self.program, text))
 
     def upgrade(self, name, capture):
         """Upgrades a capture, and the upgraded text once more; what is wanted then stands in the output."""

@@ -283,7 +283,8 @@ def lack(report, system):
     for library, command in LACKING:
         system.must("dpkg", "--remove", "--force-depends", library)
         status, text = system.by_user(command)
-        told = re.fullmatch(r"\w+: .*needs [\w.]+: apt-get install " + library, text.strip())
+        tool = command.partition(" ")[0].removeprefix("haboob-").replace("-", "_")
+        told = re.fullmatch(tool + r": (--cluster )?needs \w+: apt-get install " + library, text.strip())
         report.see("without %s" % library, status == 2 and told, (status, text))
 
 

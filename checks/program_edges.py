@@ -5,11 +5,15 @@ after it.
 A folder is changed between the listing and the reading of it (the program waits there for the reader of its output, a
 pipe), at an opening of a file or a folder and at the first read (with a C compiler, by attack.c), and by a process that
 swaps a file or a folder for a link 1,000 times: never a byte of another file comes into the snapshot. Standard output
-is an input or another output; standard devices are closed; a file is full by its limit; inode numbers are equal.
+is an input or another output; standard devices are closed; a file is full by its limit; no further file can be opened;
+inode numbers are equal. Staged replays of high connection numbers take no longer than those of low ones.
+
+What the machine doesn't allow (a C compiler, file systems of one's own) is not tried, and counted in the last line.
 """
 import mmap
 import os
 import resource
+import shlex
 import shutil
 import signal
 import subprocess
@@ -125,7 +129,8 @@ def check_between(report, program):
         report.see_told("between: " + name, good, got)
     with tempfile.TemporaryDirectory() as folder:
         got = between(program, folder, "ln -sf ../other/a tree/a; rm tree/z", ["--skip"])
-    wanted = 0, b"haboob: skipped 2\n", snapshot_text([(b"d/b", b"second")])
+    lines = b"haboob: folder: Changed a\nhaboob: read: folder z\nhaboob: skipped 2\n"
+    wanted = 0, lines, snapshot_text([(b"d/b", b"second")])
     report.see_told("between: two are left out", got == wanted, got)
 
 
@@ -261,8 +266,10 @@ def check_unknown_lengths(report, program):
         got = ran.returncode, ran.stderr, contents(output)
         report.see_told("a length of 0 with bytes", got == (*told(b"folder: Changed boot_id"), first_files([])), got)
         ran = subprocess.run([*words, "--skip"], capture_output=True, timeout=SECONDS)
-        got = ran.returncode, ran.stderr[:16], contents(output)
-        report.see_told("the same, skipped", got == (0, b"haboob: skipped ", snapshot_text([])), got)
+        first, *_, last = ran.stderr.splitlines() or [b""]
+        got = ran.returncode, first, last[:16], contents(output)
+        wanted = 0, b"haboob: folder: Changed boot_id", b"haboob: skipped ", snapshot_text([])
+        report.see_told("the same, skipped", got == wanted, got)
         made(folder)
         os.truncate(os.path.join(folder, "tree", "a"), 1 << 40)
         words[3] = "tree"
@@ -378,6 +385,84 @@ def check_limit(report, program):
         report.see_told("a limit of file size: " + name, got == (*wanted, OPEN_REPLIES[:LIMIT]), got)
 
 
+# From the fewest open files with which a program is loaded to more than the program has at once.
+OPEN_FILES = range(4, 16)
+NONE_LEFT_OUT = 0, b"haboob: skipped 0\n", WHOLE
+
+
+def is_cut(got):
+    """Whether a run says that a folder or the output couldn't be opened, and wrote no more than a beginning."""
+    status, line, text = got
+    is_told = line in (b"haboob: open: folder\n", b"haboob: open: output\n")
+    return status == 6 and is_told and (text == OLD or text != WHOLE and WHOLE.startswith(text))
+
+
+def check_descriptors(report, program):
+    """Where no further file can be opened that is a fault, and none is left out for it."""
+    every = []
+    for most in OPEN_FILES:
+        with tempfile.TemporaryDirectory() as folder:
+            shell(program, folder, "true")
+            ran = subprocess.run(
+                [program, "snapshot", "--folder", "tree", "--output", "output", "--skip"],
+                cwd=folder,
+                stdin=subprocess.DEVNULL,
+                capture_output=True,
+                timeout=SECONDS,
+                preexec_fn=lambda: resource.setrlimit(resource.RLIMIT_NOFILE, (most, most)),
+            )
+            every.append((ran.returncode, ran.stderr, contents(os.path.join(folder, "output"))))
+        report.see_told("%d open files" % most, every[-1] == NONE_LEFT_OUT or is_cut(every[-1]), every[-1])
+    reading = [got for got in every if is_cut(got) and got[2] != OLD]
+    report.see("open files: a fault at the listing, at a file", is_cut(every[0]) and reading, every)
+    report.see("open files: enough", every[-1] == NONE_LEFT_OUT, every[-1])
+
+
+# Requests one after another, each on a connection of its own.
+REQUESTS = 1500
+REQUEST = b"GET /a.txt HTTP/1.1\r\nHost: a\r\n\r\n"
+SINGLY = b"[floor]\nbatch = 1\n[policy]\ndepth = 1000000\nrate = 1000000000\nrate_max = 1000000000\n"
+TURNS, MOST_TIMES = 3, 4
+
+
+def capture_from(first):
+    """A capture of requests on connections from this number on."""
+    pieces = (b"piece %d %d %d\n%s\n" % (tick, first + tick, len(REQUEST), REQUEST) for tick in range(REQUESTS))
+    return b"haboob-capture 2 784111777\n" + b"".join(pieces) + b"stop %d\n" % REQUESTS
+
+
+def processor_seconds(program, folder, capture):
+    """The status of a staged replay by batches of one piece (None where it takes too long), and its processor time,
+    which load doesn't change much."""
+    before = resource.getrusage(resource.RUSAGE_CHILDREN)
+    words = ["replay", "--snapshot", "snapshot", "--capture", capture, "--replies", "/dev/null", "--settings", "singly",
+             "--engine", "staged"]
+    try:
+        status = subprocess.run([program, *words], cwd=folder, stdin=subprocess.DEVNULL, stdout=subprocess.DEVNULL,
+                                timeout=SECONDS * 3).returncode
+    except subprocess.TimeoutExpired:
+        status = None
+    after = resource.getrusage(resource.RUSAGE_CHILDREN)
+    return status, after.ru_utime + after.ru_stime - before.ru_utime - before.ru_stime
+
+
+def check_high_numbers(report, program):
+    """Seats of connections that sent nothing cost a batch nothing: by turns, with low and with the highest numbers."""
+    took = {"low": [], "high": []}
+    with tempfile.TemporaryDirectory() as folder:
+        files = {"snapshot": FILES["snapshot"], "singly": SINGLY, "low": capture_from(0),
+                 "high": capture_from(65536 - REQUESTS)}
+        for name, data in files.items():
+            with open(os.path.join(folder, name), "wb") as file:
+                file.write(data)
+        for name in ("low", "high") * TURNS:
+            if all(status == 0 for runs in took.values() for status, _ in runs):
+                took[name].append(processor_seconds(program, folder, name))
+    statuses = {status for runs in took.values() for status, _ in runs}
+    low, high = (min(seconds for _, seconds in runs) for runs in took.values())
+    report.see("high connection numbers, batches of one", statuses == {0} and high <= MOST_TIMES * low, took)
+
+
 # Two file systems of the user's own, each with a file of the same inode number.
 TWO_DISKS = """
 mkdir one two && mount -t tmpfs none one && mount -t tmpfs none two || exit 99
@@ -388,29 +473,44 @@ cat two/replies report >output
 """
 
 
-def check_equal_numbers(report, program):
-    """Whether two file systems could be mounted: files of equal inode numbers on them are two files."""
+def mount_words():
+    """The words before a command that mounts file systems of its own: as root, else as the root of a namespace of
+    users; none where neither is allowed."""
+    as_user = ["unshare", "--user", "--map-root-user", "--mount"]
+    ways = [(as_user, "mount -t tmpfs none /mnt")]
+    if os.geteuid() == 0:
+        ways.insert(0, (["unshare", "--mount"], "true"))
+    for words, probe in ways if shutil.which("unshare") else ():
+        if subprocess.run([*words, "sh", "-c", probe], stderr=subprocess.DEVNULL, timeout=SECONDS).returncode == 0:
+            return words
+    return None
+
+
+def run_mounted(program, folder, words, inside):
+    """The status of a shell's command with file systems of its own."""
+    return shell(program, folder, "%s sh -c %s" % (shlex.join(words), shlex.quote(inside)))
+
+
+def check_equal_numbers(report, program, words):
+    """Files of equal inode numbers on two file systems are two files."""
+    name = "equal inode numbers on two file systems"
     with tempfile.TemporaryDirectory() as folder:
-        command = "unshare --user --map-root-user --mount sh -c '%s'" % TWO_DISKS.replace("'", "'\\''")
-        got = shell(program, folder, command) if shutil.which("unshare") else 99
+        got = run_mounted(program, folder, words, TWO_DISKS)
         text = contents(os.path.join(folder, "output"))
-    if got in (1, 98, 99):
-        return False
-    report.see("equal inode numbers on two file systems", (got, text) == (0, OPEN_REPLIES + OPEN_REPORT), (got, text))
-    return True
+    if got == 98:
+        report.leave(name, "the system numbers the files of all file systems of memory together")
+        return
+    report.see(name, (got, text) == (0, OPEN_REPLIES + OPEN_REPORT), (got, text))
 
 
-def check_without_proc(report, program):
-    """Whether /proc could be hidden: a folder is then refused, and nothing is written."""
+def check_without_proc(report, program, words):
+    """Without /proc a folder is refused, and nothing is written."""
+    inside = 'mount -t tmpfs none /proc || exit 99; "$haboob" snapshot --folder tree --output output --skip 2>line'
     with tempfile.TemporaryDirectory() as folder:
-        inside = 'mount -t tmpfs none /proc || exit 99; "$haboob" snapshot --folder tree --output output --skip 2>line'
-        command = "unshare --user --map-root-user --mount sh -c '%s'" % inside
-        got = shell(program, folder, command) if shutil.which("unshare") else 99
-        if got in (1, 99):
-            return False
-        texts = contents(os.path.join(folder, "line")), contents(os.path.join(folder, "output"))
+        got = run_mounted(program, folder, words, inside)
+        texts = [contents(path) for path in (os.path.join(folder, name) for name in ("line", "output"))
+                 if os.path.exists(path)]
     report.see("without /proc", (got, *texts) == (6, b"haboob: open: folder\n", OLD), (got, texts))
-    return True
 
 
 def main():
@@ -418,16 +518,20 @@ def main():
     report = Report()
     check_between(report, program)
     if not check_at_calls(report, program):
-        print("no C compiler: attacks at a call were not tried")
+        report.leave("attacks at a call", "no C compiler")
     check_races(report, program)
     check_unknown_lengths(report, program)
     check_clashes(report, program)
     check_devices(report, program)
     check_limit(report, program)
-    if not check_equal_numbers(report, program):
-        print("no file systems can be mounted: equal inode numbers were not tried")
-    if not check_without_proc(report, program):
-        print("/proc can't be hidden: a folder without it was not tried")
+    check_descriptors(report, program)
+    check_high_numbers(report, program)
+    words = mount_words()
+    for name, check in (("equal inode numbers", check_equal_numbers), ("without /proc", check_without_proc)):
+        if words:
+            check(report, program, words)
+        else:
+            report.leave(name, "no file systems can be mounted")
     return report.end()
 
 

@@ -86,10 +86,10 @@ def program_of(description):
 
 
 class Report:
-    """Prints what came of each run, and counts those that are wrong."""
+    """Prints what came of each run, and counts those that are wrong and what wasn't tried."""
 
     def __init__(self):
-        self.runs, self.wrong = 0, 0
+        self.runs, self.wrong, self.untried = 0, 0, 0
 
     def see(self, name, good, got="", shown="as it must be"):
         """Whether the run is good, what came of it, and what is shown of it where it is good."""
@@ -102,9 +102,14 @@ class Report:
         line = got[1][:40].decode(errors="replace").partition("\n")[0]
         self.see(name, good, got, "%s %s" % (got[0], line))
 
+    def leave(self, name, why):
+        """Says of something that it can't be tried here, and why."""
+        self.untried += 1
+        print("%-45s not tried: %s" % (name, why), flush=True)
+
     def end(self):
         """Says how many runs there were. The status to end with."""
-        print("%d runs, %d wrong" % (self.runs, self.wrong))
+        print("%d runs, %d wrong, %d not tried" % (self.runs, self.wrong, self.untried))
         return int(self.wrong != 0)
 
 

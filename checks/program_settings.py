@@ -102,19 +102,64 @@ READ_BACK = [
     "[costs]\nfile = 1000000\nkib = 1000000\nerror = 1000000\n[page]\nretry_after = 86400\n",
 ]
 
+# What is said in words after a fault's line.
+DEPTH_WORDS = "policy.depth is to be an integer: tokens, 1 to 1000000: how many the bucket holds; it starts full"
+UNKNOWN_WORDS = "%s is no key of the settings; the nearest is %s"
+DEEP_WORDS = UNKNOWN_WORDS % ("policy.deep", "policy.depth")
+NO_TOML = "the settings are no TOML document"
+TOO_LONG = "the settings have more than 65536 bytes"
+RATE_WORDS = (
+    "policy.rate is to be an integer: thousandths of a token a second, rate_min to rate_max: how fast tokens come "
+    "back at first; 1000 is one request a second, and rate_min and rate_max count where they are left out too"
+)
+SECOND = "; 1000 is one request a second"
+RATE_MAX_WORDS = (
+    "tier1.rate_max is to be an integer: thousandths of a token a second, rate_min to 1000000000: the rate never rises "
+    "above it" + SECOND
+)
+BACK_WORDS = (
+    "floor.back_cuts is to be a list of integers: steps, rising from at least 1, the last 2: how many of the back's "
+    "are done where each stage ends; floor.back_workers is to be a list of integers: threads, 1 to 16 for each stage: "
+    "how many work at it; floor.back_capacities is to be a list of integers: requests, 1 to 4096 for each stage: how "
+    "many its queue holds; and the three of one length"
+)
+
+
+def told(fault, words):
+    """The two lines of a fault: the line, and what is wrong in words."""
+    return ("haboob: settings: %s\nhaboob: %s\n" % (fault, words)).encode()
+
+
+# Documents with a fault, each with its two lines.
+FAULTS = [
+    ("[policy]\nrate = 1000\n", told("Range policy.rate", RATE_WORDS)),
+    ("[tier1]\nrate_max = 1000000001\n", told("Range tier1.rate_max", RATE_MAX_WORDS)),
+    ("[floor]\nback_workers = [2]\n", told("Range floor.back", BACK_WORDS)),
+    ("costs = 1\n", told("Shape costs", "costs is to be a table")),
+    ("rate = 1\n", told("Unknown", UNKNOWN_WORDS % ("rate", "policy.rate"))),
+    ("[tier2]\nrat = 1\n", told("Unknown", UNKNOWN_WORDS % ("tier2.rat", "tier2.rate"))),
+    ("[Policy]\nrate = 1\n", told("Unknown", UNKNOWN_WORDS % ("Policy", "policy"))),
+    # a name that would act on a terminal
+    (
+        '[page]\n"retry\\u001b[2Jafter" = 1\n',
+        told("Unknown", UNKNOWN_WORDS % ("page.retry?[2Jafter", "page.retry_after")),
+    ),
+    ("[policy\n", told("Text", NO_TOML)),
+]
+
 # The words after `settings`, and then as in program_replays.py.
 RUNS = [
     ("the default ones", [], 0, b"", OLD, DEFAULTS),
     ("a document without keys", ["--settings", "empty"], 0, b"", OLD, DEFAULTS),
     ("a bucket of one token", ["--settings", "settings"], 0, b"", OLD, TIGHT_SETTINGS),
     ("a document of 65536 bytes", ["--settings", "longest"], 0, b"", OLD, TIGHT_SETTINGS),
-    ("a document of 65537 bytes", ["--settings", "too_long"], 3, b"haboob: settings: Text\n", OLD, b""),
-    ("depth 0", ["--settings", "depth"], 3, b"haboob: settings: Range policy.depth\n", OLD, b""),
-    ("an unknown key", ["--settings", "unknown"], 3, b"haboob: settings: Unknown\n", OLD, b""),
-    ("a capture", ["--settings", "capture"], 3, b"haboob: settings: Text\n", OLD, b""),
+    ("a document of 65537 bytes", ["--settings", "too_long"], 3, told("Text", TOO_LONG), OLD, b""),
+    ("depth 0", ["--settings", "depth"], 3, told("Range policy.depth", DEPTH_WORDS), OLD, b""),
+    ("an unknown key", ["--settings", "unknown"], 3, told("Unknown", DEEP_WORDS), OLD, b""),
+    ("a capture", ["--settings", "capture"], 3, told("Text", NO_TOML), OLD, b""),
     ("a file that isn't there", ["--settings", "absent"], 6, b"haboob: open: settings\n", OLD, b""),
     ("a folder", ["--settings", "folder"], 6, b"haboob: read: settings\n", OLD, b""),
-    ("a document without an end", ["--settings", "/dev/zero"], 3, b"haboob: settings: Text\n", OLD, b""),
+    ("a document without an end", ["--settings", "/dev/zero"], 3, told("Text", TOO_LONG), OLD, b""),
     ("a word more", ["settings"], 2, None, OLD, b""),
     ("help", ["--help"], 2, None, OLD, b""),
 ]
@@ -129,17 +174,22 @@ def unwritten_settings(program):
     return child.returncode, child.stderr
 
 
-def written_out(program, document):
-    """The settings of a document, written out: None where that fails."""
+def run_over(program, document):
+    """A run over a document."""
     with tempfile.NamedTemporaryFile() as file:
         file.write(document)
         file.flush()
-        child = subprocess.run(
+        return subprocess.run(
             [program, "settings", "--settings", file.name],
             stdin=subprocess.DEVNULL,
             capture_output=True,
             timeout=SECONDS,
         )
+
+
+def written_out(program, document):
+    """The settings of a document, written out: None where that fails."""
+    child = run_over(program, document)
     return child.stdout if (child.returncode, child.stderr) == (0, b"") else None
 
 
@@ -167,6 +217,10 @@ def main():
         report.see_told("settings: " + name, good, got)
     got = unwritten_settings(program)
     report.see_told("settings: a full device", got == (6, b"haboob: write: report\n"), got)
+    for document, lines in FAULTS:
+        child = run_over(program, document.encode())
+        got = (child.returncode, child.stderr, child.stdout)
+        report.see_told("settings: %r" % document, got == (3, lines, b""), got)
     for number, document in enumerate(READ_BACK):
         report.see("settings: read back, %d" % number, is_read_back(program, document), document)
     return report.end()

@@ -55,7 +55,14 @@ DEEP = b"/".join([b"d" * 250] * 17)
 MANY = {b"%04d/f" % number: b"" for number in range(1100)}
 CHAIN = b"d/" * 500 + b"f"
 CASES = {b"B": b"1", b"a": b"2", b"C/x": b"3", b"b/x": b"4", b"A/x": b"5"}
+LINKS = {b"%03d" % number: Link(b"none") for number in range(150)}
 HIDDEN = "\u0085\u061c\u200e\u200f\u2028\u2029\u202a\u202e\u2066\u2069\ufeff\x9b\x7f\x1b".encode()
+
+
+def left_out(*told, more=0):
+    """What is said of what is left out: a line for each of the first hundred, as of its fault, and how many they are."""
+    return b"".join(b"haboob: %s\n" % line for line in told) + b"haboob: skipped %d\n" % (len(told) + more)
+
 
 # What is in the folder, the words after `snapshot`, and then the status, the text on standard error (None: a text of
 # the command line), and what stands in the output, which held an older text.
@@ -89,8 +96,16 @@ SNAPSHOTS = [
         KINDS,
         SKIP,
         0,
-        b"haboob: skipped 5\n",
+        left_out(b"folder: Link b", b"folder: Special c", b"folder: Special d", b"folder: Link e", b"folder: Link f/g"),
         snapshot_text([(b"a", b"1"), (b"z", b"2")]),
+    ),
+    (
+        "more links than are told, skipped",
+        LINKS,
+        SKIP,
+        0,
+        left_out(*(b"folder: Link %03d" % number for number in range(100)), more=50),
+        snapshot_text([]),
     ),
     ("a pipe", {b"a": b"1", b"c/d": PIPE}, TREE, 4, b"haboob: folder: Special c/d\n", first_files([(b"a", b"1")])),
     ("a socket", {b"c": SOCKET}, TREE, 4, b"haboob: folder: Special c\n", first_files([])),
@@ -123,7 +138,7 @@ SNAPSHOTS = [
         {b"a": b"1", b"\xff": b"2", b"b/\xfe\xff": b"2", b"b/c": b"3"},
         SKIP,
         0,
-        b"haboob: skipped 2\n",
+        left_out(b"folder: Name ./", b"folder: Name b/"),
         snapshot_text([(b"a", b"1"), (b"b/c", b"3")]),
     ),
     ("a name of 1024 bytes", {LONGEST: b"1"}, TREE, 0, b"", snapshot_text([(LONGEST, b"1")])),
@@ -133,7 +148,7 @@ SNAPSHOTS = [
         {TOO_LONG: b"1", b"a": b"2"},
         SKIP,
         0,
-        b"haboob: skipped 1\n",
+        left_out(b"folder: Name %s" % TOO_LONG),
         snapshot_text([(b"a", b"2")]),
     ),
     (
@@ -141,7 +156,7 @@ SNAPSHOTS = [
         {b"a": b"2", DEEP: FOLDER},
         SKIP,
         0,
-        b"haboob: skipped 1\n",
+        left_out(b"folder: Name %s" % (5 * (b"d" * 250 + b"/"))),
         snapshot_text([(b"a", b"2")]),
     ),
     (
@@ -166,7 +181,7 @@ SNAPSHOTS = [
         {b"a": b"1", b"b": Sparse(16_777_217), b"c": b"2"},
         SKIP,
         0,
-        b"haboob: skipped 1\n",
+        left_out(b"folder: Size b"),
         snapshot_text([(b"a", b"1"), (b"c", b"2")]),
     ),
     (
@@ -198,7 +213,7 @@ SNAPSHOTS = [
         {b"a": b"1", b"b": Closed(b"2"), b"d/e": Closed(None), b"z": b"3"},
         SKIP,
         0,
-        b"haboob: skipped 2\n",
+        left_out(b"read: folder b", b"read: folder d/e/"),
         snapshot_text([(b"a", b"1"), (b"z", b"3")]),
     ),
     ("no such folder", {}, ["--folder", "none", "--output", "output"], 6, b"haboob: open: folder\n", OLDEST),
@@ -333,7 +348,7 @@ def many_files(program):
     finally:
         remove(folder)
     want = snapshot_text([(b"%05d" % number, b"") for number in range(65_536)])
-    return (told, skipped, text) == ((4, b"haboob: folder: Count 65536\n"), (0, b"haboob: skipped 1\n"), want)
+    return (told, skipped, text) == ((4, b"haboob: folder: Count 65536\n"), (0, left_out(b"folder: Count 65536")), want)
 
 
 def round_trip(program):

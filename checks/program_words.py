@@ -1,6 +1,7 @@
 #!/usr/bin/env python3
-"""Runs each command of the program with words that are no text, and with inputs that aren't there: the first that is
-absent is told, in the order settings, snapshot, capture, and no new output stays behind.
+"""Runs each command of the program with words that are no text, with words that hold characters which act on a
+terminal, and with inputs that aren't there: the first that is absent is told, in the order settings, snapshot, capture,
+and no new output stays behind.
 """
 import itertools
 import os
@@ -19,6 +20,22 @@ ODD_WORDS = [
     [b"inspect", b"--capture", b"\xff"],
     [b"inspect", b"--\xc3"],
     [b"replay", b"--snapshot", b"snapshot", b"--capture", b"capture", b"--replies", b"new\xe9"],
+]
+
+# Characters that end a line, act on a terminal, say in which direction others are shown, or have no width: controls
+# (C0, DEL, C1), the two ends of lines, marks of direction, and the mark of byte order. Others stand beside them.
+MARKS = [0x61C, 0x200E, 0x200F, *range(0x2028, 0x202F), *range(0x2066, 0x206A), 0xFEFF]
+HIDDEN = [chr(code) for code in (*range(1, 0x20), *range(0x7F, 0xA0), *MARKS)]
+SHOWN = "\u00a0\u061b\u061d\u200d\u2010\u2027\u202f\u2065\u206a\ufefe\u00e9\U0001f600"
+# The words of wrong command lines, each with a place for a wrong word.
+WRONG_WORDS = [
+    ["%s"],
+    ["--%s"],
+    ["inspect", "%s"],
+    ["inspect", "--%s", "capture"],
+    ["replay", "--capture", "capture", "%s"],
+    ["snapshot", "--skip=%s"],
+    ["settings", "--settings", "a", "--settings%s"],
 ]
 
 # The inputs of each command, in the order in which they are told, and its output.
@@ -46,6 +63,18 @@ def run(program, words):
         return ran.returncode, ran.stderr, ran.stdout, set(os.listdir(folder)) - there
 
 
+def tells_shown(program, words, character):
+    """Whether a run with a wrong word that holds a hidden character says what it does of the same word with a question
+    mark, and holds no such character but line feeds; and what it did."""
+    got, like = (
+        run(program, [(word % ("a" + part + "b" + SHOWN) if "%s" in word else word).encode() for word in words])
+        for part in (character, "?")
+    )
+    text = got[1].decode()
+    is_shown = not any(hidden in text for hidden in HIDDEN if hidden != "\n")
+    return got == like and got[0] == 2 and "a?b" + SHOWN in text and is_shown, got
+
+
 def words_of(verb, inputs, output, absent):
     """The words of a command, of whose inputs some are absent, with a new output."""
     words = [verb]
@@ -60,6 +89,10 @@ def main():
     for words in ODD_WORDS:
         got = run(program, words)
         report.see_told("no text: %r" % words[-1], got == (2, NOT_TEXT, b"", set()), got)
+    for number, character in enumerate(HIDDEN):
+        words = WRONG_WORDS[number % len(WRONG_WORDS)]
+        good, got = tells_shown(program, words, character)
+        report.see_told("shown: U+%04X in %s" % (ord(character), " ".join(words)), good, got)
     for verb, inputs, output in COMMANDS:
         for count in range(1, len(inputs) + 1):
             for absent in itertools.combinations(inputs, count):

@@ -17,7 +17,7 @@ TOP = os.path.dirname(os.path.dirname(os.path.abspath(__file__)))
 PAGE = os.path.join(TOP, "docs", "PROMISES.md")
 ROW = re.compile(r"^\| `(?P<key>\w+)` \| (?P<promise>.*) \| (?P<clause>.*) \| (?P<tests>.*) \|$")
 PROMISE = re.compile(r"^promise: (?:(\w+)/)?(\w+)$", re.MULTILINE)
-TEST = re.compile(r"^(?:\w+: )?(?:\w+::)*(\w+)$")
+TEST = re.compile(r"^(?:\w+: )?((?:\w+::)*\w+)$")
 FUNCTION = re.compile(r"^\s*(?:pub )?fn (\w+)|^\s*(?:pub )?mod (\w+);", re.MULTILINE)
 
 
@@ -46,11 +46,13 @@ def edits():
 
 
 def named():
-    """The names of the functions and modules of all tests."""
+    """The names of the functions and modules of all tests, of a function also that with its module."""
     names = set()
     for path in glob.glob(os.path.join(TOP, "crates", "*", "src", "**", "*.rt"), recursive=True):
         if "tests" in path:
-            names.update(name for found in FUNCTION.findall(read(path)) for name in found if name)
+            module = os.path.basename(path)[: -len(".rt")]
+            found = [name for pair in FUNCTION.findall(read(path)) for name in pair if name]
+            names.update(found, ("%s::%s" % (module, name) for name in found))
     return names
 
 

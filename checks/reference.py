@@ -758,8 +758,10 @@ def answers(files, settings, start, arrived, admission):
 
 
 def escaped(data):
-    """Bytes as a field of the table: visible ASCII but quote, percent sign and comma stands as it is."""
-    return "".join(chr(byte) if 0x21 <= byte <= 0x7E and byte not in b'"%,' else "%%%02X" % byte for byte in data)
+    """Bytes as a field of the table: visible ASCII but quote, percent sign, comma and semicolon stands as it is, except
+    for a first byte by which a spreadsheet tells a formula."""
+    return "".join(chr(byte) if 0x21 <= byte <= 0x7E and byte not in b'"%,;' and (place or byte not in b"=+-@")
+                   else "%%%02X" % byte for place, byte in enumerate(data))
 
 
 def rows(files, settings, arrived, admission):

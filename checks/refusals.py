@@ -23,7 +23,6 @@ FUNCTION = re.compile(r"^\s*(?:pub(?:\(crate\))? )?(?:fn|const) (\w+)")
 REACH = 6
 REASONS = {
     ("command_line", "refusal"): "clap's own out of memory has this kind, and its text takes memory",
-    ("haboob", "take_unread"): "passes on what the system answered",
     ("http_requests", "cut"): "a cutter that was refused memory answers so from then on",
     ("http_requests", "feed"): "a cutter that was refused memory answers so from then on",
     ("paths", "make_slots"): "more slots than a number counts; the index stays empty, and no call answers so",
@@ -41,7 +40,7 @@ def places():
     line and the lines before it in the function."""
     for path in sorted(glob.glob(os.path.join(TOP, "crates", "*", "src", "**", "*.rt"), recursive=True)):
         crate = os.path.relpath(path, TOP).split(os.sep)[1]
-        if crate.endswith("_tests") or crate == "test_devices" or path.endswith("tests.rt"):
+        if crate.endswith("_tests") or crate == "test_support" or path.endswith("tests.rt"):
             continue
         function, before = "", []
         with open(path, encoding="utf-8") as file:

@@ -3,9 +3,9 @@
 
 usage: refuse_growths.py [CRATE..]
 
-It takes the tests that `rt ci` has built (crates/*/out/*) and that have `growth` in their names. For N = 1, 2,
-.. the Nth request of such a test is refused, until some runs make fewer: the test has to pass each time, for it looks
-at what is answered and what stands then. Of a test with `twice` in its name the next request is refused as well, in
+It takes the tests that `rt ci` has built (crates/*/out/*) and that have `growth` in the names of their functions. For
+N = 1, 2, .. the Nth request of such a test is refused, until some runs make fewer: the test has to pass each time, for
+it looks at what is answered and what stands then. Of a test with `twice` in its name the next request is refused as well, in
 runs of its own. (Above MOST requests only each STRIDEth is refused, after the first MOST.) It needs a C compiler (CC,
 or cc) and the C library of GNU; without a compiler it fails. Exits with 1 where a test fails, or where no test is
 found.
@@ -28,7 +28,8 @@ def tests_of(binary):
     """The names of a crate's tests that are made for refused growths."""
     ran = subprocess.run([binary, "--list"], stdout=subprocess.PIPE, stderr=subprocess.DEVNULL, check=False)
     lines = ran.stdout.decode(errors="replace").split("\n")
-    return [line.removesuffix(": test") for line in lines if line.endswith(": test") and "growth" in line]
+    names = [line.removesuffix(": test") for line in lines if line.endswith(": test")]
+    return [name for name in names if "growth" in name.rpartition("::")[2]]
 
 
 def build(folder):

@@ -4,8 +4,9 @@ use Rattle.std.proofs.lemmas.Bool.{le-leb, lt-leb, cases_lt, cases_eq}
 use Rattle.std.proofs.lemmas.List.{map-append}
 use Rattle.token_bucket.specs.Reference.{TOKEN, accrual}
 use Rattle.token_bucket.proofs.AccrualLemmas.{accrual-split}
+use Rattle.admission.specs.declared.policy.PolicyNumbers.{PolicyNumbers}
 use Rattle.admission.specs.declared.control.Decision.TheVariants.{Admitted, Rejected}
-use Rattle.admission.specs.Reference.{Rules, rules_of, Offer, Decided, Served, of_tier, is_admitted, served, last_finish, finish_after, control_at, rate_at, least_balance, credit, decide, decided_next, decided_from, decided, tick_from}
+use Rattle.admission.specs.Reference.{rules_of, Offer, Decided, Served, of_tier, is_admitted, served, last_finish, finish_after, control_at, rate_at, least_balance, credit, decide, decided_next, decided_from, decided, tick_from}
 use Rattle.admission.specs.After.{AllCovered}
 use Rattle.admission.specs.Laws.{AreOffered, AreOfOthers, RunsTo, FinishFromFinish, FirstCredit, CreditFromCredit, AccrualSplitsAtControl, RateFromOffersBefore}
 use Rattle.admission.proofs.RequestLemmas.{decided_from-push, of_tier-same, of_tier-other, of_tier-none, served-push, last_finish-push}
@@ -48,7 +49,7 @@ runs_next past offer true runs =
     (last_finish-push (map (λ (r : Served). r.offer) (served past)) offer))
 runs_next past offer false runs = rw (served_rejected past offer (finish_after (served past) offer)) runs
 
-runs_from : (policies : List Rules) (past : List Decided) (offers : List Offer) → Runs (served past)
+runs_from : (policies : List PolicyNumbers) (past : List Decided) (offers : List Offer) → Runs (served past)
     → Runs (served (decided_from policies past offers))
 unfolding decided_from
 runs_from policies past [] runs = runs
@@ -62,7 +63,7 @@ finish_from_finish policies offers = runs_from policies [] offers refl
 
 -- ---- rates
 
-rate_chosen : (rules : Rules) (past : List Decided) (offer : Offer) (finish u : ℕ) (b : Bool) → 0 < rules.every → u < finish
+rate_chosen : (rules : PolicyNumbers) (past : List Decided) (offer : Offer) (finish u : ℕ) (b : Bool) → 0 < rules.every → u < finish
     → rate_at rules (served (past ++ Chosen offer finish b ∷ [])) u ≡ rate_at rules (served past) u
 rate_chosen rules past offer finish u true some before =
     rw (served_admitted past offer finish)
@@ -75,7 +76,7 @@ finish_later requests offer u longer before =
     omega (arith, last_finish-push (map (λ (r : Served). r.offer) requests) offer)
 
 -- the requests of a tier after one more offer: with that offer, or as they were
-tier_next : (policies : List Rules) (past : List Decided) (offer : Offer) (tier : ℕ) (P : List Decided → Type 0)
+tier_next : (policies : List PolicyNumbers) (past : List Decided) (offer : Offer) (tier : ℕ) (P : List Decided → Type 0)
     → (offer.tier ≡ tier → P (of_tier tier past ++ decided_next policies past offer ∷ [])) → P (of_tier tier past)
     → P (of_tier tier (past ++ decided_next policies past offer ∷ []))
 tier_next policies past offer tier P own other =
@@ -84,16 +85,16 @@ tier_next policies past offer tier P own other =
       | inr apart ↦ rw (of_tier-other tier past (decided_next policies past offer) apart) other
     ]
 
-abbrev chooses : List Rules → List Decided → Offer → Bool
+abbrev chooses : List PolicyNumbers → List Decided → Offer → Bool
 chooses policies past offer = nat_le TOKEN (credit (rules_of policies offer.tier) (of_tier offer.tier past) offer.tick)
 
-rate_own : (rules : Rules) (policies : List Rules) (past own : List Decided) (offer : Offer) (u : ℕ) → 0 < rules.every → 1 ≤ offer.service
+rate_own : (rules : PolicyNumbers) (policies : List PolicyNumbers) (past own : List Decided) (offer : Offer) (u : ℕ) → 0 < rules.every → 1 ≤ offer.service
     → u ≤ offer.tick → rate_at rules (served (own ++ decided_next policies past offer ∷ [])) u ≡ rate_at rules (served own) u
 rate_own rules policies past own offer u some longer before =
     rate_chosen rules own offer (finish_after (served past) offer) u (chooses policies past offer) some
     (finish_later (served past) offer u longer before)
 
-rate_next : (rules : Rules) (policies : List Rules) (past : List Decided) (offer : Offer) (tier u : ℕ) → 0 < rules.every → 1 ≤ offer.service
+rate_next : (rules : PolicyNumbers) (policies : List PolicyNumbers) (past : List Decided) (offer : Offer) (tier u : ℕ) → 0 < rules.every → 1 ≤ offer.service
     → u ≤ offer.tick
     → rate_at rules (served (of_tier tier (past ++ decided_next policies past offer ∷ []))) u ≡ rate_at rules (served (of_tier tier past)) u
 rate_next rules policies past offer tier u some longer before =
@@ -105,7 +106,7 @@ unfolding AreOffered
 offered-lower u v [] lower offered = tt
 offered-lower u v (offer ∷ offers) lower offered = (omega (arith, offered.0), offered.1, offered.2)
 
-rate_from : (rules : Rules) (policies : List Rules) (past : List Decided) (more : List Offer) (tier u : ℕ) → 0 < rules.every → AreOffered u more
+rate_from : (rules : PolicyNumbers) (policies : List PolicyNumbers) (past : List Decided) (more : List Offer) (tier u : ℕ) → 0 < rules.every → AreOffered u more
     → rate_at rules (served (of_tier tier (decided_from policies past more))) u ≡ rate_at rules (served (of_tier tier past)) u
 unfolding decided_from AreOffered
 rate_from rules policies past [] tier u some offered = refl
@@ -132,27 +133,27 @@ taken_is : (b : Bool) → TOKEN * cond b 1 0 ≡ (if b then TOKEN else 0)
 taken_is true = omega arith
 taken_is false = omega arith
 
-abbrev Covers : Rules → ℕ → List Decided → Type 0
+abbrev Covers : PolicyNumbers → ℕ → List Decided → Type 0
 Covers rules tick own = AllCovered (rate_at rules (served own)) (rules.depth * TOKEN) tick own
 
-covered_own : (policies : List Rules) (past : List Decided) (offer : Offer) → 0 < (rules_of policies offer.tier).every → 1 ≤ offer.service
+covered_own : (policies : List PolicyNumbers) (past : List Decided) (offer : Offer) → 0 < (rules_of policies offer.tier).every → 1 ≤ offer.service
     → Covers (rules_of policies offer.tier) offer.tick (of_tier offer.tier past)
     → Covers (rules_of policies offer.tier) offer.tick (of_tier offer.tier past ++ decided_next policies past offer ∷ [])
 covered_own policies past offer some longer covered =
-    let rules : Rules = rules_of policies offer.tier in
+    let rules : PolicyNumbers = rules_of policies offer.tier in
     let own : List Decided = of_tier offer.tier past in
     covered-push (rate_at rules (served own)) (rate_at rules (served (own ++ decided_next policies past offer ∷ []))) (rules.depth * TOKEN) offer.tick own
     (decided_next policies past offer) covered refl (λ u below. sym (rate_own rules policies past own offer u some longer (omega arith)))
     (enough (credit rules own offer.tick) (finish_after (served past) offer))
 
-covered_next : (policies : List Rules) (past : List Decided) (offer : Offer) (tier : ℕ) → 0 < (rules_of policies tier).every → 1 ≤ offer.service
+covered_next : (policies : List PolicyNumbers) (past : List Decided) (offer : Offer) (tier : ℕ) → 0 < (rules_of policies tier).every → 1 ≤ offer.service
     → Covers (rules_of policies tier) offer.tick (of_tier tier past)
     → Covers (rules_of policies tier) offer.tick (of_tier tier (past ++ decided_next policies past offer ∷ []))
 covered_next policies past offer tier some longer covered =
     tier_next policies past offer tier (Covers (rules_of policies tier) offer.tick)
     (λ same. rw (← same) (covered_own policies past offer (rw (← same) at some) longer (rw (← same) at covered))) covered
 
-covered_from : (policies : List Rules) (past : List Decided) (offers : List Offer) (tier t : ℕ) → 0 < (rules_of policies tier).every → AreOffered t offers
+covered_from : (policies : List PolicyNumbers) (past : List Decided) (offers : List Offer) (tier t : ℕ) → 0 < (rules_of policies tier).every → AreOffered t offers
     → Covers (rules_of policies tier) t (of_tier tier past)
     → Covers (rules_of policies tier) (tick_from t offers) (of_tier tier (decided_from policies past offers))
 unfolding decided_from AreOffered tick_from
@@ -171,7 +172,7 @@ offered-parts t (first ∷ offers) offer offered =
     let rest = offered-parts first.tick offers offer offered.2 in
     ((offered.0, offered.1, rest.0), rest.1, rest.2)
 
-others_from : (policies : List Rules) (past : List Decided) (offers : List Offer) (tier : ℕ) → AreOfOthers tier offers
+others_from : (policies : List PolicyNumbers) (past : List Decided) (offers : List Offer) (tier : ℕ) → AreOfOthers tier offers
     → of_tier tier (decided_from policies past offers) ≡ of_tier tier past
 unfolding decided_from AreOfOthers
 others_from policies past [] tier others = refl
@@ -184,14 +185,14 @@ first_credit policies offers tier tick others =
     ap (λ (ds : List Decided). credit (rules_of policies tier) ds tick) (others_from policies [] offers tier others ∙ of_tier-none tier)
     ∙ least_balance-none (rate_at (rules_of policies tier) (served [])) ((rules_of policies tier).depth * TOKEN) tick
 
-credit_own : (policies : List Rules) (past : List Decided) (offer : Offer) (tick : ℕ) → 0 < (rules_of policies offer.tier).every → 1 ≤ offer.service
+credit_own : (policies : List PolicyNumbers) (past : List Decided) (offer : Offer) (tick : ℕ) → 0 < (rules_of policies offer.tier).every → 1 ≤ offer.service
     → offer.tick ≤ tick → Covers (rules_of policies offer.tier) offer.tick (of_tier offer.tier past)
     → credit (rules_of policies offer.tier) (of_tier offer.tier past ++ decided_next policies past offer ∷ []) tick
     ≡ min ((rules_of policies offer.tier).depth * TOKEN)
     (credit (rules_of policies offer.tier) (of_tier offer.tier past) offer.tick - (if is_admitted (decide policies past offer) then TOKEN else 0)
     + accrual (rate_at (rules_of policies offer.tier) (served (of_tier offer.tier past ++ decided_next policies past offer ∷ []))) offer.tick tick)
 credit_own policies past offer tick some longer later covered =
-    let rules : Rules = rules_of policies offer.tier in
+    let rules : PolicyNumbers = rules_of policies offer.tier in
     let own : List Decided = of_tier offer.tier past in
     let request : Decided = decided_next policies past offer in
     let full : ℕ = rules.depth * TOKEN in
@@ -203,14 +204,14 @@ credit_own policies past offer tick some longer later covered =
     ∙ ap (λ n. min full (n + accrual g offer.tick tick))
     (there ∙ ap (λ n. least_balance f full offer.tick own - n) (taken_is (is_admitted (decide policies past offer))))
 
-first_covered : (rules : Rules) → Covers rules 0 []
+first_covered : (rules : PolicyNumbers) → Covers rules 0 []
 unfolding AllCovered
 first_covered rules = tt
 
 pub credit_from_credit : CreditFromCredit
 credit_from_credit policies xs offer tick range offered later =
     let parts = offered-parts 0 xs offer offered in
-    let rules : Rules = rules_of policies offer.tier in
+    let rules : PolicyNumbers = rules_of policies offer.tier in
     let some : 0 < rules.every = omega (arith, range.every.0) in
     let past : List Decided = decided policies xs in
     let own : List Decided = of_tier offer.tier past in

@@ -9,8 +9,9 @@ use Rattle.std.proofs.lemmas.Bool.{cases_lt, cases_eq, eq-eqb, ne_eqb}
 use Rattle.std.proofs.lemmas.List.FromFn.{map-range_with_len_more}
 use Rattle.circular_buffer.specs.Buffer.{keep_last, last_item}
 use Rattle.circular_buffer.proofs.Places.{slice_get-last}
+use Rattle.admission.specs.declared.policy.PolicyNumbers.{PolicyNumbers}
 use Rattle.admission.specs.declared.control.Control.{Control}
-use Rattle.admission.specs.Reference.{Rules, Served, sample, samples, finishes, percentile, percentile_at, smoother, smoothed_at, adjusted, rate_after, control_at, controls_of}
+use Rattle.admission.specs.Reference.{Served, sample, samples, finishes, percentile, percentile_at, smoother, smoothed_at, adjusted, rate_after, control_at, controls_of}
 use Rattle.admission.specs.Running.{last_smoothed, last_rate, next_control, with_due}
 
 -- ---- quotients
@@ -83,18 +84,18 @@ last_place xs x n long = let place : n + 1 - 1 ≡ length xs = omega arith in rw
 
 -- ---- more samples leave the earlier controls
 
-percentile_at-more : (rules : Rules) (xs ys : List ℕ) (k : ℕ) → k * rules.every ≤ length xs
+percentile_at-more : (rules : PolicyNumbers) (xs ys : List ℕ) (k : ℕ) → k * rules.every ≤ length xs
     → percentile_at rules (xs ++ ys) k ≡ percentile_at rules xs k
 percentile_at-more rules xs ys k within = rw (take-append-le (k * rules.every) xs ys within) refl
 
-pub smoothed_at-more : (rules : Rules) (xs ys : List ℕ) (k : ℕ) → k * rules.every ≤ length xs
+pub smoothed_at-more : (rules : PolicyNumbers) (xs ys : List ℕ) (k : ℕ) → k * rules.every ≤ length xs
     → smoothed_at rules (xs ++ ys) k ≡ smoothed_at rules xs k
 unfolding smoothed_at
 smoothed_at-more rules xs ys zero within = refl
 smoothed_at-more rules xs ys (suc k) within =
     rw (smoothed_at-more rules xs ys k (less_by_one k rules.every (length xs) within), percentile_at-more rules xs ys (suc k) within) refl
 
-pub rate_after-more : (rules : Rules) (xs ys : List ℕ) (k : ℕ) → k * rules.every ≤ length xs
+pub rate_after-more : (rules : PolicyNumbers) (xs ys : List ℕ) (k : ℕ) → k * rules.every ≤ length xs
     → rate_after rules (xs ++ ys) k ≡ rate_after rules xs k
 unfolding rate_after
 rate_after-more rules xs ys zero within = refl
@@ -116,7 +117,7 @@ length-samples : (requests : List Served) → length (samples requests) ≡ leng
 length-samples requests = length-map requests sample
 
 -- the earlier controls stay
-control_at-more : (rules : Rules) (requests : List Served) (request : Served) (k : ℕ) → 0 < rules.every → 1 ≤ k
+control_at-more : (rules : PolicyNumbers) (requests : List Served) (request : Served) (k : ℕ) → 0 < rules.every → 1 ≤ k
     → k * rules.every ≤ length requests → control_at rules (requests ++ request ∷ []) k ≡ control_at rules requests k
 control_at-more rules requests request k some first within =
     let within_samples : k * rules.every ≤ length (samples requests) = rw (length-samples requests) within in
@@ -141,7 +142,7 @@ map_agree f g a (suc n) same =
     rw (here, rest) refl
 
 -- as many controls as before keep their values
-same_controls : (rules : Rules) (requests : List Served) (request : Served) (m : ℕ) → 0 < rules.every → m * rules.every ≤ length requests
+same_controls : (rules : PolicyNumbers) (requests : List Served) (request : Served) (m : ℕ) → 0 < rules.every → m * rules.every ≤ length requests
     → map (control_at rules (requests ++ request ∷ [])) (range_with_len 1 m) ≡ map (control_at rules requests) (range_with_len 1 m)
 same_controls rules requests request m some within =
     map_agree (control_at rules (requests ++ request ∷ [])) (control_at rules requests) 1 m
@@ -152,7 +153,7 @@ length-push : (requests : List Served) (request : Served) → length (requests +
 length-push requests request = length-append requests (request ∷ [])
 
 -- no control is due
-pub controls_of-same : (rules : Rules) (requests : List Served) (request : Served) → 0 < rules.every
+pub controls_of-same : (rules : PolicyNumbers) (requests : List Served) (request : Served) → 0 < rules.every
     → ((length requests + 1) % rules.every ≡ 0 → ⊥)
     → controls_of rules (requests ++ request ∷ []) ≡ controls_of rules requests
 controls_of-same rules requests request some apart =
@@ -161,7 +162,7 @@ controls_of-same rules requests request some apart =
     (quotient_fits (length requests / rules.every) rules.every (length requests) some (omega arith)))
 
 -- a control is due
-pub controls_of-due : (rules : Rules) (requests : List Served) (request : Served) → 0 < rules.every
+pub controls_of-due : (rules : PolicyNumbers) (requests : List Served) (request : Served) → 0 < rules.every
     → (length requests + 1) % rules.every ≡ 0
     → controls_of rules (requests ++ request ∷ [])
     ≡ controls_of rules requests ++ control_at rules (requests ++ request ∷ []) (length requests / rules.every + 1) ∷ []
@@ -177,7 +178,7 @@ controls_of-due rules requests request some due =
 
 -- ---- the control that is due, from the one before it
 
-control-last : (rules : Rules) (requests : List Served) (m : ℕ)
+control-last : (rules : PolicyNumbers) (requests : List Served) (m : ℕ)
     → last_item (map (control_at rules requests) (range_with_len 1 (suc m))) ≡ Some (control_at rules requests (suc m))
 control-last rules requests m =
     let count : suc m ≡ m + 1 = omega arith in
@@ -192,38 +193,38 @@ control-last rules requests m =
     let P : ℕ → Type 0 = λ k. last_item (map (control_at rules requests) (range_with_len 1 k)) ≡ Some (control_at rules requests k) in
     subst P (sym count) last
 
-smoothed_from : (rules : Rules) (requests : List Served) (m : ℕ)
+smoothed_from : (rules : PolicyNumbers) (requests : List Served) (m : ℕ)
     → last_smoothed (map (control_at rules requests) (range_with_len 1 m)) ≡ smoothed_at rules (samples requests) m
 unfolding smoothed_at
 smoothed_from rules requests zero = refl
 smoothed_from rules requests (suc m) = rw (control-last rules requests m) refl
 
-rate_from : (rules : Rules) (requests : List Served) (m : ℕ)
+rate_from : (rules : PolicyNumbers) (requests : List Served) (m : ℕ)
     → last_rate rules (map (control_at rules requests) (range_with_len 1 m)) ≡ rate_after rules (samples requests) m
 unfolding rate_after
 rate_from rules requests zero = refl
 rate_from rules requests (suc m) = rw (control-last rules requests m) refl
 
-pub last_smoothed-is : (rules : Rules) (requests : List Served)
+pub last_smoothed-is : (rules : PolicyNumbers) (requests : List Served)
     → last_smoothed (controls_of rules requests) ≡ smoothed_at rules (samples requests) (length requests / rules.every)
 last_smoothed-is rules requests = smoothed_from rules requests (length requests / rules.every)
 
-pub last_rate-is : (rules : Rules) (requests : List Served)
+pub last_rate-is : (rules : PolicyNumbers) (requests : List Served)
     → last_rate rules (controls_of rules requests) ≡ rate_after rules (samples requests) (length requests / rules.every)
 last_rate-is rules requests = rate_from rules requests (length requests / rules.every)
 
-smoothed_at-next : (rules : Rules) (taken : List ℕ) (k : ℕ)
+smoothed_at-next : (rules : PolicyNumbers) (taken : List ℕ) (k : ℕ)
     → smoothed_at rules taken (k + 1) ≡ smoother rules (smoothed_at rules taken k) (percentile_at rules taken (k + 1))
 unfolding smoothed_at
 smoothed_at-next rules taken k = rw add-one refl
 
-rate_after-next : (rules : Rules) (taken : List ℕ) (k : ℕ)
+rate_after-next : (rules : PolicyNumbers) (taken : List ℕ) (k : ℕ)
     → rate_after rules taken (k + 1) ≡ adjusted rules (smoothed_at rules taken (k + 1)) (rate_after rules taken k)
 unfolding rate_after
 rate_after-next rules taken k = rw add-one refl
 
 -- the percentile of a control that is due is that of the whole window
-percentile-due : (rules : Rules) (taken : List ℕ) (k : ℕ) → k * rules.every ≡ length taken
+percentile-due : (rules : PolicyNumbers) (taken : List ℕ) (k : ℕ) → k * rules.every ≡ length taken
     → percentile_at rules taken k ≡ unwrap_or (percentile (keep_last rules.window taken)) 0
 percentile-due rules taken k whole = rw (whole, take-length taken) refl
 
@@ -233,7 +234,7 @@ control-parts a b instant own smoothed rate =
     let by_parts : parts a.instant a.percentile a.smoothed a.rate ≡ parts b.instant b.percentile b.smoothed b.rate = cc in
     by_parts
 
-pub control-due : (rules : Rules) (requests : List Served) (request : Served) → 0 < rules.every
+pub control-due : (rules : PolicyNumbers) (requests : List Served) (request : Served) → 0 < rules.every
     → (length requests + 1) % rules.every ≡ 0
     → control_at rules (requests ++ request ∷ []) (length requests / rules.every + 1)
     ≡ next_control rules (controls_of rules requests) request.finish
@@ -271,7 +272,7 @@ control-due rules requests request some due =
     ) refl)
 
 -- the controls with one more request
-pub controls_of-push : (rules : Rules) (requests : List Served) (request : Served) → 0 < rules.every
+pub controls_of-push : (rules : PolicyNumbers) (requests : List Served) (request : Served) → 0 < rules.every
     → controls_of rules (requests ++ request ∷ [])
     ≡ with_due rules (controls_of rules requests) (keep_last rules.window (samples requests ++ sample request ∷ []))
     (length requests + 1) request.finish

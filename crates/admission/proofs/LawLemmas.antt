@@ -5,8 +5,9 @@ use Rattle.std.proofs.lemmas.Bool.{cases_eq}
 use Rattle.std.proofs.Math.Nat.{div-le_of_le-mul}
 use Rattle.std.proofs.lemmas.List.Sums.{sum_by_push}
 use Rattle.token_bucket.specs.Reference.{TOKEN, accrual}
+use Rattle.admission.specs.declared.policy.PolicyNumbers.{PolicyNumbers}
 use Rattle.admission.specs.declared.control.Decision.TheVariants.{Admitted, Rejected}
-use Rattle.admission.specs.Reference.{Rules, rules_of, Offer, Decided, Served, of_tier, served, samples, finish_after, smoothed_at, adjusted, rate_after, rate_at, least_balance, credit, decided_next, decided_from, decided}
+use Rattle.admission.specs.Reference.{rules_of, Offer, Decided, Served, of_tier, served, samples, finish_after, smoothed_at, adjusted, rate_after, rate_at, least_balance, credit, decided_next, decided_from, decided}
 use Rattle.admission.specs.Rules.{IsInRange}
 use Rattle.admission.specs.Laws.{DecisionsBegin, FinishRuns, OtherTiersLeave, RateBefore, RatesWithin, RejectedLeavesAll, and_rejected}
 use Rattle.admission.proofs.RequestLemmas.{decided_from-push, last_finish-push, of_tier-same, of_tier-other, served-push}
@@ -15,14 +16,14 @@ use Rattle.admission.proofs.OfferLemmas as offers
 
 -- ---- beginnings
 
-begins : (policies : List Rules) (past : List Decided) (more : List Offer) → (rest : List Decided) × (decided_from policies past more ≡ past ++ rest)
+begins : (policies : List PolicyNumbers) (past : List Decided) (more : List Offer) → (rest : List Decided) × (decided_from policies past more ≡ past ++ rest)
 unfolding decided_from
 begins policies past [] = ([], sym (append-nil past))
 begins policies past (offer ∷ more) =
     let next = begins policies (past ++ decided_next policies past offer ∷ []) more in
     (decided_next policies past offer ∷ next.0, next.1 ∙ append_assoc past (decided_next policies past offer ∷ []) next.0)
 
-pub decided_from-append : (policies : List Rules) (past : List Decided) (xs ys : List Offer)
+pub decided_from-append : (policies : List PolicyNumbers) (past : List Decided) (xs ys : List Offer)
     → decided_from policies past (xs ++ ys) ≡ decided_from policies (decided_from policies past xs) ys
 unfolding decided_from
 decided_from-append policies past [] ys = refl
@@ -78,13 +79,13 @@ served_of-rejected tier past rejected =
       | inr same ↦ ap served same
     ]
 
-credit_rejected : (rules : Rules) (past : List Decided) (rejected : Offer) (tick : ℕ)
+credit_rejected : (rules : PolicyNumbers) (past : List Decided) (rejected : Offer) (tick : ℕ)
     → credit rules (and_rejected past rejected) tick ≡ credit rules past tick
 credit_rejected rules past rejected tick =
     ap (λ (rs : List Served). least_balance (rate_at rules rs) (rules.depth * TOKEN) tick (and_rejected past rejected)) (served_rejected past rejected)
     ∙ least_rejected (rate_at rules (served past)) (rules.depth * TOKEN) tick past rejected
 
-credit_of-rejected : (rules : Rules) (tier : ℕ) (past : List Decided) (rejected : Offer) (tick : ℕ)
+credit_of-rejected : (rules : PolicyNumbers) (tier : ℕ) (past : List Decided) (rejected : Offer) (tick : ℕ)
     → credit rules (of_tier tier (and_rejected past rejected)) tick ≡ credit rules (of_tier tier past) tick
 credit_of-rejected rules tier past rejected tick =
     elim (of_tier-rejected tier past rejected) [
@@ -114,10 +115,10 @@ chosen : (P : ℕ → Type 0) (b : Bool) (x y : ℕ) → P x → P y → P (if b
 chosen P true x y p q = p
 chosen P false x y p q = q
 
-abbrev Within : Rules → ℕ → Type 0
+abbrev Within : PolicyNumbers → ℕ → Type 0
 Within rules rate = (rules.rate_min ≤ rate) × (rate ≤ rules.rate_max)
 
-adjusted_within : (rules : Rules) (smoothed rate : ℕ) → IsInRange rules → Within rules rate → Within rules (adjusted rules smoothed rate)
+adjusted_within : (rules : PolicyNumbers) (smoothed rate : ℕ) → IsInRange rules → Within rules rate → Within rules (adjusted rules smoothed rate)
 adjusted_within rules smoothed rate range within =
     let lowered : 100 * rate / rules.down ≤ rate = lowered-le rate rules.down range.down.0 in
     chosen (Within rules) (nat_lt rules.target smoothed) (max rules.rate_min (100 * rate / rules.down)) _
@@ -125,7 +126,7 @@ adjusted_within rules smoothed rate range within =
     (chosen (Within rules) (nat_lt (100 * smoothed) (rules.low * rules.target)) (min rules.rate_max (rate + rules.up)) rate
     (omega arith, omega arith) within)
 
-rate_after_within : (rules : Rules) (taken : List ℕ) (k : ℕ) → IsInRange rules → Within rules (rate_after rules taken k)
+rate_after_within : (rules : PolicyNumbers) (taken : List ℕ) (k : ℕ) → IsInRange rules → Within rules (rate_after rules taken k)
 unfolding rate_after
 rate_after_within rules taken zero range = range.rate
 rate_after_within rules taken (suc k) range =

@@ -7,7 +7,8 @@ use Rattle.token_bucket.specs.Calls.{Past, made}
 use Rattle.token_bucket.specs.After.{BucketAfter, last_rate}
 use Rattle.token_bucket.specs.Standing as bucket
 use Rattle.token_bucket.proofs.CallLemmas as calls
-use Rattle.admission.specs.Reference.{Rules, Decided, served, rate_after, control_at, least_balance}
+use Rattle.admission.specs.declared.policy.PolicyNumbers.{PolicyNumbers}
+use Rattle.admission.specs.Reference.{Decided, served, rate_after, control_at, least_balance}
 use Rattle.admission.specs.Window.{Window, window_of}
 use Rattle.admission.specs.Standing.{TierStanding, RiseWithin, AllRates, IsSoundTier, IsShare}
 use Rattle.admission.specs.Running.{passed}
@@ -16,7 +17,7 @@ use Rattle.admission.proofs.StandLemmas.{stands_passing}
 use Rattle.admission.proofs.PassLemmas.{Ends}
 
 -- a tier that was offered nothing
-abbrev pub start : Rules → bucket.Standing → Window → TierStanding
+abbrev pub start : PolicyNumbers → bucket.Standing → Window → TierStanding
 start rules b window = record {
   rules = rules;
   bucket = b;
@@ -27,7 +28,7 @@ start rules b window = record {
   reached = 0;
 }
 
-pub start_sound : (rules : Rules) (b : bucket.Standing) (window : Window) → 1 ≤ rules.every
+pub start_sound : (rules : PolicyNumbers) (b : bucket.Standing) (window : Window) → 1 ≤ rules.every
     → window ≡ window_of rules.window [] → IsSoundTier (start rules b window)
 unfolding AllRates
 start_sound rules b window every is = record {
@@ -38,11 +39,11 @@ start_sound rules b window every is = record {
   rates = tt;
 }
 
-pub start_share : (rules : Rules) (b : bucket.Standing) (window : Window) → b.tick ≡ 0 → IsShare 0 0 0 (start rules b window)
+pub start_share : (rules : PolicyNumbers) (b : bucket.Standing) (window : Window) → b.tick ≡ 0 → IsShare 0 0 0 (start rules b window)
 unfolding RiseWithin
 start_share rules b window clock = record { admitted = omega arith; rejected = omega arith; clock = omega arith; rising = tt }
 
-pub start_fits : (rules : Rules) (b : bucket.Standing) (window : Window) → BucketAfter (made rules.depth rules.rate) b → b.tick ≡ 0
+pub start_fits : (rules : PolicyNumbers) (b : bucket.Standing) (window : Window) → BucketAfter (made rules.depth rules.rate) b → b.tick ≡ 0
     → window ≡ window_of rules.window [] → TierFits [] 0 (start rules b window)
 unfolding served rate_after least_balance AllCovered IsRising last_rate
 start_fits rules b window fits clock is = record {

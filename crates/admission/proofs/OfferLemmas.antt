@@ -12,9 +12,10 @@ use Rattle.token_bucket.specs.After.{BucketAfter}
 use Rattle.token_bucket.specs.Running.{after}
 use Rattle.token_bucket.specs.Standing as bucket
 use Rattle.token_bucket.proofs.FitsLemmas.{standing_runs}
+use Rattle.admission.specs.declared.policy.PolicyNumbers.{PolicyNumbers}
 use Rattle.admission.specs.declared.control.Decision.TheVariants.{Admitted, Rejected}
 use Rattle.admission.specs.declared.control.Control.{Control}
-use Rattle.admission.specs.Reference.{Rules, Offer, Decided, Served, is_rejected, served, sample, samples, finishes, done, rate_after, rate_at, controls_of, least_balance, credit}
+use Rattle.admission.specs.Reference.{Offer, Decided, Served, is_rejected, served, sample, samples, finishes, done, rate_after, rate_at, controls_of, least_balance, credit}
 use Rattle.admission.specs.Window.{Window, window_of, with_sample}
 use Rattle.admission.specs.Standing.{TierStanding}
 use Rattle.admission.specs.Running.{with_due, when_rejected, when_admitted, decision_after}
@@ -34,17 +35,17 @@ served_rejected : (past : List Decided) (offer : Offer) → served (past ++ reco
 served_rejected past offer = served-push past (record { offer = offer; decision = Rejected }) ∙ append-nil (served past)
 
 -- a bucket that stands so holds no more than its depth
-within_depth : (rules : Rules) (past : List Decided) (b : bucket.Standing) (reached : ℕ) → TierBucketAfter rules past b reached
+within_depth : (rules : PolicyNumbers) (past : List Decided) (b : bucket.Standing) (reached : ℕ) → TierBucketAfter rules past b reached
     → b.credit ≤ b.depth * TOKEN
 within_depth rules past b reached stands =
     rw (stands.credit, stands.depth) (least_balance-le (rate_at rules (served past)) (rules.depth * TOKEN) b.tick past)
 
 -- its credit is that of the offer
-credit_there : (rules : Rules) (past : List Decided) (b : bucket.Standing) (reached tick : ℕ) → TierBucketAfter rules past b reached
+credit_there : (rules : PolicyNumbers) (past : List Decided) (b : bucket.Standing) (reached tick : ℕ) → TierBucketAfter rules past b reached
     → b.tick ≡ tick → credit rules past tick ≡ b.credit
 credit_there rules past b reached tick stands at = ap (credit rules past) (sym at) ∙ sym stands.credit
 
-stands_rejected : (rules : Rules) (past : List Decided) (b next : bucket.Standing) (reached : ℕ) (offer : Offer)
+stands_rejected : (rules : PolicyNumbers) (past : List Decided) (b next : bucket.Standing) (reached : ℕ) (offer : Offer)
     → TierBucketAfter rules past b reached → b.tick ≡ offer.tick → next ≡ after b (TryTake false)
     → TierBucketAfter rules (past ++ record { offer = offer; decision = Rejected } ∷ []) next reached
 stands_rejected rules past b next reached offer stands at is =
@@ -128,7 +129,7 @@ done_before : (requests : List Served) (request : Served) (u : ℕ) → u < requ
 done_before requests request u before =
     rw (finishes-push requests request) (upto-push_later u request.finish (finishes requests) before)
 
-quotient_within : (rules : Rules) (requests : List Served) (u : ℕ) → 0 < rules.every
+quotient_within : (rules : PolicyNumbers) (requests : List Served) (u : ℕ) → 0 < rules.every
     → done requests u / rules.every * rules.every ≤ length (samples requests)
 quotient_within rules requests u some =
     let fit : done requests u / rules.every * rules.every ≤ done requests u =
@@ -142,7 +143,7 @@ quotient_within rules requests u some =
     )
 
 -- the rate before a request's finish does not depend on it
-pub rate_before : (rules : Rules) (requests : List Served) (request : Served) (u : ℕ) → 0 < rules.every → u < request.finish
+pub rate_before : (rules : PolicyNumbers) (requests : List Served) (request : Served) (u : ℕ) → 0 < rules.every → u < request.finish
     → rate_at rules requests u ≡ rate_at rules (requests ++ request ∷ []) u
 rate_before rules requests request u some before =
     rw (
@@ -151,7 +152,7 @@ rate_before rules requests request u some before =
       rate_after-more rules (samples requests) (sample request ∷ []) (done requests u / rules.every) (quotient_within rules requests u some),
     ) refl
 
-stands_admitted : (rules : Rules) (past : List Decided) (b next : bucket.Standing) (reached : ℕ) (offer : Offer) (finish : ℕ)
+stands_admitted : (rules : PolicyNumbers) (past : List Decided) (b next : bucket.Standing) (reached : ℕ) (offer : Offer) (finish : ℕ)
     → TierBucketAfter rules past b reached → b.tick ≡ offer.tick → next ≡ after b (TryTake true) → 0 < rules.every
     → offer.tick < finish → TOKEN ≤ b.credit
     → TierBucketAfter rules (past ++ record { offer = offer; decision = Admitted finish } ∷ []) next reached
@@ -222,13 +223,13 @@ pub enough_of : (held credit : ℕ) → (IsTrue true ↔ (TOKEN ≤ credit)) →
 enough_of held credit taken is = let enough : TOKEN ≤ credit = taken.0 refl in omega arith
 
 -- the decision
-pub decision_rejected : (rules : Rules) (past : List Decided) (b : bucket.Standing) (reached free tick service : ℕ)
+pub decision_rejected : (rules : PolicyNumbers) (past : List Decided) (b : bucket.Standing) (reached free tick service : ℕ)
     → TierBucketAfter rules past b reached → b.tick ≡ tick → b.credit < TOKEN → Rejected ≡ decision_after rules past free tick service
 decision_rejected rules past b reached free tick service stands at short =
     let there : credit rules past tick ≡ b.credit = credit_there rules past b reached tick stands at in
     sym (rw (lt-leb TOKEN (credit rules past tick) (rw there short)) refl)
 
-pub decision_admitted : (rules : Rules) (past : List Decided) (b : bucket.Standing) (reached free tick service finish : ℕ)
+pub decision_admitted : (rules : PolicyNumbers) (past : List Decided) (b : bucket.Standing) (reached free tick service finish : ℕ)
     → TierBucketAfter rules past b reached → b.tick ≡ tick → TOKEN ≤ b.credit → finish ≡ max free tick + service
     → Admitted finish ≡ decision_after rules past free tick service
 decision_admitted rules past b reached free tick service finish stands at enough is =

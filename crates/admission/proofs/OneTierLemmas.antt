@@ -1,14 +1,15 @@
 -- Offers of one tier alone are decided as before there were tiers.
 use Rattle.std.proofs.Common.{◌≡◌, List, [], ◌∷◌, ◌++◌, refl, ◌∙◌, ap}
-use Rattle.admission.specs.Reference.{Rules, rules_of, Offer, Decided, of_tier, decided_next, decided_from}
+use Rattle.admission.specs.declared.policy.PolicyNumbers.{PolicyNumbers}
+use Rattle.admission.specs.Reference.{rules_of, Offer, Decided, of_tier, decided_next, decided_from}
 use Rattle.admission.specs.OneTier.{decided_alone_next, decided_alone_from, AreOfTier, OneTierAsBefore}
 use Rattle.admission.proofs.RequestLemmas.{of_tier-same, of_tier-none}
 
-next_alone : (policies : List Rules) (past : List Decided) (offer : Offer) → offer.tier ≡ 0 → of_tier 0 past ≡ past
+next_alone : (policies : List PolicyNumbers) (past : List Decided) (offer : Offer) → offer.tier ≡ 0 → of_tier 0 past ≡ past
     → decided_next policies past offer ≡ decided_alone_next (rules_of policies 0) past offer
 next_alone policies past offer at all = rw (at, all) refl
 
-from_alone : (policies : List Rules) (past : List Decided) (offers : List Offer) → AreOfTier 0 offers → of_tier 0 past ≡ past
+from_alone : (policies : List PolicyNumbers) (past : List Decided) (offers : List Offer) → AreOfTier 0 offers → of_tier 0 past ≡ past
     → (decided_from policies past offers ≡ decided_alone_from (rules_of policies 0) past offers)
     × (of_tier 0 (decided_from policies past offers) ≡ decided_alone_from (rules_of policies 0) past offers)
 unfolding decided_from decided_alone_from AreOfTier

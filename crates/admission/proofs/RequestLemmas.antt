@@ -4,12 +4,13 @@ use Rattle.std.specs.Prelude.{filter, sum_by, count_by, slice_index}
 use Rattle.std.proofs.lemmas.List.Sums.{sum_by-cons, sum_by_push}
 use Rattle.std.proofs.lemmas.List.Elements.{filter-append}
 use Rattle.std.proofs.lemmas.Bool.{le-leb, lt-leb, cases_lt, eq-eqb, ne_eqb}
-use Rattle.admission.specs.Reference.{Rules, Offer, Decided, of_tier, as_served, served, last_finish, decided_next, decided_from, tick_from}
+use Rattle.admission.specs.declared.policy.PolicyNumbers.{PolicyNumbers}
+use Rattle.admission.specs.Reference.{Offer, Decided, of_tier, as_served, served, last_finish, decided_next, decided_from, tick_from}
 use Rattle.admission.specs.After.{IsRising}
 
 -- ---- the lists
 
-pub decided_from-push : (policies : List Rules) (past : List Decided) (offers : List Offer) (offer : Offer)
+pub decided_from-push : (policies : List PolicyNumbers) (past : List Decided) (offers : List Offer) (offer : Offer)
     → decided_from policies past (offers ++ offer ∷ [])
     ≡ decided_from policies past offers ++ decided_next policies (decided_from policies past offers) offer ∷ []
 unfolding decided_from

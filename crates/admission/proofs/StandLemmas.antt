@@ -9,8 +9,9 @@ use Rattle.token_bucket.specs.Calls.{Advance, SetRate}
 use Rattle.token_bucket.specs.Running.{after}
 use Rattle.token_bucket.specs.Standing as bucket
 use Rattle.token_bucket.proofs.AccrualLemmas.{accrual-constant}
+use Rattle.admission.specs.declared.policy.PolicyNumbers.{PolicyNumbers}
 use Rattle.admission.specs.declared.control.Control.{Control}
-use Rattle.admission.specs.Reference.{Rules, Decided, Served, served, samples, finishes, done, rate_after, rate_at, control_at, controls_of, credit}
+use Rattle.admission.specs.Reference.{Decided, Served, served, samples, finishes, done, rate_after, rate_at, control_at, controls_of, credit}
 use Rattle.admission.specs.Standing.{RiseWithin}
 use Rattle.admission.specs.Running.{passing, passed}
 use Rattle.admission.specs.After.{IsRising, TierBucketAfter}
@@ -22,7 +23,7 @@ use Rattle.admission.proofs.PassLemmas.{passing-none, passing-next, passing-stop
 -- ---- how many controls are in force
 
 -- from a tick on, before the next control's instant, no further control comes into force
-in_force_before : (rules : Rules) (requests : List Served) (hi t u j : ℕ) → 0 < rules.every → IsRising 0 hi (finishes requests)
+in_force_before : (rules : PolicyNumbers) (requests : List Served) (hi t u j : ℕ) → 0 < rules.every → IsRising 0 hi (finishes requests)
     → j ≡ done requests t / rules.every → t ≤ u
     → suc j * rules.every ≤ length requests → u < slice_index (finishes requests) (suc j * rules.every - 1)
     → done requests u / rules.every ≡ j
@@ -38,7 +39,7 @@ in_force_before rules requests hi t u j some rising at later within before =
     omega arith
 
 -- where no further control was made
-in_force_last : (rules : Rules) (requests : List Served) (t u j : ℕ) → 0 < rules.every
+in_force_last : (rules : PolicyNumbers) (requests : List Served) (t u j : ℕ) → 0 < rules.every
     → j ≡ done requests t / rules.every → t ≤ u → length requests / rules.every ≤ j
     → done requests u / rules.every ≡ j
 in_force_last rules requests t u j some at later last =
@@ -54,7 +55,7 @@ in_force_last rules requests t u j some at later last =
     omega arith
 
 -- at its instant a control comes into force
-in_force_at : (rules : Rules) (requests : List Served) (hi j : ℕ) → 0 < rules.every → IsRising 0 hi (finishes requests)
+in_force_at : (rules : PolicyNumbers) (requests : List Served) (hi j : ℕ) → 0 < rules.every → IsRising 0 hi (finishes requests)
     → suc j * rules.every ≤ length requests
     → done requests (slice_index (finishes requests) (suc j * rules.every - 1)) / rules.every ≡ suc j
 in_force_at rules requests hi j some rising within =
@@ -82,7 +83,7 @@ untaken : (full x : ℕ) → min full (x - 0) ≡ min full x
 untaken full x = omega arith
 
 -- a bucket that time passes for at one rate has the credit of that tick
-credit_later : (rules : Rules) (past : List Decided) (b : bucket.Standing) (reached tick : ℕ) → TierBucketAfter rules past b reached
+credit_later : (rules : PolicyNumbers) (past : List Decided) (b : bucket.Standing) (reached tick : ℕ) → TierBucketAfter rules past b reached
     → b.tick ≤ tick → ((u : ℕ) → b.tick ≤ u → u < tick → done (served past) u / rules.every ≡ reached)
     → (after b (Advance tick)).credit ≡ credit rules past tick
 credit_later rules past b reached tick stands later same =
@@ -98,7 +99,7 @@ credit_later rules past b reached tick stands later same =
     (untaken (rules.depth * TOKEN) (b.credit + b.rate * (tick - b.tick)))
 
 -- where no control is reached
-stands_stop : (rules : Rules) (past : List Decided) (b : bucket.Standing) (reached tick : ℕ) → TierBucketAfter rules past b reached
+stands_stop : (rules : PolicyNumbers) (past : List Decided) (b : bucket.Standing) (reached tick : ℕ) → TierBucketAfter rules past b reached
     → b.tick ≤ tick → ((u : ℕ) → b.tick ≤ u → u ≤ tick → done (served past) u / rules.every ≡ reached)
     → TierBucketAfter rules past (after b (Advance tick)) reached
 stands_stop rules past b reached tick stands later same = record {
@@ -113,7 +114,7 @@ still : (full credit rate i : ℕ) → credit ≤ full → min full (credit + ra
 still full credit rate i within = let none : i - i ≡ 0 = omega arith in rw none (omega arith)
 
 -- where the next control is reached
-stands_reach : (rules : Rules) (past : List Decided) (b : bucket.Standing) (reached instant rate : ℕ) → TierBucketAfter rules past b reached
+stands_reach : (rules : PolicyNumbers) (past : List Decided) (b : bucket.Standing) (reached instant rate : ℕ) → TierBucketAfter rules past b reached
     → b.tick ≤ instant → ((u : ℕ) → b.tick ≤ u → u < instant → done (served past) u / rules.every ≡ reached)
     → done (served past) instant / rules.every ≡ suc reached → rate ≡ rate_after rules (samples (served past)) (suc reached)
     → TierBucketAfter rules past (after (after b (Advance instant)) (SetRate rate)) (suc reached)
@@ -155,7 +156,7 @@ one_more : (j : ℕ) → 1 + j ≡ suc j
 one_more j = omega arith
 
 -- a bucket that passes them stands as the requests so far leave it at the new tick
-pub stands_passing : (rules : Rules) (past : List Decided) (hi : ℕ) (pending : List Control) (b : bucket.Standing) (j tick rise : ℕ)
+pub stands_passing : (rules : PolicyNumbers) (past : List Decided) (hi : ℕ) (pending : List Control) (b : bucket.Standing) (j tick rise : ℕ)
     → 0 < rules.every → IsRising 0 hi (finishes (served past)) → drop j (controls_of rules (served past)) ≡ pending
     → RiseWithin b.tick rise pending → b.tick ≤ tick → TierBucketAfter rules past b j
     → TierBucketAfter rules past (passing b pending tick) (j + passed pending tick)

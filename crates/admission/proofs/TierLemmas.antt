@@ -6,12 +6,13 @@ use Rattle.std.proofs.lemmas.List.{map-append, length-set}
 use Rattle.std.proofs.lemmas.Option.{get_or_from_slice_get}
 use Rattle.token_bucket.specs.Reference.{TOKEN}
 use Rattle.token_bucket.specs.Limits.{MAX_TICK}
+use Rattle.admission.specs.declared.policy.PolicyNumbers.{PolicyNumbers}
 use Rattle.admission.specs.Limits.{MAX_OFFERS, MAX_SERVICE}
 use Rattle.admission.specs.declared.control.Control.{Control}
 use Rattle.admission.specs.declared.control.Decision.{Decision}
 use Rattle.admission.specs.declared.control.Outlook.{Outlook}
 use Rattle.admission.specs.declared.control.Decision.TheVariants.{Admitted, Rejected}
-use Rattle.admission.specs.Reference.{Rules, no_rules, rules_of, Offer, Decided, Served, of_tier, served, last_finish, finish_after, controls_until, credit, decide, decided_from, decided, tick_from}
+use Rattle.admission.specs.Reference.{no_rules, rules_of, Offer, Decided, Served, of_tier, served, last_finish, finish_after, controls_until, credit, decide, decided_from, decided, tick_from}
 use Rattle.admission.specs.Decisions.{outlook}
 use Rattle.admission.specs.Standing.{TierStanding, Standing, policies_of, IsShare, IsSound}
 use Rattle.admission.specs.Running.{decision_after, free_after}
@@ -174,7 +175,7 @@ four_new a b c d na nb nc nd (suc (suc zero)) t at = rw (sym (same_some c t at))
 four_new a b c d na nb nc nd (suc (suc (suc zero))) t at = rw (sym (same_some d t at)) nd
 four_new a b c d na nb nc nd (suc (suc (suc (suc i)))) t at = absurd (cc)
 
-pub four_rules : (policies : List Rules) (a b c d e f g h : Rules) → length policies ≡ 4
+pub four_rules : (policies : List PolicyNumbers) (a b c d e f g h : PolicyNumbers) → length policies ≡ 4
     → a ≡ slice_index_or policies 0 e → b ≡ slice_index_or policies 1 f
     → c ≡ slice_index_or policies 2 g → d ≡ slice_index_or policies 3 h
     → a ∷ b ∷ c ∷ d ∷ [] ≡ policies
@@ -206,7 +207,7 @@ started_fits ts news = record {
   tiers = λ i t at. rw (of_tier-none i) (news i t at).0;
 }
 
-pub started_policies : (policies : List Rules) (ts : List TierStanding) → map (λ (t : TierStanding). t.rules) ts ≡ policies
+pub started_policies : (policies : List PolicyNumbers) (ts : List TierStanding) → map (λ (t : TierStanding). t.rules) ts ≡ policies
     → policies_of (started ts) ≡ policies
 unfolding policies_of
 started_policies policies ts rules = rules

@@ -5,8 +5,9 @@ use Rattle.std.specs.List.{range_with_len}
 use Rattle.std.proofs.lemmas.Bool.{cases_lt, le-leb, lt-leb}
 use Rattle.std.proofs.lemmas.List.Sums.{count_by-le-length}
 use Rattle.token_bucket.specs.Standing as bucket
+use Rattle.admission.specs.declared.policy.PolicyNumbers.{PolicyNumbers}
 use Rattle.admission.specs.declared.control.Control.{Control}
-use Rattle.admission.specs.Reference.{Rules, Decided, Served, served, finishes, done, control_at, controls_of, controls_until}
+use Rattle.admission.specs.Reference.{Decided, Served, served, finishes, done, control_at, controls_of, controls_until}
 use Rattle.admission.specs.Standing.{TierStanding}
 use Rattle.admission.specs.After.{IsRising, BucketFits, TierFits}
 use Rattle.admission.proofs.ControlLemmas.{fits_quotient, quotient_fits, length-finishes}
@@ -30,7 +31,7 @@ product_some : (k e : ℕ) → 0 < e → 1 ≤ k → 1 ≤ k * e
 product_some k e some first = let e_le : e ≤ k * e = grind arith in omega arith
 
 -- a control in force has its instant after it
-reached : (rules : Rules) (requests : List Served) (hi tick k : ℕ) → 0 < rules.every → IsRising 0 hi (finishes requests)
+reached : (rules : PolicyNumbers) (requests : List Served) (hi tick k : ℕ) → 0 < rules.every → IsRising 0 hi (finishes requests)
     → 1 ≤ k → k ≤ done requests tick / rules.every → (control_at rules requests k).instant ≤ tick
 reached rules requests hi tick k some rising first within =
     let fit : k * rules.every ≤ done requests tick = quotient_fits k rules.every (done requests tick) some within in
@@ -47,7 +48,7 @@ reached rules requests hi tick k some rising first within =
     ]
 
 -- any other has it ahead
-ahead : (rules : Rules) (requests : List Served) (hi tick k : ℕ) → 0 < rules.every → IsRising 0 hi (finishes requests)
+ahead : (rules : PolicyNumbers) (requests : List Served) (hi tick k : ℕ) → 0 < rules.every → IsRising 0 hi (finishes requests)
     → done requests tick / rules.every < k → k ≤ length requests / rules.every → tick < (control_at rules requests k).instant
 ahead rules requests hi tick k some rising above within =
     let fit : k * rules.every ≤ length requests = quotient_fits k rules.every (length requests) some within in
@@ -62,7 +63,7 @@ ahead rules requests hi tick k some rising above within =
           absurd (omega arith)
     ]
 
-pub until_is : (rules : Rules) (requests : List Served) (hi tick : ℕ) → 0 < rules.every → IsRising 0 hi (finishes requests)
+pub until_is : (rules : PolicyNumbers) (requests : List Served) (hi tick : ℕ) → 0 < rules.every → IsRising 0 hi (finishes requests)
     → controls_until rules requests tick ≡ take (done requests tick / rules.every) (controls_of rules requests)
 until_is rules requests hi tick some rising =
     filter_first (λ (c : Control). nat_le c.instant tick) (control_at rules requests) 1 (length requests / rules.every)

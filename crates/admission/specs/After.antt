@@ -4,7 +4,8 @@ use Rattle.token_bucket.specs.Reference.{TOKEN, accrual}
 use Rattle.token_bucket.specs.Calls.{Past}
 use Rattle.token_bucket.specs.After as calls
 use Rattle.token_bucket.specs.Standing as bucket
-use Rattle.admission.specs.Reference.{Rules, Offer, Decided, of_tier, is_admitted, is_rejected, served, finishes}
+use Rattle.admission.specs.declared.policy.PolicyNumbers.{PolicyNumbers}
+use Rattle.admission.specs.Reference.{Offer, Decided, of_tier, is_admitted, is_rejected, served, finishes}
 use Rattle.admission.specs.Reference.{samples, last_finish, done, controls_of, rate_after, rate_at, credit, decided}
 use Rattle.admission.specs.Reference.{tick_from}
 use Rattle.admission.specs.Window.{window_of}
@@ -26,7 +27,7 @@ AllCovered rate full tick (request ∷ requests) =
 
 -- the bucket of a tier stands as these requests of the tier left it: the controls that its clock has reached are those
 -- in force, its rate is theirs, and its credit that of a request which comes now
-pub record TierBucketAfter (rules : Rules) (past : List Decided) (b : bucket.Standing) (reached : ℕ) : Type 0 where
+pub record TierBucketAfter (rules : PolicyNumbers) (past : List Decided) (b : bucket.Standing) (reached : ℕ) : Type 0 where
   pub depth : b.depth ≡ rules.depth
   pub rate : b.rate ≡ rate_after rules (samples (served past)) reached
   pub credit : b.credit ≡ credit rules past b.tick
@@ -34,7 +35,7 @@ pub record TierBucketAfter (rules : Rules) (past : List Decided) (b : bucket.Sta
   pub covered : AllCovered (rate_at rules (served past)) (rules.depth * TOKEN) b.tick past
 
 -- so it stands after some calls on it
-pub record BucketFits (rules : Rules) (past : List Decided) (b : bucket.Standing) (reached : ℕ) : Type 0 where
+pub record BucketFits (rules : PolicyNumbers) (past : List Decided) (b : bucket.Standing) (reached : ℕ) : Type 0 where
   pub past_calls : Past
   pub fits : calls.BucketAfter past_calls b
   pub stands : TierBucketAfter rules past b reached

@@ -1,14 +1,15 @@
 -- What follows from the definitions.
 use Rattle.std.specs.Prelude.{◌≡◌, ℕ, ◌+◌, ◌-◌, ◌*◌, ◌<◌, ◌≤◌, min, max, List, [], ◌∷◌, ◌++◌, map, if◌then◌else◌}
 use Rattle.token_bucket.specs.Reference.{TOKEN, accrual}
+use Rattle.admission.specs.declared.policy.PolicyNumbers.{PolicyNumbers}
 use Rattle.admission.specs.declared.control.Decision.TheVariants.{Rejected}
-use Rattle.admission.specs.Reference.{Rules, rules_of, Offer, Decided, Served, of_tier, served, last_finish}
+use Rattle.admission.specs.Reference.{rules_of, Offer, Decided, Served, of_tier, served, last_finish}
 use Rattle.admission.specs.Reference.{is_admitted, control_at, rate_at, credit, decide, decided}
 use Rattle.admission.specs.Rules.{IsInRange}
 
 -- the decisions on the first offers are the first decisions
 abbrev pub DecisionsBegin : Type 0
-DecisionsBegin = (policies : List Rules) (offers more : List Offer)
+DecisionsBegin = (policies : List PolicyNumbers) (offers more : List Offer)
     → (rest : List Decided) × (decided policies (offers ++ more) ≡ decided policies offers ++ rest)
 
 abbrev pub and_rejected : List Decided → Offer → List Decided
@@ -17,7 +18,7 @@ and_rejected past rejected = past ++ record { offer = rejected; decision = Rejec
 -- a rejected offer, of whatever tier, changes nothing that a later one sees: no request is served, in any tier no
 -- sample, control or rate is another (they are those of its served requests) and no credit is, and so no decision is
 abbrev pub RejectedLeavesAll : Type 0
-RejectedLeavesAll = (policies : List Rules) (past : List Decided) (rejected offer : Offer) (tier tick : ℕ)
+RejectedLeavesAll = (policies : List PolicyNumbers) (past : List Decided) (rejected offer : Offer) (tier tick : ℕ)
     → (served (and_rejected past rejected) ≡ served past)
     × (served (of_tier tier (and_rejected past rejected)) ≡ served (of_tier tier past))
     × (credit (rules_of policies tier) (of_tier tier (and_rejected past rejected)) tick
@@ -27,12 +28,12 @@ RejectedLeavesAll = (policies : List Rules) (past : List Decided) (rejected offe
 -- an offer of another tier, whatever becomes of it, leaves the requests of this tier as they were, and with them each
 -- credit, rate, sample and control of this tier
 abbrev pub OtherTiersLeave : Type 0
-OtherTiersLeave = (policies : List Rules) (offers : List Offer) (offer : Offer) (tier : ℕ) → (offer.tier ≡ tier → ⊥)
+OtherTiersLeave = (policies : List PolicyNumbers) (offers : List Offer) (offer : Offer) (tier : ℕ) → (offer.tier ≡ tier → ⊥)
     → of_tier tier (decided policies (offers ++ offer ∷ [])) ≡ of_tier tier (decided policies offers)
 
 -- each rate lies between the least and the greatest
 abbrev pub RatesWithin : Type 0
-RatesWithin = (rules : Rules) (requests : List Served) (tick : ℕ) → IsInRange rules
+RatesWithin = (rules : PolicyNumbers) (requests : List Served) (tick : ℕ) → IsInRange rules
     → (rules.rate_min ≤ rate_at rules requests tick) × (rate_at rules requests tick ≤ rules.rate_max)
 
 -- a finish is the later of the finish before it and its request's arrival, with its service: finishes never
@@ -45,7 +46,7 @@ FinishRuns = (offers : List Offer) (offer : Offer)
 
 -- the rate in force before a request's finish does not depend on that request
 abbrev pub RateBefore : Type 0
-RateBefore = (rules : Rules) (requests : List Served) (request : Served) (tick : ℕ) → IsInRange rules
+RateBefore = (rules : PolicyNumbers) (requests : List Served) (request : Served) (tick : ℕ) → IsInRange rules
     → tick < request.finish → rate_at rules (requests ++ request ∷ []) tick ≡ rate_at rules requests tick
 
 -- ---- one step from what is carried
@@ -70,17 +71,17 @@ RunsTo before (request ∷ requests) last =
 -- the finishes of the admitted requests of all tiers run so from 0 to the finish after which the next one is served,
 -- of whatever tier it is
 abbrev pub FinishFromFinish : Type 0
-FinishFromFinish = (policies : List Rules) (offers : List Offer)
+FinishFromFinish = (policies : List PolicyNumbers) (offers : List Offer)
     → RunsTo 0 (served (decided policies offers)) (last_finish (map (λ r. r.offer) (served (decided policies offers))))
 
 -- the first offered request of a tier finds a full bucket, whenever it comes and whatever other tiers were offered
 abbrev pub FirstCredit : Type 0
-FirstCredit = (policies : List Rules) (offers : List Offer) (tier tick : ℕ) → AreOfOthers tier offers
+FirstCredit = (policies : List PolicyNumbers) (offers : List Offer) (tier tick : ℕ) → AreOfOthers tier offers
     → credit (rules_of policies tier) (of_tier tier (decided policies offers)) tick
     ≡ (rules_of policies tier).depth * TOKEN
 
 -- the credit of a tier after an offer of that tier, by the tier's rules
-abbrev pub CreditAfter : Rules → List Rules → List Offer → Offer → ℕ → Type 0
+abbrev pub CreditAfter : PolicyNumbers → List PolicyNumbers → List Offer → Offer → ℕ → Type 0
 CreditAfter rules policies offers offer tick =
     credit rules (of_tier offer.tier (decided policies (offers ++ offer ∷ []))) tick
     ≡ min (rules.depth * TOKEN)
@@ -90,13 +91,13 @@ CreditAfter rules policies offers offer tick =
 
 -- it is that of the offer, without the token that it took, and with what accrues from it on, up to the depth
 abbrev pub CreditFromCredit : Type 0
-CreditFromCredit = (policies : List Rules) (offers : List Offer) (offer : Offer) (tick : ℕ)
+CreditFromCredit = (policies : List PolicyNumbers) (offers : List Offer) (offer : Offer) (tick : ℕ)
     → IsInRange (rules_of policies offer.tier) → AreOffered 0 (offers ++ offer ∷ []) → offer.tick ≤ tick
     → CreditAfter (rules_of policies offer.tier) policies offers offer tick
 
 -- what accrues from one tick to another falls into what accrues up to a control between them and from it on
 abbrev pub AccrualSplitsAtControl : Type 0
-AccrualSplitsAtControl = (rules : Rules) (requests : List Served) (k s t : ℕ)
+AccrualSplitsAtControl = (rules : PolicyNumbers) (requests : List Served) (k s t : ℕ)
     → s ≤ (control_at rules requests k).instant → (control_at rules requests k).instant ≤ t
     → accrual (rate_at rules requests) s t
     ≡ accrual (rate_at rules requests) s (control_at rules requests k).instant
@@ -105,7 +106,7 @@ AccrualSplitsAtControl = (rules : Rules) (requests : List Served) (k s t : ℕ)
 -- the rate of a tier in force at a tick that no further offer of any tier comes before depends on the offers so far
 -- alone
 abbrev pub RateFromOffersBefore : Type 0
-RateFromOffersBefore = (policies : List Rules) (offers more : List Offer) (tier tick : ℕ)
+RateFromOffersBefore = (policies : List PolicyNumbers) (offers more : List Offer) (tier tick : ℕ)
     → IsInRange (rules_of policies tier) → AreOffered tick more
     → rate_at (rules_of policies tier) (served (of_tier tier (decided policies (offers ++ more)))) tick
     ≡ rate_at (rules_of policies tier) (served (of_tier tier (decided policies offers))) tick

@@ -12,11 +12,8 @@ use Rattle.token_bucket.specs.Reference.{TOKEN, accrual}
 
 -- The numbers of a policy, and their ranges.
 
-abbrev pub Rules : Type 0
-Rules = PolicyNumbers
-
 -- the rules of a tier that has no policy
-abbrev pub no_rules : Rules
+abbrev pub no_rules : PolicyNumbers
 no_rules = record {
   window = 0;
   every = 0;
@@ -32,7 +29,7 @@ no_rules = record {
 }
 
 -- the rules of a tier, among the policies in the order of their tiers
-unfoldable pub rules_of : List Rules → ℕ → Rules
+unfoldable pub rules_of : List PolicyNumbers → ℕ → PolicyNumbers
 rules_of policies tier = slice_index_or policies tier no_rules
 
 -- Requests that are offered, decided and served.
@@ -120,33 +117,33 @@ percentile samples = slice_get (sorted samples) (rank (length samples) - 1)
 -- The controls of served requests, and the rate in force.
 
 -- the 90th percentile at control k: of the last samples, at most a window of them, of the first k times `every`
-abbrev pub percentile_at : Rules → List ℕ → ℕ → ℕ
+abbrev pub percentile_at : PolicyNumbers → List ℕ → ℕ → ℕ
 percentile_at rules taken k = unwrap_or (percentile (keep_last rules.window (take (k * rules.every) taken))) 0
 
 -- the smoothed percentile after a control: `smoothing` thousandths of the one before it, the rest of its own, rounded
 -- down
-abbrev pub smoother : Rules → ℕ → ℕ → ℕ
+abbrev pub smoother : PolicyNumbers → ℕ → ℕ → ℕ
 smoother rules before own = (rules.smoothing * before + (1000 - rules.smoothing) * own) / 1000
 
-unfoldable pub smoothed_at : Rules → List ℕ → ℕ → ℕ
+unfoldable pub smoothed_at : PolicyNumbers → List ℕ → ℕ → ℕ
 smoothed_at rules taken zero = 0
 smoothed_at rules taken (suc k) = smoother rules (smoothed_at rules taken k) (percentile_at rules taken (suc k))
 
 -- the rate after a control: divided where the smoothed percentile is above the target, raised where it is
 -- below the low mark, within rate_min and rate_max
-abbrev pub adjusted : Rules → ℕ → ℕ → ℕ
+abbrev pub adjusted : PolicyNumbers → ℕ → ℕ → ℕ
 adjusted rules smoothed rate =
     if nat_lt rules.target smoothed then (max rules.rate_min (100 * rate / rules.down))
     else (if nat_lt (100 * smoothed) (rules.low * rules.target) then (min rules.rate_max (rate + rules.up))
     else rate)
 
 -- the rate after k controls
-unfoldable pub rate_after : Rules → List ℕ → ℕ → ℕ
+unfoldable pub rate_after : PolicyNumbers → List ℕ → ℕ → ℕ
 rate_after rules taken zero = rules.rate
 rate_after rules taken (suc k) = adjusted rules (smoothed_at rules taken (suc k)) (rate_after rules taken k)
 
 -- control k, counted from 1, stands at the finish of request k times `every`
-abbrev pub control_at : Rules → List Served → ℕ → Control
+abbrev pub control_at : PolicyNumbers → List Served → ℕ → Control
 control_at rules requests k = record {
   instant = slice_index (finishes requests) (k * rules.every - 1);
   percentile = percentile_at rules (samples requests) k;
@@ -155,15 +152,15 @@ control_at rules requests k = record {
 }
 
 -- the controls of these requests
-abbrev pub controls_of : Rules → List Served → List Control
+abbrev pub controls_of : PolicyNumbers → List Served → List Control
 controls_of rules requests = map (control_at rules requests) (range_with_len 1 (length requests / rules.every))
 
 -- those whose instant is at most this tick
-abbrev pub controls_until : Rules → List Served → ℕ → List Control
+abbrev pub controls_until : PolicyNumbers → List Served → ℕ → List Control
 controls_until rules requests tick = filter (λ c. nat_le c.instant tick) (controls_of rules requests)
 
 -- the rate in force at tick u: that of the last control whose requests are finished
-abbrev pub rate_at : Rules → List Served → ℕ → ℕ
+abbrev pub rate_at : PolicyNumbers → List Served → ℕ → ℕ
 rate_at rules requests u = rate_after rules (samples requests) (done requests u / rules.every)
 
 -- What a controller keeps of the offers so far.
@@ -188,24 +185,24 @@ least_balance rate full tick (request ∷ requests) =
     min (balance rate full tick request requests) (least_balance rate full tick requests)
 
 -- the credit in units of a request that is offered at `tick` after these of its tier
-abbrev pub credit : Rules → List Decided → ℕ → ℕ
+abbrev pub credit : PolicyNumbers → List Decided → ℕ → ℕ
 credit rules past tick = least_balance (rate_at rules (served past)) (rules.depth * TOKEN) tick past
 
 -- a request is admitted exactly where its credit, by the rules of its tier over the requests of its tier, holds a
 -- token; it is served after the admitted requests of all tiers
-abbrev pub decide : List Rules → List Decided → Offer → Decision
+abbrev pub decide : List PolicyNumbers → List Decided → Offer → Decision
 decide policies past offer =
     if nat_le TOKEN (credit (rules_of policies offer.tier) (of_tier offer.tier past) offer.tick)
     then (Admitted (finish_after (served past) offer)) else Rejected
 
-abbrev pub decided_next : List Rules → List Decided → Offer → Decided
+abbrev pub decided_next : List PolicyNumbers → List Decided → Offer → Decided
 decided_next policies past offer = record { offer = offer; decision = decide policies past offer }
 
 -- each offer in turn, decided by those before it
-unfoldable pub decided_from : List Rules → List Decided → List Offer → List Decided
+unfoldable pub decided_from : List PolicyNumbers → List Decided → List Offer → List Decided
 decided_from policies past [] = past
 decided_from policies past (offer ∷ offers) =
     decided_from policies (past ++ decided_next policies past offer ∷ []) offers
 
-abbrev pub decided : List Rules → List Offer → List Decided
+abbrev pub decided : List PolicyNumbers → List Offer → List Decided
 decided policies offers = decided_from policies [] offers

@@ -7,10 +7,11 @@ use Rattle.token_bucket.specs.Reference.{TOKEN}
 use Rattle.token_bucket.specs.Calls.{Advance, SetRate}
 use Rattle.token_bucket.specs.Running.{after}
 use Rattle.token_bucket.specs.Standing as bucket
+use Rattle.admission.specs.declared.policy.PolicyNumbers.{PolicyNumbers}
 use Rattle.admission.specs.declared.control.Control.{Control}
 use Rattle.admission.specs.declared.control.Decision.{Decision}
 use Rattle.admission.specs.declared.control.Decision.TheVariants.{Admitted, Rejected}
-use Rattle.admission.specs.Reference.{Rules, Decided, percentile, smoother, adjusted, credit}
+use Rattle.admission.specs.Reference.{Decided, percentile, smoother, adjusted, credit}
 use Rattle.admission.specs.Window.{with_sample}
 use Rattle.admission.specs.Standing.{TierStanding}
 
@@ -29,11 +30,11 @@ passed pending tick = prefix_len (λ c. nat_le c.instant tick) pending
 abbrev pub last_smoothed : List Control → ℕ
 last_smoothed controls = unwrap_or (option_map (λ c. c.smoothed) (last_item controls)) 0
 
-abbrev pub last_rate : Rules → List Control → ℕ
+abbrev pub last_rate : PolicyNumbers → List Control → ℕ
 last_rate rules controls = unwrap_or (option_map (λ c. c.rate) (last_item controls)) rules.rate
 
 -- the control after these, from its instant and its percentile
-abbrev pub next_control : Rules → List Control → ℕ → ℕ → Control
+abbrev pub next_control : PolicyNumbers → List Control → ℕ → ℕ → Control
 next_control rules controls instant own = record {
   instant = instant;
   percentile = own;
@@ -42,7 +43,7 @@ next_control rules controls instant own = record {
 }
 
 -- the controls with one more, where that many admitted requests make one due
-abbrev pub with_due : Rules → List Control → List ℕ → ℕ → ℕ → List Control
+abbrev pub with_due : PolicyNumbers → List Control → List ℕ → ℕ → ℕ → List Control
 with_due rules controls samples admitted instant =
     if nat_eq (admitted % rules.every) 0 then
     (controls ++ next_control rules controls instant (unwrap_or (percentile samples) 0) ∷ [])
@@ -65,7 +66,7 @@ when_admitted t b reached finish sample = record {
 }
 
 -- what becomes of a request after these of its tier, where the server is free from some tick on
-abbrev pub decision_after : Rules → List Decided → ℕ → ℕ → ℕ → Decision
+abbrev pub decision_after : PolicyNumbers → List Decided → ℕ → ℕ → ℕ → Decision
 decision_after rules past free tick service =
     if nat_le TOKEN (credit rules past tick) then (Admitted (max free tick + service)) else Rejected
 

@@ -2,15 +2,15 @@
 use Rattle.std.specs.Prelude.{◌≡◌, ℕ, ◌+◌, ◌*◌, ◌≤◌, List, [], ◌∷◌, length, drop, map, Some, slice_get}
 use Rattle.token_bucket.specs.Limits.{MAX_TICK, MAX_RATE}
 use Rattle.token_bucket.specs.Standing as bucket
+use Rattle.admission.specs.declared.policy.PolicyNumbers.{PolicyNumbers}
 use Rattle.admission.specs.Limits.{MAX_OFFERS, MAX_SERVICE}
 use Rattle.admission.specs.declared.control.Control.{Control}
-use Rattle.admission.specs.Reference.{Rules}
 use Rattle.admission.specs.Window.{Window}
 
 -- a tier: its policy's numbers; its bucket; how many of its requests were admitted, and how many rejected; its window;
 -- its controls made so far, and how many of them the bucket's clock has reached
 pub record TierStanding : Type 0 where
-  pub rules : Rules
+  pub rules : PolicyNumbers
   pub bucket : bucket.Standing
   pub admitted : ℕ
   pub rejected : ℕ
@@ -31,7 +31,7 @@ abbrev pub last_tick : Standing → ℕ
 last_tick c = c.tick
 
 -- the policies that a controller was made with, in the order of their tiers
-unfoldable pub policies_of : Standing → List Rules
+unfoldable pub policies_of : Standing → List PolicyNumbers
 policies_of c = map (λ t. t.rules) c.tiers
 
 -- the controls' instants rise from lo up to hi

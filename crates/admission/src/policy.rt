@@ -1,7 +1,7 @@
 //! A policy: how a tier adapts its rate, within checked ranges.
 
 ghost use Rattle.std.specs.Prelude.{◌≡◌, Some, None, IfOk, IfErr, MatchResult};
-ghost use Rattle.admission.specs.Reference.{Rules};
+ghost use Rattle.admission.specs.declared.policy.PolicyNumbers.{PolicyNumbers};
 ghost use Rattle.admission.specs.Rules.{is_within, policy_fault};
 
 use crate::{MAX_DEPTH, MAX_DOWN, MAX_EVERY, MAX_RATE, MAX_TARGET, MAX_UP, MAX_WINDOW, MIN_DOWN};
@@ -59,10 +59,10 @@ pub struct Policy {
 }
 
 impl Model for Policy {
-    ghost use Rattle.admission.specs.Reference.{Rules};
+    ghost use Rattle.admission.specs.declared.policy.PolicyNumbers.{PolicyNumbers};
     ghost use Rattle.admission.specs.Rules.{IsInRange};
 
-    ghost Value = { Rules };
+    ghost Value = { PolicyNumbers };
 
     ghost view = { λ p. p.numbers };
 
@@ -135,7 +135,7 @@ impl Policy {
         low: u64,
         depth: u64,
     ) -> Result<Self, PolicyFault>
-        ensures { let numbers : Rules = record {
+        ensures { let numbers : PolicyNumbers = record {
           window = window;
           every = every;
           smoothing = smoothing;

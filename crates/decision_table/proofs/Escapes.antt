@@ -7,7 +7,7 @@ use Rattle.std.proofs.lemmas.List.Sums.{AllPass-from_list_all}
 use Rattle.percent_encoding.specs.AsciiSet.{should_percent_encode}
 use Rattle.percent_encoding.specs.Percent.{percent_encode, encode_byte, percent_encode_byte}
 use Rattle.decision_table.specs.declared.text.TheConstants.{ESCAPED}
-use Rattle.decision_table.specs.Rows.{stands_as_it_is, text_byte, text_field}
+use Rattle.decision_table.specs.Rows.{stands_as_it_is, text_byte, text_bytes}
 
 same : Bool → Bool → Bool
 same a b = (a && b) || (not a && not b)
@@ -39,6 +39,6 @@ escape_all : (bytes : List ℕ) → ((i : ℕ) → get_or bytes i 0 < 256) → f
 escape_all [] all = refl
 escape_all (b ∷ bytes) all = ap (λ v. v ++ flat_map (encode_byte ESCAPED) bytes) (escape_byte b (all 0)) ∙ ap (λ v. text_byte b ++ v) (escape_all bytes (λ i. all (suc i)))
 
-pub escaped : (bytes : List ℕ) → ((i : ℕ) → get_or bytes i 0 < 256) → percent_encode ESCAPED bytes ≡ text_field bytes
+pub escaped : (bytes : List ℕ) → ((i : ℕ) → get_or bytes i 0 < 256) → percent_encode ESCAPED bytes ≡ text_bytes bytes
 unfolding percent_encode
 escaped bytes all = escape_all bytes all

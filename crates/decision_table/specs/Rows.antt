@@ -1,10 +1,11 @@
 -- A table of decisions: a heading, and a row for each message. Fields stand between commas, and none holds a comma, a
--- quote or the end of a line (RFC 4180, 2).
+-- quote or the end of a line (RFC 4180, 2), nor a semicolon, at which spreadsheets of many countries part cells. No
+-- cell begins as a formula does there.
 use Rattle.std.specs.Prelude.{ℕ, ◌-◌, ◌==◌, ◌&&◌, ◌||◌, not, Bool, List, [], ◌∷◌, ◌++◌, Option, Some, None, codes}
 use Rattle.std.specs.Prelude.{decimal, flat_map, if◌then◌else◌}
 use Rattle.std.specs.Char.{is_ascii_graphic}
 use Rattle.percent_encoding.specs.Percent.{percent_encode_byte}
-use Rattle.paths.specs.Reference.{percent_sign}
+use Rattle.paths.specs.Reference.{hyphen, percent_sign}
 use Rattle.devices.specs.Ascii.{quote, comma}
 use Rattle.admission.specs.declared.control.Decision.{Decision}
 use Rattle.admission.specs.declared.control.Decision.TheVariants.{Admitted, Rejected}
@@ -41,16 +42,37 @@ abbrev pub row_line : Row → List ℕ
 row_line row = number_field row.number ++ number_field row.conn ++ number_field row.tick ++ number_field row.tier
     ++ number_field row.status ++ offered_fields row.tick row.offered
 
--- visible ASCII but the quote, the percent sign and the comma
-abbrev pub stands_as_it_is : ℕ → Bool
-stands_as_it_is b = is_ascii_graphic b && not (b == quote || b == percent_sign || b == comma)
+abbrev pub plus_sign : ℕ
+plus_sign = 43
 
--- bytes as a field: each other byte is `%` and two hexadecimal digits, those above 9 in capitals (RFC 3986, 2.1)
+abbrev pub semicolon : ℕ
+semicolon = 59
+
+abbrev pub equals_sign : ℕ
+equals_sign = 61
+
+abbrev pub at_sign : ℕ
+at_sign = 64
+
+-- visible ASCII but the quote, the percent sign, the comma and the semicolon
+abbrev pub stands_as_it_is : ℕ → Bool
+stands_as_it_is b = is_ascii_graphic b && not (b == quote || b == percent_sign || b == comma || b == semicolon)
+
+-- a byte within a field: each other one is `%` and two hexadecimal digits, those above 9 in capitals (RFC 3986, 2.1)
 abbrev pub text_byte : ℕ → List ℕ
 text_byte b = if stands_as_it_is b then b ∷ [] else percent_encode_byte b
 
+abbrev pub text_bytes : List ℕ → List ℕ
+text_bytes bytes = flat_map text_byte bytes
+
+-- a spreadsheet takes a cell that begins with this byte for a formula
+abbrev pub begins_formula : ℕ → Bool
+begins_formula b = b == equals_sign || b == plus_sign || b == hyphen || b == at_sign
+
+-- bytes as a field: a first byte by which a formula begins is escaped too
 abbrev pub text_field : List ℕ → List ℕ
-text_field bytes = flat_map text_byte bytes
+text_field [] = []
+text_field (b ∷ bytes) = (if begins_formula b then percent_encode_byte b else text_byte b) ++ text_bytes bytes
 
 -- a row, with its method and its target, and a line feed
 abbrev pub row_text : Row → List ℕ → List ℕ → List ℕ

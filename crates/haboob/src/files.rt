@@ -6,10 +6,11 @@ use command_line::{Job, WordFault, read_words};
 use devices::Output;
 use program::{
     Fault, Place, Wanted, inspect_files, run_files, run_program, run_snapshot, settings_files,
-    upgrade_files, write_skipped,
+    shown_name, upgrade_files, words_line, write_skipped,
 };
-use replay::Settings;
+use reference::Settings;
 use settings::{MAX_SETTINGS_BYTES, default_settings, read_settings};
+use std::alloc::{AllocError, Global};
 use std::env;
 use std::fs::File;
 use std::io::{ErrorKind, Read};
@@ -37,6 +38,16 @@ fn arguments_of(rt: &HostRuntime) -> Result<Vec<String>, Fault> {
             Err(Fault::Words(WordFault::Words(text)))
         }
     }
+}
+
+/// What is told of words that aren't taken: what the command says of them as a line shows them. They aren't taken so
+/// either, since a character that is shown as another stands in no word of the command.
+fn told_of_words(alloc: Global, words: &[String], fault: WordFault) -> Result<Fault, AllocError> {
+    let mut shown = Vec::new(alloc);
+    for word in words {
+        shown.push(shown_name(alloc, word.as_str())?)?;
+    }
+    Ok(Fault::Words(read_words(alloc, &shown).err().unwrap_or(fault)))
 }
 
 /// A file that is there, to be read.
@@ -87,11 +98,13 @@ fn bundle(rt: &HostRuntime, standard: Option<Node>) -> Result<(), Fault> {
     run_program(rt.alloc(), rt.stdin(), rt.stdout()).0
 }
 
-/// Writes to standard output the settings of a file, or the default ones without it.
+/// Writes to standard output the settings of a file, or the default ones without it. `words` gets what is to be said
+/// after the line of a fault of the settings.
 fn settings_named(
     rt: &HostRuntime,
     standard: Option<Node>,
     name: Option<&str>,
+    words: &mut Vec<u8>,
 ) -> Result<(), Fault> {
     let (bytes, node) = match name {
         Some(name) => {
@@ -101,7 +114,14 @@ fn settings_named(
         None => (Vec::new(rt.alloc()), None),
     };
     check_standard(standard, &[node], Place::Report)?;
-    settings_files(rt.alloc(), &bytes, rt.stdout()).0
+    let ran = settings_files(rt.alloc(), &bytes, rt.stdout()).0;
+    if let Err(Fault::Settings(fault)) = &ran {
+        // Without memory for the words the line alone tells the fault.
+        if let Ok(line) = words_line(rt.alloc(), &bytes, *fault) {
+            *words = line;
+        }
+    }
+    ran
 }
 
 /// Tells on standard output what a capture file holds.
@@ -131,10 +151,7 @@ fn snapshot_named(rt: &HostRuntime, folder: &str, output: &str, skip: bool) -> R
     let output = Overwritten::open(rt, output, Place::Output, &listing.nodes)?;
     let skipped = run_snapshot(
         rt.alloc(),
-        &FileFolder {
-            root: &root,
-            listing: &listing,
-        },
+        &FileFolder::new(rt, &root, &listing),
         &listing.found,
         skip,
         &mut Output::new(output),
@@ -190,15 +207,24 @@ fn replay_named<T: Threads + Wait + Sync>(
 }
 
 /// Does what the arguments ask for: a run from standard input to standard output, or one over the files that they name.
+/// `words` gets what is to be said after the line of a fault, where the job says more of it.
 ///
 /// Which arguments there are, and what the files hold, is the system's to say: no contract can. Tests do, and
 /// the scripts checks/program_*.py.
-pub fn run_arguments<T: Threads + Wait + Sync>(rt: &HostRuntime, threads: &T) -> Result<(), Fault> {
+pub fn run_arguments<T: Threads + Wait + Sync>(
+    rt: &HostRuntime,
+    threads: &T,
+    words: &mut Vec<u8>,
+) -> Result<(), Fault> {
     let alloc = rt.alloc();
     let arguments = arguments_of(rt)?;
     // Which file it is, before any other can get its number.
     let standard = Node::at(rt, STANDARD_OUTPUT);
-    match read_words(alloc, &arguments)? {
+    let job = match read_words(alloc, &arguments) {
+        Ok(job) => job,
+        Err(fault) => return Err(told_of_words(alloc, &arguments, fault)?),
+    };
+    match job {
         Job::Bundle => bundle(rt, standard),
         Job::Replay {
             snapshot,
@@ -240,6 +266,6 @@ pub fn run_arguments<T: Threads + Wait + Sync>(rt: &HostRuntime, threads: &T) ->
             output,
             skip,
         } => snapshot_named(rt, folder, output, skip),
-        Job::Settings { settings } => settings_named(rt, standard, settings),
+        Job::Settings { settings } => settings_named(rt, standard, settings, words),
     }
 }

@@ -2,9 +2,11 @@
 
 use crate::open_folder::{OpenFolder, Unread};
 use crate::overwritten::Node;
+use devices::Output;
 use paths::MAX_NAME_BYTES;
-use program::{Contents, Fault, FileFault, Folder, Found, Place};
+use program::{Contents, Fault, FileFault, Folder, FolderFault, Found, Place, Unanswered};
 use std::alloc::{AllocError, Global};
+use std::cell::Cell;
 use std::fs::{DirEntry, Metadata, ReadDir};
 use std::io;
 
@@ -45,40 +47,46 @@ fn kind_fault(known: &Metadata) -> Option<FileFault> {
 }
 
 impl Walk {
-    /// Takes what can't be read, or what of a folder can't be; the root's name is empty.
-    fn take_unread(&mut self, name: &str, why: Unread) -> Result<(), AllocError> {
-        let Unread::Fault(fault) = why else {
-            return Err(AllocError);
-        };
-        let name = String::from_str(self.alloc, if name.is_empty() { "./" } else { name })?;
-        let fault = Some(fault);
-        self.found.push((Found { name, fault }, None))?;
-        Ok(())
-    }
-
-    /// Takes a folder. No file below one whose name is too long can be taken, so it isn't read.
-    fn take_folder(&mut self, mut name: String) -> Result<(), AllocError> {
-        name.push('/')?;
-        if name.len() as u64 > MAX_NAME_BYTES {
-            return self.take_unread(&name, Unread::Fault(FileFault::Name));
-        }
-        self.ahead.push(name)?;
-        Ok(())
-    }
-
-    /// Takes what has this name.
-    fn take_known(&mut self, name: String, known: &Metadata) -> Result<(), AllocError> {
-        if known.is_dir() {
-            return self.take_folder(name);
-        }
-        let fault = kind_fault(known);
-        let node = Some(Node::new(known));
+    /// Adds what was found.
+    fn add(
+        &mut self,
+        name: String,
+        fault: Option<FileFault>,
+        node: Option<Node>,
+    ) -> Result<(), AllocError> {
         self.found.push((Found { name, fault }, node))?;
         Ok(())
     }
 
+    /// Takes what can't be read, or what of a folder can't be; the root's name is empty.
+    fn take_unread(&mut self, name: &str, why: Unread) -> Result<(), Unanswered> {
+        let fault = match why {
+            Unread::Fault(fault) => fault,
+            Unread::Unanswered(why) => return Err(why),
+        };
+        let name = String::from_str(self.alloc, if name.is_empty() { "./" } else { name })?;
+        Ok(self.add(name, Some(fault), None)?)
+    }
+
+    /// Takes a folder. No file below one whose name is too long can be taken, so it isn't read.
+    fn take_folder(&mut self, mut name: String) -> Result<(), Unanswered> {
+        name.push('/')?;
+        if name.len() as u64 > MAX_NAME_BYTES {
+            return self.take_unread(&name, Unread::Fault(FileFault::Name));
+        }
+        Ok(self.ahead.push(name).map_err(AllocError::from)?)
+    }
+
+    /// Takes what has this name.
+    fn take_known(&mut self, name: String, known: &Metadata) -> Result<(), Unanswered> {
+        if known.is_dir() {
+            return self.take_folder(name);
+        }
+        Ok(self.add(name, kind_fault(known), Some(Node::new(known)))?)
+    }
+
     /// Takes what a folder has next.
-    fn take(&mut self, folder: &str, entry: io::Result<DirEntry>) -> Result<(), AllocError> {
+    fn take(&mut self, folder: &str, entry: io::Result<DirEntry>) -> Result<(), Unanswered> {
         let entry = match entry {
             Ok(entry) => entry,
             Err(error) => return self.take_unread(folder, Unread::from(error)),
@@ -91,7 +99,7 @@ impl Walk {
     }
 
     /// Takes all that a folder has.
-    fn take_all(&mut self, name: &str, entries: ReadDir) -> Result<(), AllocError> {
+    fn take_all(&mut self, name: &str, entries: ReadDir) -> Result<(), Unanswered> {
         for entry in entries {
             self.take(name, entry)?;
         }
@@ -99,7 +107,7 @@ impl Walk {
     }
 
     /// Takes all that the folder of this name has, which stays open meanwhile.
-    fn take_below(&mut self, root: &OpenFolder, name: &str) -> Result<(), AllocError> {
+    fn take_below(&mut self, root: &OpenFolder, name: &str) -> Result<(), Unanswered> {
         let folder = match root.descend(name) {
             Ok(folder) => folder,
             Err(why) => return self.take_unread(name, why),
@@ -114,7 +122,7 @@ impl Walk {
 /// What it is to the run that the folder itself can't be opened or listed.
 fn root_fault(why: Unread) -> Fault {
     match why {
-        Unread::Memory => Fault::Memory,
+        Unread::Unanswered(why) => Fault::from(why),
         Unread::Fault(_) => Fault::Open(Place::Folder),
     }
 }
@@ -156,14 +164,34 @@ fn in_order(alloc: Global, mut taken: Vec<(Found, Option<Node>)>) -> Result<List
     Ok(listing)
 }
 
+/// How many of the names that are left out are told, each in a line. Of the others there is the count alone.
+const MOST_TOLD: usize = 100;
+
 /// A folder of the system, as it was listed.
-#[derive(Clone, Copy)]
+#[derive(Drop)]
 pub struct FileFolder<'a> {
-    pub root: &'a OpenFolder<'a>,
-    pub listing: &'a Listing,
+    rt: &'a HostRuntime,
+    root: &'a OpenFolder<'a>,
+    listing: &'a Listing,
+    /// How many names that were left out have been told.
+    told: Cell<usize>,
 }
 
 impl<'a> FileFolder<'a> {
+    /// The folder that has this listing.
+    pub fn new(
+        rt: &'a HostRuntime,
+        root: &'a OpenFolder<'a>,
+        listing: &'a Listing,
+    ) -> FileFolder<'a> {
+        FileFolder {
+            rt,
+            root,
+            listing,
+            told: Cell::new(0),
+        }
+    }
+
     /// Which file was listed under this name.
     fn listed(&self, name: &str) -> Option<Node> {
         let found = &self.listing.found;
@@ -182,11 +210,22 @@ impl<'a> Folder for FileFolder<'a> {
     // what a folder of the system may answer, no clause can say
     ghost answers = { λ folder name answer. Unit {0} };
 
-    fn read(&self, name: &str) -> Result<Result<Contents, FileFault>, AllocError> {
+    fn read(&self, name: &str) -> Result<Result<Contents, FileFault>, Unanswered> {
         match self.read_file(name) {
             Ok(contents) => Ok(Ok(contents)),
             Err(Unread::Fault(fault)) => Ok(Err(fault)),
-            Err(Unread::Memory) => Err(AllocError),
+            Err(Unread::Unanswered(why)) => Err(why),
         }
+    }
+
+    fn leave_out(&self, name: &str, fault: FileFault) -> Result<(), AllocError> {
+        let told = self.told.get();
+        if told < MOST_TOLD {
+            self.told.set(told + 1);
+            let named = FolderFault::new(self.rt.alloc(), name, fault)?;
+            // Where standard error can't be written, the snapshot is made all the same.
+            let _ = Fault::Folder(named).write_line(&mut Output::new(self.rt.stderr()));
+        }
+        Ok(())
     }
 }

@@ -5,7 +5,8 @@
 //! decisions in their place, and both a report to standard output; `haboob snapshot` writes the files of a folder as a
 //! snapshot, `haboob inspect` tells what a capture holds, `haboob upgrade` writes one of an older version as one of
 //! version 2, and `haboob settings` writes out the settings that are in force. A fault is reported by one line on
-//! standard error, and by the status that the program ends with.
+//! standard error, after which `haboob settings` says in words what is wrong, and by the status that the program ends
+//! with.
 #![tactic(auto)]
 
 mod files;
@@ -18,11 +19,15 @@ use files::run_arguments;
 use std::process::ExitCode;
 
 fn main(rt: HostRuntime) -> ExitCode {
-    match run_arguments(&rt, &rt) {
+    let mut words = Vec::new(rt.alloc());
+    match run_arguments(&rt, &rt, &mut words) {
         Ok(()) => ExitCode::SUCCESS,
         Err(fault) => {
+            let mut told = Output::new(rt.stderr());
             // Where standard error can't be written either, the status alone reports the fault.
-            let _ = fault.write_line(&mut Output::new(rt.stderr()));
+            if fault.write_line(&mut told).is_ok() {
+                let _ = told.write_all(&words);
+            }
             ExitCode::from(fault.status())
         }
     }

@@ -3,7 +3,7 @@
 
 use crate::overwritten::Node;
 use paths::MAX_FILE_BYTES;
-use program::{Contents, FileFault};
+use program::{Contents, FileFault, Unanswered};
 use std::alloc::AllocError;
 use std::fs::{File, Metadata, ReadDir, read_dir, symlink_metadata};
 use std::io;
@@ -11,23 +11,35 @@ use std::io::{ErrorKind, Read};
 use std::os::fd::AsRawFd;
 use std::os::unix::fs::MetadataExt;
 
+/// What the system says where the program, or the system, has too many files open (errno(3): EMFILE, ENFILE).
+const TOO_MANY_OPEN: i32 = 24;
+
+const TOO_MANY_OPEN_IN_SYSTEM: i32 = 23;
+
 /// Why something in a folder can't be read.
 #[derive(Drop)]
 pub enum Unread {
-    Memory,
+    /// That says nothing of it.
+    Unanswered(Unanswered),
     Fault(FileFault),
 }
 
 impl From<AllocError> for Unread {
-    fn from(_refused: AllocError) -> Unread {
-        Unread::Memory
+    fn from(refused: AllocError) -> Unread {
+        Unread::Unanswered(Unanswered::from(refused))
     }
 }
 
 impl From<io::Error> for Unread {
     fn from(error: io::Error) -> Unread {
+        if matches!(
+            error.raw_os_error(),
+            Some(TOO_MANY_OPEN | TOO_MANY_OPEN_IN_SYSTEM)
+        ) {
+            return Unread::Unanswered(Unanswered::Descriptors);
+        }
         match error.kind() {
-            ErrorKind::OutOfMemory => Unread::Memory,
+            ErrorKind::OutOfMemory => Unread::Unanswered(Unanswered::Memory),
             ErrorKind::InvalidFilename => Unread::Fault(FileFault::Name),
             _ => Unread::Fault(FileFault::Read),
         }

@@ -3,11 +3,11 @@ use Rattle.std.proofs.Common.{◌≡◌, ℕ, List, Option, subst}
 use Rattle.paths.specs.declared.file.File.{File}
 use Rattle.paths.specs.Snapshots.{IsSnapshot}
 use Rattle.paths.specs.SnapshotFaults.{ReadsFront}
-use Rattle.replay.specs.declared.replay_fault.ReplayFault.{ReplayFault}
-use Rattle.replay.specs.declared.summary.Outcome.{Outcome}
-use Rattle.replay.specs.Reference.{Choice, terms_of, Answers}
-use Rattle.replay.specs.Outcomes.{Leaves}
-use Rattle.replay.specs.Telling.{replies_told}
+use Rattle.reference.specs.declared.replay_fault.ReplayFault.{ReplayFault}
+use Rattle.reference.specs.declared.summary.Outcome.{Outcome}
+use Rattle.reference.specs.Reference.{Choice, terms_of, Answers}
+use Rattle.reference.specs.Outcomes.{Leaves}
+use Rattle.reference.specs.Telling.{replies_told}
 use Rattle.settings.specs.SettingsTable.{default_choice}
 use Rattle.program.specs.Bundles.{AfterSnapshot, WritesAnswer, default_terms}
 

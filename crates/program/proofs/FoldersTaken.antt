@@ -2,7 +2,7 @@
 use Rattle.devices.proofs.Appending.{prefix_all, prefix_first}
 use Rattle.devices.specs.Reference.{line_feed}
 use Rattle.devices.specs.Devices.{Device, AppendsPrefix}
-use Rattle.std.proofs.Common.{◌≡◌, ◌≢◌, inl, inr, ℕ, ◌+◌, ◌<◌, ◌≤◌, Bool, true, false, List, [], ◌∷◌, ◌++◌, length, take, drop, get_or, is_some, Option, Some, None, Result, Ok, Err, IfOk, IfErr, refl, sym, ap, ◌∙◌, subst, arith, decimal, append-nil}
+use Rattle.std.proofs.Common.{◌≡◌, ◌≢◌, ◌⊎◌, inl, inr, ℕ, ◌+◌, ◌<◌, ◌≤◌, Bool, true, false, List, [], ◌∷◌, ◌++◌, length, take, drop, get_or, is_some, Option, Some, None, Result, Ok, Err, IfOk, IfErr, refl, sym, ap, ◌∙◌, subst, arith, decimal, append-nil}
 use Rattle.std.proofs.lemmas.Fmt.{length-decimal-le}
 use Rattle.std.proofs.lemmas.List.{append_assoc, length-append, take_more, take_all, take-append-drop}
 use Rattle.std.specs.Io.KnownBytes.{Appends}
@@ -18,12 +18,13 @@ use Rattle.snapshots.specs.Writers.{Took, refused_for}
 use Rattle.snapshots.proofs.Rulings.{keeps}
 use Rattle.snapshots.proofs.Taken.{whole}
 use Rattle.program.specs.declared.fault.Fault.{Fault}
-use Rattle.program.specs.declared.fault.Fault.TheVariants.{Write, Memory}
+use Rattle.program.specs.declared.fault.Fault.TheVariants.{Open, Write, Memory}
 use Rattle.program.specs.declared.file_fault.FileFault.{FileFault}
 use Rattle.program.specs.declared.folder.Contents.{Contents}
 use Rattle.program.specs.declared.folder.Found.{Found}
 use Rattle.program.specs.declared.place.Place.TheVariants.{Output}
-use Rattle.program.specs.Folders.{Answering, AddsFile, AddsFound, Breaks, Cuts, CutsFile, CutsFound, IsRefused, IsSnapshotRunFault, IsTaken, Names, Takes, WritesFolder, WritesFolderPrefix, name_of, refusal, unwritten}
+use Rattle.program.specs.declared.place.Place.TheVariants as places
+use Rattle.program.specs.Folders.{Answering, AddsFile, AddsFound, Breaks, Cuts, CutsFile, CutsFound, IsOutputFault, IsRefused, IsSnapshotRunFault, IsTaken, Names, Takes, WritesFolder, WritesFolderPrefix, name_of, refusal, unwritten}
 
 -- ---- the first line and the last
 
@@ -97,7 +98,7 @@ found_ok answers files before found c (Err f) now s known says h = tt
 cut_found : (answers : Answering) (files : List File) (before : Option (List ℕ)) (found : Found) (c : Contents) (told : Fault) (now : Option (List ℕ)) → found.fault ≡ None → answers (name_of found) (Ok c)
     → CutsFile files before (a_file (name_of found) c.mtime c.bytes.items) now told → CutsFound answers files before found now told
 cut_found answers files before found c told now known says (inl h) = inl (h.0, a_file (name_of found) c.mtime c.bytes.items, ((c, known, says, refl), h.1), h.2)
-cut_found answers files before found c told now known says (inr h) = inr h
+cut_found answers files before found c told now known says (inr h) = inr (inl h.0, h.1)
 
 pub found_err : (answers : Answering) (files : List File) (before : Option (List ℕ)) (found : Found) (c : Contents) (r : Result (Option FileFault) Fault) (now : Option (List ℕ)) → found.fault ≡ None → answers (name_of found) (Ok c)
     → IfErr r (CutsFile files before (a_file (name_of found) c.mtime c.bytes.items) now) → IfErr r (CutsFound answers files before found now)
@@ -170,7 +171,7 @@ parted found at item lt is =
 
 pub none_begun : (answers : Answering) (found : List Found) (skip : Bool) (old new : Option (List ℕ)) (f : Fault) → Cuts (text_before_end []) old new f → IsSnapshotRunFault answers found skip old new f
 none_begun answers found skip old new f h =
-    inl (h.0, ([], found, [], 0, refl, (refl, refl), no_files, prefix_first old new (text_before_end []) (last_line [] ++ line_feed ∷ []) h.1))
+    inl (inl h.0, ([], found, [], 0, refl, (refl, refl), no_files, prefix_first old new (text_before_end []) (last_line [] ++ line_feed ∷ []) h.1))
 
 -- out of memory between two files
 kept_prefix : (answers : Answering) (found : List Found) (at : ℕ) (skipped : ℕ) (old new : Option (List ℕ)) (files : List File) (s : SoFar) (was : Option (List ℕ)) → Takes answers [] (take at found) files skipped → Took files old was s
@@ -199,15 +200,25 @@ cut_prefix answers found at skip skipped old now new s item f lt is stands taken
   prefix_first old new (text_before_end (stands.files ++ f ∷ [])) (last_line (stands.files ++ f ∷ []) ++ line_feed ∷ []) h,
 )
 
+cut_short : {told : Fault} → (told ≡ Memory) ⊎ (told ≡ Open places.Folder) → IsOutputFault told ⊎ (told ≡ Open places.Folder)
+cut_short (inl memory) = inl (inr memory)
+cut_short (inr opening) = inr opening
+
 pub stopped : (answers : Answering) (found : List Found) (at : ℕ) (skip : Bool) (skipped : ℕ) (old now new : Option (List ℕ)) (s : SoFar) (item : Found) (told : Fault) → at < length found → item ≡ get_or found at item
     → (stands : Stands answers found at skip skipped old now s) → CutsFound answers stands.files old item new told → IsSnapshotRunFault answers found skip old new told
-stopped answers found at skip skipped old now new s item told lt is stands (inl h) = inl (inl h.0, cut_prefix answers found at skip skipped old now new s item h.1 lt is stands h.2 h.3)
-stopped answers found at skip skipped old now new s item told lt is stands (inr h) = inl (inr h.0, kept_prefix answers found at skipped old new stands.files s now stands.takes stands.took h.1)
+stopped answers found at skip skipped old now new s item told lt is stands (inl h) = inl (inl (inl h.0), cut_prefix answers found at skip skipped old now new s item h.1 lt is stands h.2 h.3)
+stopped answers found at skip skipped old now new s item told lt is stands (inr h) = inl (cut_short h.0, kept_prefix answers found at skipped old new stands.files s now stands.takes stands.took h.1)
+
+-- out of memory once a file was left out
+pub lacking : (answers : Answering) (found : List Found) (at : ℕ) (skip : Bool) (skipped : ℕ) (old now new : Option (List ℕ)) (s next : SoFar) (item : Found) (fault : FileFault) (told : Fault) → told ≡ Memory → item ≡ get_or found at item
+    → (stands : Stands answers found at skip skipped old now s) → AddsFound answers stands.files old item (Some fault) new next → IsSnapshotRunFault answers found skip old new told
+lacking answers found at skip skipped old now new s next item fault told memory is stands adds =
+    inl (inl (inr memory), kept_prefix answers found at skipped old new stands.files next new stands.takes adds.1 adds.1.text)
 
 pub refused_first : (answers : Answering) (found : List Found) (at : ℕ) (skip : Bool) (skipped : ℕ) (old now new : Option (List ℕ)) (s next : SoFar) (item : Found) (fault : FileFault) (told : Fault) → at < length found → item ≡ get_or found at item → skip ≡ false
     → (stands : Stands answers found at skip skipped old now s) → AddsFound answers stands.files old item (Some fault) new next → Names (name_of item) fault told → IsSnapshotRunFault answers found skip old new told
 refused_first answers found at skip skipped old now new s next item fault told lt is never stands adds (inl memory) =
-    inl (inr memory, kept_prefix answers found at skipped old new stands.files next new stands.takes adds.1 adds.1.text)
+    inl (inl (inr memory), kept_prefix answers found at skipped old new stands.files next new stands.takes adds.1 adds.1.text)
 refused_first answers found at skip skipped old now new s next item fault told lt is never stands adds (inr named) =
     inr (
       named.0,
@@ -239,4 +250,4 @@ ended answers found at skip skipped old now new s le stands h =
 pub unended : (answers : Answering) (found : List Found) (at : ℕ) (skip : Bool) (skipped : ℕ) (old now new : Option (List ℕ)) (s : SoFar) (told : Fault) → length found ≤ at
     → (stands : Stands answers found at skip skipped old now s) → Cuts (snapshot_text stands.files) old new told → IsSnapshotRunFault answers found skip old new told
 unended answers found at skip skipped old now new s told le stands h =
-    inl (h.0, (found, [], stands.files, skipped, sym (append-nil found), all_taken answers found at stands.files skipped le stands.takes, whole stands.files old now s stands.took, h.1))
+    inl (inl h.0, (found, [], stands.files, skipped, sym (append-nil found), all_taken answers found at stands.files skipped le stands.takes, whole stands.files old now s stands.took, h.1))

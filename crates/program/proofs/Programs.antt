@@ -4,12 +4,12 @@ use Rattle.std.proofs.Common.{◌≡◌, ◌⊎◌, inl, inr, ℕ, List, Option,
 use Rattle.paths.specs.declared.file.File.{File}
 use Rattle.captures.specs.declared.capture_fault.CaptureFault.{CaptureFault}
 use Rattle.captures.specs.CaptureFaults.{is_unforeseen_kind, IsFirstFault}
-use Rattle.replay.specs.declared.replay_fault.ReplayFault.{ReplayFault}
-use Rattle.replay.specs.declared.replay_fault.ReplayFault.TheVariants as replays
+use Rattle.reference.specs.declared.replay_fault.ReplayFault.{ReplayFault}
+use Rattle.reference.specs.declared.replay_fault.ReplayFault.TheVariants as replays
 use Rattle.devices.specs.Reference.{WhereKnown}
-use Rattle.replay.specs.Outcomes.{IfCapture, Leaves}
+use Rattle.reference.specs.Outcomes.{IfCapture, Leaves}
 use Rattle.captures.proofs.PassLemmas.{first_of_stop}
-use Rattle.replay.specs.Telling.{Telling, replies_told}
+use Rattle.reference.specs.Telling.{Telling, replies_told}
 use Rattle.program.specs.declared.fault.Fault.{Fault}
 use Rattle.program.specs.declared.fault.Fault.TheVariants.{Words, Settings, Snapshot, Replay, Upgrade, Folder, Open, Read, Write, Memory}
 use Rattle.program.specs.declared.place.Place.TheVariants.{Replies}

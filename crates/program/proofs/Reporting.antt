@@ -4,10 +4,10 @@ use Rattle.std.proofs.Common.{◌≡◌, ◌⊎◌, inl, inr, ℕ, List, Option,
 use Rattle.paths.specs.declared.file.File.{File}
 use Rattle.paths.specs.SnapshotFaults.{ReadsWhole}
 use Rattle.paths.specs.Snapshots.{IsSnapshot}
-use Rattle.replay.specs.declared.summary.Outcome.{Outcome}
-use Rattle.replay.specs.declared.replay_fault.ReplayFault.{ReplayFault}
-use Rattle.replay.specs.Reference.{Choice, Terms, terms_of}
-use Rattle.replay.specs.Outcomes.{Leaves}
+use Rattle.reference.specs.declared.summary.Outcome.{Outcome}
+use Rattle.reference.specs.declared.replay_fault.ReplayFault.{ReplayFault}
+use Rattle.reference.specs.Reference.{Choice, Terms, terms_of}
+use Rattle.reference.specs.Outcomes.{Leaves}
 use Rattle.program.specs.declared.fault.Fault.{Fault}
 use Rattle.program.specs.declared.fault.Fault.TheVariants.{Words, Settings, Snapshot, Replay, Upgrade, Folder, Open, Read, Write, Memory}
 use Rattle.program.specs.declared.place.Place.{Place}

@@ -3,7 +3,7 @@ use Rattle.devices.specs.Devices.{Device, fresh}
 use Rattle.std.proofs.Common.{◌≡◌, ◌⊎◌, inl, inr, ℕ, Bool, true, List, [], Option, refl, subst, ◌∙◌, Result, Ok, Err, OnOk, IfErr, is_some, unwrap_or}
 use Rattle.std.specs.Io.KnownBytes.{Appends, append_known}
 use Rattle.captures.specs.Upgrades.{Upgrades}
-use Rattle.replay.specs.Reference.{Choice, terms_of}
+use Rattle.reference.specs.Reference.{Choice, terms_of}
 use Rattle.program.specs.declared.replaying.Wanted.{Wanted}
 use Rattle.devices.specs.Reference.{WhereKnown}
 use Rattle.report.specs.Reports.{report_text}

@@ -6,12 +6,12 @@ use Rattle.paths.specs.declared.file.File.{File}
 use Rattle.paths.specs.Snapshots.{IsSnapshot, BeginsWithSnapshot}
 use Rattle.paths.specs.SnapshotFaults.{IsFrontFault, IsForeseen, failures_of}
 use Rattle.captures.specs.CaptureFaults.{is_unforeseen_kind, IsFirstFault}
-use Rattle.replay.specs.declared.summary.Outcome.{Outcome}
-use Rattle.replay.specs.Reference.{Terms, terms_of, Answers}
-use Rattle.replay.specs.Outcomes.{IfCapture, Leaves}
-use Rattle.replay.specs.Telling.{replies_told}
+use Rattle.reference.specs.declared.summary.Outcome.{Outcome}
+use Rattle.reference.specs.Reference.{Terms, terms_of, Answers}
+use Rattle.reference.specs.Outcomes.{IfCapture, Leaves}
+use Rattle.reference.specs.Telling.{replies_told}
 use Rattle.settings.specs.SettingsTable.{default_choice}
-use Rattle.replay.specs.Outcomes as replays
+use Rattle.reference.specs.Outcomes as replays
 use Rattle.program.specs.declared.fault.Fault.{Fault}
 use Rattle.captures.specs.Upgrades as upgrades
 use Rattle.program.specs.declared.fault.Fault.TheVariants.{Snapshot, Replay, Upgrade, Write, Memory}

@@ -2,7 +2,7 @@
 use Rattle.std.specs.Prelude.{◌≡◌, ◌⊎◌, ℕ, Bool, true, false, List, Option, Result, Ok, Err}
 use Rattle.std.specs.Io.KnownBytes.{Keeps}
 use Rattle.captures.specs.declared.upgrade_fault.UpgradeFault.TheVariants as upgrades
-use Rattle.replay.specs.declared.replay_fault.ReplayFault.TheVariants as replays
+use Rattle.reference.specs.declared.replay_fault.ReplayFault.TheVariants as replays
 use Rattle.program.specs.declared.fault.Fault.{Fault}
 use Rattle.program.specs.declared.fault.Fault.TheVariants.{Replay, Upgrade, Write, Memory}
 use Rattle.program.specs.declared.place.Place.{Place}

@@ -1,5 +1,5 @@
 -- How a fault is reported: the status that the program ends with, and the line on standard error.
-use Rattle.std.specs.Prelude.{ℕ, ◌==◌, ◌||◌, ◌&&◌, Bool, List, ◌++◌, Option, Some}
+use Rattle.std.specs.Prelude.{ℕ, ◌==◌, ◌||◌, ◌&&◌, Bool, List, [], ◌∷◌, ◌++◌, Option, Some}
 use Rattle.std.specs.Prelude.{codes, decimal, map, nat_lt, string_bytes}
 use Rattle.std.specs.Prelude.{None, chars, encode_utf8_all, unwrap_or, if◌then◌else◌}
 use Rattle.paths.specs.Reference.{question_mark}
@@ -13,14 +13,15 @@ use Rattle.captures.specs.declared.capture_fault.CaptureFaultKind.{CaptureFaultK
 use Rattle.captures.specs.declared.capture_fault.CaptureFaultKind.TheVariants as records
 use Rattle.captures.specs.declared.upgrade_fault.UpgradeFault.{UpgradeFault}
 use Rattle.captures.specs.declared.upgrade_fault.UpgradeFault.TheVariants as upgrades
-use Rattle.replay.specs.declared.replay_fault.ReplayFault.{ReplayFault}
-use Rattle.replay.specs.declared.replay_fault.ReplayFault.TheVariants as replays
+use Rattle.reference.specs.declared.replay_fault.ReplayFault.{ReplayFault}
+use Rattle.reference.specs.declared.replay_fault.ReplayFault.TheVariants as replays
 use Rattle.command_line.specs.declared.words.WordFault.{WordFault}
 use Rattle.command_line.specs.declared.words.WordFault.TheVariants as words
 use Rattle.settings.specs.declared.config_fault.ConfigFault.{ConfigFault}
 use Rattle.settings.specs.declared.config_fault.ConfigFaultKind.{ConfigFaultKind}
 use Rattle.settings.specs.declared.config_fault.ConfigFaultKind.TheVariants as settings
 use Rattle.settings.specs.ConfigFaults.{fault_text}
+use Rattle.settings.specs.FaultWords.{fault_words}
 use Rattle.program.specs.declared.place.Place.{Place}
 use Rattle.program.specs.declared.place.Place.TheVariants as places
 use Rattle.program.specs.declared.fault.Fault.{Fault}
@@ -179,3 +180,12 @@ text_told f = unwrap_or (usage_of f) (unwrap_or (named_line f) (line_of (told f)
 -- what is written of the number of those that were left out
 abbrev pub skipped_line : ℕ → List ℕ
 skipped_line count = codes "haboob: skipped " ++ decimal count ++ codes "\n"
+
+-- the line of words, where there are some
+abbrev pub words_shown : List ℕ → List ℕ
+words_shown [] = []
+words_shown (c ∷ more) = codes "haboob: " ++ shown_name (c ∷ more) ++ codes "\n"
+
+-- what stands after the line of a fault of this document: what is wrong, in words
+abbrev pub words_line : List ℕ → ConfigFault → List ℕ
+words_line document fault = words_shown (fault_words document fault)

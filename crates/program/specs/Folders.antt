@@ -12,13 +12,16 @@ use Rattle.snapshots.specs.Keeping.{a_file}
 use Rattle.snapshots.specs.Rules.{broken_rule}
 use Rattle.snapshots.specs.Writers.{Took}
 use Rattle.program.specs.declared.fault.Fault.{Fault}
-use Rattle.program.specs.declared.fault.Fault.TheVariants.{Folder, Write, Memory}
+use Rattle.program.specs.declared.fault.Fault.TheVariants.{Folder, Open, Write, Memory}
 use Rattle.program.specs.declared.file_fault.FileFault.{FileFault}
 use Rattle.program.specs.declared.file_fault.FileFault.TheVariants.{Time, Size, Count, Name, Order, Conflict, Text}
 use Rattle.program.specs.declared.file_fault.FolderFault.{FolderFault}
 use Rattle.program.specs.declared.folder.Contents.{Contents}
 use Rattle.program.specs.declared.folder.Found.{Found}
+use Rattle.program.specs.declared.folder.Unanswered.{Unanswered}
+use Rattle.program.specs.declared.folder.Unanswered.TheVariants as whys
 use Rattle.program.specs.declared.place.Place.TheVariants.{Output}
+use Rattle.program.specs.declared.place.Place.TheVariants as places
 use Rattle.program.specs.FaultLines.{shown_name}
 
 -- what a folder may answer for a name
@@ -39,6 +42,11 @@ refusal rules.Conflict = Ok Conflict
 refusal rules.Text = Ok Text
 refusal rules.Write = Err (Write Output)
 refusal rules.Memory = Err Memory
+
+-- where a folder says nothing of a file, the run is cut short
+abbrev pub unanswered : Unanswered → Fault
+unanswered whys.Memory = Memory
+unanswered whys.Descriptors = Open places.Folder
 
 -- this is why the file can't stand in a snapshot after these files
 abbrev pub Breaks : List File → File → FileFault → Type 0
@@ -98,12 +106,13 @@ StopsBefore answers found old new name fault = (first : List Found) × (refused 
 abbrev pub IsOutputFault : Fault → Type 0
 IsOutputFault f = (f ≡ Write Output) ⊎ (f ≡ Memory)
 
--- What a fault of the run says, and none else comes: a prefix of what was due was written; or the first of what can't
--- be taken is named, where nothing may be left out.
+-- What a fault of the run says, and none else comes: a prefix of what was due was written, where the output failed,
+-- there was no memory, or too many files were open; or the first of what can't be taken is named, where nothing may be
+-- left out.
 abbrev pub IsSnapshotRunFault :
     Answering → List Found → Bool → Option (List ℕ) → Option (List ℕ) → Fault → Type 0
 IsSnapshotRunFault answers found skip old new f =
-    (IsOutputFault f × WritesFolderPrefix answers found old new)
+    ((IsOutputFault f ⊎ (f ≡ Open places.Folder)) × WritesFolderPrefix answers found old new)
     ⊎ ((g : FolderFault) × (f ≡ Folder g) × (skip ≡ false)
     × StopsBefore answers found old new g.name.items g.fault)
 
@@ -138,7 +147,7 @@ abbrev pub CutsFound : Answering → List File → Option (List ℕ) → Found �
 CutsFound answers files before found now fault =
     ((fault ≡ Write Output) × (f : File) × IsTaken answers files found f
     × AppendsPrefix before now (text_before_end (files ++ f ∷ [])))
-    ⊎ ((fault ≡ Memory) × Appends before now (text_before_end files))
+    ⊎ (((fault ≡ Memory) ⊎ (fault ≡ Open places.Folder)) × Appends before now (text_before_end files))
 
 -- the text couldn't be written to its end: a prefix of it stands
 abbrev pub Cuts : List ℕ → Option (List ℕ) → Option (List ℕ) → Fault → Type 0

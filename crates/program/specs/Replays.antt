@@ -7,11 +7,11 @@ use Rattle.paths.specs.Snapshots.{IsSnapshot, IsSnapshotText}
 use Rattle.paths.specs.SnapshotFaults.{IsFirstFault, IsForeseen, failures_of}
 use Rattle.captures.specs.CaptureFaults.{is_unforeseen_kind}
 use Rattle.captures.specs.CaptureFaults as captures
-use Rattle.replay.specs.declared.summary.Outcome.{Outcome}
-use Rattle.replay.specs.Reference.{Choice, Terms, terms_of}
+use Rattle.reference.specs.declared.summary.Outcome.{Outcome}
+use Rattle.reference.specs.Reference.{Choice, Terms, terms_of}
 use Rattle.devices.specs.Reference.{WhereKnown}
-use Rattle.replay.specs.Outcomes.{IfCapture, Leaves}
-use Rattle.replay.specs.Outcomes as replays
+use Rattle.reference.specs.Outcomes.{IfCapture, Leaves}
+use Rattle.reference.specs.Outcomes as replays
 use Rattle.report.specs.Reports.{report_text}
 use Rattle.program.specs.Wanted.{HasWritten, wanted_of}
 use Rattle.program.specs.declared.replaying.Wanted.{Wanted}

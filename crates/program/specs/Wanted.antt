@@ -1,9 +1,9 @@
 -- What a run writes of the messages of a capture.
 use Rattle.std.specs.Prelude.{ℕ, List, Option}
-use Rattle.replay.specs.declared.summary.Outcome.{Outcome}
-use Rattle.replay.specs.Reference.{Terms, Answers}
-use Rattle.replay.specs.Explaining.{Explains, rows_told}
-use Rattle.replay.specs.Telling.{Telling, replies_told}
+use Rattle.reference.specs.declared.summary.Outcome.{Outcome}
+use Rattle.reference.specs.Reference.{Terms, Answers}
+use Rattle.reference.specs.Explaining.{Explains, rows_told}
+use Rattle.reference.specs.Telling.{Telling, replies_told}
 use Rattle.program.specs.declared.replaying.Wanted.{Wanted}
 use Rattle.program.specs.declared.replaying.Wanted.TheVariants.{Replies, Rows}
 

@@ -1,6 +1,6 @@
 //! Why a file of a folder can't be taken.
 
-ghost use Rattle.std.specs.Prelude.{◌≡◌, ◌≤◌, length, IfOk};
+ghost use Rattle.std.specs.Prelude.{◌≡◌, ◌≤◌, length, string_bytes, IfOk};
 ghost use Rattle.program.specs.FaultLines.{file_fault_name, is_hidden, shown_char, shown_name};
 
 use std::alloc::{AllocError, Global};
@@ -65,17 +65,12 @@ pub struct FolderFault {
 
 impl FolderFault {
     /// The fault of what has this name.
-    pub(crate) fn new(
-        alloc: Global,
-        name: &str,
-        fault: FileFault,
-    ) -> Result<FolderFault, AllocError>
+    pub fn new(alloc: Global, name: &str, fault: FileFault) -> Result<FolderFault, AllocError>
         ensures name { IfOk result (λ f. f.name.items ≡ shown_name name.now) }
         ensures fault { IfOk result (λ f. f.fault ≡ fault) }
     {
-        let shown: String = name.chars().map(shown_char).collect(alloc)?;
         Ok(FolderFault {
-            name: shown.into_bytes(),
+            name: shown_name(alloc, name)?.into_bytes(),
             fault,
         })
     }
@@ -102,4 +97,12 @@ fn shown_char(c: char) -> char
     ensures { result ≡ shown_char c }
 {
     if is_hidden(c) { '?' } else { c }
+}
+
+/// A name, or a word of the command line, as a line shows it: with a question mark for each character that acts on a
+/// terminal or on how others are shown.
+pub fn shown_name(alloc: Global, name: &str) -> Result<String, AllocError>
+    ensures { IfOk result (λ shown. string_bytes shown ≡ shown_name name.now) }
+{
+    name.chars().map(shown_char).collect(alloc)
 }

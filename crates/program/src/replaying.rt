@@ -3,9 +3,9 @@
 ghost use Rattle.std.specs.Prelude.{◌≡◌, ◌-◌, ◌<◌, ◌^◌, OnOk, IfOk, IfErr};
 ghost use Rattle.std.specs.Io.KnownBytes.{Appends};
 ghost use Rattle.devices.specs.Devices.{CanFail, BlamedOnce, CountsBy};
-ghost use Rattle.replay.specs.Reference.{terms_of};
-ghost use Rattle.replay.specs.Outcomes.{Leaves};
-ghost use Rattle.replay.specs.Outcomes as replays;
+ghost use Rattle.reference.specs.Reference.{terms_of};
+ghost use Rattle.reference.specs.Outcomes.{Leaves};
+ghost use Rattle.reference.specs.Outcomes as replays;
 ghost use Rattle.report.specs.Reports.{report_text};
 ghost use Rattle.program.specs.Bundles.{writer_failures};
 ghost use Rattle.program.specs.Replays.{OfSnapshot, AnswersAnd, IsReplayFault, IsReportFault, snapshot_failures};

@@ -129,13 +129,14 @@ fn refused(alloc: Global, name: &str, fault: FileFault) -> Fault
 }
 
 /// Writes the snapshot of what was found in a folder, in the order given, which is to be that of the names' bytes. One
-/// file is in memory at a time. What can't be taken is a fault, or left out where that is asked for. How many were left
-/// out.
+/// file is in memory at a time. What can't be taken is a fault, or left out where that is asked for; the folder hears
+/// of it. How many were left out.
 ///
 /// # Errors
 ///
 /// `Folder` with the first that can't be taken, where nothing is to be left out: the files before it stand, without a
-/// last line. `Write` of the output where it failed, and `Memory`: a prefix stands. No other fault.
+/// last line. `Write` of the output where it failed, `Memory`, and `Open` of the folder where it says nothing of a file
+/// since too many are open: a prefix stands. No other fault.
 pub fn run_snapshot<F: Folder, W: Write>(
     alloc: Global,
     folder: &F,
@@ -157,6 +158,7 @@ pub fn run_snapshot<F: Folder, W: Write>(
             if !skip {
                 return Err(refused(alloc, one.name.as_str(), fault));
             }
+            folder.leave_out(one.name.as_str(), fault)?;
             skipped += 1;
         }
     }

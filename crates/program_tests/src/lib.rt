@@ -1,5 +1,31 @@
-//! Tests of the crate `program`.
+//! Tests of the crates `settings`, `command_line` and `program`.
 #![tactic(auto)]
 
 #[cfg(test)]
-mod tests;
+mod command_words;
+#[cfg(test)]
+mod faults;
+#[cfg(test)]
+mod folders;
+#[cfg(test)]
+mod inspections;
+#[cfg(test)]
+mod lines;
+#[cfg(test)]
+mod memory;
+#[cfg(test)]
+mod poor_devices;
+#[cfg(test)]
+mod reports;
+#[cfg(test)]
+mod running;
+#[cfg(test)]
+mod settings_documents;
+#[cfg(test)]
+mod upgrades;
+#[cfg(test)]
+mod words_of_faults;
+#[cfg(test)]
+mod written_out;
+#[cfg(test)]
+mod written_settings;

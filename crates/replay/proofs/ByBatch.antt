@@ -16,7 +16,7 @@ use Rattle.captures.specs.Reference.{IsCapture, IsRecord, ticks_of}
 use Rattle.captures.specs.Captures.{size_of, sizes_of}
 use Rattle.captures.specs.Readers.{ReaderAfter}
 use Rattle.http_requests.specs.declared.messages.Message.{Message}
-use Rattle.replay.specs.Reference.{Terms}
+use Rattle.reference.specs.Reference.{Terms}
 use Rattle.arrivals.specs.Reference.{Arrival, ArrivesWith, AreArrivals, Precedes, text_of, messages_of}
 use Rattle.arrivals.specs.Batches.{ReadsOn, pieces_to, with_tier, tiers_of, origins_of, lists_to, arrivals_in, incoming_from, Stand}
 use Rattle.arrivals.specs.Connections.{HaveRead, connection_at, arrivals_with}

@@ -29,23 +29,23 @@ use Rattle.arrivals.specs.Batches.{with_tier}
 use Rattle.http_requests.specs.declared.messages.Message.{Message}
 use Rattle.arrivals.specs.declared.incoming.Origin.{Origin}
 use Rattle.replay.specs.declared.desk.Desk.{Desk}
-use Rattle.replay.specs.declared.summary.Outcome.{Outcome}
+use Rattle.reference.specs.declared.summary.Outcome.{Outcome}
 use Rattle.arrivals.specs.declared.connections.Connection.{Connection}
 use Rattle.arrivals.specs.declared.connections.Connection.TheVariants.{Silent, Open, Closed}
-use Rattle.replay.specs.declared.replay_fault.ReplayFault.{ReplayFault}
-use Rattle.replay.specs.declared.replay_fault.ReplayFault.TheVariants as faults
-use Rattle.replay.specs.Reference.{Terms, handled, replies_of, first_line, last_line, text_before_stop, summary_of, outcome_of, Answers}
+use Rattle.reference.specs.declared.replay_fault.ReplayFault.{ReplayFault}
+use Rattle.reference.specs.declared.replay_fault.ReplayFault.TheVariants as faults
+use Rattle.reference.specs.Reference.{Terms, handled, replies_of, first_line, last_line, text_before_stop, summary_of, outcome_of, Answers}
 use Rattle.arrivals.specs.Reference.{Arrival, AreArrivals, bytes_to, text_of, messages_of}
 use Rattle.arrivals.specs.Connections.{HasRead, HasRoom, ReadMore, HaveRead, connection_at, arrivals_with}
 use Rattle.replay.specs.Serving.{DeskAfter, AreBy, IsLater, Serves, Written, ServesFull, ServesInPart, TellsMore, TellsFull, TellsInPart, HasTold}
-use Rattle.replay.specs.Telling.{Telling, IsTelling, Told, ToldInPart, replies_told}
+use Rattle.reference.specs.Telling.{Telling, IsTelling, Told, ToldInPart, replies_told}
 use Rattle.devices.specs.Reference.{WhereKnown}
-use Rattle.replay.specs.Outcomes.{told_as, capture_fault, IfTooMany, IfCutShort, IsOwn, IsWriteOrMemory, IsCutOff, StopsBeyond, StopsFull, StopsTelling, Stops, Taken, Leaves, reader_failures, writer_failures}
+use Rattle.reference.specs.Outcomes.{told_as, capture_fault, IfTooMany, IfCutShort, IsOwn, IsWriteOrMemory, IsCutOff, StopsBeyond, StopsFull, StopsTelling, Stops, Taken, Leaves, reader_failures, writer_failures}
 use Rattle.arrivals.proofs.Arriving.{from_piece, reads_none, arrives_none, reads_piece, reads_end, reads_tier, arrives_piece, arrives_end, arrives_tier}
 use Rattle.replay.proofs.Writing.{replies_laws}
 use Rattle.replay.proofs.Texts.{told_none, text_begun, text_told, text_part, text_ended, text_ended_part}
 use Rattle.replay.proofs.Judging.{answered_is}
-use Rattle.replay.proofs.OneAnswer.{same_outcome}
+use Rattle.reference.proofs.OneAnswer.{same_outcome}
 
 -- ---- the room of a connection
 

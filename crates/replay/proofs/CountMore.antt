@@ -9,8 +9,8 @@ use Rattle.std.proofs.lemmas.Bool.Decides.{nat_tests}
 use Rattle.std.proofs.lemmas.Option.{same_Some}
 use lib.ListN.{get_or, set}
 use Rattle.responses.specs.Reference.{statuses}
-use Rattle.replay.specs.declared.summary.Counts.{Counts}
-use Rattle.replay.specs.Reference.{Terms, Handled, status_for, count_of, counts_of, bypassed_of, rejected_of, breaks_a_rule}
+use Rattle.reference.specs.declared.summary.Counts.{Counts}
+use Rattle.reference.specs.Reference.{Terms, Handled, status_for, count_of, counts_of, bypassed_of, rejected_of, breaks_a_rule}
 use Rattle.arrivals.specs.Reference.{Arrival}
 use Rattle.replay.specs.Counting.{one_if, with_status, AreBelow}
 

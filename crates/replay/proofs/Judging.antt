@@ -12,7 +12,7 @@ use Rattle.admission.specs.After.{ControllerAfter}
 use Rattle.responses.specs.declared.slip.Link.{Link}
 use Rattle.responses.specs.declared.slip.Slip.{Slip}
 use Rattle.responses.specs.Reference.{status_of, reply_text, record_text}
-use Rattle.replay.specs.Reference.{Choice, Terms, terms_of, given, answers_head, is_head, link_of, outcome_answer, slip_of, is_unmodified_file, length_given, offer_at, offers_of, is_turned_away, handled_next, handled_after, handled, bypassed_of, samples_of, tally_of, breaks_a_rule}
+use Rattle.reference.specs.Reference.{Choice, Terms, terms_of, given, answers_head, is_head, link_of, outcome_answer, slip_of, is_unmodified_file, length_given, offer_at, offers_of, is_turned_away, handled_next, handled_after, handled, bypassed_of, samples_of, tally_of, breaks_a_rule}
 use Rattle.arrivals.specs.Reference.{Arrival}
 use Rattle.paths.specs.Reference.{asked, outcome}
 use Rattle.paths.specs.declared.file.File.{File}
@@ -23,10 +23,10 @@ use Rattle.cost_model.specs.Reference.{CostTable, service}
 use Rattle.responses.specs.declared.slip.Given.{Given}
 use Rattle.responses.specs.declared.slip.Given.TheVariants.{Plain}
 use Rattle.responses.specs.declared.slip.Status.TheVariants.{ServiceUnavailable}
-use Rattle.replay.specs.Outcomes.{IfCutShort, IfTooMany}
+use Rattle.reference.specs.Outcomes.{IfCutShort, IfTooMany}
 use Rattle.arrivals.specs.declared.incoming.Origin.{Origin}
-use Rattle.replay.specs.declared.replay_fault.ReplayFault.{ReplayFault}
-use Rattle.replay.specs.declared.replay_fault.ReplayFault.TheVariants.{Capture, TooMany, Memory, Write as Unwritten}
+use Rattle.reference.specs.declared.replay_fault.ReplayFault.{ReplayFault}
+use Rattle.reference.specs.declared.replay_fault.ReplayFault.TheVariants.{Capture, TooMany, Memory, Write as Unwritten}
 use Rattle.replay.specs.Counting.{AreBelow}
 use Rattle.replay.specs.Totals.{no_counts, totals_of, noted}
 use Rattle.replay.specs.Deciding.{decided_totals, Decides}
@@ -35,10 +35,10 @@ use Rattle.http_requests.specs.declared.messages.Message.{Message}
 use Rattle.arrivals.specs.Connections.{arrivals_with}
 use Rattle.std.proofs.lemmas.List.Elements.{All-nil, All-cons, All-append}
 use Rattle.replay.specs.declared.totals.Totals.{Totals}
-use Rattle.replay.specs.declared.summary.Tally.{Tally}
+use Rattle.reference.specs.declared.summary.Tally.{Tally}
 use Rattle.replay.specs.declared.desk.Desk.{Desk}
-use Rattle.replay.proofs.Offering.{offers_more, handled_push, handled_count, samples_admitted, samples_rejected, is_admitted_one, is_rejected_one}
-use Rattle.replay.proofs.SameAnswer.{status_same, reply_is}
+use Rattle.reference.proofs.Offering.{offers_more, handled_push, handled_count, samples_admitted, samples_rejected, is_admitted_one, is_rejected_one}
+use Rattle.reference.proofs.SameAnswer.{status_same, reply_is}
 use Rattle.replay.proofs.Writing.{records_one}
 use Rattle.replay.proofs.CountMore.{counts_more, bypassed_more, bypassed_few, rejected_more, counts_below}
 

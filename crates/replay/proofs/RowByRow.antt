@@ -1,5 +1,5 @@
 -- The row of one more message, and the rows of more.
-use Rattle.std.proofs.Common.{◌≡◌, ℕ, ◌+◌, ◌-◌, max, Bool, true, false, List, [], ◌∷◌, ◌++◌, ◌||◌, map, Option, Some, refl, sym, ap, ◌∙◌, append-nil, append_assoc, arith}
+use Rattle.std.proofs.Common.{◌≡◌, ℕ, ◌+◌, ◌-◌, max, Bool, true, false, List, [], ◌∷◌, ◌++◌, ◌||◌, map, Option, Some, refl, sym, ap, ◌∙◌}
 use Rattle.std.specs.Prelude.{if◌then◌else◌}
 use Rattle.std.specs.List.{list_any}
 use Rattle.std.specs.Option.{option_map}
@@ -11,9 +11,10 @@ use Rattle.cost_model.specs.Reference.{CostTable}
 use Rattle.http_requests.specs.declared.messages.Fault.TheVariants as faults
 use Rattle.http_requests.specs.declared.messages.Meaning.{Meaning}
 use Rattle.http_requests.specs.declared.messages.Meaning.TheVariants.{Request, Bad}
+use Rattle.admission.specs.declared.policy.PolicyNumbers.{PolicyNumbers}
 use Rattle.admission.specs.declared.control.Outlook.{Outlook}
 use Rattle.admission.specs.declared.control.Decision.TheVariants.{Admitted, Rejected}
-use Rattle.admission.specs.Reference.{Rules, Offer, served, last_finish, finish_after, is_rejected, decide, decided}
+use Rattle.admission.specs.Reference.{Offer, served, last_finish, is_rejected, decide, decided}
 use Rattle.admission.specs.Decisions.{outlook}
 use Rattle.admission.specs.After.{ControllerAfter}
 use Rattle.admission.specs.Standing.{policies_of}
@@ -22,48 +23,18 @@ use Rattle.responses.specs.Reference.{status_of}
 use Rattle.responses.specs.declared.slip.Given.{Given}
 use Rattle.responses.specs.declared.slip.Slip.{Slip}
 use Rattle.decision_table.specs.declared.row.Row.{Row}
-use Rattle.decision_table.specs.Rows.{heading, row_text}
+use Rattle.decision_table.specs.Rows.{row_text}
 use Rattle.arrivals.specs.Reference.{Arrival}
 use Rattle.arrivals.specs.declared.incoming.Origin.{Origin}
-use Rattle.replay.specs.Reference.{Terms, given, outcome_answer, is_unmodified, is_head, service_of, offer_at, offers_of, rejects, is_turned_away, handled_next, slip_of}
+use Rattle.reference.specs.Reference.{Terms, given, outcome_answer, is_unmodified, is_head, service_of, offer_at, offers_of, rejects, is_turned_away, handled_next, slip_of}
 use Rattle.replay.specs.Fronts.{sight_of}
 use Rattle.replay.specs.Serving.{DeskAfter}
-use Rattle.replay.specs.Telling.{IsTelling}
-use Rattle.replay.specs.Explaining.{first_offered, row_of, method_of, target_of, row_after, rows_after, table, rows_told}
+use Rattle.reference.specs.Explaining.{first_offered, row_of, method_of, target_of, row_after, rows_after}
 use Rattle.replay.specs.Rowing.{service_in, turns_away, offered_with}
 use Rattle.replay.specs.declared.desk.Desk.{Desk}
 use Rattle.replay.specs.declared.sight.Sight.{Sight}
-use Rattle.replay.specs.Laws.{is_told_rejected, RowsAgree, StartsOnceFree}
-use Rattle.replay.proofs.SameAnswer.{status_same}
-use Rattle.replay.proofs.Offering.{finish_is}
-
--- ---- rows after rows
-
-rows_more : (terms : Terms) (earlier first more : List Arrival) → rows_after terms earlier (first ++ more) ≡ rows_after terms earlier first ++ rows_after terms (earlier ++ first) more
-unfolding rows_after
-rows_more terms earlier [] more = rw (append-nil earlier) refl
-rows_more terms earlier (a ∷ first) more =
-    let e : (earlier ++ a ∷ []) ++ first ≡ earlier ++ a ∷ first = append_assoc earlier (a ∷ []) first in
-    ap (λ v. row_after terms earlier a ++ v) (rows_more terms (earlier ++ a ∷ []) first more ∙ ap (λ past. rows_after terms (earlier ++ a ∷ []) first ++ rows_after terms past more) e)
-    ∙ sym (append_assoc (row_after terms earlier a) (rows_after terms (earlier ++ a ∷ []) first) (rows_after terms (earlier ++ a ∷ first) more))
-
-rows_none : (terms : Terms) (earlier : List Arrival) → rows_after terms earlier [] ≡ []
-unfolding rows_after
-rows_none terms earlier = refl
-
-rows_one : (terms : Terms) (earlier : List Arrival) (a : Arrival) → rows_after terms earlier (a ∷ []) ≡ row_after terms earlier a
-unfolding rows_after
-rows_one terms earlier a = append-nil (row_after terms earlier a)
-
--- the rows are told from the heading on
-pub rows_laws : (terms : Terms) → IsTelling (rows_told terms)
-rows_laws terms = record {
-  begins = λ start. ap (λ v. heading ++ v) (rows_none terms []) ∙ append-nil heading;
-  goes_on = λ start arrivals more. ap (λ v. heading ++ v) (rows_more terms [] arrivals more) ∙ sym (append_assoc heading (rows_after terms [] arrivals) (rows_after terms arrivals more));
-  none = λ start. rows_none terms;
-  more = λ start. rows_more terms;
-  ends = λ start arrivals. sym (append-nil (table terms arrivals));
-}
+use Rattle.reference.proofs.Table.{rows_one, alone}
+use Rattle.reference.proofs.SameAnswer.{status_same}
 
 -- ---- what became of a message
 
@@ -97,11 +68,7 @@ by_away : (enough : Bool) (own : ℕ) (away : Bool) → away ≡ is_rejected (if
 by_away true own away e = rw e refl
 by_away false own away e = rw e refl
 
-alone : (t : Bool) → (t || false) ≡ t
-alone true = refl
-alone false = refl
-
-decision_is : (policies : List Rules) (offers : List Offer) (offer : Offer) (away : Bool) → away ≡ list_any (rejects policies offers) (offer ∷ [])
+decision_is : (policies : List PolicyNumbers) (offers : List Offer) (offer : Offer) (away : Bool) → away ≡ list_any (rejects policies offers) (offer ∷ [])
     → (if away then Rejected else (Admitted (max (last_finish (map (λ r. r.offer) (served (decided policies offers)))) offer.tick + offer.service))) ≡ decide policies (decided policies offers) offer
 unfolding rejects
 decision_is policies offers offer away e =
@@ -148,25 +115,3 @@ row_written terms arrivals a row what method target is meaning methods targets =
 pub costs_known : (files : List File) (costs : CostTable) (said what : Meaning) (sight : Sight) (service : Option ℕ)
     → service ≡ service_in sight → sight ≡ sight_of files costs said → what ≡ said → service ≡ service_in (sight_of files costs what)
 costs_known files costs said what sight service is sees meaning = is ∙ ap service_in sees ∙ ap (λ w. service_in (sight_of files costs w)) (sym meaning)
-
--- ---- what rows say
-
-rejected_told : (terms : Terms) (earlier : List Arrival) (origin : Origin) (what : Meaning)
-    → is_told_rejected (first_offered terms earlier (offer_at terms origin what)) ≡ list_any (rejects terms.policies (offers_of terms earlier)) (offer_at terms origin what)
-unfolding rejects
-rejected_told terms earlier origin (Request method target version closing since) = sym (alone (is_rejected (decide terms.policies (decided terms.policies (offers_of terms earlier)) _)))
-rejected_told terms earlier origin (Bad fault) = refl
-
-pub rows_agree : RowsAgree
-rows_agree terms earlier a = rejected_told terms earlier a.origin a.message.what
-
-pub starts_once_free : StartsOnceFree
-starts_once_free terms earlier offer finish admitted =
-    let past = decided terms.policies (offers_of terms earlier) in
-    let free = last_finish (map (λ r. r.offer) (served past)) in
-    let is : finish ≡ finish_after (served past) offer = finish_is _ _ _ (sym admitted) in
-    let runs : finish_after (served past) offer ≡ max free offer.tick + offer.service = last_finish-push (map (λ r. r.offer) (served past)) offer in
-    begins free offer.tick offer.service finish (is ∙ runs)
-  where
-    begins : (free tick service finish : ℕ) → finish ≡ max free tick + service → finish - service ≡ tick + (free - tick)
-    begins free tick service finish e = omega (arith, e)

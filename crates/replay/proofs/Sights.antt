@@ -30,7 +30,7 @@ use Rattle.replay.specs.declared.sight.Sighted.{Sighted}
 use Rattle.paths.specs.Reference.{asked, outcome}
 use Rattle.paths.specs.declared.resolution.Outcome.{Outcome}
 use Rattle.http_requests.specs.declared.messages.Version.{Version}
-use Rattle.replay.specs.Reference.{is_head, answers_head, is_unmodified_file, length_given}
+use Rattle.reference.specs.Reference.{is_head, answers_head, is_unmodified_file, length_given}
 use Rattle.replay.specs.Fronts.{each_sighted, floor_sight, floor_step, front_value, seen_as, sight_of, unseen, unseen_at, IsSight}
 
 abbrev pub sighted : Incoming → Sight → Sighted

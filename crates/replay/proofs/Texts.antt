@@ -4,7 +4,7 @@ use Rattle.std.specs.Io.KnownBytes.{Appends}
 use Rattle.devices.proofs.Appending.{appends_none, appends_then, prefix_then}
 use Rattle.devices.specs.Devices.{AppendsPrefix}
 use Rattle.arrivals.specs.Reference.{Arrival}
-use Rattle.replay.specs.Telling.{Telling, IsTelling, Told, ToldInPart}
+use Rattle.reference.specs.Telling.{Telling, IsTelling, Told, ToldInPart}
 
 -- ---- messages that come after others
 

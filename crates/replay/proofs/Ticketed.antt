@@ -4,7 +4,7 @@ use Rattle.std.specs.List.{list_all}
 use Rattle.std.proofs.lemmas.List.{map-append, length-append, length-map}
 use Rattle.paths.specs.declared.file.File.{File}
 use Rattle.cost_model.specs.Reference.{CostTable}
-use Rattle.replay.specs.Reference.{Terms, handled_next, handled_after, slip_of}
+use Rattle.reference.specs.Reference.{Terms, handled_next, handled_after, slip_of}
 use Rattle.arrivals.specs.Reference.{Arrival}
 use Rattle.replay.specs.Serving.{DeskAfter, AreBy}
 use Rattle.replay.specs.Fronts.{front_value, sight_of}
@@ -15,7 +15,7 @@ use Rattle.replay.specs.declared.sight.Sighted.{Sighted}
 use Rattle.replay.specs.declared.ticket.Ticket.{Ticket}
 use Rattle.replay.specs.declared.back.BackState.TheVariants.{Due as Waits}
 use Rattle.replay.specs.declared.desk.Desk.{Desk}
-use Rattle.replay.proofs.Offering.{handled_more, handled_one}
+use Rattle.reference.proofs.Offering.{handled_more, handled_one}
 use Rattle.replay.proofs.Judging.{answered_is}
 
 -- the first k of the messages are decided on

@@ -10,22 +10,22 @@ use Rattle.devices.specs.Devices.{AppendsPrefix}
 use Rattle.paths.specs.declared.file.File.{File}
 use Rattle.cost_model.specs.Reference.{CostTable}
 use Rattle.responses.specs.Reference.{record_text}
-use Rattle.replay.specs.Reference.{Terms, Handled, slip_of, replies_of, reply_of}
+use Rattle.reference.specs.Reference.{Terms, Handled, slip_of, replies_of, reply_of}
 use Rattle.arrivals.specs.Reference.{Arrival}
 use Rattle.replay.specs.Serving.{DeskAfter, records_after, Written, WrittenInPart}
 use Rattle.replay.specs.Fronts.{front_value}
 use Rattle.replay.specs.Backs.{slip_of_ticket, reply_to}
 use Rattle.arrivals.specs.Batches.{joined}
 use Rattle.replay.specs.Ticketing.{incoming_of, AreOf, AreSighted, InTime}
-use Rattle.replay.specs.Outcomes.{IsWriteOrMemory, IfTooMany, IfCutShort}
+use Rattle.reference.specs.Outcomes.{IsWriteOrMemory, IfTooMany, IfCutShort}
 use Rattle.replay.specs.Waiting.{Upcoming}
 use Rattle.arrivals.specs.declared.incoming.Incoming.{Incoming}
 use Rattle.replay.specs.declared.sight.Sighted.{Sighted}
 use Rattle.replay.specs.declared.ticket.Ticket.{Ticket}
 use Rattle.replay.specs.declared.desk.Desk.{Desk}
-use Rattle.replay.specs.declared.replay_fault.ReplayFault.{ReplayFault}
-use Rattle.replay.specs.declared.replay_fault.ReplayFault.TheVariants as faults
-use Rattle.replay.proofs.SameAnswer.{reply_is}
+use Rattle.reference.specs.declared.replay_fault.ReplayFault.{ReplayFault}
+use Rattle.reference.specs.declared.replay_fault.ReplayFault.TheVariants as faults
+use Rattle.reference.proofs.SameAnswer.{reply_is}
 use Rattle.replay.proofs.Judging.{answered_is}
 use Rattle.replay.proofs.Writing.{written_none, written_more}
 

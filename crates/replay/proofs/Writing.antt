@@ -7,12 +7,12 @@ use Rattle.devices.proofs.Appending.{appends_none, appends_then, prefix_then}
 use Rattle.http_requests.specs.declared.messages.Message.{Message}
 use Rattle.responses.specs.Reference.{record_text}
 use Rattle.arrivals.specs.declared.incoming.Origin.{Origin}
-use Rattle.replay.specs.Reference.{Terms, handled_next, handled_after, handled, reply_of, replies_of, first_line, last_line, text_before_stop}
+use Rattle.reference.specs.Reference.{Terms, handled_next, handled_after, handled, reply_of, replies_of, first_line, last_line, text_before_stop}
 use Rattle.arrivals.specs.Reference.{Arrival}
 use Rattle.arrivals.specs.Connections.{arrivals_with}
-use Rattle.replay.specs.Telling.{IsTelling, replies_told}
+use Rattle.reference.specs.Telling.{IsTelling, replies_told}
 use Rattle.replay.specs.Serving.{records_after, Written, WrittenInPart}
-use Rattle.replay.proofs.Offering.{handled_more, handled_one, handled_count}
+use Rattle.reference.proofs.Offering.{handled_more, handled_one, handled_count}
 
 -- ---- messages
 

@@ -1,7 +1,7 @@
 -- How many messages there were of each kind, and how long the admitted requests took.
 use Rattle.std.specs.Prelude.{ℕ, ◌+◌, ◌<◌, ◌==◌, map, All, zip, if◌then◌else◌}
 use Rattle.responses.specs.Reference.{statuses}
-use Rattle.replay.specs.declared.summary.Counts.{Counts}
+use Rattle.reference.specs.declared.summary.Counts.{Counts}
 
 -- one more where it is this status
 abbrev pub one_if : ℕ → ℕ → ℕ

@@ -4,7 +4,7 @@ use Rattle.std.specs.List.{list_any}
 use Rattle.admission.specs.Reference.{Offer}
 use Rattle.admission.specs.After.{ControllerAfter}
 use Rattle.admission.specs.Standing.{policies_of}
-use Rattle.replay.specs.Reference.{rejects, samples_of}
+use Rattle.reference.specs.Reference.{rejects, samples_of}
 use Rattle.replay.specs.declared.totals.Totals.{Totals}
 use Rattle.replay.specs.declared.desk.Desk.{Desk}
 

@@ -8,7 +8,7 @@ use Rattle.http_requests.specs.declared.messages.Fault.TheVariants.{Block}
 use Rattle.http_requests.specs.declared.messages.Meaning.{Meaning}
 use Rattle.http_requests.specs.declared.messages.Meaning.TheVariants.{Request, Bad}
 use Rattle.cost_model.specs.Reference.{CostTable, service}
-use Rattle.replay.specs.Reference.{is_head, is_unmodified_file, length_given}
+use Rattle.reference.specs.Reference.{is_head, is_unmodified_file, length_given}
 use Rattle.replay.specs.declared.sight.Sight.{Sight}
 use Rattle.replay.specs.declared.sight.Sight.TheVariants.{Unseen, Asked, Found, Priced}
 use Rattle.arrivals.specs.declared.incoming.Incoming.{Incoming}

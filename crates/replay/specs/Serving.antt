@@ -7,15 +7,15 @@ use Rattle.captures.specs.declared.record.Record.TheVariants.{Piece, End, Tier}
 use Rattle.responses.specs.Reference.{record_text}
 use Rattle.admission.specs.After.{ControllerAfter}
 use Rattle.admission.specs.Standing.{policies_of}
-use Rattle.replay.specs.Reference.{Terms, ArrivedCapture, offers_of, handled_after, max_messages, replies_of}
-use Rattle.replay.specs.Reference.{outcome_of}
+use Rattle.reference.specs.Reference.{Terms, ArrivedCapture, offers_of, handled_after, max_messages, replies_of}
+use Rattle.reference.specs.Reference.{outcome_of}
 use Rattle.arrivals.specs.Reference.{Arrival, AreArrivals}
 use Rattle.arrivals.specs.Connections.{HaveRead}
-use Rattle.replay.specs.Telling.{Telling, Told, ToldInPart, replies_told}
+use Rattle.reference.specs.Telling.{Telling, Told, ToldInPart, replies_told}
 use Rattle.replay.specs.Totals.{totals_of}
 use Rattle.arrivals.specs.declared.connections.Connection.{Connection}
 use Rattle.replay.specs.declared.desk.Desk.{Desk}
-use Rattle.replay.specs.declared.summary.Outcome.{Outcome}
+use Rattle.reference.specs.declared.summary.Outcome.{Outcome}
 
 -- these messages were decided on and counted
 pub record DeskAfter (terms : Terms) (arrivals : List Arrival) (desk : Desk) : Type 0 where

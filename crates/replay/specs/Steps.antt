@@ -11,7 +11,7 @@ use Rattle.arrivals.specs.Tiers.{AreTiers}
 use Rattle.arrivals.specs.declared.connections.Connection.{Connection}
 use Rattle.arrivals.specs.declared.incoming.Incoming.{Incoming}
 use Rattle.arrivals.specs.declared.incoming.Origin.{Origin}
-use Rattle.replay.specs.Reference.{Terms}
+use Rattle.reference.specs.Reference.{Terms}
 use Rattle.replay.specs.Serving.{
   DeskAfter,
   Serves,
@@ -24,7 +24,7 @@ use Rattle.replay.specs.Serving.{
   Written,
   WrittenInPart,
 }
-use Rattle.replay.specs.Telling.{Telling, Told, ToldInPart}
+use Rattle.reference.specs.Telling.{Telling, Told, ToldInPart}
 use Rattle.replay.specs.Waiting.{ComeNext, Upcoming, connections_of}
 use Rattle.replay.specs.declared.desk.Desk.{Desk}
 

@@ -1,10 +1,10 @@
 -- What the engines count of the messages that they answered.
 use Rattle.std.specs.Prelude.{ℕ, ◌+◌, Bool, List, length, map, if◌then◌else◌}
 use Rattle.responses.specs.Reference.{statuses}
-use Rattle.replay.specs.Reference.{Terms, offers_of, handled, counts_of, bypassed_of, rejected_of, samples_of}
+use Rattle.reference.specs.Reference.{Terms, offers_of, handled, counts_of, bypassed_of, rejected_of, samples_of}
 use Rattle.arrivals.specs.Reference.{Arrival}
 use Rattle.replay.specs.Counting.{with_status}
-use Rattle.replay.specs.declared.summary.Counts.{Counts}
+use Rattle.reference.specs.declared.summary.Counts.{Counts}
 use Rattle.replay.specs.declared.totals.Totals.{Totals}
 
 abbrev pub no_counts : Counts

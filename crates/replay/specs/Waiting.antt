@@ -10,7 +10,7 @@ use Rattle.arrivals.specs.Places.{Place, place_at}
 use Rattle.arrivals.specs.declared.connections.Connection.{Connection}
 use Rattle.arrivals.specs.declared.incoming.Incoming.{Incoming}
 use Rattle.arrivals.specs.declared.incoming.Origin.{Origin}
-use Rattle.replay.specs.Reference.{Terms}
+use Rattle.reference.specs.Reference.{Terms}
 use Rattle.replay.specs.Serving.{Serves, DeskAfter}
 use Rattle.replay.specs.Ticketing.{AreOf, InTime}
 use Rattle.replay.specs.declared.desk.Desk.{Desk}

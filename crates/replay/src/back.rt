@@ -352,6 +352,6 @@ pub(crate) fn run_back<F: Tree + Send + Sync, G: Gate + Sync, T: Threads + Wait 
         (λ _. (h : List Event) × HasGoneThrough server.now.back (length tickets.items) h) }
 {
     let settings = server.settings;
-    let plan = settings.back.try_clone(server.alloc)?;
+    let plan = settings.back().try_clone(server.alloc)?;
     run_back_with::<F, Brand, G, T>(server, rt, threads, plan, cache, tickets, gate)
 }

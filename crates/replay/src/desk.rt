@@ -1,19 +1,28 @@
-//! The desk: the controller and the totals, which see each message in its order.
+//! The desk: the controller and the totals, which see each message in its order, and decide on it.
 
-ghost use Rattle.std.specs.Prelude.{◌≡◌, ◌<◌, ◌≤◌, ◌∷◌, ◌&&◌, [], true, Bool, List, length, IfOk};
+ghost use Rattle.std.specs.Prelude.{◌≡◌, ◌<◌, ◌≤◌, ◌∷◌, ◌&&◌, [], true, Bool, List, length, IfOk, ◌+◌, ◌++◌, map, OnOk};
 ghost use Rattle.admission.specs.Reference.{Offer, tick_from};
 ghost use Rattle.admission.specs.After.{ControllerAfter};
 ghost use Rattle.admission.specs.Standing.{policies_of};
-ghost use Rattle.replay.specs.Reference.{terms_of, answers_head, given, offer_at, samples_of};
+ghost use Rattle.reference.specs.Reference.{terms_of, answers_head, given, offer_at, samples_of, handled_next};
+ghost use Rattle.reference.specs.Reference.{handled_after};
+ghost use Rattle.reference.specs.Reference.{max_messages, slip_of};
 ghost use Rattle.replay.specs.Deciding.{Decides};
 ghost use Rattle.replay.specs.Fronts.{sight_of};
-ghost use Rattle.replay.specs.Backs.{told, only_head, has_location, is_due};
+ghost use Rattle.replay.specs.Backs.{told, only_head, has_location, is_due, is_back, slip_of_ticket};
+ghost use Rattle.std.specs.List.{list_all};
+ghost use Rattle.captures.specs.Reference.{max_start, max_tick};
+ghost use Rattle.arrivals.specs.Reference.{Arrival};
+ghost use Rattle.replay.specs.Serving.{DeskAfter, AreBy};
+ghost use Rattle.replay.specs.Steps.{DecidesNext};
+ghost use Rattle.replay.specs.Ticketing.{AreSighted, InTime};
+ghost use Rattle.replay.specs.declared.back.BackState.TheVariants.{Due as Waits};
 
 use crate::MAX_MESSAGES;
-use crate::answers::{answers_head, fault_status, outcome_answer};
+use crate::answering::{answers_head, fault_status, link_of, outcome_answer};
 use crate::server::Server;
-use crate::sight::Sight;
-use crate::ticket::Due;
+use crate::sight::{Sight, Sighted};
+use crate::ticket::{Due, Ticket};
 use crate::totals::Totals;
 use admission::{Controller, Decision, MAX_SERVICE, MAX_TICK};
 use arrivals::Origin;
@@ -91,7 +100,7 @@ impl Desk {
                 };
                 if self.offer(origin.tier, origin.tick, service.ticks())? {
                     let settings = server.settings;
-                    let retry_after = settings.retry_after;
+                    let retry_after = settings.retry_after();
                     return Ok(Due::Told(Given::Plain {
                         status: Status::ServiceUnavailable { retry_after },
                     }));
@@ -100,4 +109,77 @@ impl Desk {
             }
         }
     }
+}
+
+/// Decides on the next message, and counts it.
+pub(crate) fn settle<F: Tree>(
+    server: &Server<'_, F>,
+    origin: Origin,
+    what: &Meaning,
+    sight: Sight,
+    desk: &mut Desk,
+) -> Result<Ticket<F>, AllocError>
+    requires start { desk.old.start ≤ max_start }
+    requires tick { origin.tick ≤ max_tick }
+    requires tier { origin.tier < 4 }
+    requires few { desk.old.totals.answered < MAX_MESSAGES }
+    requires stands { (arrivals : List Arrival) × DeskAfter (terms_of F.files server.now) arrivals desk.old
+        × AreBy origin.tick arrivals }
+    requires sight { sight ≡ sight_of F.files server.now.costs what.now }
+    ensures stands { OnOk result (DecidesNext (terms_of F.files server.now) origin what.now desk.old desk.new) }
+    ensures slip { IfOk result (λ t. (arrivals : List Arrival) (a : Arrival)
+        → DeskAfter (terms_of F.files server.now) arrivals desk.old → a.origin ≡ origin → a.message.what ≡ what.now
+        → slip_of_ticket t ≡ slip_of (terms_of F.files server.now) desk.old.start
+        (handled_next (terms_of F.files server.now) arrivals a)) }
+    ensures ready { IfOk result (λ t. is_back F.files (Waits t) ≡ true) }
+    ensures start { OnOk result (desk.new.start ≡ desk.old.start) }
+    ensures number { OnOk result (desk.new.totals.answered ≡ desk.old.totals.answered + 1) }
+{
+    let number = desk.totals.answered;
+    let date = desk.start + origin.tick / 1_000_000;
+    let head = answers_head(what);
+    let link = link_of(what);
+    let due = desk.decide(server, origin, what, sight)?;
+    desk.totals.note(&due, what);
+    Ok(Ticket {
+        number,
+        conn: usize::from(origin.conn),
+        date,
+        head,
+        link,
+        due,
+    })
+}
+
+/// Decides on messages, in their order.
+pub(crate) fn decide_all<F: Tree>(
+    server: &Server<'_, F>,
+    sights: Vec<Sighted>,
+    desk: &mut Desk,
+) -> Result<Vec<Ticket<F>>, AllocError>
+    requires start { desk.old.start ≤ max_start }
+    requires arrived { (arrivals : List Arrival) × (more : List Arrival)
+        × DeskAfter (terms_of F.files server.now) arrivals desk.old
+        × AreSighted F.files server.now.costs more sights.items × InTime arrivals more
+        × (length arrivals + length more ≤ max_messages) }
+    ensures stands { OnOk result ((arrivals more : List Arrival)
+        → DeskAfter (terms_of F.files server.now) arrivals desk.old
+        → AreSighted F.files server.now.costs more sights.items
+        → DeskAfter (terms_of F.files server.now) (arrivals ++ more) desk.new) }
+    ensures slips { IfOk result (λ v. (arrivals more : List Arrival)
+        → DeskAfter (terms_of F.files server.now) arrivals desk.old
+        → AreSighted F.files server.now.costs more sights.items
+        → map slip_of_ticket v.items
+        ≡ map (slip_of (terms_of F.files server.now) desk.old.start)
+        (handled_after (terms_of F.files server.now) arrivals more)) }
+    ensures ready { IfOk result (λ v. list_all (λ t. is_back F.files (Waits t)) v.items ≡ true) }
+    ensures start { OnOk result (desk.new.start ≡ desk.old.start) }
+{
+    let mut tickets = Vec::with_capacity(server.alloc, sights.len())?;
+    for sighted in sights {
+        let Sighted { message, sight } = sighted;
+        let ticket = settle(server, message.origin, &message.what, sight, desk)?;
+        tickets.push(ticket)?;
+    }
+    Ok(tickets)
 }

@@ -2,16 +2,16 @@
 
 ghost use Rattle.std.specs.Prelude.{◌≡◌, ◌-◌, ◌<◌, ◌^◌, IfOk, IfErr};
 ghost use Rattle.devices.specs.Devices.{CanFail, CountsBy};
-ghost use Rattle.replay.specs.Outcomes.{Leaves, reader_failures, writer_failures};
-ghost use Rattle.replay.specs.Reference.{terms_of};
-ghost use Rattle.replay.specs.Explaining.{Explains, rows_told};
+ghost use Rattle.reference.specs.Outcomes.{Leaves, reader_failures, writer_failures};
+ghost use Rattle.reference.specs.Reference.{terms_of};
+ghost use Rattle.reference.specs.Explaining.{Explains, rows_told};
 
 use crate::plain::replay_telling;
 use crate::rows::Rows;
-use crate::summary::Outcome;
 use crate::{ReplayFault, Settings};
 use devices::{Input, Output};
 use paths::{Snapshot, Tree};
+use reference::Outcome;
 use std::alloc::Global;
 use std::io::{Read, Write};
 

@@ -12,10 +12,9 @@ ghost use Rattle.paths.specs.Resolution.{IsOutcome};
 ghost use Rattle.replay.specs.declared.sight.Sight.TheVariants.{Unseen, Found};
 ghost use Rattle.replay.specs.Fronts.{floor_sight, floor_step, seen_as, message_at, each_sighted};
 
-use crate::answers::{answers_head, service_of};
+use crate::answering::{answers_head, service_of};
 use crate::server::Server;
-use crate::service_time::ServiceTime;
-use crate::sight::{Sight, Sighted};
+use crate::sight::{ServiceTime, Sight, Sighted};
 use arrivals::Incoming;
 use cost_model::Costs;
 use http_requests::Meaning;
@@ -308,7 +307,7 @@ fn run_front_with<
     let chain = Front::<F, K> {
         alloc,
         snapshot: server.snapshot,
-        costs: settings.costs,
+        costs: settings.costs(),
         messages: &messages,
         tree: PhantomData,
         of: PhantomData,
@@ -331,6 +330,6 @@ pub(crate) fn run_front<F: Tree + Send + Sync, G: Gate + Sync, T: Threads + Wait
         (λ _. (h : List Event) × HasGoneThrough server.now.front (length messages.items) h) }
 {
     let settings = server.settings;
-    let plan = settings.front.try_clone(server.alloc)?;
+    let plan = settings.front().try_clone(server.alloc)?;
     run_front_with::<F, Brand, G, T>(server, rt, threads, plan, messages, gate)
 }

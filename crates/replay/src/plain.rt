@@ -1,17 +1,16 @@
 //! The plain engine: one thread, message by message.
 
-ghost use Rattle.std.specs.Prelude.{◌≡◌, ◌+◌, ◌≤◌, ◌<◌, ◌-◌, ◌^◌, ◌⊎◌, ◌∷◌, [], List, ◌++◌, IfOk, IfErr, OnOk, OnErr};
-ghost use Rattle.std.specs.Io.KnownBytes.{Appends};
-ghost use Rattle.devices.specs.Devices.{CanFail, CountsBy, AppendsPrefix};
+ghost use Rattle.std.specs.Prelude.{◌≡◌, ◌+◌, ◌≤◌, ◌<◌, ◌-◌, ◌^◌, ◌⊎◌, ◌∷◌, [], List, ◌++◌, IfOk, IfErr, OnOk};
+ghost use Rattle.devices.specs.Devices.{CanFail, CountsBy};
 ghost use Rattle.captures.specs.declared.version.Version.{Version as AVersion};
 ghost use Rattle.captures.specs.Reference.{IsRecord, max_start, max_text_bytes};
 ghost use Rattle.captures.specs.Captures.{size_of, sizes_of};
 ghost use Rattle.captures.specs.declared.record.Record.{Record as ARecord};
-ghost use Rattle.replay.specs.Reference.{Terms, terms_of, first_line, last_line, summary_of, tally_of, Answers};
+ghost use Rattle.reference.specs.Reference.{Terms, terms_of, summary_of, tally_of, Answers};
 ghost use Rattle.arrivals.specs.Reference.{Arrival};
-ghost use Rattle.replay.specs.Telling.{IsTelling, replies_told};
-ghost use Rattle.replay.specs.Outcomes.{IfTooMany, IfCutShort, IsOwn, IsWriteOrMemory, Leaves, reader_failures};
-ghost use Rattle.replay.specs.Outcomes.{writer_failures};
+ghost use Rattle.reference.specs.Telling.{IsTelling, replies_told};
+ghost use Rattle.reference.specs.Outcomes.{IfTooMany, IfCutShort, IsOwn, Leaves, reader_failures};
+ghost use Rattle.reference.specs.Outcomes.{writer_failures};
 ghost use Rattle.replay.specs.Serving.{IsLater, Serves, DeskAfter, HasTold};
 ghost use Rattle.replay.specs.Steps.{AnswersRecord, FillsWithRecord, AnswersRecordInPart};
 ghost use Rattle.arrivals.specs.Tiers.{AreTiers};
@@ -23,7 +22,6 @@ use crate::answering::answer_all;
 use crate::desk::Desk;
 use crate::replies::Replies;
 use crate::server::Server;
-use crate::summary::Outcome;
 use crate::telling::Tells;
 use crate::totals::Totals;
 use crate::{MAX_MESSAGES, ReplayFault, Settings, Summary, Tally};
@@ -33,39 +31,11 @@ use captures::{CaptureReader, Record};
 use devices::{Input, Output};
 use http_requests::Message;
 use paths::{Snapshot, Tree};
+use reference::Outcome;
 use responses::HeadRenderer;
 use std::alloc::{AllocError, Global};
 use std::io::{Read, Write};
 use std::marker::PhantomData;
-
-/// Writes the line before the replies.
-pub(crate) fn write_first_line<W: Write>(writer: &mut Output<W>) -> Result<(), ReplayFault>
-    requires { CanFail writer.old }
-    ensures written { OnOk result (Appends writer.old.bytes writer.new.bytes first_line) }
-    ensures part { OnErr result (AppendsPrefix writer.old.bytes writer.new.bytes first_line) }
-    ensures failures { CountsBy writer_failures writer.old.failures writer.new.failures result }
-    ensures own { IfErr result IsWriteOrMemory }
-{
-    writer.write_all(b"haboob-replies 1\n")?;
-    Ok(())
-}
-
-/// Writes the line after n replies.
-pub(crate) fn write_last_line<W: Write>(
-    alloc: Global,
-    writer: &mut Output<W>,
-    count: usize,
-) -> Result<(), ReplayFault>
-    requires { CanFail writer.old }
-    ensures written { OnOk result (Appends writer.old.bytes writer.new.bytes (last_line count)) }
-    ensures part { OnErr result (AppendsPrefix writer.old.bytes writer.new.bytes (last_line count)) }
-    ensures failures { CountsBy writer_failures writer.old.failures writer.new.failures result }
-    ensures own { IfErr result IsWriteOrMemory }
-{
-    let line = format!(in alloc; "stop {count}\n")?;
-    writer.write_all(line.as_bytes())?;
-    Ok(())
-}
 
 /// What became of the requests of a tier.
 fn tally_of(alloc: Global, controller: &Controller, tier: u8) -> Result<Tally, AllocError>
@@ -192,7 +162,7 @@ pub(crate) fn replay_telling<T: Tells, F: Tree, R: Read, W: Write>(
     let mut tiers = Tiers::new(alloc);
     let mut desk = Desk {
         start: capture.start(),
-        controller: Controller::new(alloc, settings.policies)?,
+        controller: Controller::new(alloc, settings.policies())?,
         totals: Totals::new(alloc),
     };
     loop {

@@ -1,10 +1,14 @@
 //! What a replay writes of its messages: replies.
 
+ghost use Rattle.std.specs.Prelude.{OnOk, OnErr, IfErr};
+ghost use Rattle.std.specs.Io.KnownBytes.{Appends};
+ghost use Rattle.devices.specs.Devices.{CanFail, CountsBy, AppendsPrefix};
+ghost use Rattle.reference.specs.Reference.{first_line, last_line};
+ghost use Rattle.reference.specs.Outcomes.{IsWriteOrMemory, writer_failures};
+
 use crate::ReplayFault;
 use crate::answering::{answer_ticket, look_into};
-use crate::deciding::settle;
-use crate::desk::Desk;
-use crate::plain::{write_first_line, write_last_line};
+use crate::desk::{Desk, settle};
 use crate::server::Server;
 use crate::telling::Tells;
 use arrivals::Origin;
@@ -15,11 +19,40 @@ use responses::HeadRenderer;
 use std::alloc::Global;
 use std::io::Write;
 
+/// Writes the line before the replies.
+pub(crate) fn write_first_line<W: Write>(writer: &mut Output<W>) -> Result<(), ReplayFault>
+    requires { CanFail writer.old }
+    ensures written { OnOk result (Appends writer.old.bytes writer.new.bytes first_line) }
+    ensures part { OnErr result (AppendsPrefix writer.old.bytes writer.new.bytes first_line) }
+    ensures failures { CountsBy writer_failures writer.old.failures writer.new.failures result }
+    ensures own { IfErr result IsWriteOrMemory }
+{
+    writer.write_all(b"haboob-replies 1\n")?;
+    Ok(())
+}
+
+/// Writes the line after n replies.
+pub(crate) fn write_last_line<W: Write>(
+    alloc: Global,
+    writer: &mut Output<W>,
+    count: usize,
+) -> Result<(), ReplayFault>
+    requires { CanFail writer.old }
+    ensures written { OnOk result (Appends writer.old.bytes writer.new.bytes (last_line count)) }
+    ensures part { OnErr result (AppendsPrefix writer.old.bytes writer.new.bytes (last_line count)) }
+    ensures failures { CountsBy writer_failures writer.old.failures writer.new.failures result }
+    ensures own { IfErr result IsWriteOrMemory }
+{
+    let line = format!(in alloc; "stop {count}\n")?;
+    writer.write_all(line.as_bytes())?;
+    Ok(())
+}
+
 /// Each message is told by its reply.
 pub(crate) struct Replies;
 
 impl Tells for Replies {
-    ghost use Rattle.replay.specs.Telling.{replies_told};
+    ghost use Rattle.reference.specs.Telling.{replies_told};
 
     ghost telling = { replies_told };
 

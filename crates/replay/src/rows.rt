@@ -6,16 +6,15 @@ ghost use Rattle.responses.specs.Reference.{status_of};
 ghost use Rattle.admission.specs.Reference.{decided};
 ghost use Rattle.admission.specs.Decisions.{outlook};
 ghost use Rattle.arrivals.specs.Reference.{Arrival};
-ghost use Rattle.replay.specs.Reference.{Terms, handled_next, offers_of, slip_of};
+ghost use Rattle.reference.specs.Reference.{Terms, handled_next, offers_of, slip_of};
 ghost use Rattle.replay.specs.Fronts.{sight_of};
 ghost use Rattle.replay.specs.Backs.{slip_of_ticket, told};
-ghost use Rattle.replay.specs.Explaining.{row_of, method_of, target_of};
+ghost use Rattle.reference.specs.Explaining.{row_of, method_of, target_of};
 ghost use Rattle.replay.specs.Rowing.{service_in, turns_away, offered_with};
 
 use crate::ReplayFault;
 use crate::answering::look_into;
-use crate::deciding::settle;
-use crate::desk::Desk;
+use crate::desk::{Desk, settle};
 use crate::server::Server;
 use crate::sight::Sight;
 use crate::telling::Tells;
@@ -143,7 +142,7 @@ fn target_of(what: &Meaning) -> &[u8]
 pub(crate) struct Rows;
 
 impl Tells for Rows {
-    ghost use Rattle.replay.specs.Explaining.{rows_told};
+    ghost use Rattle.reference.specs.Explaining.{rows_told};
 
     ghost telling = { rows_told };
 

@@ -17,7 +17,7 @@ pub(crate) struct Server<'a, F: Tree> {
 
 impl<'a, F: Tree> Model for Server<'a, F> {
     ghost use Rattle.std.specs.Prelude.{◌≡◌};
-    ghost use Rattle.replay.specs.Reference.{Choice};
+    ghost use Rattle.reference.specs.Reference.{Choice};
 
     ghost Value = { Choice };
 

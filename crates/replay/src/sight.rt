@@ -1,8 +1,11 @@
-//! What the front floor has seen of a message.
+//! What is known of a message before it is decided on.
 
-use crate::service_time::ServiceTime;
+ghost use Rattle.std.specs.Prelude.{◌≡◌, ◌≤◌};
+ghost use Rattle.admission.specs.Limits.{MAX_SERVICE};
+
 use arrivals::Incoming;
 use paths::{Asked, Outcome};
+use std::marker::Model;
 
 /// How far a message was looked into before it is decided on.
 #[derive(Drop)]
@@ -22,4 +25,37 @@ pub enum Sight {
 pub struct Sighted {
     pub message: Incoming,
     pub sight: Sight,
+}
+
+/// How long the virtual server works on a request, in ticks: at least one, and at most 20,000,000,000.
+#[derive(Drop)]
+pub struct ServiceTime {
+    ticks: u64,
+}
+
+impl Model for ServiceTime {
+    ghost use Rattle.std.specs.Prelude.{ℕ, ◌≤◌};
+    ghost use Rattle.admission.specs.Limits.{MAX_SERVICE};
+
+    ghost Value = { ℕ };
+
+    ghost view = { λ s. s.ticks };
+
+    ghost invariant = { λ s. (1 ≤ s.ticks) × (s.ticks ≤ MAX_SERVICE) };
+}
+
+impl ServiceTime {
+    pub(crate) fn new(ticks: u64) -> ServiceTime
+        requires { (1 ≤ ticks) × (ticks ≤ MAX_SERVICE) }
+        ensures { result ≡ ticks }
+    {
+        ServiceTime { ticks }
+    }
+
+    pub(crate) fn ticks(&self) -> u64
+        ensures value { result ≡ self.now }
+        ensures range { (1 ≤ result) × (result ≤ MAX_SERVICE) }
+    {
+        self.ticks
+    }
 }

@@ -5,18 +5,18 @@ ghost use Rattle.devices.specs.Devices.{CanFail, BlamedOnce, CountsBy};
 ghost use Rattle.captures.specs.Reference.{max_start};
 ghost use Rattle.captures.specs.declared.record.Record.{Record as ARecord};
 ghost use Rattle.arrivals.specs.Reference.{Arrival};
-ghost use Rattle.replay.specs.Reference.{terms_of, Answers};
-ghost use Rattle.replay.specs.Outcomes.{IfTooMany, IfCutShort, IsOwn, Leaves, reader_failures, writer_failures};
-ghost use Rattle.replay.specs.Telling.{replies_told};
+ghost use Rattle.reference.specs.Reference.{terms_of, Answers};
+ghost use Rattle.reference.specs.Outcomes.{IfTooMany, IfCutShort, IsOwn, Leaves, reader_failures, writer_failures};
+ghost use Rattle.reference.specs.Telling.{replies_told};
 ghost use Rattle.replay.specs.Steps.{AnswersBatch, FillsWithBatch, AnswersBatchInPart};
 ghost use Rattle.replay.specs.Waiting.{ComeNext, Waiting};
 
 use crate::desk::Desk;
 use crate::groups::{Pages, room_for_pages};
-use crate::plain::{outcome_of, write_first_line, write_last_line};
+use crate::parts::{Floors, serve_parts};
+use crate::plain::outcome_of;
+use crate::replies::{write_first_line, write_last_line};
 use crate::server::Server;
-use crate::serving::{Floors, serve_parts};
-use crate::summary::Outcome;
 use crate::totals::Totals;
 use crate::{MAX_MESSAGES, ReplayFault, Settings};
 use admission::Controller;
@@ -25,6 +25,7 @@ use captures::CaptureReader;
 use devices::{Input, Output};
 use page_cache::PageCache;
 use paths::{Snapshot, Tree};
+use reference::Outcome;
 use stage_graph::Gate;
 use std::alloc::Global;
 use std::io::{Read, Write};
@@ -122,12 +123,12 @@ pub fn staged_replay<
     let mut tiers = Tiers::new(alloc);
     let mut desk = Desk {
         start: capture.start(),
-        controller: Controller::new(alloc, settings.policies)?,
+        controller: Controller::new(alloc, settings.policies())?,
         totals: Totals::new(alloc),
     };
     let pages = Pages {
-        cache: Mutex::new(PageCache::<F>::new(alloc, settings.cache, snapshot.len())?),
-        room: room_for_pages(snapshot, settings.cache),
+        cache: Mutex::new(PageCache::<F>::new(alloc, settings.cache(), snapshot.len())?),
+        room: room_for_pages(snapshot, settings.cache()),
     };
     let server = Server::<F> {
         alloc,
@@ -142,7 +143,13 @@ pub fn staged_replay<
         gate,
     };
     loop {
-        let batch = read_batch(alloc, &mut capture, settings.batch, &mut seats, &mut tiers)?;
+        let batch = read_batch(
+            alloc,
+            &mut capture,
+            settings.batch(),
+            &mut seats,
+            &mut tiers,
+        )?;
         seats = serve_batch(&server, &floors, seats, &batch.origins, &mut desk, writer)?;
         match batch.ending {
             Ending::More => {}

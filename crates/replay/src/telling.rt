@@ -5,10 +5,10 @@ ghost use Rattle.std.specs.Io.KnownBytes.{Appends};
 ghost use Rattle.devices.specs.Devices.{CanFail, CountsBy, AppendsPrefix};
 ghost use Rattle.captures.specs.Reference.{max_start, max_tick};
 ghost use Rattle.arrivals.specs.Reference.{Arrival};
-ghost use Rattle.replay.specs.Reference.{Terms, terms_of};
-ghost use Rattle.replay.specs.Outcomes.{writer_failures, IsWriteOrMemory};
+ghost use Rattle.reference.specs.Reference.{terms_of, Terms};
+ghost use Rattle.reference.specs.Outcomes.{writer_failures, IsWriteOrMemory};
 ghost use Rattle.replay.specs.Serving.{DeskAfter, AreBy};
-ghost use Rattle.replay.specs.Telling.{Telling, IsTelling};
+ghost use Rattle.reference.specs.Telling.{Telling, IsTelling};
 ghost use Rattle.replay.specs.Steps.{DecidesNext, TellsNext, TellsNextInPart};
 
 use crate::desk::Desk;
@@ -25,8 +25,8 @@ use std::io::Write;
 /// What a replay writes of the messages of a capture, one after another: their replies, or the rows of a table.
 /// `telling` has the texts.
 pub(crate) trait Tells {
-    ghost use Rattle.replay.specs.Reference.{Terms};
-    ghost use Rattle.replay.specs.Telling.{Telling};
+    ghost use Rattle.reference.specs.Reference.{Terms};
+    ghost use Rattle.reference.specs.Telling.{Telling};
 
     ghost telling: { Terms → Telling };
 

@@ -2,18 +2,20 @@
 
 ghost use Rattle.std.specs.Prelude.{◌≡◌, ◌-◌, ◌<◌, ◌^◌, []};
 ghost use Rattle.responses.specs.Reference.{status_of};
-ghost use Rattle.replay.specs.Reference.{breaks_a_rule};
-ghost use Rattle.replay.specs.Counting.{AreBelow};
+ghost use Rattle.reference.specs.Reference.{breaks_a_rule};
+ghost use Rattle.replay.specs.Counting.{AreBelow, with_status};
 ghost use Rattle.replay.specs.Totals.{no_counts, noted};
 ghost use Rattle.replay.specs.Backs.{told};
 
-use crate::counting::{NONE, breaks_a_rule};
-use crate::summary::Counts;
 use crate::ticket::Due;
 use arrivals::Series;
 use http_requests::Meaning;
 use paths::Tree;
+use reference::Counts;
 use std::alloc::Global;
+
+/// Nothing was answered yet.
+pub(crate) const NONE: Counts = Counts { by_status: [0; 9] };
 
 /// The messages that were answered so far.
 #[derive(Drop)]
@@ -51,9 +53,24 @@ impl Totals {
         ensures { self.new ≡ noted self.old (status_of (told due.now)) (breaks_a_rule what.now) }
     {
         self.answered += 1;
-        self.counts.note(due);
+        count_status(&mut self.counts, due);
         if breaks_a_rule(what) {
             self.bypassed += 1;
         }
     }
+}
+
+/// Counts one more message, by the status that it is to be answered with.
+pub(crate) fn count_status<F: Tree>(counts: &mut Counts, due: &Due<F>)
+    requires { AreBelow (2 ^ 64 - 1) counts.old }
+    ensures { counts.new ≡ with_status counts.old (status_of (told due.now)) }
+{
+    counts.by_status[due.status_place()] += 1;
+}
+
+/// Whether a message breaks a rule, and so is no request.
+pub(crate) fn breaks_a_rule(what: &Meaning) -> bool
+    ensures { result ≡ breaks_a_rule what.now }
+{
+    matches!(what, Meaning::Bad(_))
 }

@@ -4,9 +4,9 @@ use Rattle.std.specs.Prelude.{flat_map, slice_get, zip, Bool, nat_lt, if◌then�
 use Rattle.admission.specs.Reference.{sorted}
 use Rattle.admission.specs.declared.control.Control.{Control}
 use Rattle.responses.specs.Reference.{statuses}
-use Rattle.replay.specs.declared.summary.Outcome.{Outcome}
-use Rattle.replay.specs.declared.summary.Counts.{Counts}
-use Rattle.replay.specs.declared.summary.Tally.{Tally}
+use Rattle.reference.specs.declared.summary.Outcome.{Outcome}
+use Rattle.reference.specs.declared.summary.Counts.{Counts}
+use Rattle.reference.specs.declared.summary.Tally.{Tally}
 
 -- a line of a name and a number
 abbrev pub line : List ℕ → ℕ → List ℕ

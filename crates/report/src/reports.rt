@@ -8,7 +8,7 @@ ghost use Rattle.report.specs.Reports.{all_tier_lines, reject_lines, report_text
 
 use crate::percentiles::{percentile, sorted};
 use admission::Control;
-use replay::{Counts, Outcome, Tally};
+use reference::{Counts, Outcome, Tally};
 use responses::STATUS_CODES;
 use std::alloc::{AllocError, Global};
 

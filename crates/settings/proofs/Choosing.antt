@@ -4,9 +4,9 @@ use Rattle.std.proofs.lemmas.Bool.Decides.{nat_tests}
 use Rattle.std.specs.Str.{is_utf8}
 use Rattle.toml.specs.Parse.{parse_document}
 use Rattle.stage_graph.specs.After.{last_cut}
-use Rattle.replay.specs.Reference.{Choice}
-use Rattle.replay.specs.Choices.{settings_fault}
-use Rattle.replay.specs.declared.settings.SettingsFault.{SettingsFault}
+use Rattle.reference.specs.Reference.{Choice}
+use Rattle.reference.specs.Choices.{settings_fault}
+use Rattle.reference.specs.declared.settings.SettingsFault.{SettingsFault}
 use Rattle.settings.specs.SettingsTable.{document_of}
 
 no_fault : (c : Choice) → last_cut c.front ≡ 3 → last_cut c.back ≡ 2 → 1 ≤ c.batch → c.batch ≤ 65536 → c.cache ≤ 1073741824 → c.retry_after ≤ 86400

@@ -1,6 +1,6 @@
 -- What the definitions say of worked rows, computed.
+use Rattle.admission.specs.declared.policy.PolicyNumbers.{PolicyNumbers}
 use Rattle.std.proofs.Common.{◌≡◌, [], ◌∷◌, codes, pos, Ok, Err, refl}
-use Rattle.admission.specs.Reference.{Rules}
 use Rattle.toml.specs.Data.{Members, no_members, member, integer, table, array, no_items, item}
 use Rattle.settings.specs.declared.config_fault.Key.TheVariants as keys
 use Rattle.settings.specs.declared.policy_key.PolicyTable.TheVariants as tables
@@ -33,7 +33,7 @@ unfolding policy_in
 defaults = refl
 
 -- a tight bucket in all tiers, and in tier 1 with room for one more
-abbrev tight : Rules
+abbrev tight : PolicyNumbers
 tight = record default_policy { rate = 1000; rate_min = 1000; rate_max = 1000; depth = 1 }
 
 abbrev tight_document : Members

@@ -1,7 +1,7 @@
 -- A document that is written out is one of settings.
-use Rattle.std.proofs.Common.{◌≡◌, List, ℕ, false, Option, Some, None, Result, Ok, Err, refl, MatchResult, IfOk}
+use Rattle.std.proofs.Common.{◌≡◌, List, ℕ, false, Some, Result, Ok, Err, refl, MatchResult, IfOk}
 use Rattle.toml.specs.Data.{Members}
-use Rattle.replay.specs.Reference.{Choice}
+use Rattle.reference.specs.Reference.{Choice}
 use Rattle.settings.specs.declared.config_fault.ConfigFault.{ConfigFault}
 use Rattle.settings.specs.ConfigFaults.{is_memory}
 use Rattle.settings.specs.Documents.{◌>>=◌}

@@ -1,7 +1,7 @@
 -- What a settings document has at a key.
-use Rattle.std.specs.Prelude.{ℕ, ◌&&◌, Bool, true, false, List, [], ◌∷◌, Option, Some, None, Result, Ok, Err, ℤ, pos}
-use Rattle.std.specs.Prelude.{negsuc, nat_le, if◌then◌else◌}
-use Rattle.std.specs.Option.{option_map_or}
+use Rattle.std.specs.Prelude.{ℕ, List, [], ◌∷◌, Option, Some, None, Result, Ok, Err, ℤ, pos}
+use Rattle.std.specs.Prelude.{negsuc, if◌then◌else◌}
+use Rattle.std.specs.Option.{option_map_or, option_or}
 use Rattle.toml.specs.Data.{Data, integer, array, table, Items, no_items, item, Members, no_members, member, get_member}
 use Rattle.toml.specs.Data.{as_table}
 use Rattle.settings.specs.declared.config_fault.Key.{Key}
@@ -15,22 +15,27 @@ abbrev pub ◌>>=◌ : {A B : Type 0} → Result A ConfigFault → (A → Result
 (Ok x) >>= f = f x
 (Err e) >>= f = Err e
 
--- Every key of each table in a value is one that may stand there, where the value stands at this key (or is the
--- document itself). A list's items stand where the list stands.
+-- what stands where it may not: the key that holds it (none, in the document itself), and its name
+abbrev pub Misplaced : Type 0
+Misplaced = Option Key × List ℕ
+
+-- The first key of the tables in a value that may not stand there, where the value stands at this key (or is the
+-- document itself). A table's members come by their names; a list's items stand where the list stands.
 abbrev mutual
-  pub is_known : Data → Option Key → Bool
-  is_known (array ds) within = items_known ds within
-  is_known (table ms) within = members_known ms within
-  is_known _ within = true
+  pub misplaced_of : Data → Option Key → Option Misplaced
+  misplaced_of (array ds) within = misplaced_among ds within
+  misplaced_of (table ms) within = misplaced_in ms within
+  misplaced_of _ within = None
 
-  pub items_known : Items → Option Key → Bool
-  items_known no_items within = true
-  items_known (item d ds) within = is_known d within && items_known ds within
+  pub misplaced_among : Items → Option Key → Option Misplaced
+  misplaced_among no_items within = None
+  misplaced_among (item d ds) within = option_or (misplaced_of d within) (misplaced_among ds within)
 
-  pub members_known : Members → Option Key → Bool
-  members_known no_members within = true
-  members_known (member name d ms) within =
-      option_map_or (λ key. is_known d (Some key)) (key_at within name) false && members_known ms within
+  pub misplaced_in : Members → Option Key → Option Misplaced
+  misplaced_in no_members within = None
+  misplaced_in (member name d ms) within =
+      option_or (option_map_or (λ key. misplaced_of d (Some key)) (key_at within name) (Some (within, name)))
+      (misplaced_in ms within)
 
 -- the table that a value is, as this key wants
 abbrev pub table_at : Key → Option Members → Result Members ConfigFault

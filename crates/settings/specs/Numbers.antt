@@ -2,9 +2,9 @@
 use Rattle.std.specs.Prelude.{ℕ, ◌≤◌, List}
 use Rattle.cost_model.specs.Reference.{CostTable}
 use Rattle.token_bucket.specs.Limits.{MAX_DEPTH, MAX_RATE}
+use Rattle.admission.specs.declared.policy.PolicyNumbers.{PolicyNumbers}
 use Rattle.admission.specs.Limits.{MAX_WINDOW, MAX_EVERY, MAX_UP, MIN_DOWN, MAX_DOWN, MAX_TARGET}
-use Rattle.admission.specs.Reference.{Rules}
-use Rattle.replay.specs.Choices.{max_batch, max_cache, max_retry_after}
+use Rattle.reference.specs.Choices.{max_batch, max_cache, max_retry_after}
 
 -- the lists of a floor: where its stages end, their workers, and what their queues hold
 pub record FloorLists : Type 0 where
@@ -20,13 +20,13 @@ pub record Choices : Type 0 where
   pub cache : ℕ
   pub costs : CostTable
   pub retry_after : ℕ
-  pub policy : Rules
-  pub tier1 : Rules
-  pub tier2 : Rules
-  pub tier3 : Rules
+  pub policy : PolicyNumbers
+  pub tier1 : PolicyNumbers
+  pub tier2 : PolicyNumbers
+  pub tier3 : PolicyNumbers
 
 -- each number of a policy is within its own range
-pub record AreWithin (p : Rules) : Type 0 where
+pub record AreWithin (p : PolicyNumbers) : Type 0 where
   pub window : (1 ≤ p.window) × (p.window ≤ MAX_WINDOW)
   pub every : (1 ≤ p.every) × (p.every ≤ MAX_EVERY)
   pub smoothing : p.smoothing ≤ 999

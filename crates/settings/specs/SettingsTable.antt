@@ -1,4 +1,5 @@
 -- The settings of a document: each key's default, and what must hold between them.
+use Rattle.admission.specs.declared.policy.PolicyNumbers.{PolicyNumbers}
 use Rattle.std.specs.Prelude.{ℕ, ◌&&◌, List, [], ◌∷◌, length, Option, Some, None, Result, Ok, Err, nat_eq, nat_le}
 use Rattle.std.specs.Prelude.{is_none, if◌then◌else◌}
 use Rattle.std.specs.Str.{is_utf8}
@@ -8,8 +9,7 @@ use Rattle.stage_graph.specs.Layouts.{Layout, layout_of}
 use Rattle.stage_graph.specs.PlanFaults.{plan_fault}
 use Rattle.stage_graph.specs.After.{last_cut}
 use Rattle.cost_model.specs.Reference.{CostTable}
-use Rattle.admission.specs.Reference.{Rules}
-use Rattle.replay.specs.Reference.{Choice}
+use Rattle.reference.specs.Reference.{Choice}
 use Rattle.settings.specs.declared.config_fault.Key.{Key}
 use Rattle.settings.specs.declared.config_fault.Key.TheVariants as keys
 use Rattle.settings.specs.declared.policy_key.PolicyTable.{PolicyTable}
@@ -18,7 +18,7 @@ use Rattle.settings.specs.declared.policy_key.PolicyKey.TheVariants as policy
 use Rattle.settings.specs.declared.config_fault.ConfigFault.{ConfigFault}
 use Rattle.settings.specs.ConfigFaults.{no_text, not_known, range}
 use Rattle.settings.specs.Numbers.{FloorLists, Choices}
-use Rattle.settings.specs.Documents.{◌>>=◌, members_known, number, numbers}
+use Rattle.settings.specs.Documents.{◌>>=◌, misplaced_in, number, numbers}
 
 -- the lists of the front floor, and those of the back floor
 abbrev pub front_of : Members → Result FloorLists ConfigFault
@@ -44,7 +44,7 @@ costs_of document = do
   Ok (record { file = file; kib = kib; error = error })
 
 -- each key of a policy's table, with what holds where it is left out
-unfoldable pub policy_in : Members → PolicyTable → Rules → Result Rules ConfigFault
+unfoldable pub policy_in : Members → PolicyTable → PolicyNumbers → Result PolicyNumbers ConfigFault
 policy_in document table otherwise = do
   window ← number document (keys.InPolicy table policy.Window) otherwise.window
   every ← number document (keys.InPolicy table policy.Every) otherwise.every
@@ -72,7 +72,7 @@ policy_in document table otherwise = do
   })
 
 -- the policy of a document that says nothing of it
-abbrev pub default_policy : Rules
+abbrev pub default_policy : PolicyNumbers
 default_policy = record {
   window = 100;
   every = 100;
@@ -121,7 +121,7 @@ plan_of floor steps lists =
     else Err (range floor)
 
 -- the numbers that this table has, of which the rate lies between its two ends
-abbrev pub in_order : PolicyTable → Rules → Result Rules ConfigFault
+abbrev pub in_order : PolicyTable → PolicyNumbers → Result PolicyNumbers ConfigFault
 in_order table p =
     if nat_le p.rate_min p.rate && nat_le p.rate p.rate_max then Ok p
     else Err (range (keys.InPolicy table policy.Rate))
@@ -148,7 +148,7 @@ chosen w = do
 
 -- what a document says of its keys, if it has no other
 abbrev pub choices_of : Members → Result Choices ConfigFault
-choices_of document = if members_known document None then written_in document else Err not_known
+choices_of document = if is_none (misplaced_in document None) then written_in document else Err not_known
 
 -- the settings of a document, or its first fault
 abbrev pub settings_of : Members → Result Choice ConfigFault

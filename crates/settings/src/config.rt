@@ -9,12 +9,12 @@ ghost use Rattle.settings.specs.SettingsTable.{front_of, back_of, costs_of, poli
 ghost use Rattle.settings.specs.SettingsTable.{plan_of, in_order, choices_of, chosen, document_of, settings_of};
 ghost use Rattle.settings.specs.SettingsTable.{settings_read};
 
-use crate::document::{members_known, number, numbers};
+use crate::document::{misplaced_in, number, numbers};
 use crate::numbers::{Choices, CostNumbers, FloorLists};
 use crate::{ConfigFault, Key, PolicyKey, PolicyTable};
 use admission::{Policy, PolicyNumbers};
 use cost_model::Costs;
-use replay::{BACK_STEPS, FRONT_STEPS, Settings};
+use reference::{BACK_STEPS, FRONT_STEPS, Settings};
 use stage_graph::{Plan, PlanFault};
 use std::alloc::Global;
 use toml::Table;
@@ -69,7 +69,7 @@ pub(crate) fn settings_of(alloc: Global, document: &Table) -> Result<Settings, C
 pub(crate) fn choices_of(alloc: Global, document: &Table) -> Result<Choices, ConfigFault>
     ensures { IsAnswer (choices_of (table_view document.now)) result }
 {
-    if !members_known(document, None) {
+    if misplaced_in(document, None).is_some() {
         return Err(ConfigFault::UNKNOWN);
     }
     written_in(alloc, document)

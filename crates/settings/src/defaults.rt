@@ -5,7 +5,7 @@ ghost use Rattle.toml.specs.Data.{no_members};
 ghost use Rattle.settings.specs.SettingsTable.{default_choice, settings_of};
 
 use crate::config::settings_of;
-use replay::Settings;
+use reference::Settings;
 use std::alloc::{AllocError, Global};
 use toml::Table;
 

@@ -4,7 +4,8 @@ ghost use Rattle.std.specs.Prelude.{◌≡◌, ◌≤◌, false, Ok, Err, IfOk, 
 ghost use Rattle.toml.specs.View.{view, array_view, table_view};
 ghost use Rattle.settings.specs.Bounds.{IsWithin, bounds_of};
 ghost use Rattle.settings.specs.Keys.{key_at, keys_in, name_of, policy_key_name, policy_keys};
-ghost use Rattle.settings.specs.Documents.{is_known, items_known, members_known, value_at, number, numbers, naturals};
+ghost use Rattle.settings.specs.Documents.{misplaced_of, misplaced_among, misplaced_in, value_at, number, numbers};
+ghost use Rattle.settings.specs.Documents.{naturals};
 ghost use Rattle.settings.specs.ConfigFaults.{is_memory};
 
 use crate::config_fault::keys_in;
@@ -39,44 +40,47 @@ fn plain_key_at(table: Option<Key>, name: &str) -> Option<Key>
         .find(|key| key.name() == name)
 }
 
-/// Whether each key of the tables in a value is one that may stand there. The value stands at the key `within`.
-#[cycle(known)]
-fn is_known(value: &Value, within: Option<Key>) -> bool
-    ensures { result ≡ is_known (view value.now) within }
+/// What stands where it may not: the key that holds it (none, in the document itself), and its name.
+pub(crate) type Misplaced<'a> = (Option<Key>, &'a str);
+
+/// The first key of the tables in a value that may not stand there. The value stands at the key `within`.
+#[cycle(misplaced)]
+fn misplaced_of(value: &Value, within: Option<Key>) -> Option<Misplaced<'_>>
+    ensures { option_map (λ m. (m.0, m.1.now)) result ≡ misplaced_of (view value.now) within }
 {
     match value {
-        Value::Array(items) => items_known(items, within),
-        Value::Table(members) => members_known(members, within),
-        _ => true,
+        Value::Array(items) => misplaced_among(items, within),
+        Value::Table(members) => misplaced_in(members, within),
+        _ => None,
     }
 }
 
-#[cycle(known)]
-fn items_known(items: &Array, within: Option<Key>) -> bool
-    ensures { result ≡ items_known (array_view items.now) within }
+#[cycle(misplaced)]
+fn misplaced_among(items: &Array, within: Option<Key>) -> Option<Misplaced<'_>>
+    ensures { option_map (λ m. (m.0, m.1.now)) result ≡ misplaced_among (array_view items.now) within }
 {
     'items: for item in items {
-        if !is_known(item, within) {
-            return false;
+        if let Some(misplaced) = misplaced_of(item, within) {
+            return Some(misplaced);
         }
     }
-    true
+    None
 }
 
 /// The same of a table; without a key, of a whole document.
-#[cycle(known)]
-pub(crate) fn members_known(members: &Table, within: Option<Key>) -> bool
-    ensures { result ≡ members_known (table_view members.now) within }
+#[cycle(misplaced)]
+pub(crate) fn misplaced_in(members: &Table, within: Option<Key>) -> Option<Misplaced<'_>>
+    ensures { option_map (λ m. (m.0, m.1.now)) result ≡ misplaced_in (table_view members.now) within }
 {
     'members: for (name, value) in members.iter() {
         let Some(key) = key_at(within, name.as_str()) else {
-            return false;
+            return Some((within, name.as_str()));
         };
-        if !is_known(value, Some(key)) {
-            return false;
+        if let Some(misplaced) = misplaced_of(value, Some(key)) {
+            return Some(misplaced);
         }
     }
-    true
+    None
 }
 
 /// What a document has at a key.

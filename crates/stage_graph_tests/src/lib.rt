@@ -2,4 +2,14 @@
 #![tactic(auto)]
 
 #[cfg(test)]
-mod tests;
+mod adding;
+#[cfg(test)]
+mod floors;
+#[cfg(test)]
+mod gates;
+#[cfg(test)]
+mod lots;
+#[cfg(test)]
+mod memory;
+#[cfg(test)]
+mod threads;

@@ -1,8 +1,8 @@
-use Rattle.std.proofs.Common.{◌∙◌}
+use Rattle.std.proofs.Common.{◌∙◌, refl}
 use Rattle.std.proofs.lemmas.Result.{err_from_is_err_and}
-use Rattle.program.proofs.FoldersTaken.{none_begun, stopped, refused_first, stands_left, stands_taken, unended}
+use Rattle.program.proofs.FoldersTaken.{none_begun, stopped, lacking, refused_first, stands_left, stands_taken, unended}
 use Rattle.program.proofs.snapshotting.run_snapshot.Goals as goal
-use Rattle.program.proofs.snapshotting.run_snapshot.Goals.{in-Some+else-not-skip, in_default}
+use Rattle.program.proofs.snapshotting.run_snapshot.Goals.{in-Some+else-not-skip+in_ok-leave_out, in_default}
 
 pub returns-in_err-writer-clause-fault : goal.returns-in_err-writer-clause-fault
 returns-in_err-writer-clause-fault g c =
@@ -19,10 +19,16 @@ returns-then-not-skip-clause-fault g c =
     refused_first (g.F.Folder.answers c.args.folder.now) _ _ _ _ _ _ _ _ _ _ _ _ c.loop-one-test.true c.one-item.is c.if-not-skip.true c.loop-one.invariant.0
     (rw c.in-Some.is at c.in_ok-fault.ensures.ok _ _ c.loop-one.invariant.0.took) (rw c.as_str.ensures.value at c.refused.ensures)
 
+pub returns-in_err-leave_out-clause-fault : goal.returns-in_err-leave_out-clause-fault
+returns-in_err-leave_out-clause-fault g c =
+    let stop = err_from_is_err_and c.from_residual-in_err-leave_out.result c.from_residual-in_err-leave_out.ensures.1 in
+    rw (stop.1, stop.2) (lacking (g.F.Folder.answers c.args.folder.now) _ _ _ _ _ _ _ _ _ _ _ _ refl c.one-item.is c.loop-one.invariant.0
+    (rw c.in-Some.is at c.in_ok-fault.ensures.ok _ _ c.loop-one.invariant.0.took))
+
 pub loop-one-preserved : goal.loop-one-preserved
 loop-one-preserved g c =
     elim c.match-branch-3.branch [
-      | in-Some+else-not-skip w ↦ (
+      | in-Some+else-not-skip+in_ok-leave_out w ↦ (
         rw w.skipped-is (stands_left (g.F.Folder.answers c.args.folder.now) _ _ _ _ _ _ _ _ _ _ w.in-Some.fault c.loop-one-test.true c.one-item.is w.if-not-skip.false c.loop-one.invariant.0
             (rw w.in-Some.is at c.in_ok-fault.ensures.ok _ _ c.loop-one.invariant.0.took)),
         c.in_ok-fault.ensures.count ∙ c.loop-one.invariant.1,

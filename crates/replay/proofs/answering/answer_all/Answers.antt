@@ -2,10 +2,10 @@ use Rattle.std.proofs.Common.{◌≡◌, ℕ, ◌+◌, List, [], ◌∷◌, ◌+
 use Rattle.std.proofs.lemmas.Grind.{common_steps}
 use Rattle.std.proofs.lemmas.List.{append_assoc}
 use Rattle.devices.specs.Devices.{Device}
-use Rattle.replay.specs.Reference.{terms_of}
+use Rattle.reference.specs.Reference.{terms_of}
 use Rattle.arrivals.specs.Reference.{Arrival}
 use Rattle.arrivals.specs.Connections.{arrivals_with}
-use Rattle.replay.specs.Telling.{Told}
+use Rattle.reference.specs.Telling.{Told}
 use Rattle.replay.proofs.Writing.{arrivals_step}
 use Rattle.replay.proofs.Texts.{told_none, told_more, told_part}
 use Rattle.replay.proofs.Judging.{by_more, passed_on, on_many, on_cut}

@@ -1,9 +1,9 @@
 use Rattle.std.proofs.Common.{◌≡◌, ℕ, ◌+◌, ◌++◌, List, take}
-use Rattle.replay.specs.Reference.{terms_of}
+use Rattle.reference.specs.Reference.{terms_of}
 use Rattle.arrivals.specs.Reference.{Arrival}
 use Rattle.arrivals.specs.Connections.{arrivals_with}
 use Rattle.replay.specs.Serving.{DeskAfter}
-use Rattle.replay.specs.Telling.{Told}
+use Rattle.reference.specs.Telling.{Told}
 use Rattle.replay.proofs.answering.answer_all.Given as goal
 
 -- the messages so far are answered

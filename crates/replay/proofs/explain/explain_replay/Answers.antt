@@ -1,8 +1,8 @@
 use Rattle.std.proofs.Common.{ℕ, List, Option}
-use Rattle.replay.specs.Reference.{Terms, terms_of}
+use Rattle.reference.specs.Reference.{Terms, terms_of}
 use Rattle.replay.specs.Serving.{HasTold}
-use Rattle.replay.specs.Explaining.{Explains, rows_told}
-use Rattle.replay.specs.declared.summary.Outcome.{Outcome}
+use Rattle.reference.specs.Explaining.{Explains, rows_told}
+use Rattle.reference.specs.declared.summary.Outcome.{Outcome}
 use Rattle.replay.proofs.Judging.{if_ok}
 use Rattle.replay.proofs.explain.explain_replay.Goals as goal
 

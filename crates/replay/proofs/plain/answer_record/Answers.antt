@@ -1,6 +1,6 @@
 use Rattle.std.proofs.Common.{◌≡◌, ◌∙◌, ap, sym, length, arith, ◌≤◌, ◌+◌, inr}
 use Rattle.captures.specs.Captures.{size_of, sizes_of}
-use Rattle.replay.specs.Reference.{terms_of}
+use Rattle.reference.specs.Reference.{terms_of}
 use Rattle.replay.proofs.ByRecord.{has_room, tiers_after_piece, serves_end, serves_tier, serves_piece, serves_full, serves_part, brought, on_ok, err_many, err_cut}
 use Rattle.replay.proofs.Upcoming.{ok_all}
 use Rattle.replay.proofs.plain.answer_record.Goals as goal

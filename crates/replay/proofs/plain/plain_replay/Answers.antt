@@ -1,8 +1,8 @@
 use Rattle.std.proofs.Common.{ℕ, List, Option}
-use Rattle.replay.specs.Reference.{Terms, terms_of, Answers}
-use Rattle.replay.specs.Telling.{replies_told}
+use Rattle.reference.specs.Reference.{Terms, terms_of, Answers}
+use Rattle.reference.specs.Telling.{replies_told}
 use Rattle.replay.specs.Serving.{HasTold}
-use Rattle.replay.specs.declared.summary.Outcome.{Outcome}
+use Rattle.reference.specs.declared.summary.Outcome.{Outcome}
 use Rattle.replay.proofs.Judging.{if_ok}
 use Rattle.replay.proofs.plain.plain_replay.Goals as goal
 

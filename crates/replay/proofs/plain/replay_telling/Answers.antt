@@ -1,7 +1,7 @@
-use Rattle.std.proofs.Common.{◌∙◌, [], ◌∷◌, ◌++◌, ℕ, List, Option, refl, sym, ap, subst, inl, inr, rules}
+use Rattle.std.proofs.Common.{◌∙◌, [], ◌∷◌, ◌++◌, ℕ, List, Option, refl, sym, subst, inl, inr, rules}
 use Rattle.std.specs.Io.KnownBytes.{Appends}
 use Rattle.devices.proofs.Appending.{prefix_all}
-use Rattle.replay.specs.Reference.{terms_of}
+use Rattle.reference.specs.Reference.{terms_of}
 use Rattle.replay.proofs.Texts.{text_begun, text_told}
 use Rattle.replay.proofs.Judging.{stands_none, passed_on, on_many, on_cut}
 use Rattle.arrivals.proofs.Gathering.{gave_some}
@@ -36,7 +36,7 @@ loop-next-init g c =
         [],
         [],
         rw c.start.ensures c.in-Ok.ensures.ok,
-        serves_none terms c.new-connections.result _ c.new-connections.ensures (stands_none terms _ (c.in_ok-new.ensures.policies ∙ ap (λ s. s.policies) c.settings.view_is) c.in_ok-new.ensures.fits c.new-2.ensures),
+        serves_none terms c.new-connections.result _ c.new-connections.ensures (stands_none terms _ (c.in_ok-new.ensures.policies ∙ c.policies.ensures) c.in_ok-new.ensures.fits c.new-2.ensures),
         no_tiers c.new-tiers.result c.new-tiers.ensures,
         text_begun (g.T.Tells.telling terms) c.start.result c.args.writer.now.bytes c.begin.new.writer.bytes (c.in_ok-begin.ensures.texts terms) (c.in_ok-begin.ensures.written terms),
       ),

@@ -1,5 +1,5 @@
 use Rattle.std.proofs.Common.{◌∙◌}
-use Rattle.replay.specs.Reference.{tally_of}
+use Rattle.reference.specs.Reference.{tally_of}
 use Rattle.replay.proofs.plain.tally_of.Goals as goal
 
 pub returns : goal.returns

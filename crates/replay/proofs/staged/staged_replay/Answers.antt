@@ -1,9 +1,9 @@
 use Rattle.std.proofs.Common.{◌≡◌, ◌∙◌, [], ◌++◌, ℕ, List, Option, refl, sym, ap, subst, inl, inr, rules}
 use Rattle.std.specs.Io.KnownBytes.{Appends}
 use Rattle.devices.proofs.Appending.{prefix_all}
-use Rattle.replay.specs.Reference.{terms_of, handled, replies_of, text_before_stop}
-use Rattle.replay.specs.Outcomes.{capture_fault}
-use Rattle.replay.specs.Telling.{replies_told}
+use Rattle.reference.specs.Reference.{terms_of, handled, replies_of, text_before_stop}
+use Rattle.reference.specs.Outcomes.{capture_fault}
+use Rattle.reference.specs.Telling.{replies_told}
 use Rattle.replay.proofs.Judging.{stands_none, passed_on, on_many, on_cut}
 use Rattle.replay.proofs.ByRecord.{serves_none, no_tiers, first_written, more_written, answers_all, ends_in_part, leaves_told, own_leaves, short_leaves, stops_first, stops_told, left_first, stops_full, short_among, short_part, blamed_told}
 use Rattle.replay.specs.Waiting.{connections_of}
@@ -36,7 +36,7 @@ loop-floors-init g c =
         [],
         [],
         rw c.start.ensures c.in-Ok.ensures.ok,
-        serves_none terms _ _ (ap connections_of c.new-seats.ensures) (stands_none terms _ (c.in_ok-new.ensures.policies ∙ ap (λ s. s.policies) c.settings.view_is) c.in_ok-new.ensures.fits c.new-2.ensures),
+        serves_none terms _ _ (ap connections_of c.new-seats.ensures) (stands_none terms _ (c.in_ok-new.ensures.policies ∙ c.policies.ensures) c.in_ok-new.ensures.fits c.new-2.ensures),
         no_tiers c.new-tiers.result c.new-tiers.ensures,
         first_written terms c.start.result c.args.writer.now.bytes c.write_first_line.new.writer.bytes c.in_ok-write_first_line.ensures.written,
       ),

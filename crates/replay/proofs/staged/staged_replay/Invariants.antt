@@ -3,7 +3,7 @@ use Rattle.std.specs.Io.KnownBytes.{Appends}
 use Rattle.captures.specs.declared.version.Version.{Version}
 use Rattle.captures.specs.Readers.{ReaderAfter}
 use Rattle.captures.specs.declared.record.Record.{Record}
-use Rattle.replay.specs.Reference.{terms_of, handled, replies_of, text_before_stop}
+use Rattle.reference.specs.Reference.{terms_of, handled, replies_of, text_before_stop}
 use Rattle.arrivals.specs.Reference.{Arrival}
 use Rattle.replay.specs.Serving.{Serves}
 use Rattle.arrivals.specs.Tiers.{AreTiers}

@@ -1,5 +1,5 @@
 use Rattle.std.proofs.Common.{◌∙◌, sym}
-use Rattle.replay.proofs.Offering.{finish_late}
+use Rattle.reference.proofs.Offering.{finish_late}
 use Rattle.replay.proofs.Judging.{decides_admitted, decides_rejected, desk_sampled, desk_rejected}
 use Rattle.replay.proofs.desk.Desk.offer.Goals as goal
 

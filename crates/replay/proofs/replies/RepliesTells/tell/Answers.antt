@@ -2,7 +2,7 @@ use Rattle.std.proofs.Common.{subst, refl}
 use Rattle.std.specs.Io.KnownBytes.{Appends}
 use Rattle.devices.proofs.Appending.{prefix_none}
 use Rattle.devices.specs.Devices.{AppendsPrefix}
-use Rattle.replay.specs.Reference.{terms_of}
+use Rattle.reference.specs.Reference.{terms_of}
 use Rattle.replay.proofs.Judging.{reply_written, on_err}
 use Rattle.replay.proofs.Upcoming.{ok_more, err_more}
 use Rattle.replay.proofs.replies.RepliesTells.tell.Goals as goal

@@ -1,4 +1,4 @@
-use Rattle.replay.proofs.RowByRow.{rows_laws}
+use Rattle.reference.proofs.Table.{rows_laws}
 use Rattle.replay.proofs.rows.RowsTells.begin.Goals as goal
 
 pub returns-in_err-write_heading-clause-texts : goal.returns-in_err-write_heading-clause-texts

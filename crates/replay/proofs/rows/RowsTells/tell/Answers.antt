@@ -2,8 +2,8 @@ use Rattle.std.proofs.Common.{subst, arith}
 use Rattle.std.specs.Io.KnownBytes.{Appends}
 use Rattle.devices.specs.Devices.{AppendsPrefix}
 use Rattle.devices.proofs.Appending.{prefix_none, proper_is_prefix}
-use Rattle.replay.specs.Reference.{terms_of}
-use Rattle.replay.proofs.Offering.{last_by}
+use Rattle.reference.specs.Reference.{terms_of}
+use Rattle.replay.proofs.OfferedBy.{last_by}
 use Rattle.replay.proofs.Judging.{on_err}
 use Rattle.replay.proofs.RowByRow.{costs_known, foreseen, row_written}
 use Rattle.replay.proofs.rows.RowsTells.tell.Goals as goal

@@ -1,5 +1,0 @@
-//! Tests of the crate `captures`.
-#![tactic(auto)]
-
-#[cfg(test)]
-mod tests;

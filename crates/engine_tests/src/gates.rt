@@ -1,0 +1,432 @@
+//! What a gate sees of a replay, and when replies are written.
+use crate::policies::{default_costs, default_policy};
+use crate::replaying::{
+    DEFAULT_SHAPE, Engine, Shape, is_same, outline, run_devices, run_engine, shaped,
+};
+use devices::{Input, Output};
+use replay::Settings;
+use stage_graph::{Gate, NoGate};
+use std::alloc::{AllocError, AllocGlobal, Global};
+use std::io;
+use std::io::{Read, Write};
+use std::process::Abort;
+use std::sync::atomic::{AtomicBool, AtomicU64, Ordering};
+use std::sync::{Mutex, Wait};
+use std::test::Fail;
+use std::thread::{Threads, available_parallelism};
+use std::time::{Clock, Duration};
+use test_support::{A, SNAPSHOT, capture_of};
+
+/// Settings of the default stages with batches of n pieces.
+fn in_batches(rt: &(impl Abort + AllocGlobal), batch: usize) -> Settings {
+    let costs = default_costs().expect(rt, "costs");
+    let policy = default_policy().expect(rt, "a policy");
+    let shape = Shape {
+        batch,
+        ..DEFAULT_SHAPE
+    };
+    shaped(rt.alloc(), shape, costs, policy).expect(rt, "settings")
+}
+
+/// The unit in which a message at a stage is counted: 6 bits for each of the five stages of message 0, and then of
+/// message 1. Any other message or stage has the highest.
+fn unit_of(stage: usize, number: usize) -> u64 {
+    if number < 2 && stage < 5 {
+        1 << (6 * (5 * number + stage))
+    } else {
+        1 << 60
+    }
+}
+
+/// Each of the two messages once at each of the five stages.
+const EACH_ONCE: u64 = 0o01_01_01_01_01_01_01_01_01_01;
+
+/// Counts the messages that enter and leave each stage, and holds message 0 in the first until message 1 has left it,
+/// for at most 10,000 turns of a millisecond, where it holds.
+#[derive(Drop)]
+struct Hold<R: Clock + Drop> {
+    rt: R,
+    holds: bool,
+    entered: AtomicU64,
+    left: AtomicU64,
+    /// Whether message 1 has left the first stage.
+    gone: AtomicU64,
+    /// Whether message 0 was let go because the turns were over.
+    over: AtomicU64,
+}
+
+impl<R: Clock + Drop> Gate for Hold<R> {
+    fn enter(&self, stage: usize, number: usize) {
+        self.entered
+            .fetch_add(unit_of(stage, number), Ordering::SeqCst);
+        if !self.holds || number != 0 || stage != 0 {
+            return;
+        }
+        for _ in 0..10000 {
+            if self.gone.load(Ordering::SeqCst) != 0 {
+                return;
+            }
+            let _ = std::thread::sleep(&self.rt, Duration::from_millis(1));
+        }
+        self.over.store(1, Ordering::SeqCst);
+    }
+
+    fn left(&self, stage: usize, number: usize) {
+        self.left
+            .fetch_add(unit_of(stage, number), Ordering::SeqCst);
+        if stage == 0 && number == 1 {
+            self.gone.store(1, Ordering::SeqCst);
+        }
+    }
+}
+
+/// Replays two requests in batches of n pieces, with a gate that holds the first of them or doesn't.
+fn check<R: Abort + AllocGlobal + Threads + Wait + Sync + Clock + Drop>(
+    rt: &R,
+    clock: R,
+    holds: bool,
+    batch: usize,
+) -> Result<(), Fail> {
+    let gate = Hold {
+        rt: clock,
+        holds,
+        entered: AtomicU64::new(0),
+        left: AtomicU64::new(0),
+        gone: AtomicU64::new(0),
+        over: AtomicU64::new(0),
+    };
+    let alloc = rt.alloc();
+    let capture = capture_of(alloc, &[(0, 0, A), (0, 1, A)])?;
+    let settings = in_batches(rt, batch);
+    let bytes = capture.as_bytes();
+    let ran = run_engine(rt, alloc, Engine::Staged, SNAPSHOT, &settings, &gate, bytes).expect(
+        rt,
+        "a snapshot",
+    );
+    let want = "reply 0 0 150; 200 OK;reply 1 1 150; 200 OK;stop 2;";
+    assert_eq!(rt; outline(alloc, &ran.text)?.as_str(), want);
+    assert_eq!(rt; gate.entered.load(Ordering::SeqCst), EACH_ONCE);
+    assert_eq!(rt; gate.left.load(Ordering::SeqCst), EACH_ONCE);
+    assert_eq!(rt; gate.over.load(Ordering::SeqCst), 0);
+    Ok(())
+}
+
+/// Two workers are inside their handlers at once: message 1 leaves the first stage while message 0 is held there.
+#[test]
+fn two_workers_overlap(rt: HostRuntime) -> Result<(), Fail> {
+    check(&rt, rt.clone()?, true, 2)
+}
+
+/// In batches of one message each, both floors number it 0: the gate sees its number among all messages.
+#[test]
+fn numbers_in_batches(rt: HostRuntime) -> Result<(), Fail> {
+    check(&rt, rt.clone()?, false, 1)
+}
+
+/// Whether two threads are at work on a floor at once. The first item that enters waits for another, which only another
+/// thread can have taken, for at most 2,000 turns of a millisecond; nobody waits after that.
+#[derive(Drop)]
+struct Meeting {
+    entered: AtomicU64,
+    /// Whether another item entered while the first waited.
+    met: AtomicBool,
+}
+
+impl Meeting {
+    fn new() -> Meeting {
+        Meeting {
+            entered: AtomicU64::new(0),
+            met: AtomicBool::new(false),
+        }
+    }
+
+    fn enter<R: Clock>(&self, rt: &R) {
+        if self.entered.fetch_add(1, Ordering::SeqCst) != 0 {
+            return;
+        }
+        for _ in 0..2000 {
+            if self.entered.load(Ordering::SeqCst) > 1 {
+                self.met.store(true, Ordering::SeqCst);
+                return;
+            }
+            let _ = std::thread::sleep(rt, Duration::from_millis(1));
+        }
+    }
+}
+
+/// A gate whose calls end by themselves, with a meeting on each floor.
+#[derive(Drop)]
+struct Meetings<R: Clock + Drop> {
+    rt: R,
+    front: Meeting,
+    back: Meeting,
+}
+
+impl<R: Clock + Drop> Gate for Meetings<R> {
+    fn enter(&self, stage: usize, _number: usize) {
+        if stage < DEFAULT_SHAPE.front.len() {
+            self.front.enter(&self.rt);
+        } else {
+            self.back.enter(&self.rt);
+        }
+    }
+
+    fn left(&self, _stage: usize, _number: usize) {}
+
+    fn is_open(&self) -> bool {
+        true
+    }
+}
+
+/// Whether there are two processors for threads, or more: the engine uses no more threads than there are processors.
+fn has_two_processors<R: Threads>(rt: &R) -> bool {
+    match available_parallelism(rt) {
+        Ok(count) => count.get() > 1,
+        Err(_) => true,
+    }
+}
+
+/// The capture of 96 requests for `a`, with queries of 7,000 bytes: more than two threads' worth of targets.
+fn long_requests(alloc: Global) -> Result<String, AllocError> {
+    let query = "x".repeat(alloc, 7_000)?;
+    let request = format!(in alloc; "GET /a?{query} HTTP/1.1\r\nHost: a\r\n\r\n")?;
+    let mut capture = String::from_str(alloc, "haboob-capture 1 784111777\n")?;
+    for conn in 0..96usize {
+        write!(capture, "piece 0 {conn} {}\n{request}\n", request.len())?;
+    }
+    capture.push_str("stop 96\n")?;
+    Ok(capture)
+}
+
+/// Replays these requests for a file of 65,536 bytes, with a meeting on each floor. The engines are to write and answer
+/// the same.
+fn check_meetings<R: Abort + AllocGlobal + Threads + Wait + Sync + Clock + Drop>(
+    rt: &R,
+    clock: R,
+) -> Result<(), Fail> {
+    let alloc = rt.alloc();
+    let gate = Meetings {
+        rt: clock,
+        front: Meeting::new(),
+        back: Meeting::new(),
+    };
+    let file = "b".repeat(alloc, 65_536)?;
+    let files = format!(in alloc; "haboob-snapshot 1\nfile 0 1 65536\na\n{file}\nend 1\n")?;
+    let capture = long_requests(alloc)?;
+    let bytes = capture.as_bytes();
+    let settings = in_batches(rt, 96);
+    let plain = run_engine(rt, alloc, Engine::Plain, &files, &settings, &NoGate, bytes).expect(
+        rt,
+        "a snapshot",
+    );
+    let staged = run_engine(rt, alloc, Engine::Staged, &files, &settings, &gate, bytes).expect(
+        rt,
+        "a snapshot",
+    );
+    assert!(rt; is_same(&staged, &plain));
+    // Each reply gives the file.
+    assert!(rt; staged.text.len() > 96 * 65_536);
+    if has_two_processors(rt) {
+        let front = gate.front.met.load(Ordering::SeqCst);
+        let back = gate.back.met.load(Ordering::SeqCst);
+        assert_eq!(rt;
+            (front, back),
+            (true, true),
+            "the front floor and the back floor"
+        );
+    }
+    Ok(())
+}
+
+/// Two threads work side by side on the front floor, and on the back floor, where the gate is open and there is work
+/// for two.
+#[test]
+fn two_threads_overlap_on_both_floors(rt: HostRuntime) -> Result<(), Fail> {
+    check_meetings(&rt, rt.clone()?)
+}
+
+/// A gate that notes how many messages enter the back floor together: until one of them leaves its first stage.
+#[derive(Drop)]
+struct Together<R: Wait + Drop> {
+    rt: R,
+    counts: Mutex<Vec<usize>>,
+    entered: AtomicU64,
+}
+
+impl<R: Wait + Drop> Gate for Together<R> {
+    fn enter(&self, stage: usize, _number: usize) {
+        if stage == DEFAULT_SHAPE.front.len() {
+            self.entered.fetch_add(1, Ordering::SeqCst);
+        }
+    }
+
+    fn left(&self, stage: usize, _number: usize) {
+        let entered = self.entered.load(Ordering::SeqCst);
+        if stage == DEFAULT_SHAPE.front.len() && entered > 0 {
+            self.entered.store(0, Ordering::SeqCst);
+            let _refused = self.counts.lock(&self.rt).push(entered as usize);
+        }
+    }
+
+    fn is_open(&self) -> bool {
+        true
+    }
+}
+
+/// How many messages travel together over the back floor, of 64 by one thread: all for a small file, but the messages
+/// 10 and 12, which are for a file of these bytes.
+fn travelling<R: Abort + AllocGlobal + Threads + Wait + Sync + Drop>(
+    rt: &R,
+    waiting: R,
+    file: &str,
+) -> Result<Vec<usize>, Fail> {
+    let alloc = rt.alloc();
+    let gate = Together {
+        rt: waiting,
+        counts: Mutex::new(Vec::new(alloc)),
+        entered: AtomicU64::new(0),
+    };
+    let bytes = file.len();
+    let files = format!(in alloc;
+        "haboob-snapshot 1\nfile 0 1 1\na\nb\nfile 0 1 {bytes}\nb\n{file}\nend 2\n"
+    )?;
+    let mut capture = String::from_str(alloc, "haboob-capture 1 784111777\n")?;
+    for number in 0..64usize {
+        let name = if number == 10 || number == 12 {
+            "b"
+        } else {
+            "a"
+        };
+        write!(
+            capture,
+            "piece 0 {number} 28\nGET /{name} HTTP/1.1\r\nHost: a\r\n\r\n\n"
+        )?;
+    }
+    capture.push_str("stop 64\n")?;
+    let settings = in_batches(rt, 64);
+    let read = capture.as_bytes();
+    let ran = run_engine(rt, alloc, Engine::Staged, &files, &settings, &gate, read).expect(
+        rt,
+        "a snapshot",
+    );
+    assert!(rt; ran.text.len() > bytes.saturating_mul(2));
+    Ok(gate.counts.into_inner())
+}
+
+/// Two messages travel together, since there are 32 lots of 64; but a page of more than 16,384 bytes is the last of its
+/// lot.
+#[test]
+fn large_pages_travel_alone(rt: HostRuntime) -> Result<(), Fail> {
+    let alloc = rt.alloc();
+    let small = travelling(&rt, rt.clone()?, "b".repeat(alloc, 16_384)?.as_str())?;
+    assert_eq!(rt; small.as_slice(), [2usize; 32].as_slice());
+    let large = travelling(&rt, rt.clone()?, "b".repeat(alloc, 16_385)?.as_str())?;
+    let pairs = large.iter().filter(|count| **count == 2).count();
+    assert_eq!(rt; (large.len(), pairs), (33, 31));
+    assert_eq!(rt;
+        (large.get(5).copied(), large.get(32).copied()),
+        (Some(1), Some(1))
+    );
+    Ok(())
+}
+
+/// Gives one record a read, and notes how much was written when the last line is asked for.
+#[derive(Drop)]
+struct Records<'a> {
+    bytes: &'a [u8],
+    /// How many bytes each record that follows has.
+    sizes: &'a [usize],
+    /// How many bytes are left of this record.
+    left: usize,
+    written: &'a AtomicU64,
+    at_last: &'a AtomicU64,
+}
+
+impl<'a> Read for Records<'a> {
+    fn read(&mut self, room: &mut [u8]) -> io::Result<usize> {
+        if self.left == 0 && !self.sizes.is_empty() {
+            self.left = self.sizes[0];
+            self.sizes = &self.sizes[1..];
+            if self.sizes.is_empty() {
+                let written = self.written.load(Ordering::SeqCst);
+                self.at_last.store(written, Ordering::SeqCst);
+            }
+        }
+        let count = room.len().min(self.left).min(self.bytes.len());
+        room[..count].copy_from_slice(&self.bytes[..count]);
+        self.bytes = &self.bytes[count..];
+        self.left -= count;
+        Ok(count)
+    }
+}
+
+/// Counts the bytes that are written.
+#[derive(Drop)]
+struct Counted<'a> {
+    written: &'a AtomicU64,
+}
+
+impl<'a> Write for Counted<'a> {
+    fn write(&mut self, bytes: &[u8]) -> io::Result<usize> {
+        self.written.fetch_add(bytes.len() as u64, Ordering::SeqCst);
+        Ok(bytes.len())
+    }
+
+    fn flush(&mut self) -> io::Result<()> {
+        Ok(())
+    }
+}
+
+/// Three messages, whose replies are 150 bytes each: with its line and a line feed, 165.
+static CAPTURE: &str = "haboob-capture 1 784111777\n\
+     piece 0 0 32\n\
+     GET /a.txt HTTP/1.1\r\n\
+     Host: a\r\n\
+     \r\n\
+     \n\
+     piece 0 0 32\n\
+     GET /a.txt HTTP/1.1\r\n\
+     Host: a\r\n\
+     \r\n\
+     \n\
+     piece 0 0 32\n\
+     GET /a.txt HTTP/1.1\r\n\
+     Host: a\r\n\
+     \r\n\
+     \n\
+     stop 3\n";
+
+/// How many bytes its first line, its records and its last line have.
+static SIZES: [usize; 5] = [27, 46, 46, 46, 7];
+
+/// The replies of a batch are written before the next batch is read.
+#[test]
+fn written_before_the_next_batch(rt: HostRuntime) -> Result<(), Fail> {
+    for (batch, before) in [(1, 17 + 3 * 165), (2, 17 + 2 * 165), (4, 17)] {
+        let (written, at_last) = (AtomicU64::new(0), AtomicU64::new(0));
+        let settings = in_batches(&rt, batch);
+        let mut reader = Input::new(Records {
+            bytes: CAPTURE.as_bytes(),
+            sizes: &SIZES,
+            left: 0,
+            written: &written,
+            at_last: &at_last,
+        });
+        let mut writer = Output::new(Counted { written: &written });
+        let ran = run_devices(
+            &rt,
+            rt.alloc(),
+            Engine::Staged,
+            SNAPSHOT,
+            &settings,
+            &NoGate,
+            &mut reader,
+            &mut writer,
+        );
+        assert!(rt; ran.expect(&rt, "a snapshot").is_ok());
+        let at_last = at_last.load(Ordering::SeqCst);
+        assert_eq!(rt; at_last, before, "batches of {batch}");
+        assert_eq!(rt; written.load(Ordering::SeqCst), 17 + 3 * 165 + 7);
+    }
+    Ok(())
+}

@@ -1,0 +1,58 @@
+//! Tests of the engines and of what is told of a capture: the crates `replay`, `decision_table`, `report` and
+//! `inspection`.
+#![tactic(auto)]
+
+#[cfg(test)]
+mod batches;
+#[cfg(test)]
+mod explaining;
+#[cfg(test)]
+mod gates;
+#[cfg(test)]
+mod inspected_in_part;
+#[cfg(test)]
+mod inspected_pieces;
+#[cfg(test)]
+mod inspected_texts;
+#[cfg(test)]
+mod inspection_limits;
+#[cfg(test)]
+mod many_replies;
+#[cfg(test)]
+mod many_rows;
+#[cfg(test)]
+mod policies;
+#[cfg(test)]
+mod rejections;
+#[cfg(test)]
+mod replay_devices;
+#[cfg(test)]
+mod replay_faults;
+#[cfg(test)]
+mod replay_growths;
+#[cfg(test)]
+mod replaying;
+#[cfg(test)]
+mod replies;
+#[cfg(test)]
+mod report_outcomes;
+#[cfg(test)]
+mod report_rows;
+#[cfg(test)]
+mod row_limits;
+#[cfg(test)]
+mod settings_faults;
+#[cfg(test)]
+mod table_controls;
+#[cfg(test)]
+mod table_devices;
+#[cfg(test)]
+mod table_faults;
+#[cfg(test)]
+mod table_growths;
+#[cfg(test)]
+mod table_outcomes;
+#[cfg(test)]
+mod table_rows;
+#[cfg(test)]
+mod tiers;

@@ -1,0 +1,91 @@
+//! Devices that fail.
+use crate::policies::{default_costs, default_policy};
+use crate::replaying::{Engine, run_devices, settings};
+use captures::CaptureFaultKind;
+use devices::{Input, Output};
+use replay::{ReplayFault, Settings};
+use stage_graph::NoGate;
+use std::alloc::AllocGlobal;
+use std::process::Abort;
+use std::sync::Wait;
+use std::test::Fail;
+use std::thread::Threads;
+use test_support::{A, Flaky, ONE_REPLY, SNAPSHOT, Slow, capture_of};
+
+/// Replays with devices that fail after n calls; whether the replay came to its end.
+fn ends(
+    rt: &(impl Abort + AllocGlobal + Threads + Wait + Sync),
+    engine: Engine,
+    settings: &Settings,
+    capture: &str,
+    reads: usize,
+    writes: usize,
+) -> bool {
+    let mut taken = Vec::new(rt.alloc());
+    let mut reader = Input::new(Flaky::new(capture.as_bytes(), 16, reads));
+    let mut writer = Output::new(Slow::new(&mut taken, 16, writes));
+    let ran = run_devices(
+        rt,
+        rt.alloc(),
+        engine,
+        SNAPSHOT,
+        settings,
+        &NoGate,
+        &mut reader,
+        &mut writer,
+    );
+    let failed = (reader.failures(), writer.failures());
+    let answer = ran.expect(rt, "a snapshot");
+    let want = ONE_REPLY.as_bytes();
+    match answer {
+        Ok(_) => assert_eq!(rt; taken.as_slice(), want),
+        Err(ReplayFault::Capture(fault)) => {
+            assert_eq!(rt; fault.kind, CaptureFaultKind::Read);
+            assert_eq!(rt; failed, (1, 0));
+            assert!(rt; taken.len() == 17 || taken.len() == want.len() - 7);
+        }
+        Err(fault) => {
+            assert_eq!(rt; fault, ReplayFault::Write);
+            assert_eq!(rt; failed, (0, 1));
+        }
+    }
+    assert!(rt; want.starts_with(&taken));
+    answer.is_ok()
+}
+
+/// Fails each read in turn, or each write, until a replay comes to its end: how many calls it made, if below 200.
+fn calls_to_the_end<T: Abort + AllocGlobal + Threads + Wait + Sync>(
+    rt: &T,
+    engine: Engine,
+    settings: &Settings,
+    capture: &str,
+    is_read: bool,
+) -> usize {
+    for good in 0..200usize {
+        let (reads, writes) = if is_read {
+            (good, usize::MAX)
+        } else {
+            (usize::MAX, good)
+        };
+        if ends(rt, engine, settings, capture, reads, writes) {
+            return good;
+        }
+    }
+    200
+}
+
+#[test]
+fn each_read_and_write_failing(rt: HostRuntime) -> Result<(), Fail> {
+    let alloc = rt.alloc();
+    let costs = default_costs().expect(&rt, "costs");
+    let policy = default_policy().expect(&rt, "a policy");
+    let settings = settings(alloc, costs, policy).expect(&rt, "settings");
+    let capture = capture_of(alloc, &[(0, 0, A)])?;
+    for engine in [Engine::Plain, Engine::Staged] {
+        let reads = calls_to_the_end(&rt, engine, &settings, &capture, true);
+        assert!(rt; 10 < reads && reads < 200);
+        let writes = calls_to_the_end(&rt, engine, &settings, &capture, false);
+        assert!(rt; 10 < writes && writes < 200);
+    }
+    Ok(())
+}

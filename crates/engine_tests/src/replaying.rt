@@ -1,0 +1,244 @@
+//! Runs both engines on texts in memory.
+ghost use Rattle.std.specs.Prelude.{◌≡◌, ◌<◌, ◌-◌, ◌^◌};
+ghost use Rattle.devices.specs.Devices.{CanFail};
+
+use crate::policies::{default_costs, default_policy};
+use admission::Policy;
+use cost_model::Costs;
+use devices::{Input, Output};
+use paths::{Snapshot, Tree};
+use replay::{Outcome, ReplayFault, Settings, Tally, plain_replay, staged_replay};
+use stage_graph::{Gate, NoGate, Plan};
+use std::alloc::{AllocError, Global};
+use std::io::{Read, Write};
+use std::marker::Brand;
+use std::process::Abort;
+use std::sync::Wait;
+use std::thread::Threads;
+
+/// The engine that a replay runs on.
+#[derive(Clone, Copy)]
+pub enum Engine {
+    Plain,
+    Staged,
+}
+
+/// What a replay answers, and what it has written.
+#[derive(Drop)]
+pub struct Ran {
+    pub answer: Result<Outcome, ReplayFault>,
+    pub text: Vec<u8>,
+}
+
+/// How the staged engine runs: its cuts, the workers and the room of each stage, the pieces of a batch, and the bytes
+/// of the cache.
+#[derive(Clone, Copy)]
+pub struct Shape<'a> {
+    pub front: &'a [usize],
+    pub back: &'a [usize],
+    pub workers: usize,
+    pub capacity: usize,
+    pub batch: usize,
+    pub cache: usize,
+}
+
+/// The shape that a document without settings gives.
+pub static DEFAULT_SHAPE: Shape<'static> = Shape {
+    front: &[1, 2, 3],
+    back: &[1, 2],
+    workers: 2,
+    capacity: 64,
+    batch: 1024,
+    cache: 67_108_864,
+};
+
+/// The plan of these cuts, each stage with n workers and so much room.
+fn plan_of(alloc: Global, cuts: &[usize], workers: usize, capacity: usize) -> Option<Plan> {
+    let stages = cuts.len().min(3);
+    Plan::new(
+        alloc,
+        cuts,
+        &[workers; 3][..stages],
+        &[capacity; 3][..stages],
+    )
+    .ok()
+}
+
+/// Settings with this shape, these service times and this policy for each tier.
+pub fn shaped(alloc: Global, shape: Shape, costs: Costs, policy: Policy) -> Option<Settings> {
+    tiered(alloc, shape, costs, [policy; 4])
+}
+
+/// Settings with this shape, these service times and the policies of the tiers.
+pub fn tiered(
+    alloc: Global,
+    shape: Shape,
+    costs: Costs,
+    policies: [Policy; 4],
+) -> Option<Settings> {
+    let front = plan_of(alloc, shape.front, shape.workers, shape.capacity)?;
+    let back = plan_of(alloc, shape.back, shape.workers, shape.capacity)?;
+    Settings::new(front, back, shape.batch, shape.cache, costs, policies, 1).ok()
+}
+
+/// Settings of the default shape with these service times and this policy.
+pub fn settings(alloc: Global, costs: Costs, policy: Policy) -> Option<Settings> {
+    shaped(alloc, DEFAULT_SHAPE, costs, policy)
+}
+
+fn run_named<F: Tree + Send + Sync, G: Gate + Sync, T: Threads + Wait + Sync, R: Read, W: Write>(
+    rt: &T,
+    alloc: Global,
+    engine: Engine,
+    files: &Snapshot,
+    settings: &Settings,
+    gate: &G,
+    reader: &mut Input<R>,
+    writer: &mut Output<W>,
+) -> Result<Outcome, ReplayFault>
+    requires files { files.now ≡ F.files }
+    requires reading { CanFail reader.old }
+    requires writing { CanFail writer.old }
+{
+    match engine {
+        Engine::Plain => plain_replay::<F, R, W>(alloc, files, settings, reader, writer),
+        Engine::Staged => {
+            staged_replay::<F, G, T, R, W>(rt, alloc, files, settings, gate, reader, writer)
+        }
+    }
+}
+
+/// Replays what a device gives against a snapshot's text; `None` where that is none. The gate is the staged engine's.
+pub fn run_devices<G: Gate + Sync, T: Threads + Wait + Sync, R: Read, W: Write>(
+    rt: &T,
+    alloc: Global,
+    engine: Engine,
+    snapshot: &str,
+    settings: &Settings,
+    gate: &G,
+    reader: &mut Input<R>,
+    writer: &mut Output<W>,
+) -> Option<Result<Outcome, ReplayFault>>
+    requires reading { CanFail reader.old }
+    requires writing { CanFail writer.old }
+{
+    let mut input = Input::new(snapshot.as_bytes());
+    match Snapshot::read(alloc, &mut input) {
+        Ok(files) => {
+            Some(run_named::<Brand, G, T, R, W>(
+                rt, alloc, engine, &files, settings, gate, reader, writer,
+            ))
+        }
+        Err(_) => None,
+    }
+}
+
+/// Replays a capture against a snapshot, both as texts.
+pub fn run_engine<G: Gate + Sync, T: Threads + Wait + Sync>(
+    rt: &T,
+    alloc: Global,
+    engine: Engine,
+    snapshot: &str,
+    settings: &Settings,
+    gate: &G,
+    capture: &[u8],
+) -> Option<Ran> {
+    let mut text = Vec::new(alloc);
+    let mut reader = Input::new(capture);
+    let mut writer = Output::new(&mut text);
+    let answer = run_devices(
+        rt,
+        alloc,
+        engine,
+        snapshot,
+        settings,
+        gate,
+        &mut reader,
+        &mut writer,
+    )?;
+    Some(Ran { answer, text })
+}
+
+/// Whether the same became of the requests of a tier.
+fn is_same_tally(one: &Tally, other: &Tally) -> bool {
+    one.admitted == other.admitted
+        && one.rejected == other.rejected
+        && one.controls.as_slice() == other.controls.as_slice()
+}
+
+/// Whether two calls answered the same.
+pub fn is_same_answer(one: &Ran, other: &Ran) -> bool {
+    match (&one.answer, &other.answer) {
+        (Ok(one), Ok(other)) => {
+            one.rejected.as_slice() == other.rejected.as_slice()
+                && one.summary.counts == other.summary.counts
+                && one.summary.bypassed == other.summary.bypassed
+                && one.summary.samples.as_slice() == other.summary.samples.as_slice()
+                && is_same_tally(&one.summary.tiers[0], &other.summary.tiers[0])
+                && is_same_tally(&one.summary.tiers[1], &other.summary.tiers[1])
+                && is_same_tally(&one.summary.tiers[2], &other.summary.tiers[2])
+                && is_same_tally(&one.summary.tiers[3], &other.summary.tiers[3])
+        }
+        (Err(one), Err(other)) => one == other,
+        _ => false,
+    }
+}
+
+/// Whether two replays wrote the same and answered the same.
+pub fn is_same(one: &Ran, other: &Ran) -> bool {
+    is_same_answer(one, other) && one.text.as_slice() == other.text.as_slice()
+}
+
+/// Replays it on both engines, which are to write and answer the same; what they do.
+pub fn run_settings<T: Abort + Threads + Wait + Sync>(
+    rt: &T,
+    alloc: Global,
+    snapshot: &str,
+    settings: &Settings,
+    capture: &[u8],
+) -> Option<Ran> {
+    let plain = run_engine(
+        rt,
+        alloc,
+        Engine::Plain,
+        snapshot,
+        settings,
+        &NoGate,
+        capture,
+    )?;
+    let staged = run_engine(
+        rt,
+        alloc,
+        Engine::Staged,
+        snapshot,
+        settings,
+        &NoGate,
+        capture,
+    )?;
+    assert!(rt; is_same(&plain, &staged), "the engines differ");
+    Some(staged)
+}
+
+/// Replays it on both with the default settings.
+pub fn run<T: Abort + Threads + Wait + Sync>(
+    rt: &T,
+    alloc: Global,
+    snapshot: &str,
+    capture: &str,
+) -> Option<Ran> {
+    let settings = settings(alloc, default_costs()?, default_policy()?)?;
+    run_settings(rt, alloc, snapshot, &settings, capture.as_bytes())
+}
+
+/// The lines of a replies text that tell a reply's number, connection, length and status, and its last line.
+pub fn outline(alloc: Global, text: &[u8]) -> Result<String, AllocError> {
+    let mut lines = String::new(alloc);
+    for line in String::from_utf8_lossy(alloc, text)?.lines() {
+        if line.starts_with("reply ") || line.starts_with("stop ") {
+            write!(lines, "{line};")?;
+        } else if let Some(status) = line.strip_prefix("HTTP/1.1 ") {
+            write!(lines, " {status};")?;
+        }
+    }
+    Ok(lines)
+}

@@ -1,0 +1,79 @@
+//! Devices that fail.
+use crate::explaining::{explain_devices, settings};
+use crate::policies::{default_costs, default_policy};
+use captures::CaptureFaultKind;
+use devices::{Input, Output};
+use replay::{ReplayFault, Settings};
+use std::alloc::AllocGlobal;
+use std::process::Abort;
+use std::test::Fail;
+use test_support::{A, Flaky, SNAPSHOT, Slow, capture_of};
+
+static WANT: &str =
+    "number,connection,tick,tier,status,decision,service,credit,rate,start,finish,waited,method,target\n\
+     0,0,0,0,200,admitted,201,100000000000,1000000,0,201,0,GET,/a.txt\n";
+
+/// Explains with devices that fail after n calls; whether the call came to its end.
+fn ends(
+    rt: &(impl Abort + AllocGlobal),
+    settings: &Settings,
+    capture: &str,
+    reads: usize,
+    writes: usize,
+) -> bool {
+    let mut taken = Vec::new(rt.alloc());
+    let mut reader = Input::new(Flaky::new(capture.as_bytes(), 16, reads));
+    let mut writer = Output::new(Slow::new(&mut taken, 5, writes));
+    let ran = explain_devices(rt.alloc(), SNAPSHOT, settings, &mut reader, &mut writer);
+    let failed = (reader.failures(), writer.failures());
+    let answer = ran.expect(rt, "a snapshot");
+    let want = WANT.as_bytes();
+    match answer {
+        Ok(_) => assert_eq!(rt; taken.as_slice(), want),
+        Err(ReplayFault::Capture(fault)) => {
+            assert_eq!(rt; fault.kind, CaptureFaultKind::Read);
+            assert_eq!(rt; failed, (1, 0));
+            assert!(rt; taken.len() == 98 || taken.len() == want.len());
+        }
+        Err(fault) => {
+            assert_eq!(rt; fault, ReplayFault::Write);
+            assert_eq!(rt; failed, (0, 1));
+        }
+    }
+    assert!(rt; want.starts_with(&taken));
+    answer.is_ok()
+}
+
+/// Fails each read in turn, or each write, until a call comes to its end: how many calls it made, if below 200.
+fn calls_to_the_end(
+    rt: &(impl Abort + AllocGlobal),
+    settings: &Settings,
+    capture: &str,
+    is_read: bool,
+) -> usize {
+    for good in 0..200usize {
+        let (reads, writes) = if is_read {
+            (good, usize::MAX)
+        } else {
+            (usize::MAX, good)
+        };
+        if ends(rt, settings, capture, reads, writes) {
+            return good;
+        }
+    }
+    200
+}
+
+#[test]
+fn each_read_and_write_failing(rt: HostRuntime) -> Result<(), Fail> {
+    let alloc = rt.alloc();
+    let costs = default_costs().expect(&rt, "costs");
+    let policy = default_policy().expect(&rt, "a policy");
+    let settings = settings(alloc, costs, [policy; 4]).expect(&rt, "settings");
+    let capture = capture_of(alloc, &[(0, 0, A)])?;
+    let reads = calls_to_the_end(&rt, &settings, &capture, true);
+    assert!(rt; 5 < reads && reads < 200);
+    let writes = calls_to_the_end(&rt, &settings, &capture, false);
+    assert!(rt; 30 < writes && writes < 200);
+    Ok(())
+}

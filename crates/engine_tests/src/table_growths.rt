@@ -1,0 +1,35 @@
+//! Out of memory: `checks/refuse_growths.py` refuses each growth in turn.
+use crate::explaining::{explain, settings};
+use crate::policies::{default_costs, tight};
+use crate::replay_growths::CAPTURE;
+use replay::ReplayFault;
+use test_support::{A, SNAPSHOT};
+
+static WANT: &str =
+    "number,connection,tick,tier,status,decision,service,credit,rate,start,finish,waited,method,target\n\
+     0,0,0,0,200,admitted,201,1000000000,1000,0,201,0,GET,/a.txt\n\
+     1,3,1,0,503,rejected,50,1000,1000,,,200,GET,/\n";
+
+/// A call whose growth is refused says so, and has written a prefix of what it would have written. (Nor can the text in
+/// memory grow then, which is a failed write.)
+#[test]
+fn each_growth_refused(rt: HostRuntime) {
+    let alloc = rt.alloc();
+    let (Some(costs), Some(policy)) = (default_costs(), tight(1)) else {
+        return;
+    };
+    let Some(settings) = settings(alloc, costs, [policy; 4]) else {
+        return;
+    };
+    let Some(ran) = explain(alloc, SNAPSHOT, &settings, CAPTURE) else {
+        return;
+    };
+    let want = WANT.as_bytes();
+    match ran.answer {
+        Ok(_) => assert_eq!(rt; ran.text.as_slice(), want),
+        Err(fault) => {
+            assert!(rt; fault == ReplayFault::Memory || fault == ReplayFault::Write);
+            assert!(rt; want.starts_with(&ran.text));
+        }
+    }
+}

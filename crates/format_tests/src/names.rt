@@ -1,0 +1,174 @@
+//! Names that are looked up among many, or among those that an index by a hash can't tell apart.
+use paths::{Snapshot, find_plain};
+use std::alloc::{AllocError, Global};
+use std::process::Abort;
+use std::test::Fail;
+use test_support::snapshot;
+
+/// The text of a snapshot of empty files with these names, which rise.
+pub fn text_of(alloc: Global, names: &[&str]) -> Result<String, AllocError> {
+    let mut text = String::from_str(alloc, "haboob-snapshot 1\n")?;
+    for name in names {
+        let file = format!(in alloc; "file 0 {} 0\n{name}\n\n", name.len())?;
+        text.push_str(file.as_str())?;
+    }
+    let end = format!(in alloc; "end {}\n", names.len())?;
+    text.push_str(end.as_str())?;
+    Ok(text)
+}
+
+/// The number of the file of a name.
+pub fn found(alloc: Global, files: &Snapshot, name: &str) -> Result<Option<usize>, AllocError> {
+    let target = format!(in alloc; "/{name}")?;
+    Ok(find_plain(files, b"GET", target.as_bytes()))
+}
+
+/// Names of one hash, more than an index tries; the last one is of no file.
+static ALIKE: [&str; 24] = [
+    "00kcazgk&CNaM6Dq",
+    "01b5x93cW=.n-Y|t",
+    "0qdrhj0g*Alp-azY",
+    "0y4jqb9lFw[q-Vxt",
+    "0yatfnqjII2j-668",
+    "2ltc3s9n*b`70SI_",
+    "5793bac0R!iQXV<n",
+    "5wxvrgu503;XX^Zq",
+    "8fqqmds1-C=n``d9",
+    "bw87spilC$T)RX]K",
+    "e3ivp2wr~JXGZtS_",
+    "e4rckwh6nmNK:WZ|",
+    "et9xda2q+O0@:_Me",
+    "ev6ca049!3TMz$D0",
+    "hgdlntmapulvB+(+",
+    "mkab0tce*+mPMc5g",
+    "mlu49186BV&J-fq8",
+    "p57vyag0E)BquD=E",
+    "psyyjtqtml3a5gL<",
+    "rcu66h4i~&.18||_",
+    "rr9q4cs6,<)=XCgs",
+    "u918tkqzpd!F`|2H",
+    "x2wlr1xmurx~HXy3",
+    "zpjju69aLlt)s:+a",
+];
+
+#[test]
+fn names_of_one_hash(rt: HostRuntime) -> Result<(), Fail> {
+    let alloc = rt.alloc();
+    let text = text_of(alloc, &ALIKE[..23])?;
+    let files = snapshot(alloc, text.as_bytes())?;
+    for (number, name) in ALIKE[..23].iter().enumerate() {
+        assert_eq!(rt; found(alloc, &files, name)?, Some(number), "{name}");
+    }
+    assert_eq!(rt; found(alloc, &files, ALIKE[23])?, None);
+    Ok(())
+}
+
+/// Each name of so many files is found at its number, and no name that is a byte longer or shorter, or comes after all.
+fn check_many(rt: &(impl Abort + AllocGlobal), count: usize) -> Result<(), Fail> {
+    let alloc = rt.alloc();
+    let mut text = String::from_str(alloc, "haboob-snapshot 1\n")?;
+    for n in 0..count {
+        let file = format!(in alloc; "file 0 10 0\nd/{n:05}.md\n\n")?;
+        text.push_str(file.as_str())?;
+    }
+    let end = format!(in alloc; "end {count}\n")?;
+    text.push_str(end.as_str())?;
+    let files = snapshot(alloc, text.as_bytes())?;
+    for n in 0..count {
+        let name = format!(in alloc; "d/{n:05}.md")?;
+        assert_eq!(rt;
+            found(alloc, &files, name.as_str())?,
+            Some(n),
+            "{name} of {count}"
+        );
+        let longer = format!(in alloc; "d/{n:05}.mdx")?;
+        assert_eq!(rt;
+            found(alloc, &files, longer.as_str())?,
+            None,
+            "{longer} of {count}"
+        );
+        let shorter = format!(in alloc; "d/{n:05}.m")?;
+        assert_eq!(rt;
+            found(alloc, &files, shorter.as_str())?,
+            None,
+            "{shorter} of {count}"
+        );
+    }
+    let after = format!(in alloc; "d/{count:05}.md")?;
+    assert_eq!(rt; found(alloc, &files, after.as_str())?, None);
+    Ok(())
+}
+
+/// The counts stand on both sides of that from which on there is an index, and of those at which it has more slots.
+#[test]
+fn each_name_of_many(rt: HostRuntime) -> Result<(), Fail> {
+    for count in [0, 1, 2, 3, 4, 5, 8, 9, 500, 4_096, 4_097, 20_000] {
+        check_many(&rt, count)?;
+    }
+    check_many(&rt, 65_536)
+}
+
+/// The longest name that a file may have is found, and none that is a byte shorter, or longer than any file's.
+#[test]
+fn longest_names(rt: HostRuntime) -> Result<(), Fail> {
+    let alloc = rt.alloc();
+    let longest = "n".repeat(alloc, 1024)?;
+    let text = text_of(alloc, &["a", &longest, "z"])?;
+    let files = snapshot(alloc, text.as_bytes())?;
+    assert_eq!(rt; found(alloc, &files, &longest)?, Some(1));
+    for count in [1023, 1025, 8000] {
+        let name = "n".repeat(alloc, count)?;
+        assert_eq!(rt; found(alloc, &files, &name)?, None, "{count}");
+    }
+    Ok(())
+}
+
+/// How many bytes the longest name has in `check_longest`.
+const LONGEST: usize = 40;
+
+/// Of so many files with short names and one with a longer, each is found, and none whose name has as many bytes as the
+/// longest, fewer or more.
+fn check_longest(rt: &(impl Abort + AllocGlobal), count: usize) -> Result<(), Fail> {
+    let alloc = rt.alloc();
+    let mut text = String::from_str(alloc, "haboob-snapshot 1\n")?;
+    for n in 0..count {
+        let file = format!(in alloc; "file 0 4 0\nd{n:03}\n\n")?;
+        text.push_str(file.as_str())?;
+    }
+    let longest = "m".repeat(alloc, LONGEST)?;
+    let end = format!(in alloc;
+        "file 0 {LONGEST} 0\n{longest}\n\nend {}\n",
+        count.saturating_add(1)
+    )?;
+    text.push_str(end.as_str())?;
+    let files = snapshot(alloc, text.as_bytes())?;
+    for n in 0..count {
+        let name = format!(in alloc; "d{n:03}")?;
+        assert_eq!(rt; found(alloc, &files, &name)?, Some(n), "{name} of {count}");
+    }
+    for bytes in [0, 1, 4, 39, 40, 41, 42, 48, 1000, 1023, 1024, 1025, 8000] {
+        let name = "m".repeat(alloc, bytes)?;
+        let want = (bytes == LONGEST).then_some(count);
+        assert_eq!(rt;
+            found(alloc, &files, &name)?,
+            want,
+            "{bytes} bytes, {count} files"
+        );
+        let other = format!(in alloc; "{name}n")?;
+        assert_eq!(rt;
+            found(alloc, &files, &other)?,
+            None,
+            "{bytes} bytes and one, {count} files"
+        );
+    }
+    Ok(())
+}
+
+/// Names as long as the longest of a snapshot, longer and shorter, among few files and among many.
+#[test]
+fn names_beside_the_longest(rt: HostRuntime) -> Result<(), Fail> {
+    for count in [0, 1, 2, 3, 8, 100] {
+        check_longest(&rt, count)?;
+    }
+    Ok(())
+}

@@ -1,0 +1,29 @@
+//! Tests of the crates `http_requests`, `page_cache` and `responses`.
+#![tactic(auto)]
+
+#[cfg(test)]
+mod cache_sequence;
+#[cfg(test)]
+mod caches;
+#[cfg(test)]
+mod cutting;
+#[cfg(test)]
+mod framing;
+#[cfg(test)]
+mod media;
+#[cfg(test)]
+mod page_growths;
+#[cfg(test)]
+mod pages;
+#[cfg(test)]
+mod replies;
+#[cfg(test)]
+mod reply_growths;
+#[cfg(test)]
+mod reply_records;
+#[cfg(test)]
+mod request_growths;
+#[cfg(test)]
+mod verdicts;
+#[cfg(test)]
+mod writers;

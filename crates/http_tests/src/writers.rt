@@ -1,0 +1,46 @@
+//! A writer that takes a byte at a time, and one that fails at one of its writes.
+use crate::reply_records::page;
+use devices::Output;
+use responses::{Given, Link, Slip, Status, Write, render, write_reply};
+use std::marker::Brand;
+use std::test::Fail;
+use test_support::Slow;
+
+static WANT: &[u8; 139] = b"reply 3 12 123\n\
+      HTTP/1.1 404 Not Found\r\n\
+      Date: Thu, 01 Jan 1970 00:00:00 GMT\r\n\
+      Content-Type: text/plain\r\n\
+      Content-Length: 14\r\n\
+      \r\n\
+      404 Not Found\n\
+      \n";
+
+/// For each k, the writer that fails at its write k has taken the first k bytes, and has failed once.
+#[test]
+fn each_write_failing(rt: HostRuntime) -> Result<(), Fail> {
+    let slip = Slip {
+        number: 3,
+        conn: 12,
+        date: 0,
+        head: false,
+        link: Link::Silent,
+        what: Given::<Brand>::Plain {
+            status: Status::NotFound,
+        },
+    };
+    let reply = render(rt.alloc(), slip)?;
+    assert_eq!(rt; reply.number(), 3);
+    assert_eq!(rt; reply.conn(), 12);
+    for good in 0..WANT.len() + 1 {
+        let mut taken = Vec::new(rt.alloc());
+        let mut output = Output::new(Slow::new(&mut taken, 1, good));
+        let answer = write_reply(&mut output, &reply);
+        let failures = output.failures();
+        let whole = good == WANT.len();
+        assert_eq!(rt; answer.is_ok(), whole);
+        assert_eq!(rt; failures == 0, whole);
+        assert!(rt; failures <= 1);
+        assert_eq!(rt; taken.as_slice(), &WANT[..good]);
+    }
+    Ok(())
+}

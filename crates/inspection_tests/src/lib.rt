@@ -1,5 +1,0 @@
-//! Tests of the crate `inspection`.
-#![tactic(auto)]
-
-#[cfg(test)]
-mod tests;

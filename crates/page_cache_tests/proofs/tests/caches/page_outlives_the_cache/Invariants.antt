@@ -1,4 +1,0 @@
-use Rattle.page_cache_tests.proofs.tests.caches.page_outlives_the_cache.Given as goal
-
-abbrev pub ghosts-check_outlives : goal.ghosts-check_outlives
-ghosts-check_outlives g a = record { files = a.files.now }

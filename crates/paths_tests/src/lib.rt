@@ -1,5 +1,0 @@
-//! Tests of the crate `paths`.
-#![tactic(auto)]
-
-#[cfg(test)]
-mod tests;

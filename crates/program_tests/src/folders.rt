@@ -1,0 +1,250 @@
+//! Folders that are written as snapshots.
+use crate::running::{Narrow, is_out_of_memory};
+use devices::Output;
+use program::{Contents, Fault, FileFault, Folder, Found, Place, Unanswered, run_snapshot};
+use std::alloc::{AllocError, AllocGlobal, Global};
+use std::process::Abort;
+use std::test::Fail;
+
+/// A folder in memory: names, times and bytes. For `full` it can open nothing, and other names can't be read.
+#[derive(Drop)]
+struct Shelf {
+    alloc: Global,
+    files: &'static [(&'static str, u64, &'static str)],
+}
+
+impl Folder for Shelf {
+    ghost answers = { λ shelf name answer. Unit {0} };
+
+    fn read(&self, name: &str) -> Result<Result<Contents, FileFault>, Unanswered> {
+        for (own, mtime, bytes) in self.files {
+            if *own == name {
+                let bytes = Vec::from_slice(self.alloc, bytes.as_bytes())?;
+                return Ok(Ok(Contents {
+                    mtime: *mtime,
+                    bytes,
+                }));
+            }
+        }
+        if name == "full" {
+            return Err(Unanswered::Descriptors);
+        }
+        Ok(Err(FileFault::Read))
+    }
+}
+
+static FILES: [(&str, u64, &str); 4] = [
+    ("a.b", 784_111_777, "hi\n"),
+    ("a/b", 0, ""),
+    ("a0", 253_402_300_800, "late"),
+    ("b", 5, "x"),
+];
+
+/// What is found: a name, and why it can't be taken where that is known.
+type Row = (&'static str, Option<FileFault>);
+
+fn found_of(alloc: Global, rows: &[Row]) -> Result<Vec<Found>, AllocError> {
+    let mut found = Vec::new(alloc);
+    for (name, fault) in rows {
+        let name = String::from_str(alloc, name)?;
+        found.push(Found {
+            name,
+            fault: *fault,
+        })?;
+    }
+    Ok(found)
+}
+
+/// Writes the snapshot of these, and compares what it answers and what it wrote.
+fn check(
+    rt: &(impl Abort + AllocGlobal),
+    rows: &[Row],
+    skip: bool,
+    want: Result<usize, (&str, FileFault)>,
+    text: &str,
+) -> Result<(), Fail> {
+    let shelf = Shelf {
+        alloc: rt.alloc(),
+        files: &FILES,
+    };
+    let found = found_of(rt.alloc(), rows)?;
+    let mut device = Narrow::ample();
+    let ran = run_snapshot(
+        rt.alloc(),
+        &shelf,
+        &found,
+        skip,
+        &mut Output::new(&mut device),
+    );
+    match (ran, want) {
+        (Ok(skipped), Ok(wanted)) => assert_eq!(rt; skipped, wanted),
+        (Err(Fault::Folder(fault)), Err((name, why))) => {
+            assert_eq!(rt; fault.name.as_slice(), name.as_bytes());
+            assert_eq!(rt; fault.fault, why);
+        }
+        _ => assert!(rt; false, "another answer"),
+    }
+    assert_eq!(rt; device.text(), text.as_bytes());
+    Ok(())
+}
+
+static ROWS: [Row; 3] = [("a.b", None), ("a/b", None), ("b", None)];
+
+static TEXT: &str =
+    "haboob-snapshot 1\nfile 784111777 3 3\na.b\nhi\n\nfile 0 3 0\na/b\n\nfile 5 1 1\nb\nx\nend 3\n";
+
+#[test]
+fn taken(rt: HostRuntime) -> Result<(), Fail> {
+    check(&rt, &ROWS, false, Ok(0), TEXT)?;
+    check(&rt, &ROWS, true, Ok(0), TEXT)?;
+    check(&rt, &[], false, Ok(0), "haboob-snapshot 1\nend 0\n")
+}
+
+/// A link, a file that is too late, and one that can't be read, among others.
+static MIXED: [Row; 6] = [
+    ("a.b", None),
+    ("a\nb", Some(FileFault::Link)),
+    ("a/b", None),
+    ("a0", None),
+    ("a", None),
+    ("b", None),
+];
+
+#[test]
+fn left_out(rt: HostRuntime) -> Result<(), Fail> {
+    check(&rt, &MIXED, true, Ok(3), TEXT)
+}
+
+static ONE: &str = "haboob-snapshot 1\nfile 784111777 3 3\na.b\nhi\n\n";
+
+static TWO: &str = "haboob-snapshot 1\nfile 784111777 3 3\na.b\nhi\n\nfile 0 3 0\na/b\n\n";
+
+/// What stands before the first that can't be taken stands.
+#[test]
+fn refused(rt: HostRuntime) -> Result<(), Fail> {
+    check(&rt, &MIXED, false, Err(("a?b", FileFault::Link)), ONE)?;
+    check(
+        &rt,
+        &[("a.b", None), ("a/b", None), ("a0", None)],
+        false,
+        Err(("a0", FileFault::Time)),
+        TWO,
+    )?;
+    check(
+        &rt,
+        &[("a.b", None), ("none", None)],
+        false,
+        Err(("none", FileFault::Read)),
+        ONE,
+    )?;
+    check(
+        &rt,
+        &[("a.b", None), ("a.b", None)],
+        false,
+        Err(("a.b", FileFault::Order)),
+        ONE,
+    )
+}
+
+/// Where too many files are open, none is left out for it: what came before stands, without a last line.
+#[test]
+fn too_many_open(rt: HostRuntime) -> Result<(), Fail> {
+    let shelf = Shelf {
+        alloc: rt.alloc(),
+        files: &FILES,
+    };
+    let found = found_of(rt.alloc(), &[("a.b", None), ("full", None), ("none", None)])?;
+    for skip in [false, true] {
+        let mut device = Narrow::ample();
+        let mut output = Output::new(&mut device);
+        let ran = run_snapshot(rt.alloc(), &shelf, &found, skip, &mut output);
+        assert!(rt; matches!(ran, Err(Fault::Open(Place::Folder))));
+        assert_eq!(rt; device.text(), ONE.as_bytes());
+    }
+    Ok(())
+}
+
+/// Names with the first and the last of each kind of characters that a line doesn't show, and with those beside them.
+static HIDDEN: [(&str, &str); 8] = [
+    ("\u{1}\u{1b}\u{1f} a~", "??? a~"),
+    ("\u{7f}\u{80}\u{85}\u{9f}\u{a0}", "????\u{a0}"),
+    ("\u{61b}\u{61c}\u{61d}", "\u{61b}?\u{61d}"),
+    ("\u{200d}\u{200e}\u{200f}\u{2010}", "\u{200d}??\u{2010}"),
+    (
+        "\u{2027}\u{2028}\u{2029}\u{202a}\u{202e}\u{202f}",
+        "\u{2027}????\u{202f}",
+    ),
+    ("\u{2065}\u{2066}\u{2069}\u{206a}", "\u{2065}??\u{206a}"),
+    ("\u{fefe}\u{feff}\u{ff00}", "\u{fefe}?\u{ff00}"),
+    ("\u{e9}\u{1f600}\u{10ffff}", "\u{e9}\u{1f600}\u{10ffff}"),
+];
+
+#[test]
+fn hidden_characters(rt: HostRuntime) -> Result<(), Fail> {
+    for (name, shown) in &HIDDEN {
+        let row = [(*name, Some(FileFault::Changed))];
+        let want = Err((*shown, FileFault::Changed));
+        check(&rt, &row, false, want, "haboob-snapshot 1\n")?;
+    }
+    Ok(())
+}
+
+/// Writes with a device that fails after n writes; whether the run came to its end.
+fn ends_writing(rt: &(impl Abort + AllocGlobal), good: usize) -> Result<bool, Fail> {
+    let shelf = Shelf {
+        alloc: rt.alloc(),
+        files: &FILES,
+    };
+    let found = found_of(rt.alloc(), &ROWS)?;
+    let mut device = Narrow::new(8, good);
+    let ran = run_snapshot(
+        rt.alloc(),
+        &shelf,
+        &found,
+        true,
+        &mut Output::new(&mut device),
+    );
+    assert!(rt; TEXT.as_bytes().starts_with(device.text()));
+    assert_eq!(rt; ran.is_ok(), device.text().len() == TEXT.len());
+    assert!(rt; matches!(ran, Ok(0) | Err(Fault::Write(Place::Output))));
+    Ok(ran.is_ok())
+}
+
+#[test]
+fn each_write_failing(rt: HostRuntime) -> Result<(), Fail> {
+    for good in 0..100usize {
+        if ends_writing(&rt, good)? {
+            assert!(rt; good > 10);
+            return Ok(());
+        }
+    }
+    assert!(rt; false, "the run comes to no end");
+    Ok(())
+}
+
+/// `checks/refuse_growths.py` refuses each growth in turn: then a prefix stands.
+#[test]
+fn each_growth_refused(rt: HostRuntime) {
+    let Ok(found) = found_of(rt.alloc(), &ROWS) else {
+        return;
+    };
+    let shelf = Shelf {
+        alloc: rt.alloc(),
+        files: &FILES,
+    };
+    let mut device = Narrow::ample();
+    let ran = run_snapshot(
+        rt.alloc(),
+        &shelf,
+        &found,
+        false,
+        &mut Output::new(&mut device),
+    );
+    match ran {
+        Ok(_) => assert_eq!(rt; device.text(), TEXT.as_bytes()),
+        Err(fault) => {
+            assert!(rt; is_out_of_memory(&fault));
+            assert!(rt; TEXT.as_bytes().starts_with(device.text()));
+        }
+    }
+}

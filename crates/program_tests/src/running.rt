@@ -1,0 +1,140 @@
+//! Runs over texts in memory, of which two are compared whole.
+ghost use Rattle.std.specs.Prelude.{◌≤◌};
+
+use command_line::Engine;
+use devices::{Input, Output};
+use program::{Fault, Wanted, run_bundle, run_replay};
+use settings::read_settings;
+use std::alloc::Global;
+use std::io;
+use std::io::Write;
+use std::sync::Wait;
+use std::test::Fail;
+use std::thread::Threads;
+use test_support::{ONE_REPLY, SNAPSHOT};
+
+/// That snapshot, and after it a capture of one request for the file.
+pub static FIRST_RUN: &str = "haboob-snapshot 1\n\
+     file 784111777 5 3\n\
+     a.txt\n\
+     hi\n\
+     \n\
+     end 1\n\
+     haboob-capture 1 784111777\n\
+     piece 0 0 32\n\
+     GET /a.txt HTTP/1.1\r\n\
+     Host: a\r\n\
+     \r\n\
+     \n\
+     stop 1\n";
+
+/// Whether memory was refused: the status of that fault alone.
+pub fn is_out_of_memory(fault: &Fault) -> bool {
+    fault.status() == 7
+}
+
+/// A writer into a room of its own that takes at most n bytes a write, and fails at one of its writes or where
+/// the room is full. It takes no memory.
+#[derive(Drop)]
+pub struct Narrow {
+    room: [u8; 1024],
+    len: usize,
+    size: usize,
+    /// How many writes are made before the one that fails.
+    good: usize,
+    ghost in_room: { len ≤ 1024 },
+}
+
+impl Narrow {
+    pub fn new(size: usize, good: usize) -> Narrow {
+        Narrow {
+            room: [0; 1024],
+            len: 0,
+            size,
+            good,
+        }
+    }
+
+    /// A writer that doesn't fail.
+    pub fn ample() -> Narrow {
+        Narrow::new(1024, usize::MAX)
+    }
+
+    /// What was written.
+    pub fn text(&self) -> &[u8] {
+        &self.room[..self.len]
+    }
+}
+
+impl Write for Narrow {
+    fn write(&mut self, bytes: &[u8]) -> io::Result<usize> {
+        if self.good == 0 {
+            return Err(io::Error::other("refused"));
+        }
+        self.good -= 1;
+        let start = self.len;
+        let count = bytes.len().min(self.size).min(1024 - start);
+        self.room[start..start + count].copy_from_slice(&bytes[..count]);
+        self.len = start + count;
+        Ok(count)
+    }
+
+    fn flush(&mut self) -> io::Result<()> {
+        Ok(())
+    }
+}
+
+/// Runs over an input in memory.
+pub fn run(alloc: Global, input: &str, replies: &mut Narrow) -> Result<(), Fault> {
+    run_bundle(
+        alloc,
+        &mut Input::new(input.as_bytes()),
+        &mut Output::new(replies),
+    )
+}
+
+/// Settings with one token, and one more each second; tier 1 has two.
+pub static TIGHT: &str =
+    "[policy]\ndepth = 1\nrate = 1000\nrate_min = 1000\nrate_max = 1000\n[tier1]\ndepth = 2\n";
+
+/// Runs over inputs in memory on an engine with these settings, and writes a report.
+pub fn run_tight<T: Threads + Wait + Sync>(
+    rt: &T,
+    alloc: Global,
+    engine: Engine,
+    snapshot: &str,
+    capture: &str,
+    replies: &mut Narrow,
+    report: &mut Narrow,
+) -> Result<(), Fault> {
+    let settings = read_settings(alloc, TIGHT.as_bytes())?;
+    run_replay(
+        rt,
+        alloc,
+        &settings,
+        Wanted::Replies(engine),
+        &mut Input::new(snapshot.as_bytes()),
+        &mut Input::new(capture.as_bytes()),
+        &mut Output::new(replies),
+        &mut Output::new(report),
+    )
+}
+
+#[test]
+fn first_run(rt: HostRuntime) -> Result<(), Fail> {
+    let mut replies = Narrow::ample();
+    let ran = run(rt.alloc(), FIRST_RUN, &mut replies);
+    assert_eq!(rt; ran, Ok(()));
+    assert_eq!(rt; replies.text(), ONE_REPLY.as_bytes());
+    Ok(())
+}
+
+#[test]
+fn empty_capture(rt: HostRuntime) -> Result<(), Fail> {
+    let input = format!(in rt.alloc(); "{SNAPSHOT}haboob-capture 1 784111777\nstop 0\n")?;
+    let mut replies = Narrow::ample();
+    let ran = run(rt.alloc(), &input, &mut replies);
+    assert_eq!(rt; ran, Ok(()));
+    assert_eq!(rt; replies.text(), b"haboob-replies 1\nstop 0\n".as_slice());
+    Ok(())
+}

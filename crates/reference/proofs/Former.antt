@@ -1,0 +1,589 @@
+-- A capture of version 1 is answered as before there were tiers, and its upgraded text as it is.
+use Rattle.std.proofs.Common.{◌≡◌, ℕ, suc, ◌+◌, ◌-◌, ◌≤◌, ◌==◌, ◌||◌, Bool, true, false, cond, List, [], ◌∷◌, ◌++◌, length, map, take, get_or, Option, Some, unwrap_or, refl, sym, ap, ◌∙◌, subst, arith, All, append-nil, append_assoc}
+use Rattle.std.specs.List.{list_any, filter, range_with_len, AllPairs}
+use Rattle.std.specs.Prelude.{count_by, nat_le}
+use Rattle.std.specs.Io.KnownBytes.{Appends}
+use Rattle.std.proofs.Math.Nat.{zero-div}
+use Rattle.std.proofs.lemmas.Grind.{flat_map-append}
+use Rattle.std.proofs.lemmas.List.{length-map, map-append}
+use Rattle.std.proofs.lemmas.List.Kept.{AllPairs-cons}
+use Rattle.std.proofs.lemmas.List.Sums.{sum_by_push, sum_by-cons}
+use Rattle.std.proofs.lemmas.List.Elements.{All-nil, All-head, All-tail, All-take, All-push, All-map}
+use Rattle.http_requests.specs.declared.messages.Meaning.{Meaning}
+use Rattle.http_requests.specs.declared.messages.Meaning.TheVariants.{Request, Bad}
+use Rattle.captures.specs.declared.record.Record.{Record}
+use Rattle.captures.specs.declared.version.Version.{Version}
+use Rattle.captures.specs.declared.version.Version.TheVariants.{One, Two}
+use Rattle.captures.specs.Reference.{IsRecord, IsCapture, IsCaptureText}
+use Rattle.captures.proofs.Agree.{one_list}
+use Rattle.captures.proofs.Tiers.{tiers_of_version_one}
+use Rattle.captures.proofs.UpgradeLaws.{upgrade_is}
+use Rattle.http_requests.specs.Reference.{MessagesOf}
+use Rattle.admission.specs.declared.policy.PolicyNumbers.{PolicyNumbers}
+use Rattle.admission.specs.declared.control.Control.{Control}
+use Rattle.admission.specs.Reference.{rules_of, Offer, Decided, of_tier, served, samples, is_rejected, control_at, controls_until, decided, tick_from}
+use Rattle.admission.specs.OneTier.{decided_alone, decided_alone_next, decided_alone_from, AreOfTier}
+use Rattle.admission.proofs.RequestLemmas.{of_tier-other, of_tier-none}
+use Rattle.admission.proofs.OneTierLemmas.{one_tier_as_before}
+use Rattle.arrivals.specs.declared.incoming.Origin.{Origin}
+use Rattle.reference.specs.declared.summary.Outcome.{Outcome}
+use Rattle.reference.specs.declared.summary.Counts.{Counts}
+use Rattle.reference.specs.declared.summary.Tally.{Tally}
+use Rattle.reference.specs.declared.summary.Summary.{Summary}
+use Rattle.arrivals.specs.Reference.{Arrival, text_of, messages_of, ArrivesWith, Precedes, AreArrivals}
+use Rattle.responses.specs.Reference.{statuses}
+use Rattle.reference.proofs.OneAnswer.{same_outcome}
+use Rattle.reference.specs.Reference.{outcome_of, Terms, given, Handled, offer_at, offers_of, rejects, is_turned_away, handled_next, handled_after, handled, reply_of, replies_of, replies_text, status_for, counts_of, bypassed_of, breaks_a_rule, rejected_of, samples_of, tally_of, tallies_of, summary_of, Answers, max_messages}
+use Rattle.reference.specs.Former.{FormerTerms, ArrivedWith, WereArrivals, former_offer, former_offers, formerly_rejects, was_turned_away, handled_next_alone, handled_after_alone, former_handled, formerly_given, former_reply, former_replies, former_status, former_counts, former_samples, former_controls, FormerOutcome, former_outcome}
+use Rattle.reference.specs.Laws.{former_terms, no_requests, all_requests, in_tiers, SameInVersionOne, FormerAnswersHold, UpgradeKeepsAnswers}
+
+-- ---- offers of tier 0
+
+abbrev AreLowest : List Arrival → Type 0
+AreLowest arrivals = All (λ a. a.origin.tier ≡ 0) arrivals
+
+offer_same : (terms : Terms) (origin : Origin) (what : Meaning) → origin.tier ≡ 0
+    → offer_at terms origin what ≡ former_offer (former_terms terms) origin.tick what
+offer_same terms origin (Request method target version closing since) at = rw at refl
+offer_same terms origin (Bad fault) at = refl
+
+offers_same : (terms : Terms) (arrivals : List Arrival) → AreLowest arrivals
+    → offers_of terms arrivals ≡ former_offers (former_terms terms) arrivals
+unfolding offers_of former_offers
+offers_same terms [] lowest = refl
+offers_same terms (a ∷ arrivals) lowest =
+    let first = offer_same terms a.origin a.message.what (All-head (λ a. a.origin.tier ≡ 0) a arrivals lowest) in
+    let rest = offers_same terms arrivals (All-tail (λ a. a.origin.tier ≡ 0) a arrivals lowest) in
+    (λ i. first i ++ rest i)
+
+former_lowest : (terms : FormerTerms) (arrivals : List Arrival) → AreOfTier 0 (former_offers terms arrivals)
+unfolding former_offers AreOfTier
+former_lowest terms [] = tt
+former_lowest terms (a ∷ arrivals) = go a.message.what (former_lowest terms arrivals)
+  where
+    go : (what : Meaning) → AreOfTier 0 (former_offers terms arrivals)
+        → AreOfTier 0 (former_offer terms a.origin.tick what ++ former_offers terms arrivals)
+    go (Request method target version closing since) rest = (refl, rest)
+    go (Bad fault) rest = rest
+
+-- ---- decisions
+
+rejects_same : (policies : List PolicyNumbers) (offers : List Offer) (offer : Offer) → AreOfTier 0 offers → offer.tier ≡ 0
+    → rejects policies offers offer ≡ formerly_rejects (rules_of policies 0) offers offer
+unfolding rejects formerly_rejects
+rejects_same policies offers offer of at =
+    let alone = one_tier_as_before policies offers of in
+    rw (at, alone.1, alone.0) refl
+
+turned_same : (terms : Terms) (earlier : List Arrival) (a : Arrival) → AreLowest earlier → a.origin.tier ≡ 0
+    → is_turned_away terms earlier a ≡ was_turned_away (former_terms terms) earlier a
+turned_same terms earlier a lowest at =
+    (λ i. list_any (rejects terms.policies (offers_same terms earlier lowest i))
+    (offer_same terms a.origin a.message.what at i)) ∙ go a.message.what
+  where
+    before : List Offer
+    before = former_offers (former_terms terms) earlier
+
+    go : (what : Meaning)
+        → list_any (rejects terms.policies before) (former_offer (former_terms terms) a.origin.tick what)
+        ≡ list_any (formerly_rejects (rules_of terms.policies 0) before)
+        (former_offer (former_terms terms) a.origin.tick what)
+    go (Request method target version closing since) =
+        ap (λ (away : Bool). away || false)
+        (rejects_same terms.policies before _ (former_lowest (former_terms terms) earlier) refl)
+    go (Bad fault) = refl
+
+handled_same : (terms : Terms) (earlier arrivals : List Arrival) → AreLowest earlier → AreLowest arrivals
+    → handled_after terms earlier arrivals ≡ handled_after_alone (former_terms terms) earlier arrivals
+unfolding handled_after handled_after_alone
+handled_same terms earlier [] before lowest = refl
+handled_same terms earlier (a ∷ arrivals) before lowest =
+    let at = All-head (λ a. a.origin.tier ≡ 0) a arrivals lowest in
+    let away = turned_same terms earlier a before at in
+    let first : handled_next terms earlier a ≡ handled_next_alone (former_terms terms) earlier a = rw away refl in
+    let rest = handled_same terms (earlier ++ a ∷ []) arrivals (All-push (λ a. a.origin.tier ≡ 0) earlier a before at)
+    (All-tail (λ a. a.origin.tier ≡ 0) a arrivals lowest) in
+    (λ i. first i ∷ rest i)
+
+handled_alone : (terms : Terms) (arrivals : List Arrival) → AreLowest arrivals
+    → handled terms arrivals ≡ former_handled (former_terms terms) arrivals
+handled_alone terms arrivals lowest = handled_same terms [] arrivals (All-nil (λ a. a.origin.tier ≡ 0)) lowest
+
+-- ---- replies
+
+given_same : {X : Type 0} (terms : Terms) (away : Bool) (what : Meaning) → given {X = X} terms away what
+    ≡ formerly_given (former_terms terms) away what
+given_same terms true what = refl
+given_same terms false what = refl
+
+reply_same : (terms : Terms) (start : ℕ) (h : Handled)
+    → reply_of terms start h ≡ former_reply (former_terms terms) start h
+unfolding reply_of former_reply
+reply_same terms start h = rw (given_same {X = Unit {0}} terms h.turned_away h.arrival.message.what) refl
+
+replies_same : (terms : Terms) (start : ℕ) (messages : List Handled)
+    → replies_of terms start messages ≡ former_replies (former_terms terms) start messages
+replies_same terms start [] = refl
+replies_same terms start (h ∷ messages) = (λ i. reply_same terms start h i ∷ replies_same terms start messages i)
+
+status_same : (terms : Terms) (h : Handled) → status_for terms h ≡ former_status (former_terms terms) h
+status_same terms h = rw (given_same {X = Unit {0}} terms h.turned_away h.arrival.message.what) refl
+
+count_same : (terms : Terms) (messages : List Handled) (status : ℕ)
+    → count_by (λ h. status_for terms h == status) messages
+    ≡ count_by (λ h. former_status (former_terms terms) h == status) messages
+count_same terms messages status = (λ i. count_by (λ h. status_same terms h i == status) messages)
+
+counts_same : (terms : Terms) (messages : List Handled)
+    → counts_of terms messages ≡ former_counts (former_terms terms) messages
+counts_same terms messages =
+    (λ i. record { by_status = map (λ status. count_same terms messages status i) statuses })
+
+-- ---- how many were turned away
+
+push_alone : (rules : PolicyNumbers) (past : List Decided) (offers : List Offer) (offer : Offer)
+    → decided_alone_from rules past (offers ++ offer ∷ [])
+    ≡ decided_alone_from rules past offers ++ decided_alone_next rules (decided_alone_from rules past offers) offer ∷ []
+unfolding decided_alone_from
+push_alone rules past [] offer = refl
+push_alone rules past (first ∷ offers) offer =
+    push_alone rules (past ++ decided_alone_next rules past first ∷ []) offers offer
+
+abbrev turned : PolicyNumbers → List Offer → ℕ
+turned rules offers = count_by (λ r. is_rejected r.decision) (decided_alone rules offers)
+
+turned_more : (rules : PolicyNumbers) (offers : List Offer) (offer : Offer)
+    → turned rules (offers ++ offer ∷ []) ≡ turned rules offers + cond (formerly_rejects rules offers offer) 1 0
+unfolding formerly_rejects
+turned_more rules offers offer =
+    ap (λ (ds : List Decided). count_by (λ r. is_rejected r.decision) ds) (push_alone rules [] offers offer)
+    ∙ sum_by_push (λ (r : Decided). cond (is_rejected r.decision) 1 0) (decided_alone rules offers)
+    (decided_alone_next rules (decided_alone rules offers) offer)
+
+turned_one : (terms : FormerTerms) (earlier : List Arrival) (a : Arrival)
+    → turned terms.rules (former_offers terms (earlier ++ a ∷ []))
+    ≡ turned terms.rules (former_offers terms earlier) + cond (was_turned_away terms earlier a) 1 0
+unfolding former_offers
+turned_one terms earlier a =
+    ap (λ (xs : List Offer). turned terms.rules xs)
+    (flat_map-append (λ a. former_offer terms a.origin.tick a.message.what) earlier (a ∷ [])
+    ∙ ap (λ xs. former_offers terms earlier ++ xs) (append-nil (former_offer terms a.origin.tick a.message.what)))
+    ∙ go a.message.what
+  where
+    before : List Offer
+    before = former_offers terms earlier
+
+    own : (n : ℕ) (away : Bool) → n + cond away 1 0 ≡ n + cond (away || false) 1 0
+    own n true = refl
+    own n false = refl
+
+    go : (what : Meaning)
+        → turned terms.rules (before ++ former_offer terms a.origin.tick what) ≡ turned terms.rules before
+        + cond (list_any (formerly_rejects terms.rules before) (former_offer terms a.origin.tick what)) 1 0
+    go (Request method target version closing since) =
+        turned_more terms.rules before _ ∙ own (turned terms.rules before) (formerly_rejects terms.rules before _)
+    go (Bad fault) = ap (λ xs. turned terms.rules xs) (append-nil before) ∙ omega arith
+
+rejected_first : (h : Handled) (messages : List Handled)
+    → length (rejected_of (h ∷ messages)) ≡ cond h.turned_away 1 0 + length (rejected_of messages)
+rejected_first h messages = go h.turned_away refl
+  where
+    go : (away : Bool) → h.turned_away ≡ away → length (rejected_of (h ∷ messages)) ≡ cond h.turned_away 1 0
+        + length (rejected_of messages)
+    go true e = rw e (omega arith)
+    go false e = rw e (omega arith)
+
+turned_all : (terms : FormerTerms) (earlier arrivals : List Arrival)
+    → turned terms.rules (former_offers terms (earlier ++ arrivals))
+    ≡ turned terms.rules (former_offers terms earlier)
+    + length (rejected_of (handled_after_alone terms earlier arrivals))
+unfolding handled_after_alone
+turned_all terms earlier [] = ap (λ xs. turned terms.rules (former_offers terms xs)) (append-nil earlier) ∙ omega arith
+turned_all terms earlier (a ∷ arrivals) =
+    let along = ap (λ xs. turned terms.rules (former_offers terms xs)) (append_assoc earlier (a ∷ []) arrivals) in
+    let more = turned_all terms (earlier ++ a ∷ []) arrivals in
+    let one = turned_one terms earlier a in
+    let own =
+    rejected_first (handled_next_alone terms earlier a) (handled_after_alone terms (earlier ++ a ∷ []) arrivals) in
+    omega (arith, along, more, one, own)
+
+turned_none : (terms : FormerTerms) → turned terms.rules (former_offers terms []) ≡ 0
+unfolding former_offers decided_alone_from
+turned_none terms = refl
+
+turned_is : (terms : FormerTerms) (arrivals : List Arrival)
+    → turned terms.rules (former_offers terms arrivals) ≡ length (rejected_of (former_handled terms arrivals))
+turned_is terms arrivals =
+    let all = turned_all terms [] arrivals in
+    let none = turned_none terms in
+    omega (arith, all, none)
+
+-- ---- the tallies
+
+samples_same : (policies : List PolicyNumbers) (offers : List Offer) → AreOfTier 0 offers
+    → samples_of policies offers ≡ former_samples (rules_of policies 0) offers
+unfolding samples_of former_samples
+samples_same policies offers of = rw ((one_tier_as_before policies offers of).0) refl
+
+first_tally : (terms : Terms) (arrivals : List Arrival)
+    → tally_of terms.policies (former_offers (former_terms terms) arrivals) 0
+    ≡ all_requests (former_outcome (former_terms terms) arrivals)
+unfolding tally_of former_samples former_controls
+first_tally terms arrivals =
+    let offers = former_offers (former_terms terms) arrivals in
+    let alone = one_tier_as_before terms.policies offers (former_lowest (former_terms terms) arrivals) in
+    let count = length-map (served (decided_alone (rules_of terms.policies 0) offers)) (λ r. r.finish - r.offer.tick) in
+    rw (alone.1, turned_is (former_terms terms) arrivals, count) refl
+
+others_none : (rules : PolicyNumbers) (tier : ℕ) (past : List Decided) (offers : List Offer) → (0 ≡ tier → ⊥)
+    → AreOfTier 0 offers → of_tier tier past ≡ []
+    → of_tier tier (decided_alone_from rules past offers) ≡ []
+unfolding decided_alone_from AreOfTier
+others_none rules tier past [] apart of none = none
+others_none rules tier past (offer ∷ offers) apart of none =
+    others_none rules tier (past ++ decided_alone_next rules past offer ∷ []) offers apart of.1
+    (of_tier-other tier past (decided_alone_next rules past offer) (λ e. apart (sym of.0 ∙ e)) ∙ none)
+
+other_tally : (policies : List PolicyNumbers) (offers : List Offer) (tier : ℕ) → (0 ≡ tier → ⊥) → AreOfTier 0 offers
+    → tally_of policies offers tier ≡ no_requests
+unfolding tally_of served
+other_tally policies offers tier apart of =
+    let none : of_tier tier (decided policies offers) ≡ [] =
+    ap (of_tier tier) ((one_tier_as_before policies offers of).0)
+    ∙ others_none (rules_of policies 0) tier [] offers apart of (of_tier-none tier) in
+    let controls : controls_until (rules_of policies tier) [] (tick_from 0 offers) ≡ [] =
+    ap (λ n. filter (λ c. nat_le c.instant (tick_from 0 offers))
+    (map (control_at (rules_of policies tier) []) (range_with_len 1 n))) (zero-div (rules_of policies tier).every) in
+    rw (none, controls) refl
+
+-- ---- the outcome
+
+text_same : (terms : Terms) (start : ℕ) (arrivals : List Arrival) → AreLowest arrivals
+    → replies_of terms start (handled terms arrivals)
+    ≡ former_replies (former_terms terms) start (former_handled (former_terms terms) arrivals)
+text_same terms start arrivals lowest =
+    ap (λ hs. replies_of terms start hs) (handled_alone terms arrivals lowest)
+    ∙ replies_same terms start (former_handled (former_terms terms) arrivals)
+
+rejected_same : (terms : Terms) (arrivals : List Arrival) → AreLowest arrivals
+    → rejected_of (handled terms arrivals) ≡ (former_outcome (former_terms terms) arrivals).rejected
+rejected_same terms arrivals lowest = ap rejected_of (handled_alone terms arrivals lowest)
+
+tallies_same : (terms : Terms) (arrivals : List Arrival)
+    → tallies_of terms.policies (former_offers (former_terms terms) arrivals)
+    ≡ all_requests (former_outcome (former_terms terms) arrivals) ∷ no_requests ∷ no_requests ∷ no_requests ∷ []
+tallies_same terms arrivals =
+    let offers = former_offers (former_terms terms) arrivals in
+    let of = former_lowest (former_terms terms) arrivals in
+    let first = first_tally terms arrivals in
+    let second = other_tally terms.policies offers 1 (λ e. omega (arith, e)) of in
+    let third = other_tally terms.policies offers 2 (λ e. omega (arith, e)) of in
+    let fourth = other_tally terms.policies offers 3 (λ e. omega (arith, e)) of in
+    (λ i. first i ∷ second i ∷ third i ∷ fourth i ∷ [])
+
+summary_with : Counts → ℕ → List ℕ → List Tally → Summary
+summary_with counts bypassed samples tiers =
+    record { counts = counts; bypassed = bypassed; samples = samples; tiers = tiers }
+
+summary_same : (terms : Terms) (arrivals : List Arrival) → AreLowest arrivals
+    → summary_of terms arrivals ≡ (in_tiers (former_outcome (former_terms terms) arrivals)).summary
+unfolding summary_with
+summary_same terms arrivals lowest =
+    let offers = offers_same terms arrivals lowest in
+    let counts = ap (counts_of terms) (handled_alone terms arrivals lowest)
+    ∙ counts_same terms (former_handled (former_terms terms) arrivals) in
+    let samples = ap (samples_of terms.policies) offers
+    ∙ samples_same terms.policies (former_offers (former_terms terms) arrivals)
+    (former_lowest (former_terms terms) arrivals) in
+    let tallies = ap (tallies_of terms.policies) offers ∙ tallies_same terms arrivals in
+    (λ i. summary_with (counts i) (bypassed_of arrivals) (samples i) (tallies i))
+
+-- ---- the law of version 1
+
+lowest_of : (records : List Record) (arrivals : List Arrival) → All (IsRecord One) records
+    → AreArrivals records arrivals → AreLowest arrivals
+lowest_of records arrivals each arrived k d lt =
+    let a = get_or arrivals k d in
+    (arrived.with k d lt).tier
+    ∙ tiers_of_version_one a.origin.conn (take a.place records) (All-take (IsRecord One) a.place records each)
+
+was_with : (records : List Record) (a : Arrival) → ArrivesWith records a → ArrivedWith records a
+was_with records a with =
+    record { bytes = with.bytes; piece = with.piece; after = with.after; within = with.within }
+
+were_arrivals : (records : List Record) (arrivals : List Arrival) → AreArrivals records arrivals
+    → WereArrivals records arrivals
+were_arrivals records arrivals arrived = record {
+  each = arrived.each;
+  with = λ k d lt. was_with records (get_or arrivals k d) (arrived.with k d lt);
+  order = arrived.order;
+}
+
+pub same_in_version_one : SameInVersionOne
+same_in_version_one terms input old new outcome a one =
+    let c = a.read.capture in
+    let rules : IsCapture One c.start c.records = subst (λ v. IsCapture v c.start c.records) one c.rules in
+    let lowest : AreLowest a.read.arrivals = lowest_of c.records a.read.arrivals rules.each a.read.are in
+    let former : FormerOutcome = former_outcome (former_terms terms) a.read.arrivals in (
+      former,
+      record {
+        start = c.start;
+        records = c.records;
+        arrivals = a.read.arrivals;
+        rules = rules;
+        capture = λ known. subst (λ v. IsCaptureText v (unwrap_or input []) c.start c.records) one (c.text known);
+        arrived = were_arrivals c.records a.read.arrivals a.read.are;
+        few = a.read.few;
+        written =
+            subst (λ rs. Appends old new (replies_text rs)) (text_same terms c.start a.read.arrivals lowest) a.written;
+        outcome = refl;
+      },
+      a.outcome_is ∙ same_outcome (outcome_of terms a.read.arrivals) (in_tiers former)
+          (rejected_same terms a.read.arrivals lowest) (summary_same terms a.read.arrivals lowest),
+    )
+
+-- ---- the law of the upgrade
+
+text_shared : (terms other : Terms) (start : ℕ) (arrivals : List Arrival) → AreLowest arrivals
+    → former_terms terms ≡ former_terms other
+    → replies_of terms start (handled terms arrivals) ≡ replies_of other start (handled other arrivals)
+text_shared terms other start arrivals lowest same =
+    text_same terms start arrivals lowest
+    ∙ ap (λ (t : FormerTerms). former_replies t start (former_handled t arrivals)) same
+    ∙ sym (text_same other start arrivals lowest)
+
+rejected_shared : (terms other : Terms) (arrivals : List Arrival) → AreLowest arrivals
+    → former_terms terms ≡ former_terms other
+    → rejected_of (handled terms arrivals) ≡ rejected_of (handled other arrivals)
+rejected_shared terms other arrivals lowest same =
+    rejected_same terms arrivals lowest
+    ∙ ap (λ (t : FormerTerms). (former_outcome t arrivals).rejected) same
+    ∙ sym (rejected_same other arrivals lowest)
+
+summary_shared : (terms other : Terms) (arrivals : List Arrival) → AreLowest arrivals
+    → former_terms terms ≡ former_terms other
+    → summary_of terms arrivals ≡ summary_of other arrivals
+summary_shared terms other arrivals lowest same =
+    summary_same terms arrivals lowest
+    ∙ ap (λ (t : FormerTerms). (in_tiers (former_outcome t arrivals)).summary) same
+    ∙ sym (summary_same other arrivals lowest)
+
+-- the answer to another text of the same records
+carried : (terms other : Terms) (text later : List ℕ) (old new : Option (List ℕ)) (outcome : Outcome) (v : Version)
+    (start : ℕ) (records : List Record)
+    → (a : Answers terms (Some text) old new outcome) → a.read.capture.start ≡ start → a.read.capture.records ≡ records
+    → All (IsRecord One) records → IsCaptureText v later start records
+    → former_terms terms ≡ former_terms other → Answers other (Some later) old new outcome
+carried terms other text later old new outcome v start records a begin all each capture same =
+    let arrivals = a.read.arrivals in
+    let arrived : AreArrivals records arrivals = subst (λ rs. AreArrivals rs arrivals) all a.read.are in
+    let lowest : AreLowest arrivals = lowest_of records arrivals each arrived in
+    record {
+      read = record {
+        capture = record {
+          version = v;
+          start = start;
+          records = records;
+          rules = capture.rules;
+          text = λ known. capture;
+        };
+        arrivals = arrivals;
+        are = arrived;
+        few = a.read.few;
+      };
+      written = subst (λ rs. Appends old new (replies_text rs))
+          (ap (λ s. replies_of terms s (handled terms arrivals)) begin
+          ∙ text_shared terms other start arrivals lowest same) a.written;
+      outcome_is = a.outcome_is ∙ same_outcome (outcome_of terms arrivals) (outcome_of other arrivals)
+          (rejected_shared terms other arrivals lowest same) (summary_shared terms other arrivals lowest same);
+    }
+
+pub upgrade_keeps_answers : UpgradeKeepsAnswers
+upgrade_keeps_answers terms other text later old new outcome u one same =
+    let first : IsCaptureText One text u.start u.records =
+    subst (λ v. IsCaptureText v text u.start u.records) one u.capture in
+    let second : IsCaptureText Two later u.start u.records =
+    subst (λ w. IsCaptureText Two w u.start u.records) (sym u.text) (upgrade_is One text u.start u.records first) in (
+      (λ a.
+          (let both = one_list text a.read.capture.version One a.read.capture.start u.start a.read.capture.records u.records
+          (a.read.capture.text refl) first in
+          carried terms other text later old new outcome Two u.start u.records a both.1 both.2
+          first.rules.each second same)),
+      (λ a.
+          (let both = one_list later a.read.capture.version Two a.read.capture.start u.start a.read.capture.records u.records
+          (a.read.capture.text refl) second in
+          carried terms other later text old new outcome One u.start u.records a both.1 both.2
+          first.rules.each first same)),
+    )
+
+-- ---- a former answer holds
+
+-- the same arrival, in tier 0
+lowered : Arrival → Arrival
+lowered a = record {
+  origin = record { conn = a.origin.conn; tick = a.origin.tick; tier = 0 };
+  place = a.place;
+  message = a.message;
+}
+
+with_lowered : Handled → Handled
+with_lowered h = record { number = h.number; arrival = lowered h.arrival; turned_away = h.turned_away }
+
+lowered_messages : (c : ℕ) (arrivals : List Arrival) → messages_of c (map lowered arrivals) ≡ messages_of c arrivals
+unfolding lowered
+lowered_messages c [] = refl
+lowered_messages c (a ∷ arrivals) = go (a.origin.conn == c) refl (lowered_messages c arrivals)
+  where
+    go : (own : Bool) → (a.origin.conn == c) ≡ own → messages_of c (map lowered arrivals) ≡ messages_of c arrivals
+        → messages_of c (map lowered (a ∷ arrivals)) ≡ messages_of c (a ∷ arrivals)
+    go true e rest = rw e (ap (λ ms. a.message ∷ ms) rest)
+    go false e rest = rw e rest
+
+lowered_order : (arrivals : List Arrival) → AllPairs Precedes arrivals → AllPairs Precedes (map lowered arrivals)
+unfolding lowered
+lowered_order [] order = order
+lowered_order (a ∷ arrivals) order =
+    let first : All (λ b. Precedes (lowered a) (lowered b)) arrivals =
+    λ k d lt. order 0 (suc k) d (omega arith) (omega (arith, lt)) in
+    let rest =
+    lowered_order arrivals (λ i j d below lt. order (suc i) (suc j) d (omega (arith, below)) (omega (arith, lt))) in
+    AllPairs-cons Precedes (lowered a) (map lowered arrivals)
+    (All-map (Precedes (lowered a)) lowered arrivals first) rest
+
+lowered_with : (records : List Record) (a : Arrival) → All (IsRecord One) records → ArrivedWith records a
+    → ArrivesWith records (lowered a)
+unfolding lowered
+lowered_with records a each with = record {
+  bytes = with.bytes;
+  piece = with.piece;
+  tier = sym (tiers_of_version_one a.origin.conn (take a.place records) (All-take (IsRecord One) a.place records each));
+  after = with.after;
+  within = with.within;
+}
+
+lowered_arrivals : (records : List Record) (arrivals : List Arrival) → All (IsRecord One) records
+    → WereArrivals records arrivals
+    → AreArrivals records (map lowered arrivals)
+lowered_arrivals records arrivals each were = record {
+  each = λ c. subst (MessagesOf (text_of c records)) (sym (lowered_messages c arrivals)) (were.each c);
+  with = All-map (ArrivesWith records) lowered arrivals
+      (λ k d lt. lowered_with records (get_or arrivals k d) each (were.with k d lt));
+  order = lowered_order arrivals were.order;
+}
+
+lowered_all : (arrivals : List Arrival) → AreLowest (map lowered arrivals)
+unfolding lowered
+lowered_all arrivals = All-map (λ a. a.origin.tier ≡ 0) lowered arrivals (λ k d lt. refl)
+
+lowered_offers : (terms : FormerTerms) (arrivals : List Arrival)
+    → former_offers terms (map lowered arrivals) ≡ former_offers terms arrivals
+unfolding former_offers lowered
+lowered_offers terms [] = refl
+lowered_offers terms (a ∷ arrivals) =
+    ap (λ xs. former_offer terms a.origin.tick a.message.what ++ xs) (lowered_offers terms arrivals)
+
+lowered_next : (terms : FormerTerms) (earlier : List Arrival) (a : Arrival)
+    → handled_next_alone terms (map lowered earlier) (lowered a) ≡ with_lowered (handled_next_alone terms earlier a)
+unfolding lowered with_lowered
+lowered_next terms earlier a = rw (length-map earlier lowered, lowered_offers terms earlier) refl
+
+lowered_handled : (terms : FormerTerms) (earlier arrivals : List Arrival)
+    → handled_after_alone terms (map lowered earlier) (map lowered arrivals)
+    ≡ map with_lowered (handled_after_alone terms earlier arrivals)
+unfolding handled_after_alone
+lowered_handled terms earlier [] = refl
+lowered_handled terms earlier (a ∷ arrivals) =
+    let first = lowered_next terms earlier a in
+    let past : map lowered (earlier ++ a ∷ []) ≡ map lowered earlier ++ lowered a ∷ [] =
+    map-append lowered earlier (a ∷ []) in
+    let rest = ap (λ xs. handled_after_alone terms xs (map lowered arrivals)) (sym past)
+    ∙ lowered_handled terms (earlier ++ a ∷ []) arrivals in
+    (λ i. first i ∷ rest i)
+
+lowered_replies : (terms : FormerTerms) (start : ℕ) (messages : List Handled)
+    → former_replies terms start (map with_lowered messages) ≡ former_replies terms start messages
+unfolding former_reply lowered with_lowered
+lowered_replies terms start [] = refl
+lowered_replies terms start (h ∷ messages) =
+    ap (λ rs. former_reply terms start h ∷ rs) (lowered_replies terms start messages)
+
+lowered_rejected : (messages : List Handled) → rejected_of (map with_lowered messages) ≡ rejected_of messages
+unfolding with_lowered
+lowered_rejected [] = refl
+lowered_rejected (h ∷ messages) = go h.turned_away refl (lowered_rejected messages)
+  where
+    go : (away : Bool) → h.turned_away ≡ away → rejected_of (map with_lowered messages) ≡ rejected_of messages
+        → rejected_of (map with_lowered (h ∷ messages)) ≡ rejected_of (h ∷ messages)
+    go true e rest = rw e (ap (λ ns. h.number ∷ ns) rest)
+    go false e rest = rw e rest
+
+-- a count that looks at no tier
+counted_same : {X : Type 0} (f : X → X) (p : X → Bool) (xs : List X) → ((x : X) → p (f x) ≡ p x)
+    → count_by p (map f xs) ≡ count_by p xs
+counted_same f p [] same = refl
+counted_same f p (x ∷ xs) same =
+    let first = sum_by-cons (λ x. cond (p x) 1 0) (f x) (map f xs) in
+    let second = sum_by-cons (λ x. cond (p x) 1 0) x xs in
+    let rest = counted_same f p xs same in
+    first ∙ (λ i. cond (same x i) 1 0 + rest i) ∙ sym second
+
+lowered_counts : (terms : FormerTerms) (messages : List Handled)
+    → former_counts terms (map with_lowered messages) ≡ former_counts terms messages
+unfolding lowered with_lowered
+lowered_counts terms messages =
+    let same : (status : ℕ) → count_by (λ h. former_status terms h == status) (map with_lowered messages)
+    ≡ count_by (λ h. former_status terms h == status) messages =
+    λ status. counted_same with_lowered (λ h. former_status terms h == status) messages (λ h. refl) in
+    (λ i. record { by_status = map (λ status. same status i) statuses })
+
+outcome_with : List ℕ → Counts → ℕ → List ℕ → List Control → FormerOutcome
+outcome_with rejected counts bypassed samples controls =
+    record { rejected = rejected; counts = counts; bypassed = bypassed; samples = samples; controls = controls }
+
+lowered_bypassed : (arrivals : List Arrival) → bypassed_of (map lowered arrivals) ≡ bypassed_of arrivals
+unfolding lowered
+lowered_bypassed arrivals = counted_same lowered (λ a. breaks_a_rule a.message.what) arrivals (λ a. refl)
+
+lowered_outcome : (terms : FormerTerms) (arrivals : List Arrival)
+    → former_outcome terms (map lowered arrivals) ≡ former_outcome terms arrivals
+unfolding outcome_with
+lowered_outcome terms arrivals =
+    let offers = lowered_offers terms arrivals in
+    let messages = lowered_handled terms [] arrivals in
+    let rejected = ap rejected_of messages ∙ lowered_rejected (former_handled terms arrivals) in
+    let counts = ap (former_counts terms) messages ∙ lowered_counts terms (former_handled terms arrivals) in
+    let bypassed = lowered_bypassed arrivals in
+    (λ i. outcome_with (rejected i) (counts i) (bypassed i) (former_samples terms.rules (offers i))
+    (former_controls terms.rules (offers i)))
+
+pub former_answers_hold : FormerAnswersHold
+former_answers_hold terms input old new former f =
+    let arrivals : List Arrival = map lowered f.arrivals in
+    let lowest = lowered_all f.arrivals in
+    let told : former_outcome (former_terms terms) arrivals ≡ former =
+    lowered_outcome (former_terms terms) f.arrivals ∙ sym f.outcome in
+    let text : former_replies (former_terms terms) f.start (former_handled (former_terms terms) f.arrivals)
+    ≡ replies_of terms f.start (handled terms arrivals) =
+    sym (text_same terms f.start arrivals lowest
+    ∙ ap (λ hs. former_replies (former_terms terms) f.start hs) (lowered_handled (former_terms terms) [] f.arrivals)
+    ∙ lowered_replies (former_terms terms) f.start (former_handled (former_terms terms) f.arrivals)) in (
+      record {
+        read = record {
+          capture = record {
+            version = One;
+            start = f.start;
+            records = f.records;
+            rules = f.rules;
+            text = f.capture;
+          };
+          arrivals = arrivals;
+          are = lowered_arrivals f.records f.arrivals f.rules.each f.arrived;
+          few = subst (λ n. n ≤ max_messages) (sym (length-map f.arrivals lowered)) f.few;
+        };
+        written = subst (λ rs. Appends old new (replies_text rs)) text f.written;
+        outcome_is = same_outcome (in_tiers former) (outcome_of terms arrivals)
+            (sym (ap (λ (o : FormerOutcome). o.rejected) told) ∙ sym (rejected_same terms arrivals lowest))
+            (sym (ap (λ (o : FormerOutcome). (in_tiers o).summary) told) ∙ sym (summary_same terms arrivals lowest));
+      },
+      refl,
+    )

@@ -1,0 +1,31 @@
+-- What becomes of messages follows from the terms and the messages before them.
+use Rattle.std.proofs.Common.{◌≡◌, ℕ, zero, suc, List, [], ◌∷◌, ◌++◌, map, take, refl, ap, ◌∙◌}
+use Rattle.std.proofs.lemmas.List.{map-append}
+use Rattle.arrivals.proofs.ArrivalLaws.{arrivals_begin}
+use Rattle.reference.specs.Reference.{handled, handled_after, max_messages, reply_of, replies_of}
+use Rattle.reference.specs.Laws.{FloorsChangeNothing, HandledBegin, DueBegin}
+use Rattle.reference.proofs.Offering.{handled_more}
+
+pub floors_change_nothing : FloorsChangeNothing
+floors_change_nothing files c d input old new outcome costs rules retry h = rw (← costs, ← rules, ← retry) h
+
+pub handled_begin : HandledBegin
+handled_begin terms arrivals more = (handled_after terms arrivals more, handled_more terms [] arrivals more)
+
+-- the first n of a longer list begin with the first n of the shorter
+take_begins : {A : Type 0} (n : ℕ) (xs ys : List A) → (rest : List A) × (take n (xs ++ ys) ≡ take n xs ++ rest)
+take_begins zero xs ys = ([], refl)
+take_begins (suc n) [] ys = (take (suc n) ys, refl)
+take_begins (suc n) (x ∷ xs) ys = let r = take_begins n xs ys in (r.0, ap (λ l. x ∷ l) r.1)
+
+pub due_begins : DueBegin
+due_begins terms start records more xs ys a b =
+    let longer = arrivals_begin records more xs ys a b in
+    let within = take_begins max_messages xs longer.0 in
+    let both = handled_begin terms (take max_messages xs) within.0 in (
+      map (reply_of terms start) both.0,
+      ap (λ l. replies_of terms start (handled terms (take max_messages l))) longer.1
+          ∙ ap (λ l. replies_of terms start (handled terms l)) within.1
+          ∙ ap (λ l. replies_of terms start l) both.1
+          ∙ map-append (reply_of terms start) (handled terms (take max_messages xs)) both.0,
+    )

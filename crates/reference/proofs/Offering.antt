@@ -1,0 +1,105 @@
+-- One more offer, and one more message.
+use Rattle.std.proofs.Common.{◌≡◌, ℕ, suc, ◌-◌, ◌≤◌, Bool, true, false, List, [], ◌∷◌, ◌++◌, length, map, refl, ap, ◌∙◌, arith, append-nil, append_assoc}
+use Rattle.std.proofs.lemmas.Grind.{flat_map-append}
+use Rattle.std.proofs.lemmas.List.{length-append, map-append}
+use Rattle.std.specs.List.{list_any}
+use Rattle.std.specs.Prelude.{if◌then◌else◌}
+use Rattle.http_requests.specs.declared.messages.Meaning.{Meaning}
+use Rattle.http_requests.specs.declared.messages.Meaning.TheVariants.{Request, Bad}
+use Rattle.admission.specs.declared.policy.PolicyNumbers.{PolicyNumbers}
+use Rattle.admission.specs.declared.control.Decision.{Decision}
+use Rattle.admission.specs.declared.control.Decision.TheVariants.{Admitted, Rejected}
+use Rattle.admission.specs.Reference.{Offer, Decided, served, as_served, finish_after, decide, decided, decided_next}
+use Rattle.admission.proofs.RequestLemmas.{decided_from-push, served-push, last_finish-push}
+use Rattle.reference.specs.Reference.{Terms, offer_at, offers_of, rejects, handled_next, handled_after, handled, samples_of}
+use Rattle.arrivals.specs.Reference.{Arrival}
+use Rattle.arrivals.specs.declared.incoming.Origin.{Origin}
+
+-- ---- offers
+
+pub offers_more : (terms : Terms) (arrivals : List Arrival) (a : Arrival) → offers_of terms (arrivals ++ a ∷ []) ≡ offers_of terms arrivals ++ offer_at terms a.origin a.message.what
+unfolding offers_of
+offers_more terms arrivals a =
+    flat_map-append (λ a. offer_at terms a.origin a.message.what) arrivals (a ∷ []) ∙ ap (λ xs. offers_of terms arrivals ++ xs) (append-nil (offer_at terms a.origin a.message.what))
+
+offer_few : (terms : Terms) (origin : Origin) (what : Meaning) → length (offer_at terms origin what) ≤ 1
+offer_few terms origin (Request method target version closing since) = omega arith
+offer_few terms origin (Bad fault) = omega arith
+
+pub offers_few : (terms : Terms) (arrivals : List Arrival) → length (offers_of terms arrivals) ≤ length arrivals
+unfolding offers_of
+offers_few terms [] = omega arith
+offers_few terms (a ∷ arrivals) = omega (
+  arith,
+  offers_few terms arrivals,
+  offer_few terms a.origin a.message.what,
+  length-append (offer_at terms a.origin a.message.what) (offers_of terms arrivals),
+)
+
+-- ---- decisions
+
+decided_more : (policies : List PolicyNumbers) (offers : List Offer) (offer : Offer) → decided policies (offers ++ offer ∷ []) ≡ decided policies offers ++ decided_next policies (decided policies offers) offer ∷ []
+decided_more policies offers offer = decided_from-push policies [] offers offer
+
+-- an admitted request has a sample, which is from its arrival to its finish
+pub samples_admitted : (policies : List PolicyNumbers) (offers : List Offer) (offer : Offer) (finish : ℕ) → Admitted finish ≡ decide policies (decided policies offers) offer
+    → samples_of policies (offers ++ offer ∷ []) ≡ samples_of policies offers ++ (finish - offer.tick) ∷ []
+unfolding samples_of
+samples_admitted policies offers offer finish e =
+    let next = decided_next policies (decided policies offers) offer in
+    let own : as_served offer next.decision ≡ record { offer = offer; finish = finish } ∷ [] = rw (← e) refl in
+    rw (decided_more policies offers offer, served-push (decided policies offers) next, own)
+    (map-append (λ r. r.finish - r.offer.tick) (served (decided policies offers)) (record { offer = offer; finish = finish } ∷ []))
+
+-- a rejected one has none
+pub samples_rejected : (policies : List PolicyNumbers) (offers : List Offer) (offer : Offer) → Rejected ≡ decide policies (decided policies offers) offer
+    → samples_of policies (offers ++ offer ∷ []) ≡ samples_of policies offers
+unfolding samples_of
+samples_rejected policies offers offer e =
+    let next = decided_next policies (decided policies offers) offer in
+    let own : as_served offer next.decision ≡ [] = rw (← e) refl in
+    rw (decided_more policies offers offer, served-push (decided policies offers) next, own, append-nil (served (decided policies offers))) refl
+
+pub is_admitted_one : (policies : List PolicyNumbers) (offers : List Offer) (offer : Offer) (finish : ℕ) → Admitted finish ≡ decide policies (decided policies offers) offer → false ≡ list_any (rejects policies offers) (offer ∷ [])
+unfolding rejects
+is_admitted_one policies offers offer finish e = rw (← e) refl
+
+pub is_rejected_one : (policies : List PolicyNumbers) (offers : List Offer) (offer : Offer) → Rejected ≡ decide policies (decided policies offers) offer → true ≡ list_any (rejects policies offers) (offer ∷ [])
+unfolding rejects
+is_rejected_one policies offers offer e = rw (← e) refl
+
+abbrev pub finish_or : ℕ → Decision → ℕ
+finish_or other (Admitted finish) = finish
+finish_or other Rejected = other
+
+pub finish_is : (enough : Bool) (own finish : ℕ) → Admitted finish ≡ (if enough then (Admitted own) else Rejected) → finish ≡ own
+finish_is true own finish e = ap (finish_or own) e
+finish_is false own finish e = ap (finish_or own) e
+
+-- a request is finished no earlier than it came
+pub finish_late : (policies : List PolicyNumbers) (past : List Decided) (offer : Offer) (finish : ℕ) → Admitted finish ≡ decide policies past offer → offer.tick ≤ finish
+finish_late policies past offer finish e =
+    let is : finish ≡ finish_after (served past) offer = finish_is _ _ _ e in
+    let late = last_finish-push (map (λ r. r.offer) (served past)) offer in
+    omega (arith, is, late)
+
+-- ---- messages
+
+pub handled_more : (terms : Terms) (earlier first more : List Arrival) → handled_after terms earlier (first ++ more) ≡ handled_after terms earlier first ++ handled_after terms (earlier ++ first) more
+unfolding handled_after
+handled_more terms earlier [] more = rw (append-nil earlier) refl
+handled_more terms earlier (a ∷ first) more =
+    let e : (earlier ++ a ∷ []) ++ first ≡ earlier ++ a ∷ first = append_assoc earlier (a ∷ []) first in
+    ap (λ hs. handled_next terms earlier a ∷ hs) (handled_more terms (earlier ++ a ∷ []) first more ∙ ap (λ past. handled_after terms (earlier ++ a ∷ []) first ++ handled_after terms past more) e)
+
+pub handled_one : (terms : Terms) (earlier : List Arrival) (a : Arrival) → handled_after terms earlier (a ∷ []) ≡ handled_next terms earlier a ∷ []
+unfolding handled_after
+handled_one terms earlier a = refl
+
+pub handled_push : (terms : Terms) (arrivals : List Arrival) (a : Arrival) → handled terms (arrivals ++ a ∷ []) ≡ handled terms arrivals ++ handled_next terms arrivals a ∷ []
+handled_push terms arrivals a = handled_more terms [] arrivals (a ∷ []) ∙ ap (λ hs. handled terms arrivals ++ hs) (handled_one terms arrivals a)
+
+pub handled_count : (terms : Terms) (earlier arrivals : List Arrival) → length (handled_after terms earlier arrivals) ≡ length arrivals
+unfolding handled_after
+handled_count terms earlier [] = refl
+handled_count terms earlier (a ∷ arrivals) = ap (λ n. suc n) (handled_count terms (earlier ++ a ∷ []) arrivals)

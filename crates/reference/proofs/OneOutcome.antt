@@ -1,0 +1,169 @@
+-- An input of known bytes has one outcome: an answer, a fault of its capture, or messages beyond the limit.
+use Rattle.std.proofs.Common.{◌≡◌, ℕ, ◌<◌, ◌≤◌, inl, inr, false, true, List, [], ◌∷◌, ◌++◌, length, take, Option, is_some, unwrap_or, refl, sym, ap, ◌∙◌, subst, arith, flat_map}
+use Rattle.std.proofs.lemmas.List.{append-nil, length-append, take-append-le, nil_from_length}
+use Rattle.captures.specs.declared.record.Record.{Record}
+use Rattle.captures.specs.declared.version.Version.{Version}
+use Rattle.captures.specs.declared.capture_fault.CaptureFault.{CaptureFault}
+use Rattle.captures.specs.Reference.{record_text, max_text_bytes, IsCapture, text_before_stop as records_text}
+use Rattle.captures.specs.CaptureFaults.{is_unforeseen_kind, IsFirstFault, FaultsAfter}
+use Rattle.captures.proofs.Records.{stop_text}
+use Rattle.captures.proofs.Agree.{Agrees, no_fault, few_records, one_fault as one_first_fault, agree_on, no_last_line, no_header_fault, no_fault_among}
+use Rattle.arrivals.specs.Reference.{Arrival, AreArrivals}
+use Rattle.reference.specs.Reference.{Terms, handled, max_messages, first_line, text_before_stop, replies_of}
+use Rattle.reference.specs.Telling.{replies_told}
+use Rattle.captures.specs.Passes.{RecordsRead, FaultsNext}
+use Rattle.reference.specs.Outcomes.{TellsAll, Stops, StopsFull}
+use Rattle.reference.specs.Laws.{AnsweredNotFaulty, AnsweredNotFull, FaultyNotFull, OneFault, OneLimit}
+use Rattle.arrivals.proofs.ArrivalLaws.{one_list_of_arrivals, arrivals_begin}
+use Rattle.reference.proofs.OneAnswer.{grows_once}
+
+-- ---- arrivals of the first records
+
+-- they are no more than those of all
+no_fewer : (rs ss more : List Record) (xs ys : List Arrival) → ss ≡ rs ++ more → AreArrivals rs xs → AreArrivals ss ys → length xs ≤ length ys
+no_fewer rs ss more xs ys is a b =
+    let rest = arrivals_begin rs more xs ys a (subst (λ (l : List Record). AreArrivals l ys) is b) in
+    let n = ap (λ (l : List Arrival). length l) rest.1 in
+    omega (arith, n, length-append xs rest.0)
+
+-- and where there are more than n, the first n are the same
+same_first : (n : ℕ) (rs ss more : List Record) (xs ys : List Arrival) → ss ≡ rs ++ more → AreArrivals rs xs → AreArrivals ss ys → n < length xs → take n ys ≡ take n xs
+same_first n rs ss more xs ys is a b lt =
+    let rest = arrivals_begin rs more xs ys a (subst (λ (l : List Record). AreArrivals l ys) is b) in
+    ap (take n) rest.1 ∙ take-append-le n xs rest.0 (omega (arith, lt))
+
+none_more : (rs ss : List Record) → ss ≡ rs ++ [] → ss ≡ rs
+none_more rs ss is = is ∙ append-nil rs
+
+-- ---- a fault of the capture
+
+-- a fault of the capture that was foreseen is the first of its text
+first_fault : (terms : Terms) (input ahead old new : Option (List ℕ)) (f : CaptureFault) → is_some input ≡ true → is_unforeseen_kind f.kind ≡ false → Stops terms input ahead old new f
+    → IsFirstFault (unwrap_or input []) f
+first_fault terms input ahead old new f known foreseen (inl first) = inl (first.0.fault foreseen known)
+first_fault terms input ahead old new f known foreseen (inr after) = inr (after.0.version, after.0.start, after.0.records, after.1.fault foreseen known)
+
+pub answered_not_faulty : AnsweredNotFaulty
+answered_not_faulty terms others input ahead old new before after outcome f known foreseen a s =
+    let c = a.read.capture in
+    let text = c.text known in
+    no_fault (unwrap_or input []) c.version c.start c.records f (few_records c.version (unwrap_or input []) c.start c.records text) text (first_fault others input ahead before after f known foreseen s)
+
+-- ---- messages beyond the limit
+
+pub answered_not_full : AnsweredNotFull
+answered_not_full terms others input old new before after outcome number known a full =
+    let bytes = unwrap_or input [] in
+    let t = full.taken.read in
+    let c = a.read.capture in
+    let text = c.text known in
+    let both = agree_on bytes t.version c.version t.start c.start t.records c.records t.rest (stop_text (length c.records)) t.rules text.rules (t.begins known) text.text in
+    elim both.2 [
+      | inl longer ↦
+          (let le = no_fewer t.records c.records longer.0 full.taken.arrivals a.read.arrivals longer.1 full.taken.arrived a.read.are in
+          let few = a.read.few in
+          let beyond = full.beyond in
+          omega (arith, le, few, beyond))
+      | inr shorter ↦ no_last_line (length c.records) shorter.0 _ shorter.3
+    ]
+
+-- records that go on after a fault
+go_on : (v w : Version) (bytes : List ℕ) (s t : ℕ) (rs ss : List Record) (f : CaptureFault) (x y : List ℕ) (xs ys : List Arrival) (more : List Record) → FaultsAfter v bytes s rs f x
+    → AreArrivals rs xs → length xs ≤ max_messages → AreArrivals ss ys → max_messages < length ys → IsCapture w t ss → length (records_text w t ss) ≤ max_text_bytes
+    → v ≡ w → s ≡ t → ss ≡ rs ++ more → x ≡ flat_map record_text more ++ y → ⊥
+go_on v w bytes s t rs ss f x y xs ys [] fault a few b beyond rules size same start is rest =
+    let one = one_list_of_arrivals rs xs ys a (subst (λ (l : List Record). AreArrivals l ys) (none_more rs ss is) b) in
+    let n = ap (λ (l : List Arrival). length l) one in
+    omega (arith, n, few, beyond)
+go_on v w bytes s t rs ss f x y xs ys (q ∷ more) fault a few b beyond rules size same start is rest =
+    no_fault_among v w bytes s t rs ss f x y q more fault rules size same start is rest
+
+after_not_full : (terms others : Terms) (input ahead old new before after : Option (List ℕ)) (f : CaptureFault) (number : ℕ) → is_some input ≡ true → is_unforeseen_kind f.kind ≡ false
+    → (r : RecordsRead input) → FaultsNext input ahead r f → TellsAll (replies_told terms) r.start r.records old new → StopsFull others input before after number → ⊥
+after_not_full terms others input ahead old new before after f number known foreseen r faults told full =
+    let bytes = unwrap_or input [] in
+    let t = full.taken.read in
+    let at = faults.fault foreseen known in
+    let fault = at.1 in
+    let both = agree_on bytes r.version t.version r.start t.start r.records t.records at.0 t.rest fault.rules t.rules fault.whole (t.begins known) in
+    elim both.2 [
+      | inl longer ↦
+          go_on r.version t.version bytes r.start t.start r.records t.records f at.0 t.rest told.arrivals full.taken.arrivals longer.0 fault told.arrived told.few full.taken.arrived full.beyond t.rules (t.size known) both.0 both.1 longer.1 longer.2
+      | inr shorter ↦
+          (let le = no_fewer t.records r.records (shorter.0 ∷ shorter.1) full.taken.arrivals told.arrivals shorter.2 full.taken.arrived told.arrived in
+          let few = told.few in
+          let beyond = full.beyond in
+          omega (arith, le, few, beyond))
+    ]
+
+pub faulty_not_full : FaultyNotFull
+faulty_not_full terms others input ahead old new before after f number known foreseen (inl first) full =
+    let t = full.taken.read in
+    no_header_fault t.version (unwrap_or input []) t.start t.records t.rest f t.rules (t.begins known) (t.size known) (first.0.fault foreseen known)
+faulty_not_full terms others input ahead old new before after f number known foreseen (inr stop) full =
+    after_not_full terms others input ahead old new before after f number known foreseen stop.0 stop.1 stop.2 full
+
+-- ---- what is written
+
+-- records after which the same number stands are the same
+same_records : (rs ss : List Record) (x y : List ℕ) → length rs ≡ length ss → Agrees rs x ss y → rs ≡ ss
+same_records rs ss x y e (inl a) =
+    let n = ap (λ (l : List Record). length l) a.1 in
+    let none : a.0 ≡ [] = nil_from_length a.0 (omega (arith, n, e, length-append rs a.0)) in
+    sym (a.1 ∙ ap (λ (l : List Record). rs ++ l) none ∙ append-nil rs)
+same_records rs ss x y e (inr b) =
+    let n = ap (λ (l : List Record). length l) b.2 in
+    absurd (omega (arith, n, e, length-append ss (b.0 ∷ b.1)))
+
+-- of two lists of records before the same bytes, with messages beyond the limit, those within it are the same
+same_limit : (n : ℕ) (rs ss : List Record) (x y : List ℕ) (xs ys : List Arrival) → AreArrivals rs xs → AreArrivals ss ys → n < length xs → n < length ys → Agrees rs x ss y
+    → take n xs ≡ take n ys
+same_limit n rs ss x y xs ys a b g h (inl c) = sym (same_first n rs ss c.0 xs ys c.1 a b g)
+same_limit n rs ss x y xs ys a b g h (inr c) = same_first n ss rs (c.0 ∷ c.1) ys xs c.2 b a h
+
+same_text : (terms : Terms) (s t : ℕ) (xs ys : List Arrival) → s ≡ t → xs ≡ ys → text_before_stop (replies_of terms s (handled terms xs)) ≡ text_before_stop (replies_of terms t (handled terms ys))
+same_text terms s t xs ys start same =
+    ap (λ u. text_before_stop (replies_of terms u (handled terms xs))) start ∙ ap (λ (l : List Arrival). text_before_stop (replies_of terms t (handled terms l))) same
+
+pub one_limit : OneLimit
+one_limit terms input old new other number another known given a b =
+    let r = a.taken.read in
+    let t = b.taken.read in
+    let both = agree_on (unwrap_or input []) r.version t.version r.start t.start r.records t.records r.rest t.rest r.rules t.rules (r.begins known) (t.begins known) in
+    let first : take max_messages a.taken.arrivals ≡ take max_messages b.taken.arrivals = same_limit max_messages r.records t.records r.rest t.rest a.taken.arrivals b.taken.arrivals a.taken.arrived b.taken.arrived a.beyond b.beyond both.2 in (
+      grows_once old new other _ _ given (same_text terms r.start t.start _ _ both.1 first) a.written b.written,
+      a.is_number ∙ sym b.is_number,
+    )
+
+same_after : (terms : Terms) (input ahead following old new other : Option (List ℕ)) (f g : CaptureFault) → is_some input ≡ true → is_some old ≡ true → f ≡ g
+    → (r t : RecordsRead input) → FaultsNext input ahead r f → FaultsNext input following t g
+    → TellsAll (replies_told terms) r.start r.records old new → TellsAll (replies_told terms) t.start t.records old other → new ≡ other
+same_after terms input ahead following old new other f g known given same r t at after a b =
+    let both = agree_on (unwrap_or input []) r.version t.version r.start t.start r.records t.records r.rest t.rest r.rules t.rules (r.begins known) (t.begins known) in
+    let place = ap (λ (k : CaptureFault). k.at) same in
+    let i = at.at in
+    let j = after.at in
+    let records = same_records r.records t.records r.rest t.rest (omega (arith, place, i, j)) both.2 in
+    let arrivals = one_list_of_arrivals t.records a.arrivals b.arrivals (subst (λ (l : List Record). AreArrivals l a.arrivals) records a.arrived) b.arrived in
+    grows_once old new other _ _ given (same_text terms r.start t.start a.arrivals b.arrivals both.1 arrivals) a.written b.written
+
+same_written : (terms : Terms) (input ahead following old new other : Option (List ℕ)) (f g : CaptureFault) → is_some input ≡ true → is_some old ≡ true → f ≡ g
+    → Stops terms input ahead old new f → Stops terms input following old other g → new ≡ other
+same_written terms input ahead following old new other f g known given same (inl a) (inl b) = grows_once old new other first_line first_line given refl a.1 b.1
+same_written terms input ahead following old new other f g known given same (inl a) (inr b) =
+    let place = ap (λ (k : CaptureFault). k.at) same in
+    let i = a.0.at in
+    let j = b.1.at in
+    absurd (omega (arith, place, i, j))
+same_written terms input ahead following old new other f g known given same (inr a) (inl b) =
+    let place = ap (λ (k : CaptureFault). k.at) same in
+    let i = a.1.at in
+    let j = b.0.at in
+    absurd (omega (arith, place, i, j))
+same_written terms input ahead following old new other f g known given same (inr a) (inr b) =
+    same_after terms input ahead following old new other f g known given same a.0 b.0 a.1 b.1 a.2 b.2
+
+pub one_fault : OneFault
+one_fault terms input ahead following old new other f g known given foreseen expected a b =
+    let same = one_first_fault (unwrap_or input []) f g (first_fault terms input ahead old new f known foreseen a) (first_fault terms input following old other g known expected b) in
+    (same_written terms input ahead following old new other f g known given same a b, same)

@@ -1,0 +1,76 @@
+-- The table of decisions on a capture: a row for each message, in the order of their arrival.
+use Rattle.std.specs.Prelude.{◌≡◌, ℕ, List, [], ◌∷◌, ◌++◌, length, Option, Some, None}
+use Rattle.std.specs.Io.KnownBytes.{Appends}
+use Rattle.http_requests.specs.declared.messages.Meaning.{Meaning}
+use Rattle.http_requests.specs.declared.messages.Meaning.TheVariants.{Request, Bad}
+use Rattle.admission.specs.Reference.{Offer, decide, decided}
+use Rattle.admission.specs.Decisions.{outlook}
+use Rattle.decision_table.specs.declared.row.Offered.{Offered}
+use Rattle.decision_table.specs.declared.row.Row.{Row}
+use Rattle.decision_table.specs.Rows.{heading, row_text}
+use Rattle.arrivals.specs.Reference.{Arrival}
+use Rattle.reference.specs.Reference.{Terms, offer_at, offers_of, handled_next, status_for, outcome_of, ArrivedCapture}
+use Rattle.reference.specs.Telling.{Telling}
+use Rattle.reference.specs.declared.summary.Outcome.{Outcome}
+
+-- an offer after those of the earlier messages: what it finds, and the decision on it
+abbrev pub offered_after : Terms → List Arrival → Offer → Offered
+offered_after terms earlier offer = record {
+  service = offer.service;
+  found = outlook terms.policies (decided terms.policies (offers_of terms earlier)) offer.tier offer.tick;
+  decision = decide terms.policies (decided terms.policies (offers_of terms earlier)) offer;
+}
+
+-- the offer that a message makes, if it makes one
+abbrev pub first_offered : Terms → List Arrival → List Offer → Option Offered
+first_offered terms earlier [] = None
+first_offered terms earlier (offer ∷ offers) = Some (offered_after terms earlier offer)
+
+-- what the row of a message after the earlier ones says, besides its method and its target
+abbrev pub row_of : Terms → List Arrival → Arrival → Row
+row_of terms earlier a = record {
+  number = length earlier;
+  conn = a.origin.conn;
+  tick = a.origin.tick;
+  tier = a.origin.tier;
+  status = status_for terms (handled_next terms earlier a);
+  offered = first_offered terms earlier (offer_at terms a.origin a.message.what);
+}
+
+abbrev pub method_of : Meaning → List ℕ
+method_of (Request method target version closing since) = method
+method_of (Bad fault) = []
+
+abbrev pub target_of : Meaning → List ℕ
+target_of (Request method target version closing since) = target
+target_of (Bad fault) = []
+
+-- the row
+unfoldable pub row_after : Terms → List Arrival → Arrival → List ℕ
+row_after terms earlier a = row_text (row_of terms earlier a) (method_of a.message.what) (target_of a.message.what)
+
+-- the rows of these messages after the earlier ones, each in turn
+unfoldable pub rows_after : Terms → List Arrival → List Arrival → List ℕ
+rows_after terms earlier [] = []
+rows_after terms earlier (a ∷ arrivals) = row_after terms earlier a ++ rows_after terms (earlier ++ a ∷ []) arrivals
+
+-- the heading, and the rows of all messages in their order
+abbrev pub table : Terms → List Arrival → List ℕ
+table terms arrivals = heading ++ rows_after terms [] arrivals
+
+-- the table has no last line
+abbrev pub rows_told : Terms → Telling
+rows_told terms = record {
+  first = heading;
+  so_far = λ start arrivals. table terms arrivals;
+  after = λ start earlier arrivals. rows_after terms earlier arrivals;
+  last = λ count. [];
+  whole = λ start arrivals. table terms arrivals;
+}
+
+-- The table of a capture, and that it was written: the input is the text of a capture with this start and these
+-- records, of which these are the arrivals; and the outcome is that of `Answers`.
+pub record Explains (terms : Terms) (input old new : Option (List ℕ)) (outcome : Outcome) : Type 0 where
+  pub read : ArrivedCapture input
+  pub written : Appends old new (table terms read.arrivals)
+  pub outcome_is : outcome ≡ outcome_of terms read.arrivals

@@ -1,0 +1,158 @@
+-- What follows from the definitions.
+use Rattle.std.specs.Prelude.{◌≡◌, ℕ, ◌+◌, ◌-◌, Bool, List, [], ◌∷◌, ◌++◌, length, take, Option, Some, None, true}
+use Rattle.std.specs.Prelude.{false, is_some, map, filter, ◌==◌}
+use Rattle.captures.specs.declared.record.Record.{Record}
+use Rattle.captures.specs.declared.version.Version.TheVariants.{One}
+use Rattle.captures.specs.declared.capture_fault.CaptureFault.{CaptureFault}
+use Rattle.captures.specs.CaptureFaults.{is_unforeseen_kind}
+use Rattle.captures.specs.Upgrades.{IsUpgrade}
+use Rattle.admission.specs.Reference.{rules_of, Offer, is_rejected}
+use Rattle.admission.specs.declared.control.Decision.TheVariants.{Admitted}
+use Rattle.decision_table.specs.declared.row.Offered.{Offered}
+use Rattle.paths.specs.declared.file.File.{File}
+use Rattle.reference.specs.declared.summary.Outcome.{Outcome}
+use Rattle.reference.specs.declared.summary.Tally.{Tally}
+use Rattle.arrivals.specs.Reference.{Arrival, AreArrivals, text_of}
+use Rattle.http_requests.specs.Reference.{MessagesOf}
+use Rattle.reference.specs.Reference.{Choice, Terms, terms_of, Handled, handled, handled_next, Answers, max_messages}
+use Rattle.reference.specs.Reference.{replies_of}
+use Rattle.reference.specs.Explaining.{offered_after, row_of}
+use Rattle.reference.specs.Outcomes.{Stops, StopsFull}
+use Rattle.reference.specs.Former.{FormerTerms, FormerOutcome, FormerAnswers}
+
+-- settings with the same service times, policies and wait have the same answers, whatever their graphs, batch and cache
+abbrev pub FloorsChangeNothing : Type 0
+FloorsChangeNothing = (files : List File) (c d : Choice) (input old new : Option (List ℕ)) (outcome : Outcome)
+    → c.costs ≡ d.costs → c.policies ≡ d.policies → c.retry_after ≡ d.retry_after
+    → Answers (terms_of files c) input old new outcome → Answers (terms_of files d) input old new outcome
+
+-- a capture has one answer: what is written to a device of known bytes, and the outcome
+abbrev pub OneAnswer : Type 0
+OneAnswer = (terms : Terms) (input old new other : Option (List ℕ)) (outcome another : Outcome)
+    → is_some input ≡ true → is_some old ≡ true
+    → Answers terms input old new outcome → Answers terms input old other another → (new ≡ other) × (outcome ≡ another)
+
+-- No input of known bytes has two of these: an answer; a fault of the capture that isn't a failed read or being out of
+-- memory; messages beyond the limit. Settings make no difference.
+abbrev pub AnsweredNotFaulty : Type 0
+AnsweredNotFaulty = (terms others : Terms) (input ahead old new before after : Option (List ℕ)) (outcome : Outcome)
+    → (f : CaptureFault) → is_some input ≡ true → is_unforeseen_kind f.kind ≡ false
+    → Answers terms input old new outcome → Stops others input ahead before after f → ⊥
+
+abbrev pub AnsweredNotFull : Type 0
+AnsweredNotFull = (terms others : Terms) (input old new before after : Option (List ℕ)) (outcome : Outcome) (number : ℕ)
+    → is_some input ≡ true → Answers terms input old new outcome → StopsFull others input before after number → ⊥
+
+abbrev pub FaultyNotFull : Type 0
+FaultyNotFull = (terms others : Terms) (input ahead old new before after : Option (List ℕ)) (f : CaptureFault)
+    → (number : ℕ) → is_some input ≡ true → is_unforeseen_kind f.kind ≡ false
+    → Stops terms input ahead old new f → StopsFull others input before after number → ⊥
+
+-- such a fault is one, and so is what is written to a device of known bytes
+abbrev pub OneFault : Type 0
+OneFault = (terms : Terms) (input ahead following old new other : Option (List ℕ)) (f g : CaptureFault)
+    → is_some input ≡ true → is_some old ≡ true → is_unforeseen_kind f.kind ≡ false → is_unforeseen_kind g.kind ≡ false
+    → Stops terms input ahead old new f → Stops terms input following old other g → (new ≡ other) × (f ≡ g)
+
+-- what is written up to the limit is one too
+abbrev pub OneLimit : Type 0
+OneLimit = (terms : Terms) (input old new other : Option (List ℕ)) (number another : ℕ)
+    → is_some input ≡ true → is_some old ≡ true
+    → StopsFull terms input old new number → StopsFull terms input old other another
+    → (new ≡ other) × (number ≡ another)
+
+-- The replies of a connection, in the order of the text, are those to messages that are, in their order, the messages
+-- of its text.
+abbrev pub RepliesInRequestOrder : Type 0
+RepliesInRequestOrder = (terms : Terms) (input old new : Option (List ℕ)) (outcome : Outcome)
+    → (answers : Answers terms input old new outcome) → (conn : ℕ) → (own : List Handled)
+    × (filter (λ reply. reply.1 == conn)
+    (replies_of terms answers.read.capture.start (handled terms answers.read.arrivals))
+    ≡ replies_of terms answers.read.capture.start own)
+    × MessagesOf (text_of conn answers.read.capture.records) (map (λ h. h.arrival.message) own)
+
+-- more arrivals change nothing of the numbers and the rejections of those before
+abbrev pub HandledBegin : Type 0
+HandledBegin = (terms : Terms) (arrivals more : List Arrival) → (rest : List Handled)
+    × (handled terms (arrivals ++ more) ≡ handled terms arrivals ++ rest)
+
+-- the replies that are due for messages that arrived: to those within the limit
+abbrev pub due : Terms → ℕ → List Arrival → List (ℕ × ℕ × List ℕ)
+due terms start arrivals = replies_of terms start (handled terms (take max_messages arrivals))
+
+-- more records add replies that are due at the end: those due for the first records are the first of those due for all
+abbrev pub DueBegin : Type 0
+DueBegin = (terms : Terms) (start : ℕ) (records more : List Record) (xs ys : List Arrival)
+    → AreArrivals records xs → AreArrivals (records ++ more) ys
+    → (rest : List (ℕ × ℕ × List ℕ)) × (due terms start ys ≡ due terms start xs ++ rest)
+
+-- ---- rows and replies
+
+abbrev pub is_told_rejected : Option Offered → Bool
+is_told_rejected None = false
+is_told_rejected (Some o) = is_rejected o.decision
+
+-- a row says that a request was rejected exactly where its reply turns it away
+abbrev pub RowsAgree : Type 0
+RowsAgree = (terms : Terms) (earlier : List Arrival) (a : Arrival)
+    → is_told_rejected (row_of terms earlier a).offered ≡ (handled_next terms earlier a).turned_away
+
+-- the service of an admitted request begins when it came, or once it has waited as long as its row says
+abbrev pub StartsOnceFree : Type 0
+StartsOnceFree = (terms : Terms) (earlier : List Arrival) (offer : Offer) (finish : ℕ)
+    → (offered_after terms earlier offer).decision ≡ Admitted finish
+    → finish - offer.service ≡ offer.tick + ((offered_after terms earlier offer).found.free - offer.tick)
+
+-- ---- one policy and four
+
+-- these terms with the first policy alone
+abbrev pub former_terms : Terms → FormerTerms
+former_terms terms = record {
+  files = terms.files;
+  costs = terms.costs;
+  rules = rules_of terms.policies 0;
+  retry_after = terms.retry_after;
+}
+
+-- the tally of a tier that no request came in
+abbrev pub no_requests : Tally
+no_requests = record { admitted = 0; rejected = 0; controls = [] }
+
+-- the tally of a tier that all requests came in
+abbrev pub all_requests : FormerOutcome → Tally
+all_requests former = record {
+  admitted = length former.samples;
+  rejected = length former.rejected;
+  controls = former.controls;
+}
+
+-- a former outcome, told by tiers: all requests came in tier 0
+abbrev pub in_tiers : FormerOutcome → Outcome
+in_tiers former = record {
+  rejected = former.rejected;
+  summary = record {
+    counts = former.counts;
+    bypassed = former.bypassed;
+    samples = former.samples;
+    tiers = all_requests former ∷ no_requests ∷ no_requests ∷ no_requests ∷ [];
+  };
+}
+
+-- the answer to a capture of version 1 is the former one, with the first policy
+abbrev pub SameInVersionOne : Type 0
+SameInVersionOne = (terms : Terms) (input old new : Option (List ℕ)) (outcome : Outcome)
+    → (answers : Answers terms input old new outcome) → answers.read.capture.version ≡ One
+    → (former : FormerOutcome) × FormerAnswers (former_terms terms) input old new former × (outcome ≡ in_tiers former)
+
+-- and each former answer is that to a capture of version 1, whatever the policies of tiers 1 to 3
+abbrev pub FormerAnswersHold : Type 0
+FormerAnswersHold = (terms : Terms) (input old new : Option (List ℕ)) (former : FormerOutcome)
+    → FormerAnswers (former_terms terms) input old new former
+    → (answers : Answers terms input old new (in_tiers former)) × (answers.read.capture.version ≡ One)
+
+-- a capture of version 1 and its upgraded text have the same answers, whatever the policies of tiers 1 to 3
+abbrev pub UpgradeKeepsAnswers : Type 0
+UpgradeKeepsAnswers = (terms other : Terms) (text upgraded : List ℕ) (old new : Option (List ℕ)) (outcome : Outcome)
+    → (upgrade : IsUpgrade text upgraded) → upgrade.version ≡ One → former_terms terms ≡ former_terms other
+    → (Answers terms (Some text) old new outcome → Answers other (Some upgraded) old new outcome)
+    × (Answers terms (Some upgraded) old new outcome → Answers other (Some text) old new outcome)

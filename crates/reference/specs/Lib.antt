@@ -1,0 +1,7 @@
+pub mod Choices
+pub mod Explaining
+pub mod Former
+pub mod Laws
+pub mod Outcomes
+pub mod Reference
+pub mod Telling

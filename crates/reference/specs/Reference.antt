@@ -1,0 +1,297 @@
+-- What a reader has to believe: the definitions of this crate that the headline stands on, in reading order.
+use Rattle.std.specs.Prelude.{ℕ, List, Bool, true, false, length, codes, bytes_eq, nat_le, Option, Some, None}
+use Rattle.std.specs.Prelude.{if◌then◌else◌, [], ◌∷◌, ◌++◌, flat_map, ◌+◌, ◌/◌, map, decimal, ◌==◌, filter, count_by}
+use Rattle.std.specs.Prelude.{◌≡◌, ◌≤◌}
+use Rattle.std.specs.List.{list_any}
+use Rattle.std.specs.Io.KnownBytes.{Appends}
+use Rattle.stage_graph.specs.Layouts.{Layout}
+use Rattle.cost_model.specs.Reference.{CostTable, service}
+use Rattle.admission.specs.declared.policy.PolicyNumbers.{PolicyNumbers}
+use Rattle.admission.specs.Reference.{Offer, is_rejected, decide, decided, rules_of, Decided, served, samples}
+use Rattle.admission.specs.Reference.{of_tier, controls_until, tick_from}
+use Rattle.paths.specs.declared.file.File.{File}
+use Rattle.paths.specs.Reference.{file_of, asked, outcome}
+use Rattle.paths.specs.declared.resolution.Outcome.{Outcome as PathOutcome}
+use Rattle.http_requests.specs.declared.messages.Version.{Version}
+use Rattle.http_requests.specs.declared.messages.Version.TheVariants.{Http10, Http11}
+use Rattle.http_requests.specs.declared.messages.Fault.{Fault}
+use Rattle.http_requests.specs.declared.messages.Fault.TheVariants.{Coding, BodySize}
+use Rattle.http_requests.specs.declared.messages.Meaning.{Meaning}
+use Rattle.http_requests.specs.declared.messages.Meaning.TheVariants.{Request, Bad}
+use Rattle.page_cache.specs.Reference.{media_of}
+use Rattle.responses.specs.declared.slip.Link.{Link}
+use Rattle.responses.specs.declared.slip.Link.TheVariants.{Close, KeepAlive, Silent}
+use Rattle.responses.specs.declared.slip.Status.{Status}
+use Rattle.responses.specs.declared.slip.Status.TheVariants.{BadRequest, NotFound, MethodNotAllowed, ContentTooLarge}
+use Rattle.responses.specs.declared.slip.Status.TheVariants.{NotImplemented, ServiceUnavailable}
+use Rattle.responses.specs.declared.slip.Given.{Given}
+use Rattle.responses.specs.declared.slip.Given.TheVariants.{Page, Known, Unmodified, Moved, Plain}
+use Rattle.arrivals.specs.Reference.{Arrival, AreArrivals}
+use Rattle.arrivals.specs.declared.incoming.Origin.{Origin}
+use Rattle.responses.specs.declared.slip.Slip.{Slip}
+use Rattle.responses.specs.Reference.{reply_text, record_text, status_of, statuses}
+use Rattle.reference.specs.declared.summary.Counts.{Counts}
+use Rattle.reference.specs.declared.summary.Summary.{Summary}
+use Rattle.reference.specs.declared.summary.Tally.{Tally}
+use Rattle.captures.specs.Reference.{WholeCapture}
+use Rattle.reference.specs.declared.summary.Outcome.{Outcome}
+use Rattle.paths.specs.declared.resolution.Outcome.TheVariants as outcomes
+
+-- What an operator sets.
+
+-- the graphs of the two floors, the records of a batch, the bytes of the cache, the service times, the policies of the
+-- tiers, and the seconds that a rejected request is told to wait
+pub record Choice : Type 0 where
+  pub front : Layout
+  pub back : Layout
+  pub batch : ℕ
+  pub cache : ℕ
+  pub costs : CostTable
+  pub policies : List PolicyNumbers
+  pub retry_after : ℕ
+
+-- What an answer depends on besides its capture. The graphs of the floors, the batch and the cache are none of it.
+pub record Terms : Type 0 where
+  pub files : List File
+  pub costs : CostTable
+  pub policies : List PolicyNumbers
+  pub retry_after : ℕ
+
+abbrev pub terms_of : List File → Choice → Terms
+terms_of files c = record { files = files; costs = c.costs; policies = c.policies; retry_after = c.retry_after }
+
+-- What each message is answered with: by the reference server, which has one thread, no stages and no cache, and takes
+-- the messages one after another in the order of their arrival.
+
+-- the status of a message that breaks a rule
+abbrev pub fault_status : Fault → Status
+fault_status Coding = NotImplemented
+fault_status BodySize = ContentTooLarge
+fault_status fault = BadRequest
+
+-- a file was not modified since the date that the request names, where it names one (RFC 9110, 13.1.3)
+abbrev pub is_unmodified : Option ℕ → ℕ → Bool
+is_unmodified (Some date) mtime = nat_le mtime date
+is_unmodified None mtime = false
+
+-- a file is given, or only told of to HEAD; or it was not modified
+abbrev pub file_answer : {X : Type 0} → List File → Bool → Option ℕ → ℕ → Given X
+file_answer files head since file =
+    if is_unmodified since (file_of files file).mtime then (Unmodified (file_of files file).mtime)
+    else if head then (Known (media_of (file_of files file).name) (length (file_of files file).bytes)
+    (file_of files file).mtime)
+    else (Page file (file_of files file).mtime)
+
+abbrev pub outcome_answer : {X : Type 0} → List File → Bool → Option ℕ → PathOutcome → Given X
+outcome_answer files head since (outcomes.File file) = file_answer files head since file
+outcome_answer files head since (outcomes.Move location) = Moved location
+outcome_answer files head since outcomes.Missing = Plain NotFound
+outcome_answer files head since outcomes.BadTarget = Plain BadRequest
+outcome_answer files head since outcomes.NotAllowed = Plain MethodNotAllowed
+outcome_answer files head since outcomes.NotKnown = Plain NotImplemented
+
+-- whether a method is HEAD; the answer to a message that breaks a rule is never that to HEAD
+abbrev pub is_head : List ℕ → Bool
+is_head method = bytes_eq method (codes "HEAD")
+
+abbrev pub answers_head : Meaning → Bool
+answers_head (Request method target version closing since) = is_head method
+answers_head (Bad fault) = false
+
+-- what a message is answered with
+abbrev pub answer : {X : Type 0} → List File → Meaning → Given X
+answer files (Request method target version closing since) = outcome_answer files (is_head method) since
+    (outcome files (asked method target))
+answer files (Bad fault) = Plain (fault_status fault)
+
+-- what the reply tells of its connection (RFC 9112, 9.3)
+abbrev pub request_link : Version → Bool → Link
+request_link version true = Close
+request_link Http10 false = KeepAlive
+request_link Http11 false = Silent
+
+abbrev pub link_of : Meaning → Link
+link_of (Request method target version closing since) = request_link version closing
+link_of (Bad fault) = Close
+
+-- how a message is answered: a request that is turned away may come again in n seconds; each other message is
+-- answered
+abbrev pub given : {X : Type 0} → Terms → Bool → Meaning → Given X
+given terms true what = Plain (ServiceUnavailable terms.retry_after)
+given terms false what = answer terms.files what
+
+-- Which messages are offered to the admission control, and which of them it turns away.
+
+-- how many bytes the file has that a request is answered with, and whether they were not modified since the date that
+-- it names
+abbrev pub length_given : List File → PathOutcome → ℕ
+length_given files (outcomes.File file) = length (file_of files file).bytes
+length_given files other = 0
+
+abbrev pub is_unmodified_file : List File → Option ℕ → PathOutcome → Bool
+is_unmodified_file files since (outcomes.File file) = is_unmodified since (file_of files file).mtime
+is_unmodified_file files since other = false
+
+-- how long the virtual server works on a request with this outcome
+abbrev pub service_of : Terms → Bool → Option ℕ → PathOutcome → ℕ
+service_of terms head since o = service terms.costs o head (is_unmodified_file terms.files since o)
+    (length_given terms.files o)
+
+-- the offer of a message that came from there: none where it breaks a rule, and so is no request
+abbrev pub offer_at : Terms → Origin → Meaning → List Offer
+offer_at terms origin (Request method target version closing since) =
+    record {
+      tier = origin.tier;
+      tick = origin.tick;
+      service = service_of terms (is_head method) since
+          (outcome terms.files (asked method target));
+    } ∷ []
+offer_at terms origin (Bad fault) = []
+
+-- the offers of these arrivals, in their order
+unfoldable pub offers_of : Terms → List Arrival → List Offer
+offers_of terms arrivals = flat_map (λ a. offer_at terms a.origin a.message.what) arrivals
+
+-- whether an offer that comes after these is turned away
+unfoldable pub rejects : List PolicyNumbers → List Offer → Offer → Bool
+rejects policies offers offer = is_rejected (decide policies (decided policies offers) offer)
+
+-- a message is turned away where the offer that it makes after those of the earlier ones is
+abbrev pub is_turned_away : Terms → List Arrival → Arrival → Bool
+is_turned_away terms earlier a = list_any (rejects terms.policies (offers_of terms earlier))
+    (offer_at terms a.origin a.message.what)
+
+-- a message, its number, and whether it was turned away
+pub record Handled : Type 0 where
+  pub number : ℕ
+  pub arrival : Arrival
+  pub turned_away : Bool
+
+abbrev pub handled_next : Terms → List Arrival → Arrival → Handled
+handled_next terms earlier a = record {
+  number = length earlier;
+  arrival = a;
+  turned_away = is_turned_away terms earlier a;
+}
+
+-- these messages after the earlier ones, each in turn, as those before it decide
+unfoldable pub handled_after : Terms → List Arrival → List Arrival → List Handled
+handled_after terms earlier [] = []
+handled_after terms earlier (a ∷ arrivals) = handled_next terms earlier a
+    ∷ handled_after terms (earlier ++ a ∷ []) arrivals
+
+abbrev pub handled : Terms → List Arrival → List Handled
+handled terms arrivals = handled_after terms [] arrivals
+
+-- The replies to the messages of a capture, and their text.
+
+-- the slip of a message, of a capture that begins at `start` (seconds since 1970-01-01); a tick is a microsecond
+abbrev pub slip_of : {X : Type 0} → Terms → ℕ → Handled → Slip X
+slip_of terms start h = record {
+  number = h.number;
+  conn = h.arrival.origin.conn;
+  date = start + h.arrival.origin.tick / 1000000;
+  head = answers_head h.arrival.message.what;
+  link = link_of h.arrival.message.what;
+  what = given terms h.turned_away h.arrival.message.what;
+}
+
+-- the reply to a message: its number, its connection, and the reply's text
+unfoldable pub reply_of : Terms → ℕ → Handled → ℕ × ℕ × List ℕ
+reply_of terms start h =
+    (h.number, h.arrival.origin.conn, reply_text terms.files (slip_of {X = Unit {0}} terms start h))
+
+abbrev pub replies_of : Terms → ℕ → List Handled → List (ℕ × ℕ × List ℕ)
+replies_of terms start messages = map (reply_of terms start) messages
+
+-- the first line, the replies' records, and the last line
+abbrev pub first_line : List ℕ
+first_line = codes "haboob-replies 1\n"
+
+abbrev pub last_line : ℕ → List ℕ
+last_line count = codes "stop " ++ decimal count ++ codes "\n"
+
+-- the text without its last line: what is written while messages may still come
+abbrev pub text_before_stop : List (ℕ × ℕ × List ℕ) → List ℕ
+text_before_stop replies = first_line ++ flat_map record_text replies
+
+abbrev pub replies_text : List (ℕ × ℕ × List ℕ) → List ℕ
+replies_text replies = text_before_stop replies ++ last_line (length replies)
+
+-- How many messages there were of each kind, and how long the admitted requests took.
+
+-- a message that breaks a rule is no request: it is offered to nobody
+abbrev pub breaks_a_rule : Meaning → Bool
+breaks_a_rule (Bad fault) = true
+breaks_a_rule (Request method target version closing since) = false
+
+-- the status that a message is answered with
+abbrev pub status_for : Terms → Handled → ℕ
+status_for terms h = status_of (given {X = Unit {0}} terms h.turned_away h.arrival.message.what)
+
+abbrev pub count_of : Terms → List Handled → ℕ → ℕ
+count_of terms messages status = count_by (λ h. status_for terms h == status) messages
+
+-- how many messages were answered with each status
+abbrev pub counts_of : Terms → List Handled → Counts
+counts_of terms messages = record { by_status = map (count_of terms messages) statuses }
+
+abbrev pub bypassed_of : List Arrival → ℕ
+bypassed_of arrivals = count_by (λ a. breaks_a_rule a.message.what) arrivals
+
+-- the numbers of the messages that were turned away
+abbrev pub rejected_of : List Handled → List ℕ
+rejected_of messages = map (λ h. h.number) (filter (λ h. h.turned_away) messages)
+
+-- how long each admitted request took
+unfoldable pub samples_of : List PolicyNumbers → List Offer → List ℕ
+samples_of policies offers = samples (served (decided policies offers))
+
+-- the requests of one tier, and what became of them
+abbrev pub decided_in : List PolicyNumbers → List Offer → ℕ → List Decided
+decided_in policies offers tier = of_tier tier (decided policies offers)
+
+-- what became of the requests of one tier: how many were admitted and how many rejected, and the changes of its rate,
+-- up to the tick of the last offer of any tier
+unfoldable pub tally_of : List PolicyNumbers → List Offer → ℕ → Tally
+tally_of policies offers tier = record {
+  admitted = length (served (decided_in policies offers tier));
+  rejected = count_by (λ r. is_rejected r.decision) (decided_in policies offers tier);
+  controls = controls_until (rules_of policies tier) (served (decided_in policies offers tier)) (tick_from 0 offers);
+}
+
+abbrev pub tallies_of : List PolicyNumbers → List Offer → List Tally
+tallies_of policies offers = map (tally_of policies offers) (0 ∷ 1 ∷ 2 ∷ 3 ∷ [])
+
+-- what became of these arrivals
+abbrev pub summary_of : Terms → List Arrival → Summary
+summary_of terms arrivals = record {
+  counts = counts_of terms (handled terms arrivals);
+  bypassed = bypassed_of arrivals;
+  samples = samples_of terms.policies (offers_of terms arrivals);
+  tiers = tallies_of terms.policies (offers_of terms arrivals);
+}
+
+-- What a replay comes to: its outcome, or a fault, and what it has written.
+
+abbrev pub max_messages : ℕ
+max_messages = 1048576
+
+-- the input is a capture's text, and these are the messages that arrive with its records: no more than the limit
+pub record ArrivedCapture (input : Option (List ℕ)) : Type 0 where
+  pub capture : WholeCapture input
+  pub arrivals : List Arrival
+  pub are : AreArrivals capture.records arrivals
+  pub few : length arrivals ≤ max_messages
+
+-- which of these messages were turned away, and what became of all
+abbrev pub outcome_of : Terms → List Arrival → Outcome
+outcome_of terms arrivals =
+    record { rejected = rejected_of (handled terms arrivals); summary = summary_of terms arrivals }
+
+-- The answer of the reference server to a capture: each message was answered, in their order, and this is what became
+-- of them.
+pub record Answers (terms : Terms) (input old new : Option (List ℕ)) (outcome : Outcome) : Type 0 where
+  pub read : ArrivedCapture input
+  pub written : Appends old new (replies_text (replies_of terms read.capture.start (handled terms read.arrivals)))
+  pub outcome_is : outcome ≡ outcome_of terms read.arrivals

@@ -1,5 +1,0 @@
-use Rattle.replay.proofs.InOrder.{in_request_order}
-use Rattle.replay.proofs.laws.replies_in_request_order.Goals as goal
-
-pub returns : goal.returns
-returns c = in_request_order

@@ -1,5 +1,0 @@
-use Rattle.replay.proofs.Former as lemmas
-use Rattle.replay.proofs.laws.upgrade_keeps_answers.Goals as goal
-
-pub returns : goal.returns
-returns c = lemmas.upgrade_keeps_answers

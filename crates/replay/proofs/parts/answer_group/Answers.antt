@@ -1,0 +1,11 @@
+use Rattle.std.proofs.Common.{◌≡◌, ap, ◌∙◌}
+use Rattle.std.specs.Prelude.{flat_map}
+use Rattle.responses.specs.Reference.{record_text}
+use Rattle.replay.specs.Groups.{records_of}
+use Rattle.replay.proofs.parts.answer_group.Goals as goal
+
+pub returns-clause-part : goal.returns-clause-part
+returns-clause-part g c =
+    let texts : flat_map record_text c.deref-3.result.now ≡ records_of g.F.Tree.files c.args.group.items =
+    ap (flat_map record_text) (c.deref-3.ensures.value ∙ c.in_ok-replies.ensures.replies) in
+    rw texts at c.write_replies.ensures.part

@@ -1,0 +1,60 @@
+use Rattle.std.proofs.Common.{◌≡◌, ◌-◌, ◌∙◌, length, take, refl, arith}
+use Rattle.replay.proofs.Judging.{answered_is, cut_short}
+use Rattle.replay.proofs.Upcoming.{first_come, take_count, take_short, short_cut}
+use Rattle.replay.proofs.parts.serve_part.Goals as goal
+
+pub returns-then-len-room-clause-part : goal.returns-then-len-room-clause-part
+returns-then-len-room-clause-part g c =
+    let messages = c.args.messages.items in
+    let len : c.len.result ≡ length messages = c.len.ensures ∙ c.args.messages.ok.0 in
+    let fits = c.if-len-room.true in
+    let next = c.requires.next in
+    let is = answered_is _ next.0 _ next.2.stands in
+    let few = next.2.stands.few in
+    short_cut c.serve_few.result _ _
+    (λ part. (
+      length messages,
+      omega arith,
+      omega (arith, len, fits, is, few),
+      λ arrivals more up. rw (take_count _ arrivals more messages _ up) (part arrivals more up),
+    ))
+    c.serve_few.ensures.part
+
+pub serve_few-requires-2-clause-next : goal.serve_few-requires-2-clause-next
+serve_few-requires-2-clause-next g c = λ κs lives.
+    let next = c.requires.next in
+    let room = 1048576 - c.args.desk.now.totals.answered in
+    let is = answered_is _ next.0 _ next.2.stands in
+    let few = next.2.stands.few in
+    let short = take_short room next.1 in
+    (next.0, take room next.1, first_come _ next.0 next.1 _ _ _ room next.2 c.truncate.ensures.items, omega (arith, is, few, short))
+
+pub returns-in_err-serve_few-clause-part : goal.returns-in_err-serve_few-clause-part
+returns-in_err-serve_few-clause-part g c =
+    let len : c.len.result ≡ length c.args.messages.items = c.len.ensures ∙ c.args.messages.ok.0 in
+    let beyond = c.if-len-room.false in
+    let room = 1048576 - c.args.desk.now.totals.answered in
+    let next = c.requires.next in
+    let is = answered_is _ next.0 _ next.2.stands in
+    let few = next.2.stands.few in
+    cut_short c.from_residual.result _ (
+      room,
+      omega (arith, len, beyond),
+      omega (arith, is, few),
+      λ arrivals more up. c.in_err-serve_few.ensures.part arrivals (take room more) (first_come _ arrivals more _ _ _ room up c.truncate.ensures.items),
+    )
+
+pub returns-clause-many : goal.returns-clause-many
+returns-clause-many g c =
+    let len : c.len.result ≡ length c.args.messages.items = c.len.ensures ∙ c.args.messages.ok.0 in
+    let beyond = c.if-len-room.false in
+    let room = 1048576 - c.args.desk.now.totals.answered in
+    let next = c.requires.next in
+    let is = answered_is _ next.0 _ next.2.stands in
+    let few = next.2.stands.few in (
+      refl,
+      room,
+      omega (arith, len, beyond),
+      omega (arith, is, few),
+      λ arrivals more up. c.in_ok-serve_few.ensures.written arrivals (take room more) (first_come _ arrivals more _ _ _ room up c.truncate.ensures.items),
+    )

@@ -1,6 +1,0 @@
-use Rattle.std.proofs.Common.{rules}
-use Rattle.replay.proofs.CountMore.{counted_at}
-use Rattle.replay.proofs.summary.Counts.note.Goals as goal
-
-pub returns : goal.returns
-returns g c = counted_at c.args.self.now _ c.status_place.result (search rules) c.status_place.ensures

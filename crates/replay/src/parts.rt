@@ -1,0 +1,259 @@
+//! A batch: both floors, the decisions between them, and the writing.
+
+ghost use Rattle.std.specs.Prelude.{◌≡◌, ◌<◌, ◌≤◌, ◌-◌, ◌+◌, ℕ, List, flat_map, length, IfErr, OnOk, OnErr, true};
+ghost use Rattle.std.specs.List.{list_all};
+ghost use Rattle.replay.specs.Backs.{is_back};
+ghost use Rattle.replay.specs.declared.back.BackState.TheVariants.{Due as Waits};
+ghost use Rattle.replay.specs.Groups.{records_of};
+ghost use Rattle.captures.specs.Reference.{max_start};
+ghost use Rattle.responses.specs.Reference.{record_text};
+ghost use Rattle.arrivals.specs.Reference.{Arrival};
+ghost use Rattle.arrivals.specs.Batches.{joined};
+ghost use Rattle.reference.specs.Reference.{terms_of, max_messages};
+ghost use Rattle.reference.specs.Outcomes.{writer_failures, IsOwn, IsWriteOrMemory, IfTooMany, IfCutShort};
+ghost use Rattle.replay.specs.Steps.{DecidesComing, WritesComing, WritesComingInPart, WritesFirst, WritesFirstInPart};
+ghost use Rattle.replay.specs.Waiting.{Upcoming};
+ghost use Rattle.std.specs.Io.KnownBytes.{Appends};
+ghost use Rattle.devices.specs.Devices.{CanFail, CountsBy, AppendsPrefix};
+
+use crate::back::run_back;
+use crate::desk::{Desk, decide_all};
+use crate::front::run_front;
+use crate::groups::{Pages, groups_of, work_of};
+use crate::server::Server;
+use crate::shifted::Shifted;
+use crate::ticket::Ticket;
+use crate::{MAX_MESSAGES, ReplayFault};
+use arrivals::{Incoming, Series};
+use devices::Output;
+use http_requests::Meaning;
+use paths::Tree;
+use responses::{Reply, write_reply};
+use stage_graph::Gate;
+use std::io::Write;
+use std::sync::Wait;
+use std::thread::Threads;
+
+/// How many bytes of targets are worth a thread of the front floor: to look them up takes longer than to start one.
+const WORTH_LOOKING: usize = 262_144;
+
+/// How many bytes of a target are looked up in the time that a message takes besides its target.
+const MESSAGE: usize = 256;
+
+/// How many bytes of work are worth a thread of the back floor.
+const WORTH_ANSWERING: usize = 524_288;
+
+/// What the floors of the staged engine work with, besides what they serve.
+#[derive(Drop)]
+pub(crate) struct Floors<'a, F: Tree, G, T> {
+    pub rt: &'a T,
+    /// How many threads work at a time, where the gate never holds a message.
+    pub threads: usize,
+    pub pages: Pages<F>,
+    pub gate: &'a G,
+}
+
+/// How much work it is to look messages up, in bytes of targets.
+fn looking_of(messages: &[Incoming]) -> usize {
+    let mut work: usize = 0;
+    for message in messages {
+        let target = match &message.what {
+            Meaning::Request { target, .. } => target.as_slice().len(),
+            Meaning::Bad(_) => 0,
+        };
+        work = work.saturating_add(MESSAGE).saturating_add(target);
+    }
+    work
+}
+
+/// Writes replies, in their order.
+fn write_replies<F: Tree, W: Write>(
+    replies: &[Reply<F>],
+    writer: &mut Output<W>,
+) -> Result<(), ReplayFault>
+    requires { CanFail writer.old }
+    ensures written { OnOk result (Appends writer.old.bytes writer.new.bytes (flat_map record_text replies.now)) }
+    ensures part { OnErr result (AppendsPrefix writer.old.bytes writer.new.bytes (flat_map record_text replies.now)) }
+    ensures failures { CountsBy writer_failures writer.old.failures writer.new.failures result }
+    ensures own { IfErr result IsWriteOrMemory }
+{
+    for reply in replies {
+        write_reply(writer, reply)?;
+    }
+    Ok(())
+}
+
+/// Answers a group of messages that were decided on: their pages are fetched and their replies rendered by a floor, and
+/// written in their order.
+fn answer_group<F: Tree + Send + Sync, G: Gate + Sync, T: Threads + Wait + Sync, W: Write>(
+    server: &Server<'_, F>,
+    floors: &Floors<'_, F, G, T>,
+    group: Vec<Ticket<F>>,
+    writer: &mut Output<W>,
+) -> Result<(), ReplayFault>
+    requires ready { list_all (λ t. is_back F.files (Waits t)) group.items ≡ true }
+    requires failures { CanFail writer.old }
+    ensures written { OnOk result (Appends writer.old.bytes writer.new.bytes (records_of F.files group.items)) }
+    ensures part { OnErr result (AppendsPrefix writer.old.bytes writer.new.bytes (records_of F.files group.items)) }
+    ensures failures { CountsBy writer_failures writer.old.failures writer.new.failures result }
+    ensures own { IfErr result IsWriteOrMemory }
+{
+    let first = match group.first() {
+        Some(ticket) => ticket.number,
+        None => return Ok(()),
+    };
+    let settings = server.settings;
+    let following = Shifted {
+        gate: floors.gate,
+        stages: settings.front().stages(),
+        first,
+    };
+    let cache = &floors.pages.cache;
+    let work = work_of(floors.rt, server.snapshot, cache, &group);
+    let replies = run_back::<F, Shifted<G>, T>(
+        server,
+        floors.rt,
+        floors.threads.min(work / WORTH_ANSWERING),
+        cache,
+        group,
+        &following,
+    )?;
+    write_replies(&replies, writer)
+}
+
+/// Answers messages that were decided on, a group of them at a time, so that memory holds the pages of one.
+fn answer_tickets<F: Tree + Send + Sync, G: Gate + Sync, T: Threads + Wait + Sync, W: Write>(
+    server: &Server<'_, F>,
+    floors: &Floors<'_, F, G, T>,
+    tickets: Vec<Ticket<F>>,
+    writer: &mut Output<W>,
+) -> Result<(), ReplayFault>
+    requires ready { list_all (λ t. is_back F.files (Waits t)) tickets.items ≡ true }
+    requires failures { CanFail writer.old }
+    ensures written { OnOk result (Appends writer.old.bytes writer.new.bytes (records_of F.files tickets.items)) }
+    ensures part { OnErr result (AppendsPrefix writer.old.bytes writer.new.bytes (records_of F.files tickets.items)) }
+    ensures failures { CountsBy writer_failures writer.old.failures writer.new.failures result }
+    ensures own { IfErr result IsWriteOrMemory }
+{
+    for group in groups_of(server.alloc, server.snapshot, floors.pages.room, tickets)? {
+        answer_group(server, floors, group.into_vec(), writer)?;
+    }
+    Ok(())
+}
+
+/// Serves messages within the limit, by a pair of floors with the decisions between them.
+fn serve_few<F: Tree + Send + Sync, G: Gate + Sync, T: Threads + Wait + Sync, W: Write>(
+    server: &Server<'_, F>,
+    floors: &Floors<'_, F, G, T>,
+    messages: Vec<Incoming>,
+    desk: &mut Desk,
+    writer: &mut Output<W>,
+) -> Result<(), ReplayFault>
+    requires start { desk.old.start ≤ max_start }
+    requires next { (arrivals : List Arrival) × (more : List Arrival)
+        × Upcoming (terms_of F.files server.now) arrivals more messages.items desk.old
+        × (length arrivals + length more ≤ max_messages) }
+    requires failures { CanFail writer.old }
+    ensures stands { OnOk result (DecidesComing (terms_of F.files server.now) messages.items desk.old desk.new) }
+    ensures written { OnOk result
+        (WritesComing (terms_of F.files server.now) messages.items desk.old writer.old.bytes writer.new.bytes) }
+    ensures part { OnErr result
+        (WritesComingInPart (terms_of F.files server.now) messages.items desk.old writer.old.bytes writer.new.bytes) }
+    ensures start { OnOk result (desk.new.start ≡ desk.old.start) }
+    ensures failures { CountsBy writer_failures writer.old.failures writer.new.failures result }
+    ensures own { IfErr result IsWriteOrMemory }
+{
+    if messages.is_empty() {
+        return Ok(());
+    }
+    let first = desk.totals.answered;
+    let before = Shifted {
+        gate: floors.gate,
+        stages: 0,
+        first,
+    };
+    let worth = looking_of(&messages) / WORTH_LOOKING;
+    let sights = run_front::<F, Shifted<G>, T>(
+        server,
+        floors.rt,
+        floors.threads.min(worth),
+        messages,
+        &before,
+    )?;
+    let tickets = decide_all(server, sights, desk)?;
+    answer_tickets(server, floors, tickets, writer)
+}
+
+/// Serves messages: those within the limit.
+fn serve_part<F: Tree + Send + Sync, G: Gate + Sync, T: Threads + Wait + Sync, W: Write>(
+    server: &Server<'_, F>,
+    floors: &Floors<'_, F, G, T>,
+    messages: Vec<Incoming>,
+    desk: &mut Desk,
+    writer: &mut Output<W>,
+) -> Result<(), ReplayFault>
+    requires start { desk.old.start ≤ max_start }
+    requires next { (arrivals : List Arrival) × (more : List Arrival)
+        × Upcoming (terms_of F.files server.now) arrivals more messages.items desk.old }
+    requires failures { CanFail writer.old }
+    ensures stands { OnOk result (DecidesComing (terms_of F.files server.now) messages.items desk.old desk.new) }
+    ensures written { OnOk result
+        (WritesComing (terms_of F.files server.now) messages.items desk.old writer.old.bytes writer.new.bytes) }
+    ensures many { IfErr result (λ f. IfTooMany f (λ n. (n ≡ MAX_MESSAGES) × (i : ℕ) × (i < length messages.items)
+        × (desk.old.totals.answered + i ≡ MAX_MESSAGES)
+        × WritesFirst i (terms_of F.files server.now) messages.items desk.old writer.old.bytes writer.new.bytes)) }
+    ensures part { IfErr result (λ f. IfCutShort f ((i : ℕ) × (i ≤ length messages.items)
+        × (desk.old.totals.answered + i ≤ MAX_MESSAGES)
+        × WritesFirstInPart i (terms_of F.files server.now) messages.items desk.old
+        writer.old.bytes writer.new.bytes)) }
+    ensures start { OnOk result (desk.new.start ≡ desk.old.start) }
+    ensures failures { CountsBy writer_failures writer.old.failures writer.new.failures result }
+    ensures own { IfErr result IsOwn }
+{
+    let room = MAX_MESSAGES - desk.totals.answered;
+    if messages.len() <= room {
+        return serve_few(server, floors, messages, desk, writer);
+    }
+    let mut within = messages;
+    within.truncate(room);
+    serve_few(server, floors, within, desk, writer)?;
+    Err(ReplayFault::TooMany(MAX_MESSAGES))
+}
+
+/// Serves the messages of a batch, part after part.
+pub(crate) fn serve_parts<
+    F: Tree + Send + Sync,
+    G: Gate + Sync,
+    T: Threads + Wait + Sync,
+    W: Write,
+>(
+    server: &Server<'_, F>,
+    floors: &Floors<'_, F, G, T>,
+    parts: Vec<Series<Incoming>>,
+    desk: &mut Desk,
+    writer: &mut Output<W>,
+) -> Result<(), ReplayFault>
+    requires start { desk.old.start ≤ max_start }
+    requires next { (arrivals : List Arrival) × (more : List Arrival)
+        × Upcoming (terms_of F.files server.now) arrivals more (joined parts.items) desk.old }
+    requires failures { CanFail writer.old }
+    ensures stands { OnOk result (DecidesComing (terms_of F.files server.now) (joined parts.items) desk.old desk.new) }
+    ensures written { OnOk result
+        (WritesComing (terms_of F.files server.now) (joined parts.items) desk.old writer.old.bytes writer.new.bytes) }
+    ensures many { IfErr result (λ f. IfTooMany f (λ n. (n ≡ MAX_MESSAGES) × (i : ℕ)
+        × (i < length (joined parts.items)) × (desk.old.totals.answered + i ≡ MAX_MESSAGES)
+        × WritesFirst i (terms_of F.files server.now) (joined parts.items) desk.old
+        writer.old.bytes writer.new.bytes)) }
+    ensures part { IfErr result (λ f. IfCutShort f ((i : ℕ) × (i ≤ length (joined parts.items))
+        × (desk.old.totals.answered + i ≤ MAX_MESSAGES)
+        × WritesFirstInPart i (terms_of F.files server.now) (joined parts.items) desk.old
+        writer.old.bytes writer.new.bytes)) }
+    ensures start { OnOk result (desk.new.start ≡ desk.old.start) }
+    ensures failures { CountsBy writer_failures writer.old.failures writer.new.failures result }
+    ensures own { IfErr result IsOwn }
+{
+    for part in parts {
+        serve_part(server, floors, part.into_vec(), desk, writer)?;
+    }
+    Ok(())
+}

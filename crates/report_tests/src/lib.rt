@@ -1,5 +1,0 @@
-//! Tests of the crate `report`.
-#![tactic(auto)]
-
-#[cfg(test)]
-mod tests;

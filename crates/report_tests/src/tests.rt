@@ -1,4 +1,0 @@
-//! Reports of outcomes worked by hand.
-mod memory;
-mod outcomes;
-mod rows;

@@ -1,5 +1,0 @@
-//! Tests of the crate `responses`.
-#![tactic(auto)]
-
-#[cfg(test)]
-mod tests;

@@ -1,0 +1,142 @@
+-- What is said in words of a fault of the settings.
+use Rattle.std.specs.Prelude.{ℕ, ◌==◌, ◌&&◌, Bool, true, false, not, List, [], ◌∷◌, ◌++◌, length, map, flat_map}
+use Rattle.std.specs.Prelude.{Option, Some, None, codes, bytes_eq, nat_eq, nat_le, nat_lt, if◌then◌else◌}
+use Rattle.std.specs.Str.{chars}
+use Rattle.strsim.specs.Edits.{levenshtein_row}
+use Rattle.toml.specs.Data.{Members}
+use Rattle.settings.specs.declared.config_fault.Key.{Key}
+use Rattle.settings.specs.declared.config_fault.Key.TheVariants as keys
+use Rattle.settings.specs.declared.config_fault.ConfigFault.{ConfigFault}
+use Rattle.settings.specs.declared.config_fault.ConfigFaultKind.{ConfigFaultKind}
+use Rattle.settings.specs.declared.config_fault.ConfigFaultKind.TheVariants.{Text, Unknown, Shape, Range}
+use Rattle.settings.specs.declared.policy_key.PolicyKey.{PolicyKey}
+use Rattle.settings.specs.declared.policy_key.PolicyKey.TheVariants as policy
+use Rattle.settings.specs.Keys.{is_table, keys_in, name_of, path_of, policy_keys, table_of}
+use Rattle.settings.specs.Comments.{comment_of}
+use Rattle.settings.specs.Documents.{Misplaced, misplaced_in}
+use Rattle.settings.specs.SettingsTable.{document_of}
+
+-- ---- the key that a wrong one is nearest to
+
+-- a table and the keys that it may have
+abbrev pub with_keys : Key → List Key
+with_keys (keys.Policy table) = keys.Policy table ∷ map (keys.InPolicy table) policy_keys
+with_keys table = table ∷ keys_in (Some table)
+
+-- all tables and keys that a document may have
+unfoldable pub all_keys : List Key
+all_keys = flat_map with_keys (keys_in None)
+
+-- how many characters have to be put in, taken out or changed for the name of this key
+abbrev pub edits : List ℕ → Key → ℕ
+edits name key = levenshtein_row nat_eq (chars name) (chars (name_of key)) (length (chars (name_of key)))
+
+-- a key may stand there: a table in the document, a key in its table
+abbrev pub fits_in : Option Key → Key → Bool
+fits_in None key = is_table key
+fits_in (Some holder) key = not (is_table key) && bytes_eq (name_of (table_of key)) (name_of holder)
+
+-- the name of a key is longer: of as many edits more of it is kept
+abbrev pub is_longer : Key → Key → Bool
+is_longer key other = nat_lt (length (name_of other)) (length (name_of key))
+
+-- of as many edits the key that may stand there is nearer, and of those the one with the longer name
+abbrev pub is_preferred : Option Key → Key → Key → Bool
+is_preferred within key other =
+    if fits_in within key then (if fits_in within other then is_longer key other else true)
+    else (if fits_in within other then false else is_longer key other)
+
+-- a key is nearer than another by fewer edits
+abbrev pub is_nearer : Misplaced → Key → Key → Bool
+is_nearer m key other =
+    if edits m.1 key == edits m.1 other then is_preferred m.0 key other
+    else nat_lt (edits m.1 key) (edits m.1 other)
+
+-- the nearest of these keys and one before them, the first of equals
+unfoldable pub nearest_among : Misplaced → Key → List Key → Key
+nearest_among m best [] = best
+nearest_among m best (key ∷ more) = nearest_among m (if is_nearer m key best then key else best) more
+
+-- the key that is nearest to a name; below a key that is no table there is none, and it is that key
+unfoldable pub nearest_key : Misplaced → Key
+nearest_key (Some holder, name) =
+    if is_table holder then nearest_among (Some holder, name) keys.Floor all_keys else holder
+nearest_key (None, name) = nearest_among (None, name) keys.Floor all_keys
+
+-- where the name stands in the document
+abbrev pub place_of : Misplaced → List ℕ
+place_of (None, name) = name
+place_of (Some holder, name) = path_of holder ++ codes "." ++ name
+
+-- what is said of it
+unfoldable pub misplaced_text : Misplaced → List ℕ
+misplaced_text m = place_of m ++ codes " is no key of the settings; the nearest is " ++ path_of (nearest_key m)
+
+abbrev pub misplaced_words : Option Misplaced → List ℕ
+misplaced_words None = []
+misplaced_words (Some m) = misplaced_text m
+
+-- ---- what is to stand at a key
+
+abbrev pub is_list : Key → Bool
+is_list keys.FrontCuts = true
+is_list keys.FrontWorkers = true
+is_list keys.FrontCapacities = true
+is_list keys.BackCuts = true
+is_list keys.BackWorkers = true
+is_list keys.BackCapacities = true
+is_list other = false
+
+-- what a number of a rate is, in requests
+abbrev pub policy_scale : PolicyKey → List ℕ
+policy_scale policy.Rate =
+    codes "; 1000 is one request a second, and rate_min and rate_max count where they are left out too"
+policy_scale policy.RateMin = codes "; 1000 is one request a second"
+policy_scale policy.RateMax = codes "; 1000 is one request a second"
+policy_scale policy.Up = codes "; 1000 is one request a second"
+policy_scale other = []
+
+abbrev pub scale_of : Key → List ℕ
+scale_of (keys.InPolicy table key) = policy_scale key
+scale_of other = []
+
+-- what is to stand at one key
+unfoldable pub value_words : Key → List ℕ
+value_words key =
+    if is_table key then path_of key ++ codes " is to be a table"
+    else if is_list key then path_of key ++ codes " is to be a list of integers: " ++ comment_of key
+    else path_of key ++ codes " is to be an integer: " ++ comment_of key ++ scale_of key
+
+-- the three lists of a floor, which don't fit together
+unfoldable pub lists_words : Key → Key → Key → List ℕ
+lists_words cuts workers capacities =
+    value_words cuts ++ codes "; " ++ value_words workers ++ codes "; " ++ value_words capacities
+    ++ codes "; and the three of one length"
+
+-- what is said of a key at which something else stands
+abbrev pub key_words : Key → List ℕ
+key_words keys.Front = lists_words keys.FrontCuts keys.FrontWorkers keys.FrontCapacities
+key_words keys.Back = lists_words keys.BackCuts keys.BackWorkers keys.BackCapacities
+key_words key = value_words key
+
+-- ---- what is said of a fault
+
+abbrev pub text_words : List ℕ → List ℕ
+text_words bytes =
+    if nat_le (length bytes) 65536 then codes "the settings are no TOML document"
+    else codes "the settings have more than 65536 bytes"
+
+abbrev pub document_words : Option Members → List ℕ
+document_words None = []
+document_words (Some document) = misplaced_words (misplaced_in document None)
+
+-- nothing of one that isn't the document's
+abbrev pub words_of : ConfigFaultKind → Option Key → List ℕ → List ℕ
+words_of Text key bytes = text_words bytes
+words_of Unknown key bytes = document_words (document_of bytes)
+words_of Shape (Some key) bytes = key_words key
+words_of Range (Some key) bytes = key_words key
+words_of other key bytes = []
+
+abbrev pub fault_words : List ℕ → ConfigFault → List ℕ
+fault_words bytes fault = words_of fault.kind fault.key bytes

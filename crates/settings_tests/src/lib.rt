@@ -1,5 +1,0 @@
-//! Tests of the crate `settings`.
-#![tactic(auto)]
-
-#[cfg(test)]
-mod tests;

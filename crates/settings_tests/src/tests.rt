@@ -1,3 +1,0 @@
-//! Documents, their faults, and settings written out.
-mod config;
-mod written;

@@ -1,5 +1,0 @@
-//! Tests of the crate `snapshots`.
-#![tactic(auto)]
-
-#[cfg(test)]
-mod tests;
