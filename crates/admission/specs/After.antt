@@ -27,7 +27,8 @@ AllCovered rate full tick (request ∷ requests) =
 
 -- the bucket of a tier stands as these requests of the tier left it: the controls that its clock has reached are those
 -- in force, its rate is theirs, and its credit that of a request which comes now
-pub record TierBucketAfter (rules : PolicyNumbers) (past : List Decided) (b : bucket.Standing) (reached : ℕ) : Type 0 where
+pub record TierBucketAfter (rules : PolicyNumbers) (past : List Decided) (b : bucket.Standing)
+    (reached : ℕ) : Type 0 where
   pub depth : b.depth ≡ rules.depth
   pub rate : b.rate ≡ rate_after rules (samples (served past)) reached
   pub credit : b.credit ≡ credit rules past b.tick

@@ -28,7 +28,8 @@ RejectedLeavesAll = (policies : List PolicyNumbers) (past : List Decided) (rejec
 -- an offer of another tier, whatever becomes of it, leaves the requests of this tier as they were, and with them each
 -- credit, rate, sample and control of this tier
 abbrev pub OtherTiersLeave : Type 0
-OtherTiersLeave = (policies : List PolicyNumbers) (offers : List Offer) (offer : Offer) (tier : ℕ) → (offer.tier ≡ tier → ⊥)
+OtherTiersLeave = (policies : List PolicyNumbers) (offers : List Offer) (offer : Offer) (tier : ℕ)
+    → (offer.tier ≡ tier → ⊥)
     → of_tier tier (decided policies (offers ++ offer ∷ [])) ≡ of_tier tier (decided policies offers)
 
 -- each rate lies between the least and the greatest

@@ -5,7 +5,7 @@ use Rattle.std.proofs.lemmas.List.Sums.{sum_by-cons}
 use Rattle.std.specs.Prelude.{map, IfOk, MatchResult, Result, Ok, Err}
 use Rattle.std.specs.List.{AllZip}
 use Rattle.std.specs.declared.alloc.AllocError.{AllocError}
-use Rattle.arrivals.specs.Places.{IsCutOf, Place, CanRead}
+use Rattle.arrivals.specs.SeatStates.{IsCutOf, SeatState, CanRead}
 use Rattle.http_requests.specs.declared.messages.Message.{Message}
 use Rattle.arrivals.specs.Connections.{HasRead, HasRoom}
 use Rattle.arrivals.specs.Batches.{Reads, ReadsOn}
@@ -58,7 +58,7 @@ match_ok (Ok v) P Q R f h = f v h
 match_ok (Err e) P Q R f h = tt
 
 -- a connection without a piece stays as it is
-pub nothing_cut : (p : Place) → p.pieces ≡ [] → p.lists ≡ [] → IsCutOf p p
+pub nothing_cut : (p : SeatState) → p.pieces ≡ [] → p.lists ≡ [] → IsCutOf p p
 nothing_cut p none fresh = record { reads = rw (none, fresh) refl; done = none }
 
 pub no_items : {A : Type 0} (xs : List A) → length xs ≡ 0 → xs ≡ []

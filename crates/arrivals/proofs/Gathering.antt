@@ -12,7 +12,7 @@ use Rattle.std.proofs.lemmas.List.Sums.{sum_by-append, sum_by-cons}
 use Rattle.captures.specs.Reference.{IsRecord, max_piece_bytes}
 use Rattle.captures.specs.Captures.{size_of, sizes_of}
 use Rattle.arrivals.specs.Gathering.{with_pieces, Adds, AddsOne, as_piece, piece_count}
-use Rattle.arrivals.specs.Places.{Place, place_at, with_piece}
+use Rattle.arrivals.specs.SeatStates.{SeatState, seat_at, with_piece}
 use Rattle.arrivals.proofs.Arriving.{if_true, if_false}
 use Rattle.arrivals.proofs.Merging.{tiers_piece, tiers_end, tiers_tier}
 
@@ -21,13 +21,13 @@ pub gave_some : (v : Version) (text now : Option (List ℕ)) (start : ℕ) (reco
     → Gave v text start records (Ok x) p now → ReaderAfter v text start (records ++ r ∷ []) p now
 gave_some v text now start records p x r is h = subst (λ (o : Option Record). Gave v text start records (Ok o) p now) is h
 
-abbrev holding : Place → List (List ℕ) → Place
+abbrev holding : SeatState → List (List ℕ) → SeatState
 holding p pieces = record { connection = p.connection; pieces = pieces; lists = p.lists }
 
-pub adds_none : (places : List Place) → Adds [] places places
-adds_none places = λ c. sym (ap (holding (place_at places c)) (append-nil (place_at places c).pieces))
+pub adds_none : (places : List SeatState) → Adds [] places places
+adds_none places = λ c. sym (ap (holding (seat_at places c)) (append-nil (seat_at places c).pieces))
 
-pub adds_end : (tick conn : ℕ) (r : Record) (places : List Place) → r ≡ End tick conn → AddsOne r places places
+pub adds_end : (tick conn : ℕ) (r : Record) (places : List SeatState) → r ≡ End tick conn → AddsOne r places places
 adds_end tick conn r places is = rw is (adds_none places)
 
 pieces_push : (c : ℕ) (rs : List Record) (r : Record) → pieces_to c (rs ++ r ∷ []) ≡ pieces_to c rs ++ pieces_to c (r ∷ [])
@@ -40,7 +40,7 @@ pieces_push c (Piece tick conn bytes ∷ rs) r = go (conn == c) (pieces_push c r
 pieces_push c (End tick conn ∷ rs) r = pieces_push c rs r
 pieces_push c (Tier conn tier ∷ rs) r = pieces_push c rs r
 
-pub adds_tier : (conn tier : ℕ) (r : Record) (places : List Place) → r ≡ Tier conn tier → AddsOne r places places
+pub adds_tier : (conn tier : ℕ) (r : Record) (places : List SeatState) → r ≡ Tier conn tier → AddsOne r places places
 adds_tier conn tier r places is = rw is (adds_none places)
 
 origins_from : (tiers : ℕ → ℕ) (records rs : List Record) (r : Record) → tiers ≡ tiers_of records
@@ -59,16 +59,16 @@ origins_from tiers records (Tier conn tier ∷ rs) r are =
 pub origins_push : (records rs : List Record) (r : Record) → origins_of (tiers_of records) (rs ++ r ∷ []) ≡ origins_of (tiers_of records) rs ++ origins_of (tiers_of (records ++ rs)) (r ∷ [])
 origins_push records rs r = origins_from (tiers_of records) records rs r refl
 
-pub adds_more : (rs : List Record) (r : Record) (old mid new : List Place) → Adds rs old mid → AddsOne r mid new → Adds (rs ++ r ∷ []) old new
+pub adds_more : (rs : List Record) (r : Record) (old mid new : List SeatState) → Adds rs old mid → AddsOne r mid new → Adds (rs ++ r ∷ []) old new
 adds_more rs r old mid new first second = λ c.
     second c ∙ ap (λ p. with_pieces p (pieces_to c (r ∷ []))) (first c)
-    ∙ ap (holding (place_at old c)) (append_assoc (place_at old c).pieces (pieces_to c rs) (pieces_to c (r ∷ [])) ∙ ap (λ xs. (place_at old c).pieces ++ xs) (sym (pieces_push c rs r)))
+    ∙ ap (holding (seat_at old c)) (append_assoc (seat_at old c).pieces (pieces_to c rs) (pieces_to c (r ∷ [])) ∙ ap (λ xs. (seat_at old c).pieces ++ xs) (sym (pieces_push c rs r)))
 
-pub adds_piece : (tick conn n : ℕ) (bytes piece : List ℕ) (r : Record) (old new : List Place) → r ≡ Piece tick conn bytes → n ≡ conn → piece ≡ bytes
-    → place_at new n ≡ with_piece piece (place_at old n) → ((c : ℕ) → c ≢ n → place_at new c ≡ place_at old c) → AddsOne r old new
+pub adds_piece : (tick conn n : ℕ) (bytes piece : List ℕ) (r : Record) (old new : List SeatState) → r ≡ Piece tick conn bytes → n ≡ conn → piece ≡ bytes
+    → seat_at new n ≡ with_piece piece (seat_at old n) → ((c : ℕ) → c ≢ n → seat_at new c ≡ seat_at old c) → AddsOne r old new
 adds_piece tick conn n bytes piece r old new is named same own others = rw is (λ c. elim (eqb_tells conn c) [
   | inl e ↦ rw (if_true (conn == c) (bytes ∷ []) [] e.0, ← e.1) (rw (named, same) at own)
-  | inr e ↦ rw (if_false (conn == c) (bytes ∷ []) [] e.0, append-nil (place_at old c).pieces) (others c (λ s. e.1 (sym (s ∙ named))))
+  | inr e ↦ rw (if_false (conn == c) (bytes ∷ []) [] e.0, append-nil (seat_at old c).pieces) (others c (λ s. e.1 (sym (s ∙ named))))
 ])
 
 -- one more record: how many pieces there are then, and how many bytes of them

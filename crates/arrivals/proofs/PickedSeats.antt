@@ -6,7 +6,7 @@ use Rattle.std.proofs.lemmas.List.{length-set, get_or-set_same, get_or-set_other
 use Rattle.std.proofs.lemmas.List.Elements.{All-nil, All-head, All-tail, All-cons, All-push, All-weaker, All-get_or, Contains-append_left, Contains-push, Contains-push_cases}
 use Rattle.std.proofs.lemmas.Map.Made.{Contains-tail}
 use Rattle.std.specs.Prelude.{IsTrue}
-use Rattle.arrivals.specs.Places.{Place, place_at, empty_place, IsReady, IsCutOf}
+use Rattle.arrivals.specs.SeatStates.{SeatState, seat_at, empty_seat, IsReady, IsCutOf}
 use Rattle.arrivals.specs.Noted.{AreNoted, with_noted}
 use Rattle.arrivals.specs.Picking.{IsPickedOf, picks_of, TakesOut, IsCut, with_picked}
 use Rattle.arrivals.specs.declared.picked.Picked.{Picked}
@@ -16,16 +16,16 @@ contains_none : (c : ℕ) → Contains [] c → ⊥
 contains_none c h = let lt = h.1 in omega (arith, lt)
 
 -- a place of the list, where another seat was put into it
-at_set : (places : List Place) (k : ℕ) (p : Place) (c : ℕ) → k < length places
-    → ((c ≡ k) × (place_at (set places k p) c ≡ p)) ⊎ ((c ≢ k) × (place_at (set places k p) c ≡ place_at places c))
+at_set : (places : List SeatState) (k : ℕ) (p : SeatState) (c : ℕ) → k < length places
+    → ((c ≡ k) × (seat_at (set places k p) c ≡ p)) ⊎ ((c ≢ k) × (seat_at (set places k p) c ≡ seat_at places c))
 at_set places k p c lt = elim (cases_eq c k) [
-  | inl e ↦ inl (e, rw e (get_or-set_same places k p empty_place lt))
-  | inr e ↦ inr (e, get_or-set_other places k c p empty_place e)
+  | inl e ↦ inl (e, rw e (get_or-set_same places k p empty_seat lt))
+  | inr e ↦ inr (e, get_or-set_other places k c p empty_seat e)
 ]
 
 -- ---- taking out
 
-pub takes_none : (places : List Place) → TakesOut places [] places []
+pub takes_none : (places : List SeatState) → TakesOut places [] places []
 takes_none places = record {
   len = refl;
   each = All-nil (IsPickedOf places);
@@ -34,7 +34,7 @@ takes_none places = record {
   none = λ c h. absurd (contains_none c h);
 }
 
-takes_stay : (old now : List Place) (noted : List ℕ) (picked : List Picked) (k : ℕ) → length (place_at now k).pieces ≡ 0
+takes_stay : (old now : List SeatState) (noted : List ℕ) (picked : List Picked) (k : ℕ) → length (seat_at now k).pieces ≡ 0
     → TakesOut old noted now picked → TakesOut old (noted ++ k ∷ []) now picked
 takes_stay old now noted picked k empty t = record {
   len = t.len;
@@ -45,15 +45,15 @@ takes_stay old now noted picked k empty t = record {
     | inl m ↦ t.none c m
     | inr e ↦ elim (t.rest c) [
       | inl m ↦ inl m
-      | inr same ↦ inr (ap (λ (p : Place). p.pieces) (sym same) ∙ no_items (place_at now c).pieces (rw (← e) empty))
+      | inr same ↦ inr (ap (λ (p : SeatState). p.pieces) (sym same) ∙ no_items (seat_at now c).pieces (rw (← e) empty))
     ]
   ];
 }
 
-takes_one : (old now : List Place) (noted : List ℕ) (picked : List Picked) (k : ℕ) → k < length old → 0 < length (place_at now k).pieces
-    → TakesOut old noted now picked → TakesOut old (noted ++ k ∷ []) (set now k empty_place) (picked ++ record { conn = k; seat = place_at now k } ∷ [])
+takes_one : (old now : List SeatState) (noted : List ℕ) (picked : List Picked) (k : ℕ) → k < length old → 0 < length (seat_at now k).pieces
+    → TakesOut old noted now picked → TakesOut old (noted ++ k ∷ []) (set now k empty_seat) (picked ++ record { conn = k; seat = seat_at now k } ∷ [])
 takes_one old now noted picked k lt some t = record {
-  len = length-set now k empty_place ∙ t.len;
+  len = length-set now k empty_seat ∙ t.len;
   each = All-push (IsPickedOf old) picked one t.each (record { below = lt; is = same });
   out = out;
   rest = rest;
@@ -61,7 +61,7 @@ takes_one old now noted picked k lt some t = record {
 }
   where
     one : Picked
-    one = record { conn = k; seat = place_at now k }
+    one = record { conn = k; seat = seat_at now k }
 
     within : k < length now
     within = rw t.len lt
@@ -69,9 +69,9 @@ takes_one old now noted picked k lt some t = record {
     picks : picks_of (picked ++ one ∷ []) ≡ picks_of picked ++ k ∷ []
     picks = map-append (λ (p : Picked). p.conn) picked (one ∷ [])
 
-    same : place_at now k ≡ place_at old k
+    same : seat_at now k ≡ seat_at old k
     same = elim (t.rest k) [
-      | inl m ↦ absurd (let z : length (place_at now k).pieces ≡ 0 = ap (λ (p : Place). length p.pieces) (t.out k m) in omega (arith, some, z))
+      | inl m ↦ absurd (let z : length (seat_at now k).pieces ≡ 0 = ap (λ (p : SeatState). length p.pieces) (t.out k m) in omega (arith, some, z))
       | inr e ↦ e
     ]
 
@@ -81,8 +81,8 @@ takes_one old now noted picked k lt some t = record {
     own : (c : ℕ) → c ≡ k → Contains (picks_of (picked ++ one ∷ [])) c
     own c e = rw (picks, e) (Contains-push (picks_of picked) k)
 
-    out : (c : ℕ) → Contains (picks_of (picked ++ one ∷ [])) c → place_at (set now k empty_place) c ≡ empty_place
-    out c h = elim (at_set now k empty_place c within) [
+    out : (c : ℕ) → Contains (picks_of (picked ++ one ∷ [])) c → seat_at (set now k empty_seat) c ≡ empty_seat
+    out c h = elim (at_set now k empty_seat c within) [
       | inl e ↦ e.1
       | inr e ↦ elim (Contains-push_cases (picks_of picked) k c (rw picks at h)) [
         | inl m ↦ e.1 ∙ t.out c m
@@ -90,40 +90,40 @@ takes_one old now noted picked k lt some t = record {
       ]
     ]
 
-    rest : (c : ℕ) → Contains (picks_of (picked ++ one ∷ [])) c ⊎ (place_at (set now k empty_place) c ≡ place_at old c)
-    rest c = elim (at_set now k empty_place c within) [
+    rest : (c : ℕ) → Contains (picks_of (picked ++ one ∷ [])) c ⊎ (seat_at (set now k empty_seat) c ≡ seat_at old c)
+    rest c = elim (at_set now k empty_seat c within) [
       | inl e ↦ inl (own c e.0)
       | inr e ↦ elim (t.rest c) [ inl m ↦ inl (more c m) | inr is ↦ inr (e.1 ∙ is) ]
     ]
 
-    none : (c : ℕ) → Contains (noted ++ k ∷ []) c → Contains (picks_of (picked ++ one ∷ [])) c ⊎ ((place_at old c).pieces ≡ [])
+    none : (c : ℕ) → Contains (noted ++ k ∷ []) c → Contains (picks_of (picked ++ one ∷ [])) c ⊎ ((seat_at old c).pieces ≡ [])
     none c h = elim (Contains-push_cases noted k c h) [
       | inl m ↦ elim (t.none c m) [ inl m' ↦ inl (more c m') | inr e ↦ inr e ]
       | inr e ↦ inl (own c (sym e))
     ]
 
 -- one more noted seat was looked at
-pub takes_next : (old now next : List Place) (noted : List ℕ) (picked further : List Picked) (k : ℕ) → k < length old
-    → (length (place_at now k).pieces ≡ 0 → (next ≡ now) × (further ≡ picked))
-    → (0 < length (place_at now k).pieces → (next ≡ set now k empty_place) × (further ≡ picked ++ record { conn = k; seat = place_at now k } ∷ []))
+pub takes_next : (old now next : List SeatState) (noted : List ℕ) (picked further : List Picked) (k : ℕ) → k < length old
+    → (length (seat_at now k).pieces ≡ 0 → (next ≡ now) × (further ≡ picked))
+    → (0 < length (seat_at now k).pieces → (next ≡ set now k empty_seat) × (further ≡ picked ++ record { conn = k; seat = seat_at now k } ∷ []))
     → TakesOut old noted now picked → TakesOut old (noted ++ k ∷ []) next further
-takes_next old now next noted picked further k lt stays goes t = elim (cases_lt 0 (length (place_at now k).pieces)) [
+takes_next old now next noted picked further k lt stays goes t = elim (cases_lt 0 (length (seat_at now k).pieces)) [
   | inl some ↦ (let is = goes some in rw (is.0, is.1) (takes_one old now noted picked k lt some t))
   | inr none ↦ (let is = stays (omega (arith, none)) in rw (is.0, is.1) (takes_stay old now noted picked k (omega (arith, none)) t))
 ]
 
 -- ---- cutting
 
-pub picked_ready : (old new : List Place) (noted : List ℕ) (picked : List Picked) → All IsReady old → TakesOut old noted new picked → All (λ (p : Picked). IsReady p.seat) picked
+pub picked_ready : (old new : List SeatState) (noted : List ℕ) (picked : List Picked) → All IsReady old → TakesOut old noted new picked → All (λ (p : Picked). IsReady p.seat) picked
 picked_ready old new noted picked ready t =
-    All-weaker (IsPickedOf old) (λ (p : Picked). IsReady p.seat) (λ p h. rw h.is (All-get_or IsReady old p.conn empty_place h.below ready)) picked t.each
+    All-weaker (IsPickedOf old) (λ (p : Picked). IsReady p.seat) (λ p h. rw h.is (All-get_or IsReady old p.conn empty_seat h.below ready)) picked t.each
 
 -- a cut seat of a connection of the list
-record IsCutSeat (places : List Place) (p : Picked) : Type 0 where
+record IsCutSeat (places : List SeatState) (p : Picked) : Type 0 where
   below : p.conn < length places
-  cut : IsCutOf (place_at places p.conn) p.seat
+  cut : IsCutOf (seat_at places p.conn) p.seat
 
-cut_seats : (old : List Place) (picked cuts : List Picked) → AllZip IsCut picked cuts → All (IsPickedOf old) picked → All (IsCutSeat old) cuts
+cut_seats : (old : List SeatState) (picked cuts : List Picked) → AllZip IsCut picked cuts → All (IsPickedOf old) picked → All (IsCutSeat old) cuts
 cut_seats old [] [] h each = All-nil (IsCutSeat old)
 cut_seats old [] (q ∷ cuts) h each = absurd h
 cut_seats old (p ∷ picked) [] h each = absurd h
@@ -138,53 +138,53 @@ same_picks [] (q ∷ cuts) h = absurd h
 same_picks (p ∷ picked) [] h = absurd h
 same_picks (p ∷ picked) (q ∷ cuts) h = rw (h.0.conn, same_picks picked cuts h.1) refl
 
-pub cuts_below : (old new : List Place) (noted : List ℕ) (picked cuts : List Picked) → TakesOut old noted new picked → AllZip IsCut picked cuts → All (λ (p : Picked). p.conn < length new) cuts
+pub cuts_below : (old new : List SeatState) (noted : List ℕ) (picked cuts : List Picked) → TakesOut old noted new picked → AllZip IsCut picked cuts → All (λ (p : Picked). p.conn < length new) cuts
 cuts_below old new noted picked cuts t h =
     All-weaker (IsCutSeat old) (λ (p : Picked). p.conn < length new) (λ p own. rw t.len own.below) cuts (cut_seats old picked cuts h t.each)
 
 -- ---- putting back
 
-length_back : (places : List Place) (cuts : List Picked) → length (with_picked places cuts) ≡ length places
+length_back : (places : List SeatState) (cuts : List Picked) → length (with_picked places cuts) ≡ length places
 length_back places [] = refl
 length_back places (p ∷ cuts) = length_back (set places p.conn p.seat) cuts ∙ length-set places p.conn p.seat
 
-back_at : (old now : List Place) (cuts : List Picked) (c : ℕ) → length now ≡ length old → All (IsCutSeat old) cuts
-    → IsCutOf (place_at old c) (place_at now c) ⊎ Contains (picks_of cuts) c → IsCutOf (place_at old c) (place_at (with_picked now cuts) c)
+back_at : (old now : List SeatState) (cuts : List Picked) (c : ℕ) → length now ≡ length old → All (IsCutSeat old) cuts
+    → IsCutOf (seat_at old c) (seat_at now c) ⊎ Contains (picks_of cuts) c → IsCutOf (seat_at old c) (seat_at (with_picked now cuts) c)
 back_at old now [] c len all (inl h) = h
 back_at old now [] c len all (inr m) = absurd (contains_none c m)
 back_at old now (p ∷ cuts) c len all have =
     let own = All-head (IsCutSeat old) p cuts all in
     let within : p.conn < length now = rw len own.below in
-    let next : IsCutOf (place_at old c) (place_at (set now p.conn p.seat) c) ⊎ Contains (picks_of cuts) c = elim (at_set now p.conn p.seat c within) [
+    let next : IsCutOf (seat_at old c) (seat_at (set now p.conn p.seat) c) ⊎ Contains (picks_of cuts) c = elim (at_set now p.conn p.seat c within) [
       | inl e ↦ inl (rw (e.1, e.0) own.cut)
       | inr e ↦ elim have [ inl h ↦ inl (rw e.1 h) | inr m ↦ inr (Contains-tail p.conn (picks_of cuts) c (λ is. e.0 (sym is)) m) ]
     ] in
     back_at old (set now p.conn p.seat) cuts c (length-set now p.conn p.seat ∙ len) (All-tail (IsCutSeat old) p cuts all) next
 
-fresh_at : (places : List Place) (c : ℕ) → All IsReady places → (place_at places c).lists ≡ []
+fresh_at : (places : List SeatState) (c : ℕ) → All IsReady places → (seat_at places c).lists ≡ []
 fresh_at places c ready = elim (cases_lt c (length places)) [
-  | inl lt ↦ (All-get_or IsReady places c empty_place lt ready).fresh
-  | inr past ↦ rw (get_or_past places c empty_place past) refl
+  | inl lt ↦ (All-get_or IsReady places c empty_seat lt ready).fresh
+  | inr past ↦ rw (get_or_past places c empty_seat past) refl
 ]
 
-zip_at : (old new : List Place) → length new ≡ length old → ((c : ℕ) → IsCutOf (place_at old c) (place_at new c)) → AllZip IsCutOf old new
+zip_at : (old new : List SeatState) → length new ≡ length old → ((c : ℕ) → IsCutOf (seat_at old c) (seat_at new c)) → AllZip IsCutOf old new
 zip_at [] [] len each = tt
 zip_at [] (q ∷ new) len each = absurd (let z : ⊥ = omega (arith, len) in z)
 zip_at (p ∷ old) [] len each = absurd (let z : ⊥ = omega (arith, len) in z)
 zip_at (p ∷ old) (q ∷ new) len each = (each zero, zip_at old new (omega (arith, len)) (λ c. each (suc c)))
 
 -- all seats are cut: those at which pieces wait were taken out, cut and put back, and the others stay as they are
-pub all_back : (old new : List Place) (noted : List ℕ) (picked cuts : List Picked) → AreNoted noted old → All IsReady old
+pub all_back : (old new : List SeatState) (noted : List ℕ) (picked cuts : List Picked) → AreNoted noted old → All IsReady old
     → TakesOut old noted new picked → AllZip IsCut picked cuts → AllZip IsCutOf old (with_picked new cuts)
 all_back old new noted picked cuts are ready t h = zip_at old (with_picked new cuts) (length_back new cuts ∙ t.len) (λ c. back_at old new cuts c t.len (cut_seats old picked cuts h t.each) (have c))
   where
     taken : (c : ℕ) → Contains (picks_of picked) c → Contains (picks_of cuts) c
     taken c m = rw (same_picks picked cuts h) m
 
-    still : (c : ℕ) → place_at new c ≡ place_at old c → (place_at old c).pieces ≡ [] → IsCutOf (place_at old c) (place_at new c)
-    still c same none = rw same (nothing_cut (place_at old c) none (fresh_at old c ready))
+    still : (c : ℕ) → seat_at new c ≡ seat_at old c → (seat_at old c).pieces ≡ [] → IsCutOf (seat_at old c) (seat_at new c)
+    still c same none = rw same (nothing_cut (seat_at old c) none (fresh_at old c ready))
 
-    have : (c : ℕ) → IsCutOf (place_at old c) (place_at new c) ⊎ Contains (picks_of cuts) c
+    have : (c : ℕ) → IsCutOf (seat_at old c) (seat_at new c) ⊎ Contains (picks_of cuts) c
     have c = elim (t.rest c) [
       | inl m ↦ inr (taken c m)
       | inr same ↦ elim (are.each c) [
@@ -194,7 +194,7 @@ all_back old new noted picked cuts are ready t h = zip_at old (with_picked new c
     ]
 
 -- the same, where the list of a vector was lent for taking out and for putting back
-pub cut_list : (n : ℕ) (old taken lent back rest last : List Place) (noted : List ℕ) (picked cuts : List Picked) → length old ≡ n → AreNoted noted old → All IsReady old
+pub cut_list : (n : ℕ) (old taken lent back rest last : List SeatState) (noted : List ℕ) (picked cuts : List Picked) → length old ≡ n → AreNoted noted old → All IsReady old
     → TakesOut old noted taken picked → AllZip IsCut picked cuts → lent ≡ take n (taken ++ rest) → back ≡ with_picked lent cuts → AllZip IsCutOf old (take n (back ++ last))
 cut_list n old taken lent back rest last noted picked cuts len are ready t h given put =
     let now : lent ≡ taken = given ∙ take_at taken rest n (t.len ∙ len) in
@@ -204,7 +204,7 @@ cut_list n old taken lent back rest last noted picked cuts len are ready t h giv
 
 -- ---- noting
 
-none_wait : (old cut : List Place) (c : ℕ) → AllZip IsCutOf old cut → (place_at cut c).pieces ≡ []
+none_wait : (old cut : List SeatState) (c : ℕ) → AllZip IsCutOf old cut → (seat_at cut c).pieces ≡ []
 none_wait [] [] zero h = refl
 none_wait [] [] (suc c) h = refl
 none_wait [] (q ∷ cut) c h = absurd h
@@ -213,11 +213,11 @@ none_wait (p ∷ old) (q ∷ cut) zero h = h.0.done
 none_wait (p ∷ old) (q ∷ cut) (suc c) h = none_wait old cut c h.1
 
 -- pieces wait at a place
-abbrev Waits : List Place → ℕ → Type 0
-Waits places k = 0 < length (place_at places k).pieces
+abbrev Waits : List SeatState → ℕ → Type 0
+Waits places k = 0 < length (seat_at places k).pieces
 
 -- nothing waits at seats that were cut
-pub none_noted : (old cut : List Place) → AllZip IsCutOf old cut → AreNoted [] cut
+pub none_noted : (old cut : List SeatState) → AllZip IsCutOf old cut → AreNoted [] cut
 none_noted old cut h = record {
   below = All-nil (λ (k : ℕ). k < length cut);
   waits = All-nil (Waits cut);
@@ -225,59 +225,59 @@ none_noted old cut h = record {
 }
 
 -- the list is longer
-pub noted_longer : (noted : List ℕ) (old new : List Place) → length old ≤ length new → ((c : ℕ) → place_at new c ≡ place_at old c) → AreNoted noted old → AreNoted noted new
+pub noted_longer : (noted : List ℕ) (old new : List SeatState) → length old ≤ length new → ((c : ℕ) → seat_at new c ≡ seat_at old c) → AreNoted noted old → AreNoted noted new
 noted_longer noted old new le same are = record {
   below = All-weaker (λ (k : ℕ). k < length old) (λ (k : ℕ). k < length new) (λ k lt. omega (arith, lt, le)) noted are.below;
   waits = All-weaker (Waits old) (Waits new) (λ k some. rw (same k) some) noted are.waits;
-  each = λ c. elim (are.each c) [ inl m ↦ inl m | inr none ↦ inr (ap (λ (p : Place). p.pieces) (same c) ∙ none) ];
+  each = λ c. elim (are.each c) [ inl m ↦ inl m | inr none ↦ inr (ap (λ (p : SeatState). p.pieces) (same c) ∙ none) ];
 }
 
-below_set : (noted : List ℕ) (places : List Place) (k : ℕ) (p : Place) → All (λ (i : ℕ). i < length places) noted → All (λ (i : ℕ). i < length (set places k p)) noted
+below_set : (noted : List ℕ) (places : List SeatState) (k : ℕ) (p : SeatState) → All (λ (i : ℕ). i < length places) noted → All (λ (i : ℕ). i < length (set places k p)) noted
 below_set noted places k p below =
     All-weaker (λ (i : ℕ). i < length places) (λ (i : ℕ). i < length (set places k p)) (λ i small. rw (length-set places k p) small) noted below
 
-waits_set : (noted : List ℕ) (places : List Place) (k : ℕ) (p : Place) → k < length places → 0 < length p.pieces → All (Waits places) noted → All (Waits (set places k p)) noted
+waits_set : (noted : List ℕ) (places : List SeatState) (k : ℕ) (p : SeatState) → k < length places → 0 < length p.pieces → All (Waits places) noted → All (Waits (set places k p)) noted
 waits_set noted places k p lt some waits = All-weaker (Waits places) (Waits (set places k p)) (λ c own. elim (at_set places k p c lt) [
   | inl e ↦ rw e.1 some
   | inr e ↦ rw e.1 own
 ]) noted waits
 
 -- a piece came to a seat that is noted
-pub noted_set : (noted : List ℕ) (places : List Place) (k : ℕ) (p : Place) → k < length places → 0 < length p.pieces → Contains noted k → AreNoted noted places → AreNoted noted (set places k p)
+pub noted_set : (noted : List ℕ) (places : List SeatState) (k : ℕ) (p : SeatState) → k < length places → 0 < length p.pieces → Contains noted k → AreNoted noted places → AreNoted noted (set places k p)
 noted_set noted places k p lt some m are = record {
   below = below_set noted places k p are.below;
   waits = waits_set noted places k p lt some are.waits;
   each = λ c. elim (at_set places k p c lt) [
     | inl e ↦ inl (rw e.0 m)
-    | inr e ↦ elim (are.each c) [ inl h ↦ inl h | inr none ↦ inr (ap (λ (q : Place). q.pieces) e.1 ∙ none) ]
+    | inr e ↦ elim (are.each c) [ inl h ↦ inl h | inr none ↦ inr (ap (λ (q : SeatState). q.pieces) e.1 ∙ none) ]
   ];
 }
 
 -- a piece came to a seat, which was noted then
-pub noted_new : (noted : List ℕ) (places : List Place) (k : ℕ) (p : Place) → k < length places → 0 < length p.pieces → AreNoted noted places → AreNoted (noted ++ k ∷ []) (set places k p)
+pub noted_new : (noted : List ℕ) (places : List SeatState) (k : ℕ) (p : SeatState) → k < length places → 0 < length p.pieces → AreNoted noted places → AreNoted (noted ++ k ∷ []) (set places k p)
 noted_new noted places k p lt some are = record {
   below = All-push (λ (i : ℕ). i < length (set places k p)) noted k (below_set noted places k p are.below) (rw (length-set places k p) lt);
-  waits = All-push (Waits (set places k p)) noted k (waits_set noted places k p lt some are.waits) (rw (get_or-set_same places k p empty_place lt) some);
+  waits = All-push (Waits (set places k p)) noted k (waits_set noted places k p lt some are.waits) (rw (get_or-set_same places k p empty_seat lt) some);
   each = λ c. elim (at_set places k p c lt) [
     | inl e ↦ inl (rw e.0 (Contains-push noted k))
     | inr e ↦ elim (are.each c) [
       | inl h ↦ inl (Contains-append_left noted (k ∷ []) c h)
-      | inr none ↦ inr (ap (λ (q : Place). q.pieces) e.1 ∙ none)
+      | inr none ↦ inr (ap (λ (q : SeatState). q.pieces) e.1 ∙ none)
     ]
   ];
 }
 
 -- the same pieces wait at a seat
-pub noted_kept : (noted : List ℕ) (places : List Place) (k : ℕ) (p : Place) → k < length places → (place_at places k).pieces ≡ p.pieces → AreNoted noted places → AreNoted noted (set places k p)
+pub noted_kept : (noted : List ℕ) (places : List SeatState) (k : ℕ) (p : SeatState) → k < length places → (seat_at places k).pieces ≡ p.pieces → AreNoted noted places → AreNoted noted (set places k p)
 noted_kept noted places k p lt same are = record {
   below = below_set noted places k p are.below;
   waits = All-weaker (Waits places) (Waits (set places k p)) kept noted are.waits;
   each = λ c. elim (at_set places k p c lt) [
     | inl e ↦ elim (are.each c) [
       | inl h ↦ inl h
-      | inr none ↦ inr (ap (λ (q : Place). q.pieces) e.1 ∙ sym same ∙ ap (λ (i : ℕ). (place_at places i).pieces) (sym e.0) ∙ none)
+      | inr none ↦ inr (ap (λ (q : SeatState). q.pieces) e.1 ∙ sym same ∙ ap (λ (i : ℕ). (seat_at places i).pieces) (sym e.0) ∙ none)
     ]
-    | inr e ↦ elim (are.each c) [ inl h ↦ inl h | inr none ↦ inr (ap (λ (q : Place). q.pieces) e.1 ∙ none) ]
+    | inr e ↦ elim (are.each c) [ inl h ↦ inl h | inr none ↦ inr (ap (λ (q : SeatState). q.pieces) e.1 ∙ none) ]
   ];
 }
   where
@@ -288,14 +288,14 @@ noted_kept noted places k p lt same are = record {
     ]
 
 -- a seat at which pieces wait is noted already
-pub is_noted : (noted : List ℕ) (places : List Place) (k : ℕ) → 0 < length (place_at places k).pieces → AreNoted noted places → Contains noted k
+pub is_noted : (noted : List ℕ) (places : List SeatState) (k : ℕ) → 0 < length (seat_at places k).pieces → AreNoted noted places → Contains noted k
 is_noted noted places k some are = elim (are.each k) [
   | inl m ↦ m
-  | inr none ↦ absurd (let z : length (place_at places k).pieces ≡ 0 = ap length none in omega (arith, some, z))
+  | inr none ↦ absurd (let z : length (seat_at places k).pieces ≡ 0 = ap length none in omega (arith, some, z))
 ]
 
 -- a piece came to a seat, which is noted from then on
-pub noted_piece : (noted : List ℕ) (places : List Place) (k : ℕ) (p : Place) (waited : Bool) → k < length places → 0 < length p.pieces
-    → (IsTrue waited ↔ (0 < length (place_at places k).pieces)) → AreNoted noted places → AreNoted (with_noted k waited noted) (set places k p)
+pub noted_piece : (noted : List ℕ) (places : List SeatState) (k : ℕ) (p : SeatState) (waited : Bool) → k < length places → 0 < length p.pieces
+    → (IsTrue waited ↔ (0 < length (seat_at places k).pieces)) → AreNoted noted places → AreNoted (with_noted k waited noted) (set places k p)
 noted_piece noted places k p true lt some is are = noted_set noted places k p lt some (is_noted noted places k (is.0 refl) are) are
 noted_piece noted places k p false lt some is are = noted_new noted places k p lt some are

@@ -9,19 +9,19 @@ use Rattle.captures.specs.Captures.{sizes_of}
 use Rattle.captures.specs.CaptureFaults.{failures_of}
 use Rattle.captures.specs.Readers.{ReaderAfter, Gave, FailsNext}
 use Rattle.arrivals.specs.Batches.{pieces_to}
-use Rattle.arrivals.specs.Places.{Place, place_at}
+use Rattle.arrivals.specs.SeatStates.{SeatState, seat_at}
 use Rattle.arrivals.specs.declared.batch.Ending.{Ending}
 use Rattle.arrivals.specs.declared.batch.Ending.TheVariants.{More, End, Fault}
 
 -- a seat with more pieces after those that wait
-abbrev pub with_pieces : Place → List (List ℕ) → Place
+abbrev pub with_pieces : SeatState → List (List ℕ) → SeatState
 with_pieces p pieces = record { connection = p.connection; pieces = p.pieces ++ pieces; lists = p.lists }
 
 -- these records, in a batch: each seat has the pieces that they bring to its connection after its own
-abbrev pub Adds : List Record → List Place → List Place → Type 0
-Adds rs old new = (c : ℕ) → place_at new c ≡ with_pieces (place_at old c) (pieces_to c rs)
+abbrev pub Adds : List Record → List SeatState → List SeatState → Type 0
+Adds rs old new = (c : ℕ) → seat_at new c ≡ with_pieces (seat_at old c) (pieces_to c rs)
 
-abbrev pub AddsOne : Record → List Place → List Place → Type 0
+abbrev pub AddsOne : Record → List SeatState → List SeatState → Type 0
 AddsOne r old new = Adds (r ∷ []) old new
 
 -- the reader has given these records, and after them what the ending says

@@ -4,6 +4,6 @@ pub mod Gathering
 pub mod Laws
 pub mod Noted
 pub mod Picking
-pub mod Places
+pub mod SeatStates
 pub mod Reference
 pub mod Tiers

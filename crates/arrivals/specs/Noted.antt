@@ -1,13 +1,13 @@
 -- The seats at which pieces wait, noted by the numbers of their connections.
 use Rattle.std.specs.Prelude.{◌≡◌, ℕ, ◌<◌, ◌⊎◌, List, [], ◌∷◌, ◌++◌, length, All, Bool, if◌then◌else◌}
 use Rattle.std.specs.List.{Contains}
-use Rattle.arrivals.specs.Places.{Place, place_at}
+use Rattle.arrivals.specs.SeatStates.{SeatState, seat_at}
 
 -- just the places at which pieces wait are noted
-pub record AreNoted (noted : List ℕ) (places : List Place) : Type 0 where
+pub record AreNoted (noted : List ℕ) (places : List SeatState) : Type 0 where
   pub below : All (λ k. k < length places) noted
-  pub waits : All (λ k. 0 < length (place_at places k).pieces) noted
-  pub each : (c : ℕ) → Contains noted c ⊎ ((place_at places c).pieces ≡ [])
+  pub waits : All (λ k. 0 < length (seat_at places k).pieces) noted
+  pub each : (c : ℕ) → Contains noted c ⊎ ((seat_at places c).pieces ≡ [])
 
 -- a place is noted, where no piece waited there before
 abbrev pub with_noted : ℕ → Bool → List ℕ → List ℕ

@@ -9,7 +9,7 @@ ghost use Rattle.captures.specs.Captures.{size_of};
 ghost use Rattle.captures.specs.Readers.{ReaderAfter};
 ghost use Rattle.captures.specs.Shown.{progress_of, device_of, loan_of};
 ghost use Rattle.captures.specs.declared.record.Record.{Record as ARecord};
-ghost use Rattle.captures.specs.declared.progress.Stage.TheVariants.{Reading};
+ghost use Rattle.captures.specs.declared.progress.ReaderState.TheVariants.{Reading};
 ghost use Rattle.arrivals.specs.Batches.{origins_of, tiers_of};
 ghost use Rattle.arrivals.specs.Tiers.{AreTiers};
 ghost use Rattle.arrivals.specs.Gathering.{AddsOne, Adds, ReadOn, CountsEnding, IfMore, HasSize, as_piece};

@@ -2,7 +2,7 @@
 
 ghost use Rattle.std.specs.Prelude.{◌≡◌, ◌<◌, ◌++◌, ◌∷◌, [], length, slice_set, All, IfOk, OnOk};
 ghost use Rattle.std.specs.List.{AllZip};
-ghost use Rattle.arrivals.specs.Places.{place_at, empty_place, IsReady};
+ghost use Rattle.arrivals.specs.SeatStates.{seat_at, empty_seat, IsReady};
 ghost use Rattle.arrivals.specs.Picking.{IsCut, TakesOut, with_picked};
 
 use crate::seat::Seat;
@@ -33,11 +33,11 @@ impl Picked {
 /// Takes a seat out of the list where pieces wait at it.
 fn pick_one(list: &mut [Seat], conn: usize, picked: &mut Vec<Picked>) -> Result<(), AllocError>
     requires { conn < length list.old }
-    ensures stays { OnOk result (length (place_at list.old conn).pieces ≡ 0
+    ensures stays { OnOk result (length (seat_at list.old conn).pieces ≡ 0
         → (list.new ≡ list.old) × (picked.new.items ≡ picked.old.items)) }
-    ensures goes { OnOk result (0 < length (place_at list.old conn).pieces
-        → (list.new ≡ slice_set list.old conn empty_place)
-        × (picked.new.items ≡ picked.old.items ++ record { conn = conn; seat = place_at list.old conn } ∷ [])) }
+    ensures goes { OnOk result (0 < length (seat_at list.old conn).pieces
+        → (list.new ≡ slice_set list.old conn empty_seat)
+        × (picked.new.items ≡ picked.old.items ++ record { conn = conn; seat = seat_at list.old conn } ∷ [])) }
 {
     if list[conn].waits() {
         let seat = mem::replace(&mut list[conn], Seat::new());

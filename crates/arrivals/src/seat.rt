@@ -2,7 +2,7 @@
 
 ghost use Rattle.std.specs.Prelude.{◌≡◌, ◌<◌, ◌↔◌, [], ◌∷◌, length, IsTrue, IfOk, OnOk, OnErr};
 ghost use Rattle.arrivals.specs.Batches.{ReadsOn};
-ghost use Rattle.arrivals.specs.Places.{empty_place, with_piece, with_lists, CanRead, IsReady, IsCutOf};
+ghost use Rattle.arrivals.specs.SeatStates.{empty_seat, with_piece, with_lists, CanRead, IsReady, IsCutOf};
 
 use crate::Series;
 use crate::connections::Connection;
@@ -23,9 +23,9 @@ struct Taken {
 }
 
 impl Model for Taken {
-    ghost use Rattle.arrivals.specs.Places.{Place};
+    ghost use Rattle.arrivals.specs.SeatStates.{SeatState};
 
-    ghost Value = { Place };
+    ghost Value = { SeatState };
 
     ghost view = { λ s. record { connection = s.connection; pieces = s.pieces; lists = s.lists } };
 }
@@ -33,7 +33,7 @@ impl Model for Taken {
 impl Taken {
     /// A connection of which nothing came yet.
     fn new() -> Taken
-        ensures { result ≡ empty_place }
+        ensures { result ≡ empty_seat }
     {
         Taken {
             connection: Connection::Silent,
@@ -105,17 +105,17 @@ pub struct Seat {
 
 impl Model for Seat {
     ghost use Rattle.std.specs.Option.{option_map_or};
-    ghost use Rattle.arrivals.specs.Places.{Place, empty_place};
+    ghost use Rattle.arrivals.specs.SeatStates.{SeatState, empty_seat};
 
-    ghost Value = { Place };
+    ghost Value = { SeatState };
 
-    ghost view = { λ s. option_map_or (λ b. b.value) s.taken empty_place };
+    ghost view = { λ s. option_map_or (λ b. b.value) s.taken empty_seat };
 }
 
 impl Seat {
     /// A connection of which nothing came yet.
     pub(crate) fn new() -> Seat
-        ensures { result ≡ empty_place }
+        ensures { result ≡ empty_seat }
     {
         Seat { taken: None }
     }

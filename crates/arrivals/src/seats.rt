@@ -5,7 +5,7 @@ ghost use Rattle.std.specs.Prelude.{vec_len, vec_capacity};
 ghost use Rattle.std.specs.List.{AllZip};
 ghost use Rattle.arrivals.specs.Batches.{lists_to};
 ghost use Rattle.arrivals.specs.Noted.{with_noted};
-ghost use Rattle.arrivals.specs.Places.{place_at, with_piece, with_lists, IsReady, IsCutOf, count_to};
+ghost use Rattle.arrivals.specs.SeatStates.{seat_at, with_piece, with_lists, IsReady, IsCutOf, count_to};
 
 use crate::Series;
 use crate::incoming::{Origin, PieceMessages};
@@ -38,10 +38,10 @@ pub struct Seats {
 
 impl Model for Seats {
     ghost use Rattle.std.specs.Prelude.{List};
-    ghost use Rattle.arrivals.specs.Places.{Place};
+    ghost use Rattle.arrivals.specs.SeatStates.{SeatState};
     ghost use Rattle.arrivals.specs.Noted.{AreNoted};
 
-    ghost Value = { List Place };
+    ghost Value = { List SeatState };
 
     ghost view = { λ s. s.list.items };
 
@@ -52,7 +52,7 @@ impl Model for Seats {
 fn reach(list: &mut Vec<Seat>, conn: usize) -> Result<(), AllocError>
     ensures place { OnOk result (conn < length list.new.items) }
     ensures longer { length list.old.items ≤ length list.new.items }
-    ensures same { (c : ℕ) → place_at list.new.items c ≡ place_at list.old.items c }
+    ensures same { (c : ℕ) → seat_at list.new.items c ≡ seat_at list.old.items c }
 {
     while list.len() <= conn {
         list.push(Seat::new())?;
@@ -85,9 +85,9 @@ impl Seats {
 
     /// A piece came on a connection. It is noted once the piece waits there.
     pub fn add(&mut self, alloc: Global, conn: usize, piece: Bytes) -> Result<(), AllocError>
-        ensures own { OnOk result (place_at self.new conn ≡ with_piece piece (place_at self.old conn)) }
-        ensures others { OnOk result ((c : ℕ) → c ≢ conn → place_at self.new c ≡ place_at self.old c) }
-        ensures err { OnErr result ((c : ℕ) → place_at self.new c ≡ place_at self.old c) }
+        ensures own { OnOk result (seat_at self.new conn ≡ with_piece piece (seat_at self.old conn)) }
+        ensures others { OnOk result ((c : ℕ) → c ≢ conn → seat_at self.new c ≡ seat_at self.old c) }
+        ensures err { OnErr result ((c : ℕ) → seat_at self.new c ≡ seat_at self.old c) }
     {
         reach(&mut self.list, conn)?;
         self.noted.reserve(1)?;
@@ -127,10 +127,10 @@ impl Seats {
 
     /// The messages that end in the next piece of a connection.
     fn next(&mut self, conn: usize) -> Series<Message>
-        requires { 0 < length (place_at self.old conn).lists }
-        ensures own { place_at self.old conn
-            ≡ with_lists (result ∷ (place_at self.new conn).lists) (place_at self.new conn) }
-        ensures others { (c : ℕ) → c ≢ conn → place_at self.new c ≡ place_at self.old c }
+        requires { 0 < length (seat_at self.old conn).lists }
+        ensures own { seat_at self.old conn
+            ≡ with_lists (result ∷ (seat_at self.new conn).lists) (seat_at self.new conn) }
+        ensures others { (c : ℕ) → c ≢ conn → seat_at self.new c ≡ seat_at self.old c }
     {
         self.list[conn].next()
     }
@@ -141,11 +141,11 @@ impl Seats {
         alloc: Global,
         origins: &[Origin],
     ) -> Result<Vec<PieceMessages>, AllocError>
-        requires { (c : ℕ) → length (place_at self.old c).lists ≡ count_to c origins.now }
+        requires { (c : ℕ) → length (seat_at self.old c).lists ≡ count_to c origins.now }
         ensures origins { IfOk result (λ found. map (λ p. p.origin) found.items ≡ origins.now) }
         ensures found { IfOk result (λ found. (c : ℕ)
-            → (place_at self.old c).lists ≡ lists_to c origins.now (map (λ p. p.messages) found.items)) }
-        ensures seats { OnOk result ((c : ℕ) → place_at self.new c ≡ with_lists [] (place_at self.old c)) }
+            → (seat_at self.old c).lists ≡ lists_to c origins.now (map (λ p. p.messages) found.items)) }
+        ensures seats { OnOk result ((c : ℕ) → seat_at self.new c ≡ with_lists [] (seat_at self.old c)) }
     {
         let mut found = Vec::with_capacity(alloc, origins.len())?;
         for origin in origins {

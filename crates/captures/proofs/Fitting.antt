@@ -19,7 +19,7 @@ use Rattle.captures.specs.Readers.{seen, after, ReaderAfter}
 use Rattle.captures.specs.declared.record.Record.{Record}
 use Rattle.captures.specs.declared.record.Record.TheVariants.{Piece, End, Tier}
 use Rattle.captures.specs.declared.so_far.SoFar.{SoFar}
-use Rattle.captures.specs.declared.progress.Stage.TheVariants.{Reading}
+use Rattle.captures.specs.declared.progress.ReaderState.TheVariants.{Reading}
 use Rattle.captures.specs.declared.progress.Progress.{Progress}
 use Rattle.captures.specs.declared.capture_fault.CaptureFaultKind.{CaptureFaultKind}
 use Rattle.captures.proofs.Lines.{header_inverse}

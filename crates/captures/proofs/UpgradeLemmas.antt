@@ -19,14 +19,14 @@ use Rattle.captures.specs.Reference.{first_line, last_line, record_text, text_be
 use Rattle.captures.specs.CaptureFaults.{IsForeseen, IsHeaderFault, failures_of}
 use Rattle.captures.specs.Readers.{ReaderAfter, Gave, FailsFirst, FailsNext}
 use Rattle.captures.proofs.PassLemmas.{reads_of, faults_next}
-use Rattle.captures.specs.Upgrades.{Upgrades, Stops, IsCutShort, Leaves, told_as, upgrade_fault, IsWriteOrMemory, reader_failures, writer_failures}
+use Rattle.captures.specs.Upgrades.{Upgrades, Stops, IsCutShort, Leaves, reported_as, upgrade_fault, IsWriteOrMemory, reader_failures, writer_failures}
 
 -- ---- what is told of a capture's fault
 
 tells : (f : CaptureFault) → ((f.kind ≡ kinds.Memory) × (upgrade_fault f ≡ Memory)) ⊎ ((f.kind ≡ kinds.Memory → ⊥) × (upgrade_fault f ≡ Capture f))
 tells f = go f.kind refl
   where
-    go : (k : CaptureFaultKind) → f.kind ≡ k → ((f.kind ≡ kinds.Memory) × (told_as k f ≡ Memory)) ⊎ ((f.kind ≡ kinds.Memory → ⊥) × (told_as k f ≡ Capture f))
+    go : (k : CaptureFaultKind) → f.kind ≡ k → ((f.kind ≡ kinds.Memory) × (reported_as k f ≡ Memory)) ⊎ ((f.kind ≡ kinds.Memory → ⊥) × (reported_as k f ≡ Capture f))
     go kinds.Cut e = inr ((λ m. let x : kinds.Cut ≡ kinds.Memory = sym e ∙ m in absurd cc), refl)
     go kinds.Header e = inr ((λ m. let x : kinds.Header ≡ kinds.Memory = sym e ∙ m in absurd cc), refl)
     go kinds.Kind e = inr ((λ m. let x : kinds.Kind ≡ kinds.Memory = sym e ∙ m in absurd cc), refl)
@@ -43,8 +43,8 @@ tells f = go f.kind refl
     go kinds.Memory e = inl (e, refl)
 
 -- what stands where the capture has a fault: what is due there, or else a prefix of what is due
-pub leaves_told : (input ahead old new : Option (List ℕ)) (f : CaptureFault) → Stops input ahead old new f → IsCutShort input old new → Leaves input ahead old new (upgrade_fault f)
-leaves_told input ahead old new f stops cut = elim (tells f) [
+pub leaves_reported : (input ahead old new : Option (List ℕ)) (f : CaptureFault) → Stops input ahead old new f → IsCutShort input old new → Leaves input ahead old new (upgrade_fault f)
+leaves_reported input ahead old new f stops cut = elim (tells f) [
   | inl m ↦ subst (λ (u : UpgradeFault). Leaves input ahead old new u) (sym m.1) cut
   | inr c ↦ subst (λ (u : UpgradeFault). Leaves input ahead old new u) (sym c.1) (c.0, stops)
 ]
@@ -56,14 +56,14 @@ leaves_first input ahead old new f stops other = elim (tells f) [
   | inr c ↦ subst (λ (u : UpgradeFault). Leaves input ahead old new u) (sym c.1) (c.0, stops)
 ]
 
-pub told_reads : (f : CaptureFault) → reader_failures (upgrade_fault f) ≡ failures_of f.kind
-told_reads f = elim (tells f) [
+pub reported_reads : (f : CaptureFault) → reader_failures (upgrade_fault f) ≡ failures_of f.kind
+reported_reads f = elim (tells f) [
   | inl m ↦ ap reader_failures m.1 ∙ sym (ap failures_of m.0)
   | inr c ↦ ap reader_failures c.1
 ]
 
-pub told_writes : (f : CaptureFault) → writer_failures (upgrade_fault f) ≡ 0
-told_writes f = elim (tells f) [ inl m ↦ ap writer_failures m.1 | inr c ↦ ap writer_failures c.1 ]
+pub reported_writes : (f : CaptureFault) → writer_failures (upgrade_fault f) ≡ 0
+reported_writes f = elim (tells f) [ inl m ↦ ap writer_failures m.1 | inr c ↦ ap writer_failures c.1 ]
 
 -- ---- what is said of the call's own faults
 

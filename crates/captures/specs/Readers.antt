@@ -14,8 +14,8 @@ use Rattle.captures.specs.declared.capture_fault.CaptureFaultKind.{CaptureFaultK
 use Rattle.captures.specs.declared.capture_fault.CaptureFaultKind.TheVariants.{Cut, Read}
 use Rattle.captures.specs.declared.connection_set.ConnectionSet.{ConnectionSet}
 use Rattle.captures.specs.declared.so_far.SoFar.{SoFar}
-use Rattle.captures.specs.declared.progress.Stage.{Stage}
-use Rattle.captures.specs.declared.progress.Stage.TheVariants.{Reading, Ended, Failed}
+use Rattle.captures.specs.declared.progress.ReaderState.{ReaderState}
+use Rattle.captures.specs.declared.progress.ReaderState.TheVariants.{Reading, Ended, Failed}
 use Rattle.captures.specs.declared.progress.Progress.{Progress}
 
 -- whether a connection is in a set: its bit is 1
@@ -59,25 +59,25 @@ Gave v text start records (Err f) p now = (f.at ≡ length records + 1)
     × IsForeseen (λ bytes. IsFaultAfter v bytes start records) text f
 
 -- how far a reader has come by this answer
-abbrev pub stage_after : Result (Option Record) CaptureFault → Stage
-stage_after (Ok (Some r)) = Reading
-stage_after (Ok None) = Ended
-stage_after (Err f) = Failed f
+abbrev pub state_after : Result (Option Record) CaptureFault → ReaderState
+state_after (Ok (Some r)) = Reading
+state_after (Ok None) = Ended
+state_after (Err f) = Failed f
 
 -- after the end, and from a fault on, the answer is repeated, and nothing changes
-abbrev pub Repeats : Stage → Result (Option Record) CaptureFault → Type 0 → Type 0
+abbrev pub Repeats : ReaderState → Result (Option Record) CaptureFault → Type 0 → Type 0
 Repeats Reading r Unchanged = Unit {0}
 Repeats Ended r Unchanged = (r ≡ Ok None) × Unchanged
 Repeats (Failed f) r Unchanged = (r ≡ Err f) × Unchanged
 
 -- how often the device fails in a call that answers this fault: a fault that is repeated reads nothing
-abbrev pub failures_next : Stage → CaptureFaultKind → ℕ
+abbrev pub failures_next : ReaderState → CaptureFaultKind → ℕ
 failures_next Reading k = failures_of k
 failures_next Ended k = 0
 failures_next (Failed f) k = 0
 
 -- the count of failures of the reader's device rose by one exactly where a read failed in the call
-abbrev pub CountsNext : Stage → ℕ → ℕ → Result (Option Record) CaptureFault → Type 0
+abbrev pub CountsNext : ReaderState → ℕ → ℕ → Result (Option Record) CaptureFault → Type 0
 CountsNext stage old new r = CountsBy (λ f. failures_next stage f.kind) old new r
 
 -- the same of a reader that names the kind of a fault alone

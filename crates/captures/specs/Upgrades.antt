@@ -45,12 +45,12 @@ IsCutShort input old new =
     ⊎ ((whole : WholeCapture input) × AppendsPrefix old new (upgraded whole.start whole.records))
 
 -- where the reader is out of memory, the call is
-abbrev pub told_as : CaptureFaultKind → CaptureFault → UpgradeFault
-told_as kinds.Memory f = Memory
-told_as other f = Capture f
+abbrev pub reported_as : CaptureFaultKind → CaptureFault → UpgradeFault
+reported_as kinds.Memory f = Memory
+reported_as other f = Capture f
 
 abbrev pub upgrade_fault : CaptureFault → UpgradeFault
-upgrade_fault f = told_as f.kind f
+upgrade_fault f = reported_as f.kind f
 
 -- What stands where an upgrade stopped, by its fault. Out of memory has a name of its own.
 abbrev pub Leaves : Option (List ℕ) → Option (List ℕ) → Option (List ℕ) → Option (List ℕ) → UpgradeFault → Type 0

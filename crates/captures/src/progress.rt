@@ -6,7 +6,7 @@ ghost use Rattle.devices.specs.Devices.{CanFail};
 ghost use Rattle.captures.specs.Reference.{IsRecord};
 ghost use Rattle.captures.specs.Captures.{size_of};
 ghost use Rattle.captures.specs.CaptureFaults.{IsForeseen, IsHeaderFault, IsFaultAfter, CountsFault, CountsKind};
-ghost use Rattle.captures.specs.Readers.{ReaderAfter, Gave, GaveKind, FailsNext, FailsNextKind, stage_after, Repeats};
+ghost use Rattle.captures.specs.Readers.{ReaderAfter, Gave, GaveKind, FailsNext, FailsNextKind, state_after, Repeats};
 ghost use Rattle.captures.specs.Readers.{CountsNext, FailsFirst};
 ghost use Rattle.captures.specs.declared.record.Record.{Record as ARecord};
 ghost use Rattle.captures.specs.declared.version.Version.{Version as AVersion};
@@ -20,7 +20,7 @@ use std::io::Read;
 
 /// How far a reader of a capture has come.
 #[derive(Clone, Copy, Debug, PartialEq, Eq)]
-pub enum Stage {
+pub enum ReaderState {
     /// A record or the last line is next.
     Reading,
     /// The last line was read, and the input ended after it.
@@ -44,7 +44,7 @@ pub struct Progress {
     /// to fall only where the bytes of the device are known; this one falls with each record of any device.
     pub room: usize,
     pub so_far: SoFar,
-    pub stage: Stage,
+    pub stage: ReaderState,
 }
 
 /// How many bytes records may bring after this one, where it may come.
@@ -81,7 +81,7 @@ impl Progress {
                 left,
                 room: MAX_TEXT_BYTES,
                 so_far: SoFar::new(),
-                stage: Stage::Reading,
+                stage: ReaderState::Reading,
             }),
             Err(kind) => Err(CaptureFault { at: 0, kind }),
         }
@@ -142,25 +142,25 @@ impl Progress {
         ensures limits { IfOk result (λ next. IfSome next (IsRecord self.old.version)) }
         ensures version { self.new.version ≡ self.old.version }
         ensures start { self.new.start ≡ self.old.start }
-        ensures stage { self.new.stage ≡ stage_after result }
+        ensures stage { self.new.stage ≡ state_after result }
         ensures again { Repeats self.old.stage result ((self.new ≡ self.old) × (input.new ≡ input.old)) }
         ensures count { CountsNext self.old.stage input.old.failures input.new.failures result }
     {
         match self.stage {
-            Stage::Reading => {}
-            Stage::Ended => return Ok(None),
-            Stage::Failed(fault) => return Err(fault),
+            ReaderState::Reading => {}
+            ReaderState::Ended => return Ok(None),
+            ReaderState::Failed(fault) => return Err(fault),
         }
         let at = self.so_far.count.saturating_add(1);
         match self.take_record(alloc, input) {
             Ok(Some(record)) => Ok(Some(record)),
             Ok(None) => {
-                self.stage = Stage::Ended;
+                self.stage = ReaderState::Ended;
                 Ok(None)
             }
             Err(kind) => {
                 let fault = CaptureFault { at, kind };
-                self.stage = Stage::Failed(fault);
+                self.stage = ReaderState::Failed(fault);
                 Err(fault)
             }
         }

@@ -7,7 +7,7 @@ ghost use Rattle.devices.specs.contracts.device.Input.{the_row};
 ghost use Rattle.captures.specs.Reference.{IsRecord};
 ghost use Rattle.captures.specs.Captures.{size_of};
 ghost use Rattle.captures.specs.CaptureFaults.{IsForeseen, IsHeaderFault, CountsFault};
-ghost use Rattle.captures.specs.Readers.{ReaderAfter, Gave, FailsFirst, FailsNext, stage_after, Repeats, CountsNext};
+ghost use Rattle.captures.specs.Readers.{ReaderAfter, Gave, FailsFirst, FailsNext, state_after, Repeats, CountsNext};
 ghost use Rattle.captures.specs.declared.record.Record.{Record as ARecord};
 ghost use Rattle.captures.specs.declared.version.Version.{Version as AVersion};
 
@@ -80,7 +80,7 @@ impl<'a, R: Read> CaptureReader<'a, R> {
         ensures limits { IfOk result (λ next. IfSome next (IsRecord (progress_of self.old).version)) }
         ensures version { (progress_of self.new).version ≡ (progress_of self.old).version }
         ensures start { (progress_of self.new).start ≡ (progress_of self.old).start }
-        ensures stage { (progress_of self.new).stage ≡ stage_after result }
+        ensures stage { (progress_of self.new).stage ≡ state_after result }
         ensures again { Repeats (progress_of self.old).stage result
             ((progress_of self.new ≡ progress_of self.old) × (device_of self.new ≡ device_of self.old)) }
         ensures count { CountsNext (progress_of self.old).stage

@@ -44,7 +44,7 @@ impl From<Failed> for UpgradeFault {
 impl From<CaptureFault> for UpgradeFault {
     ghost use Rattle.captures.specs.Upgrades.{upgrade_fault};
 
-    ghost from_gives = { λ fault told. told ≡ upgrade_fault fault };
+    ghost from_gives = { λ fault reported. reported ≡ upgrade_fault fault };
 
     fn from(fault: CaptureFault) -> UpgradeFault {
         match fault.kind {

@@ -42,7 +42,11 @@ fn arguments_of(rt: &HostRuntime) -> Result<Vec<String>, Fault> {
 
 /// What is told of words that aren't taken: what the command says of them as a line shows them. They aren't taken so
 /// either, since a character that is shown as another stands in no word of the command.
-fn told_of_words(alloc: Global, words: &[String], fault: WordFault) -> Result<Fault, AllocError> {
+fn reported_of_words(
+    alloc: Global,
+    words: &[String],
+    fault: WordFault,
+) -> Result<Fault, AllocError> {
     let mut shown = Vec::new(alloc);
     for word in words {
         shown.push(shown_name(alloc, word.as_str())?)?;
@@ -222,7 +226,7 @@ pub fn run_arguments<T: Threads + Wait + Sync>(
     let standard = Node::at(rt, STANDARD_OUTPUT);
     let job = match read_words(alloc, &arguments) {
         Ok(job) => job,
-        Err(fault) => return Err(told_of_words(alloc, &arguments, fault)?),
+        Err(fault) => return Err(reported_of_words(alloc, &arguments, fault)?),
     };
     match job {
         Job::Bundle => bundle(rt, standard),

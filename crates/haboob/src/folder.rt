@@ -174,7 +174,7 @@ pub struct FileFolder<'a> {
     root: &'a OpenFolder<'a>,
     listing: &'a Listing,
     /// How many names that were left out have been told.
-    told: Cell<usize>,
+    reported: Cell<usize>,
 }
 
 impl<'a> FileFolder<'a> {
@@ -188,7 +188,7 @@ impl<'a> FileFolder<'a> {
             rt,
             root,
             listing,
-            told: Cell::new(0),
+            reported: Cell::new(0),
         }
     }
 
@@ -219,9 +219,9 @@ impl<'a> Folder for FileFolder<'a> {
     }
 
     fn leave_out(&self, name: &str, fault: FileFault) -> Result<(), AllocError> {
-        let told = self.told.get();
-        if told < MOST_TOLD {
-            self.told.set(told + 1);
+        let reported = self.reported.get();
+        if reported < MOST_TOLD {
+            self.reported.set(reported + 1);
             let named = FolderFault::new(self.rt.alloc(), name, fault)?;
             // Where standard error can't be written, the snapshot is made all the same.
             let _ = Fault::Folder(named).write_line(&mut Output::new(self.rt.stderr()));

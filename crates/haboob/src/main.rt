@@ -23,10 +23,10 @@ fn main(rt: HostRuntime) -> ExitCode {
     match run_arguments(&rt, &rt, &mut words) {
         Ok(()) => ExitCode::SUCCESS,
         Err(fault) => {
-            let mut told = Output::new(rt.stderr());
+            let mut reported = Output::new(rt.stderr());
             // Where standard error can't be written either, the status alone reports the fault.
-            if fault.write_line(&mut told).is_ok() {
-                let _ = told.write_all(&words);
+            if fault.write_line(&mut reported).is_ok() {
+                let _ = reported.write_all(&words);
             }
             ExitCode::from(fault.status())
         }

@@ -2,14 +2,14 @@
 use Rattle.std.proofs.Common.{◌≡◌, ℕ, ◌+◌, ◌-◌, ◌<◌, ◌≤◌, ◌⊎◌, inl, inr, codes, Bool, true, false, Option, Some, None, List, [], ◌∷◌, ◌++◌, length, take, drop, refl, arith, length-append, length-drop, append_assoc, append-nil}
 use Rattle.std.proofs.lemmas.List.{drop-drop}
 use Rattle.std.specs.Prelude.{MatchBool}
-use Rattle.http_requests.specs.declared.messages.Fault.{Fault}
-use Rattle.http_requests.specs.declared.messages.Fault.TheVariants.{TooLong}
+use Rattle.http_requests.specs.declared.messages.MessageFault.{MessageFault}
+use Rattle.http_requests.specs.declared.messages.MessageFault.TheVariants.{TooLong}
 use Rattle.http_requests.specs.declared.messages.Meaning.TheVariants.{Request, Bad}
 use Rattle.http_requests.specs.declared.messages.Message.{Message}
 use Rattle.http_requests.specs.declared.heads.Verdict.{Verdict}
 use Rattle.http_requests.specs.declared.heads.Extent.{Extent}
 use Rattle.http_requests.specs.declared.scanning.Found.TheVariants.{Wait, Over as Beyond, Whole}
-use Rattle.http_requests.specs.declared.counting.Step.TheVariants.{Missing, Last, Over}
+use Rattle.http_requests.specs.declared.counting.CountStep.TheVariants.{Missing, Last, Over}
 use Rattle.http_requests.specs.Reference.{FieldLine, IsVerdict, PartsSay, IsModifiedSince, head_fault, version_of, is_closing, body_length, values_of, bad, blank_len, IsWhole, IsOver, IsNext, Messages, MessagesOf, closes}
 use Rattle.http_requests.specs.Scanning.{IsFound}
 use Rattle.http_requests.specs.Counting.{IsExtent, IsStep}
@@ -138,6 +138,6 @@ measure_parts method target minor lines since x good is closing_is length_is =
     let v : Verdict = record { what = Request method target (version_of minor) (is_closing minor lines) since; length = body_length (values_of (codes "content-length") lines) } in
     (v, rw good (record { since = since; since_is = is; what_is = refl; length_is = refl }), (closing_is, length_is))
 
-pub measure_fault : (method target : List ℕ) (minor : ℕ) (lines : List FieldLine) (fault : Fault) (x : Extent) → head_fault minor lines ≡ Some fault
+pub measure_fault : (method target : List ℕ) (minor : ℕ) (lines : List FieldLine) (fault : MessageFault) (x : Extent) → head_fault minor lines ≡ Some fault
     → x.closes ≡ true → x.length ≡ 0 → (v : Verdict) × PartsSay method target minor lines v × IsExtent v x
 measure_fault method target minor lines fault x is closing_is none = (bad fault, rw is refl, (closing_is, none))

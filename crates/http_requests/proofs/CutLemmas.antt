@@ -6,8 +6,8 @@ use Rattle.std.proofs.lemmas.Grind.{common_steps}
 use Rattle.http_requests.specs.declared.messages.Meaning.{Meaning}
 use Rattle.http_requests.specs.declared.messages.Message.{Message}
 use Rattle.http_requests.specs.declared.heads.Verdict.{Verdict}
-use Rattle.http_requests.specs.declared.cutting.Stage.{Stage}
-use Rattle.http_requests.specs.declared.cutting.Stage.TheVariants.{Seeking, Body, Closed, Failed}
+use Rattle.http_requests.specs.declared.cutting.CutterState.{CutterState}
+use Rattle.http_requests.specs.declared.cutting.CutterState.TheVariants.{Seeking, Body, Closed, Failed}
 use Rattle.http_requests.specs.Reference.{blank_len, NoBlock, IsWhole, IsOver, IsNext, Messages}
 use Rattle.http_requests.specs.Cutting.{Progress, BodyMessages, Yields, YieldsIn, IsUnfinished, IsStage, IsSound, HasFailed, EndBetween, Enters, Cuts, Begins, Waits, Took, CutterAfter, Fed, FedSome}
 use Rattle.http_requests.proofs.FoundLemmas.{front_empty}
@@ -154,7 +154,7 @@ waits_front held what j none short (inr o) = let i = o.within in omega (arith, i
 waits_next : (held : List ℕ) (what : Meaning) (k : ℕ) → blank_len held ≡ 0 → (next : IsNext (held ++ []) what k) → (IsWhole held what next.j ⊎ IsOver held what next.j)
 waits_next held what k h next = rw (append-nil held, h) at next.front
 
-waits : (s : Stage) (read : ℕ) (held : List ℕ) → IsStage s read held → Yields s read held [] []
+waits : (s : CutterState) (read : ℕ) (held : List ℕ) → IsStage s read held → Yields s read held [] []
 waits Seeking read held h = λ what k next. waits_front held what next.j h.0.1 h.0.2 (waits_next held what k h.0.0 next)
 waits (Body what left) read held h = h.0
 waits Closed read held h = refl

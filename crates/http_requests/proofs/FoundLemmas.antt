@@ -6,7 +6,7 @@ use Rattle.std.proofs.Math.ListN.{drop_of_length-le}
 use Rattle.std.proofs.lemmas.Grind.{common_steps}
 use Rattle.std.proofs.lemmas.Bool.{cases_lt}
 use Rattle.http_requests.specs.declared.messages.Meaning.TheVariants.{Bad}
-use Rattle.http_requests.specs.declared.messages.Fault.TheVariants.{TooLong}
+use Rattle.http_requests.specs.declared.messages.MessageFault.TheVariants.{TooLong}
 use Rattle.http_requests.specs.declared.messages.Message.{Message}
 use Rattle.http_requests.specs.declared.heads.Verdict.{Verdict}
 use Rattle.http_requests.specs.declared.scanning.Found.TheVariants.{Wait, Over, Whole}

@@ -7,7 +7,7 @@ use Rattle.httparse.specs.declared.spans.HeaderSpan.{HeaderSpan}
 use Rattle.httparse.specs.declared.spans.RequestSpans.{RequestSpans}
 use Rattle.httparse.specs.Spans.{IsRequestWithin, IsRequestAt, IsRequestOf, header_bytes, name_and_value, span_bytes}
 use Rattle.httparse.proofs.GrammarLemmas.{request_unique}
-use Rattle.http_requests.specs.declared.messages.Fault.TheVariants.{Block}
+use Rattle.http_requests.specs.declared.messages.MessageFault.TheVariants.{Block}
 use Rattle.http_requests.specs.declared.heads.Verdict.{Verdict}
 use Rattle.http_requests.specs.Reference.{IsVerdict, IsHead, HeadSays, PartsSay, bad}
 use Rattle.http_requests.proofs.HeadLemmas.{lines_from}

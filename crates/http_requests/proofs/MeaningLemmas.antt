@@ -4,8 +4,8 @@ use Rattle.std.specs.Prelude.{Option, Some, None, MatchOption, MatchBool}
 use Rattle.std.proofs.lemmas.List.{drop-drop, take-append-drop}
 use Rattle.std.proofs.lemmas.Grind.{common_steps}
 use Rattle.httparse.specs.Grammar.{LineEnd, crlf, lf, print_blank, RequestHead}
-use Rattle.http_requests.specs.declared.messages.Fault.{Fault}
-use Rattle.http_requests.specs.declared.messages.Fault.TheVariants.{TooLong, Block, Host, Coding, Length, BodySize}
+use Rattle.http_requests.specs.declared.messages.MessageFault.{MessageFault}
+use Rattle.http_requests.specs.declared.messages.MessageFault.TheVariants.{TooLong, Block, Host, Coding, Length, BodySize}
 use Rattle.http_requests.specs.declared.messages.Meaning.TheVariants.{Bad}
 use Rattle.http_requests.specs.declared.messages.Message.{Message}
 use Rattle.http_requests.specs.declared.heads.Verdict.{Verdict}
@@ -48,7 +48,7 @@ no_too_long false false true d h = cc
 no_too_long false false false true h = cc
 no_too_long false false false false h = cc
 
-fault_means : (fault : Fault) (block body : List ℕ) → (fault ≡ TooLong → ⊥) → IsVerdict block (bad fault) → body ≡ [] → Means (Bad fault) block body
+fault_means : (fault : MessageFault) (block body : List ℕ) → (fault ≡ TooLong → ⊥) → IsVerdict block (bad fault) → body ≡ [] → Means (Bad fault) block body
 fault_means TooLong block body not says none = absurd (not refl)
 fault_means Block block body not says none = (says, none)
 fault_means Host block body not says none = (says, none)
@@ -60,13 +60,13 @@ nothing : (body : List ℕ) → length body ≡ 0 → body ≡ []
 nothing [] h = refl
 nothing (b ∷ body) h = absurd (omega (arith, h))
 
-bad_means : (fault : Fault) (block body : List ℕ) (v : Verdict) → (fault ≡ TooLong → ⊥) → IsVerdict block v → v ≡ bad fault → length body ≡ v.length → Means v.what block body
+bad_means : (fault : MessageFault) (block body : List ℕ) (v : Verdict) → (fault ≡ TooLong → ⊥) → IsVerdict block v → v ≡ bad fault → length body ≡ v.length → Means v.what block body
 bad_means fault block body v not says is len =
     let n = ap (λ x. x.length) is in
     let w = ap (λ x. x.what) is in
     rw w (fault_means fault block body not (rw is at says) (nothing body (len ∙ n)))
 
-head_means : (fault : Option Fault) (head : RequestHead) (block body : List ℕ) (v : Verdict) → head_fault head.minor (lines_of head.fields) ≡ fault → IsVerdict block v → IsHead block head
+head_means : (fault : Option MessageFault) (head : RequestHead) (block body : List ℕ) (v : Verdict) → head_fault head.minor (lines_of head.fields) ≡ fault → IsVerdict block v → IsHead block head
     → MatchOption fault (IsRequest head.method head.target head.minor (lines_of head.fields) v) (λ f. v ≡ bad f) → length body ≡ v.length → Means v.what block body
 head_means None head block body v e says reads is len = rw is.what_is (record {
   head = head;

@@ -2,7 +2,7 @@ use Rattle.std.proofs.Common.{◌≡◌, ℕ, ◌+◌, ◌-◌, ◌<◌, ◌≤�
 use Rattle.std.proofs.lemmas.List.{drop-append-le, drop-drop}
 use Rattle.http_requests.specs.declared.messages.Meaning.{Meaning}
 use Rattle.http_requests.specs.declared.messages.Meaning.TheVariants.{Bad}
-use Rattle.http_requests.specs.declared.messages.Fault.TheVariants.{TooLong}
+use Rattle.http_requests.specs.declared.messages.MessageFault.TheVariants.{TooLong}
 use Rattle.http_requests.specs.declared.messages.Message.{Message}
 use Rattle.std.specs.Prelude.{MatchBool}
 use Rattle.http_requests.specs.declared.heads.Verdict.{Verdict}

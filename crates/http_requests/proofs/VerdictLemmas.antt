@@ -5,7 +5,7 @@ use Rattle.httparse.specs.Grammar.{RequestHead}
 use Rattle.httparse.proofs.GrammarLemmas.{request_unique}
 use Rattle.httpdate.specs.Valid.{parts_secs}
 use Rattle.httpdate.proofs.Theorems.{IsDateText_unique}
-use Rattle.http_requests.specs.declared.messages.Fault.{Fault}
+use Rattle.http_requests.specs.declared.messages.MessageFault.{MessageFault}
 use Rattle.http_requests.specs.declared.messages.Meaning.{Meaning}
 use Rattle.http_requests.specs.declared.messages.Meaning.TheVariants.{Request}
 use Rattle.http_requests.specs.declared.heads.Verdict.{Verdict}
@@ -42,7 +42,7 @@ request_says_unique m t minor lines v w g h =
     (g.what_is ∙ ap (λ s. Request m t (version_of minor) (is_closing minor lines) s) since ∙ sym h.what_is)
     (g.length_is ∙ sym h.length_is)
 
-says_unique : (fault : Option Fault) (m t : List ℕ) (minor : ℕ) (lines : List FieldLine) (v w : Verdict)
+says_unique : (fault : Option MessageFault) (m t : List ℕ) (minor : ℕ) (lines : List FieldLine) (v w : Verdict)
     → MatchOption fault (IsRequest m t minor lines v) (λ f. v ≡ bad f) → MatchOption fault (IsRequest m t minor lines w) (λ f. w ≡ bad f) → v ≡ w
 says_unique None m t minor lines v w g h = request_says_unique m t minor lines v w g h
 says_unique (Some f) m t minor lines v w g h = g ∙ sym h

@@ -5,13 +5,13 @@ use Rattle.http_requests.specs.Reference.{closes}
 use Rattle.http_requests.specs.declared.messages.Meaning.{Meaning}
 use Rattle.http_requests.specs.declared.messages.Message.{Message}
 use Rattle.http_requests.specs.declared.heads.Verdict.{Verdict}
-use Rattle.http_requests.specs.declared.cutting.Stage.{Stage}
-use Rattle.http_requests.specs.declared.cutting.Stage.TheVariants.{Seeking, Body, Closed, Failed}
+use Rattle.http_requests.specs.declared.cutting.CutterState.{CutterState}
+use Rattle.http_requests.specs.declared.cutting.CutterState.TheVariants.{Seeking, Body, Closed, Failed}
 
 -- what a cutter keeps of the text: where it stands, how many bytes were read, and the prefix that was
 -- read of a block that isn't whole
 pub record Progress : Type 0 where
-  pub stage : Stage
+  pub stage : CutterState
   pub read : ℕ
   pub held : List ℕ
 
@@ -26,7 +26,7 @@ BodyMessages what left p y (m ∷ ms) = (left ≤ length y) × (m.what ≡ what)
     × MessagesAfter what (p + left) (drop left y) ms
 
 -- the messages that end in y, where y follows what was read
-abbrev pub Yields : Stage → ℕ → List ℕ → List ℕ → List Message → Type 0
+abbrev pub Yields : CutterState → ℕ → List ℕ → List ℕ → List Message → Type 0
 Yields Seeking read held y ms = Messages (read - length held) (held ++ y) ms
 Yields (Body what left) read held y ms = BodyMessages what left read y ms
 Yields Closed read held y ms = ms ≡ []
@@ -40,7 +40,7 @@ abbrev pub IsUnfinished : List ℕ → Type 0
 IsUnfinished held = (blank_len held ≡ 0) × NoBlock held × (length held < max_block_bytes)
 
 -- what is held at each stage: the prefix of a block that was read, or nothing
-abbrev pub IsStage : Stage → ℕ → List ℕ → Type 0
+abbrev pub IsStage : CutterState → ℕ → List ℕ → Type 0
 IsStage Seeking read held = IsUnfinished held × (length held ≤ read)
 IsStage (Body what left) read held = (0 < left) × (left ≤ max_body_bytes) × (held ≡ [])
 IsStage Closed read held = Unit {0}

@@ -3,15 +3,15 @@ use Rattle.std.specs.Prelude.{◌≡◌, ℕ, ◌+◌, ◌≤◌, Bool, List, []
 use Rattle.http_requests.specs.Reference.{max_fields, max_block_bytes, values_of, body_length, head_fault, is_closing}
 use Rattle.http_requests.specs.Reference.{IsModifiedSince, version_of, lines_of, IsVerdict, bad, NoBlock, blank_len}
 use Rattle.httparse.specs.Grammar.{LineEnd, print_blank, RequestHead, ReadsRequest}
-use Rattle.http_requests.specs.declared.messages.Version.{Version}
-use Rattle.http_requests.specs.declared.messages.Fault.TheVariants.{TooLong}
+use Rattle.http_requests.specs.declared.messages.HttpVersion.{HttpVersion}
+use Rattle.http_requests.specs.declared.messages.MessageFault.TheVariants.{TooLong}
 use Rattle.http_requests.specs.declared.messages.Meaning.{Meaning}
 use Rattle.http_requests.specs.declared.messages.Meaning.TheVariants.{Request, Bad}
 use Rattle.http_requests.specs.declared.messages.Message.{Message}
 
 -- the request is what a head says, the head is the whole block, and the body is as long as it says
 pub record IsReadFrom
-    (block : List ℕ) (body method target : List ℕ) (version : Version) (closing : Bool)
+    (block : List ℕ) (body method target : List ℕ) (version : HttpVersion) (closing : Bool)
     (since : Option ℕ) : Type 0 where
   pub head : RequestHead
   pub reads : ReadsRequest block head []

@@ -9,10 +9,11 @@ use Rattle.httparse.specs.Grammar.{Field, RequestHead, ReadsRequest, trim_ows}
 use Rattle.httparse.specs.Spans.{name_and_value}
 use Rattle.httpdate.specs.declared.date.HttpDate.{HttpDate}
 use Rattle.httpdate.specs.Date.{IsDateText, unix_secs}
-use Rattle.http_requests.specs.declared.messages.Version.{Version}
-use Rattle.http_requests.specs.declared.messages.Version.TheVariants.{Http10, Http11}
-use Rattle.http_requests.specs.declared.messages.Fault.{Fault}
-use Rattle.http_requests.specs.declared.messages.Fault.TheVariants.{Block, Host, Coding, Length, BodySize, TooLong}
+use Rattle.http_requests.specs.declared.messages.HttpVersion.{HttpVersion}
+use Rattle.http_requests.specs.declared.messages.HttpVersion.TheVariants.{Http10, Http11}
+use Rattle.http_requests.specs.declared.messages.MessageFault.{MessageFault}
+use Rattle.http_requests.specs.declared.messages.MessageFault.TheVariants.{Block, Host, Coding, Length}
+use Rattle.http_requests.specs.declared.messages.MessageFault.TheVariants.{BodySize, TooLong}
 use Rattle.http_requests.specs.declared.messages.Meaning.TheVariants.{Request, Bad}
 use Rattle.http_requests.specs.declared.heads.Verdict.{Verdict}
 use Rattle.http_requests.specs.declared.messages.Meaning.{Meaning}
@@ -96,7 +97,7 @@ body_length (value ∷ values) = digits_value 10 value
 
 -- the first fault of a head of this minor version with these lines, if it has one. A body in chunks
 -- isn't read, so any Transfer-Encoding is a fault (RFC 9112, 6.1). A body has at most 65,536 bytes
-abbrev pub head_fault : ℕ → List FieldLine → Option Fault
+abbrev pub head_fault : ℕ → List FieldLine → Option MessageFault
 head_fault minor lines =
     if is_host_fault minor (values_of (codes "host") lines) then Some Host
     else (if is_given (values_of (codes "transfer-encoding") lines) then Some Coding
@@ -148,7 +149,7 @@ IsModifiedSince method lines since =
     (since ≡ None)
 
 -- the version of this minor number
-abbrev pub version_of : ℕ → Version
+abbrev pub version_of : ℕ → HttpVersion
 version_of minor = if minor == 0 then Http10 else Http11
 
 -- the request that a head without a fault is, and its body's length
@@ -159,7 +160,7 @@ pub record IsRequest (method target : List ℕ) (minor : ℕ) (lines : List Fiel
   pub length_is : verdict.length ≡ body_length (values_of (codes "content-length") lines)
 
 -- a fault has no body
-abbrev pub bad : Fault → Verdict
+abbrev pub bad : MessageFault → Verdict
 bad fault = record { what = Bad fault; length = 0 }
 
 -- what a head of these parts says: its first fault, or else a request

@@ -9,7 +9,7 @@ use crate::scanning::{Found, find};
 
 /// What stands at the start of the rest of a text.
 #[derive(Clone, Copy)]
-pub enum Step {
+pub enum CountStep {
     /// No message is whole.
     Missing,
     /// A message that ends the connection.
@@ -19,21 +19,21 @@ pub enum Step {
 }
 
 /// Takes one step over the rest of a text.
-fn next_step(rest: &[u8]) -> Step
+fn next_step(rest: &[u8]) -> CountStep
     ensures { IsStep rest.now result }
 {
     match find(rest, 0) {
-        Found::Wait(_) => Step::Missing,
-        Found::Over(_) => Step::Last,
+        Found::Wait(_) => CountStep::Missing,
+        Found::Over(_) => CountStep::Last,
         Found::Whole(start, len) => {
             let extent = measure_block(&rest[start..start + len]);
             let body = extent.length as usize;
             if rest.len() - (start + len) < body {
-                Step::Missing
+                CountStep::Missing
             } else if extent.closes {
-                Step::Last
+                CountStep::Last
             } else {
-                Step::Over(start + len + body)
+                CountStep::Over(start + len + body)
             }
         }
     }
@@ -47,9 +47,9 @@ pub fn count_messages(text: &[u8]) -> usize
     let mut count: usize = 0;
     while at < text.len() {
         match next_step(&text[at..]) {
-            Step::Missing => return count,
-            Step::Last => return count + 1,
-            Step::Over(n) => {
+            CountStep::Missing => return count,
+            CountStep::Last => return count + 1,
+            CountStep::Over(n) => {
                 at += n;
                 count += 1;
             }

@@ -6,7 +6,7 @@ ghost use Rattle.http_requests.specs.Limits.{max_text_bytes};
 ghost use Rattle.http_requests.specs.Cutting.{Begins, IsUnfinished, Waits};
 
 use crate::heads::{Verdict, bad, read_block};
-use crate::messages::{Fault, Meaning, Message};
+use crate::messages::{Meaning, Message, MessageFault};
 use crate::scanning::{Found, MAX_BLOCK_BYTES, find};
 use std::alloc::{AllocError, Global};
 use std::marker::Model;
@@ -14,7 +14,7 @@ use std::mem;
 
 /// Where a cutter stands in the text.
 #[derive(Drop)]
-pub enum Stage {
+pub enum CutterState {
     /// Between two messages, or in a block.
     Seeking,
     /// In a body: its message, and how many bytes of it are still to come.
@@ -53,7 +53,7 @@ fn take_here(
             held.extend_from_slice(&text[start..])?;
             Ok((text.len(), None))
         }
-        Found::Over(len) => Ok((len, Some(bad(Fault::TooLong)))),
+        Found::Over(len) => Ok((len, Some(bad(MessageFault::TooLong)))),
         Found::Whole(start, len) => {
             let verdict = read_block(alloc, &text[start..start + len])?;
             Ok((start + len, Some(verdict)))
@@ -84,7 +84,7 @@ fn take_joined(
         }
         Found::Over(len) => {
             held.clear();
-            Ok((len - had, Some(bad(Fault::TooLong))))
+            Ok((len - had, Some(bad(MessageFault::TooLong))))
         }
         Found::Whole(start, len) => {
             let verdict = read_block(alloc, &held[start..start + len])?;
@@ -135,7 +135,7 @@ fn push_message(
 #[derive(Drop)]
 struct State {
     alloc: Global,
-    stage: Stage,
+    stage: CutterState,
     read: u64,
     held: Vec<u8>,
 }
@@ -153,7 +153,7 @@ impl State {
     {
         State {
             alloc,
-            stage: Stage::Seeking,
+            stage: CutterState::Seeking,
             read: 0,
             held: Vec::new(alloc),
         }
@@ -177,13 +177,13 @@ impl State {
         ensures read { self.new.read ≡ self.old.read }
     {
         if left > 0 {
-            self.stage = Stage::Body(what, left);
+            self.stage = CutterState::Body(what, left);
             return Ok(());
         }
         let stage = if what.closes() {
-            Stage::Closed
+            CutterState::Closed
         } else {
-            Stage::Seeking
+            CutterState::Seeking
         };
         let end = self.read;
         push_message(out, Message { end, what }, ends_piece)?;
@@ -201,24 +201,24 @@ impl State {
         ensures read { OnErr result (self.new.read ≤ self.old.read + length text.now) }
         ensures failed { OnErr result (HasFailed (progress self.new)) }
     {
-        match mem::replace(&mut self.stage, Stage::Failed) {
-            Stage::Failed => Err(AllocError),
-            Stage::Closed => {
-                self.stage = Stage::Closed;
+        match mem::replace(&mut self.stage, CutterState::Failed) {
+            CutterState::Failed => Err(AllocError),
+            CutterState::Closed => {
+                self.stage = CutterState::Closed;
                 self.read += text.len() as u64;
                 Ok(text.len())
             }
-            Stage::Body(what, left) => {
+            CutterState::Body(what, left) => {
                 let n = text.len().min(left as usize);
                 self.read += n as u64;
                 self.enter(what, left - n as u64, out, n == text.len())?;
                 Ok(n)
             }
-            Stage::Seeking => {
+            CutterState::Seeking => {
                 let (n, begun) = take_block(self.alloc, &mut self.held, text)?;
                 self.read += n as u64;
                 match begun {
-                    None => self.stage = Stage::Seeking,
+                    None => self.stage = CutterState::Seeking,
                     Some(Verdict { what, length }) => {
                         self.enter(what, length, out, n == text.len())?;
                     }
@@ -244,7 +244,7 @@ impl State {
         ensures most { OnErr result (self.new.read ≤ self.old.read + length piece.now) }
         ensures sound { IsSound (progress self.new) }
     {
-        if let Stage::Failed = self.stage {
+        if let CutterState::Failed = self.stage {
             return Err(AllocError);
         }
         let mut at: usize = 0;

@@ -11,9 +11,9 @@ ghost use Rattle.http_requests.specs.Reference.{is_numeral, body_length, head_fa
 ghost use Rattle.http_requests.specs.Lines.{LiesWithin, lines_at, Says, AreLines, AreNoted, and_if, is_there, AddsLine};
 ghost use Rattle.http_requests.specs.Counting.{IsExtent};
 ghost use Rattle.http_requests.specs.declared.heads.Verdict.{Verdict as AVerdict};
-ghost use Rattle.http_requests.specs.declared.messages.Fault.TheVariants.{Block};
+ghost use Rattle.http_requests.specs.declared.messages.MessageFault.TheVariants.{Block};
 
-use crate::messages::{Bytes, Fault, Meaning, Version};
+use crate::messages::{Bytes, HttpVersion, Meaning, MessageFault};
 use httparse::Status;
 use httparse::spans::{EMPTY_HEADER_SPAN, HeaderSpan, Span, parse_request};
 use httpdate::HttpDate;
@@ -190,7 +190,7 @@ fn is_get_or_head(method: &[u8]) -> bool
 }
 
 /// The verdict of a fault.
-pub fn bad(fault: Fault) -> Verdict
+pub fn bad(fault: MessageFault) -> Verdict
     ensures { result ≡ bad fault }
 {
     Verdict {
@@ -291,7 +291,7 @@ impl<'a> Head<'a> {
 
     /// The length of the body (RFC 9112, section 6.3), and the lines that tell the rest; or the first fault of the
     /// head. A head with a fault of Host is read no further.
-    fn body_length(&self) -> Result<(u64, Noted), Fault>
+    fn body_length(&self) -> Result<(u64, Noted), MessageFault>
         requires { LiesWithin self.now }
         ensures cases { MatchResult result
             (λ found. (head_fault self.now.minor (lines_at self.now) ≡ None)
@@ -301,20 +301,20 @@ impl<'a> Head<'a> {
         ensures small { IfOk result (λ found. found.0 ≤ max_body_bytes) }
     {
         if self.is_host_fault() {
-            return Err(Fault::Host);
+            return Err(MessageFault::Host);
         }
         let noted = self.note();
         if noted.coding.is_there() {
-            return Err(Fault::Coding);
+            return Err(MessageFault::Coding);
         }
         match noted.length {
             Lines::Absent => Ok((0, noted)),
             Lines::Once(value) => match number(value.of(self.block)) {
                 Some(n) if n <= MAX_BODY_BYTES => Ok((n, noted)),
-                Some(_) => Err(Fault::BodySize),
-                None => Err(Fault::Length),
+                Some(_) => Err(MessageFault::BodySize),
+                None => Err(MessageFault::Length),
             },
-            Lines::Repeated => Err(Fault::Length),
+            Lines::Repeated => Err(MessageFault::Length),
         }
     }
 
@@ -390,9 +390,9 @@ impl<'a> Head<'a> {
                 method: Bytes::copy(alloc, self.method.of(self.block))?,
                 target: Bytes::copy(alloc, self.target.of(self.block))?,
                 version: if self.minor == 0 {
-                    Version::Http10
+                    HttpVersion::Http10
                 } else {
-                    Version::Http11
+                    HttpVersion::Http11
                 },
                 closes: self.is_closing(&noted),
                 modified_since: self.modified_since(&noted),
@@ -447,6 +447,6 @@ pub fn read_block(alloc: Global, block: &[u8]) -> Result<Verdict, AllocError>
     let mut headers = [EMPTY_HEADER_SPAN; MAX_FIELDS];
     match Head::parse(block, &mut headers) {
         Some(head) => head.verdict(alloc),
-        None => Ok(bad(Fault::Block)),
+        None => Ok(bad(MessageFault::Block)),
     }
 }

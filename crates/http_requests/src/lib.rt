@@ -18,4 +18,4 @@ mod scanning;
 pub use counting::count_messages;
 pub use cutting::Cutter;
 pub use laws::{block_ends, block_in_front, cut_pieces, first_of_longer, in_order, one_reading};
-pub use messages::{Bytes, Fault, Meaning, Message, Version};
+pub use messages::{Bytes, HttpVersion, Meaning, Message, MessageFault};

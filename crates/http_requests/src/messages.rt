@@ -76,14 +76,14 @@ impl fmt::Debug for Bytes {
 
 /// The version of HTTP that a head names (RFC 9112, section 2.3).
 #[derive(Clone, Copy, Debug, PartialEq, Eq)]
-pub enum Version {
+pub enum HttpVersion {
     Http10,
     Http11,
 }
 
 /// Why a message is no request. Each of these ends its connection.
 #[derive(Clone, Copy, Debug, PartialEq, Eq)]
-pub enum Fault {
+pub enum MessageFault {
     /// The first 8,192 bytes of a block hold no end of it.
     TooLong,
     /// The block is no head of a request (RFC 9112, sections 3 and 5), or has more than 64 fields.
@@ -106,13 +106,13 @@ pub enum Meaning {
         method: Bytes,
         /// The request target (RFC 9112, section 3.2), as it stands there.
         target: Bytes,
-        version: Version,
+        version: HttpVersion,
         /// Whether the connection ends after the reply (RFC 9112, section 9.3).
         closes: bool,
         /// The seconds since 1970 of If-Modified-Since, where it counts (RFC 9110, section 13.1.3).
         modified_since: Option<u64>,
     },
-    Bad(Fault),
+    Bad(MessageFault),
 }
 
 impl Meaning {

@@ -1,7 +1,7 @@
 //! Texts that are cut into messages, and messages in words.
 ghost use Rattle.std.specs.Prelude.{◌<◌, ◌≤◌, length};
 
-use http_requests::{Cutter, Meaning, Message, Version};
+use http_requests::{Cutter, HttpVersion, Meaning, Message};
 use std::alloc::{AllocError, Global};
 use std::str;
 use std::test::Fail;
@@ -36,8 +36,8 @@ pub fn in_words(alloc: Global, what: &Meaning) -> Result<String, Fail> {
             let method = str::from_utf8(method.as_slice())?;
             let target = str::from_utf8(target.as_slice())?;
             let version = match version {
-                Version::Http10 => "1.0",
-                Version::Http11 => "1.1",
+                HttpVersion::Http10 => "1.0",
+                HttpVersion::Http11 => "1.1",
             };
             let link = if *closes { "close" } else { "open" };
             match modified_since {

@@ -1,6 +1,6 @@
 //! Texts and the messages that they must have, worked out by hand.
 use crate::cutting::{cut, in_lines};
-use http_requests::{Bytes, Cutter, Fault, Meaning, Message, count_messages, cut_pieces};
+use http_requests::{Bytes, Cutter, Meaning, Message, MessageFault, count_messages, cut_pieces};
 use std::process::Abort;
 use std::test::Fail;
 use test_support::A;
@@ -206,7 +206,7 @@ fn messages_are_added(rt: HostRuntime) -> Result<(), Fail> {
     let mut out = Vec::new(rt.alloc());
     out.push(Message {
         end: 7,
-        what: Meaning::Bad(Fault::Host),
+        what: Meaning::Bad(MessageFault::Host),
     })?;
     Cutter::new(rt.alloc()).feed(A.as_bytes(), &mut out)?;
     let lines = in_lines(rt.alloc(), &out)?;

@@ -3,14 +3,14 @@ use crate::reply_records::{FILES, page, record};
 use devices::Input;
 use page_cache::MediaType;
 use paths::{Outcome, Snapshot, resolve};
-use responses::{Given, Link, Status};
+use responses::{Given, Persistence, Status};
 use std::marker::Brand;
 use std::test::Fail;
 use test_support::snapshot;
 
 #[test]
 fn first_run(rt: HostRuntime) -> Result<(), Fail> {
-    let got = page(rt.alloc(), 0, Link::Silent)?;
+    let got = page(rt.alloc(), 0, Persistence::Silent)?;
     let want = b"reply 0 7 150\n\
           HTTP/1.1 200 OK\r\n\
           Date: Sun, 06 Nov 1994 08:49:37 GMT\r\n\
@@ -26,7 +26,7 @@ fn first_run(rt: HostRuntime) -> Result<(), Fail> {
 
 #[test]
 fn pipelined_close(rt: HostRuntime) -> Result<(), Fail> {
-    let got = page(rt.alloc(), 0, Link::Close)?;
+    let got = page(rt.alloc(), 0, Persistence::Close)?;
     let want = b"reply 0 7 169\n\
           HTTP/1.1 200 OK\r\n\
           Date: Sun, 06 Nov 1994 08:49:37 GMT\r\n\
@@ -44,7 +44,7 @@ fn pipelined_close(rt: HostRuntime) -> Result<(), Fail> {
 /// A file that is newer than the reply shows the reply's time.
 #[test]
 fn newer_file(rt: HostRuntime) -> Result<(), Fail> {
-    let got = page(rt.alloc(), 1, Link::Silent)?;
+    let got = page(rt.alloc(), 1, Persistence::Silent)?;
     let want = b"reply 0 7 147\n\
           HTTP/1.1 200 OK\r\n\
           Date: Sun, 06 Nov 1994 08:49:37 GMT\r\n\
@@ -59,7 +59,7 @@ fn newer_file(rt: HostRuntime) -> Result<(), Fail> {
 
 #[test]
 fn versions_head_empty(rt: HostRuntime) -> Result<(), Fail> {
-    let got = page(rt.alloc(), 0, Link::KeepAlive)?;
+    let got = page(rt.alloc(), 0, Persistence::KeepAlive)?;
     let want = b"reply 0 7 174\n\
           HTTP/1.1 200 OK\r\n\
           Date: Sun, 06 Nov 1994 08:49:37 GMT\r\n\
@@ -76,7 +76,7 @@ fn versions_head_empty(rt: HostRuntime) -> Result<(), Fail> {
         len: 3,
         mtime: 784_111_777,
     };
-    let got = record(rt.alloc(), true, Link::Silent, known)?;
+    let got = record(rt.alloc(), true, Persistence::Silent, known)?;
     let want = b"reply 0 7 147\n\
           HTTP/1.1 200 OK\r\n\
           Date: Sun, 06 Nov 1994 08:49:37 GMT\r\n\
@@ -86,7 +86,7 @@ fn versions_head_empty(rt: HostRuntime) -> Result<(), Fail> {
           \r\n\
           \n";
     assert_eq!(rt; got.as_slice(), want.as_slice());
-    let got = page(rt.alloc(), 2, Link::Silent)?;
+    let got = page(rt.alloc(), 2, Persistence::Silent)?;
     let want = b"reply 0 7 161\n\
           HTTP/1.1 200 OK\r\n\
           Date: Sun, 06 Nov 1994 08:49:37 GMT\r\n\
@@ -103,7 +103,7 @@ fn versions_head_empty(rt: HostRuntime) -> Result<(), Fail> {
 fn not_modified_since(rt: HostRuntime) -> Result<(), Fail> {
     for head in [false, true] {
         let unmodified = Given::<Brand>::Unmodified { mtime: 784_111_777 };
-        let got = record(rt.alloc(), head, Link::Silent, unmodified)?;
+        let got = record(rt.alloc(), head, Persistence::Silent, unmodified)?;
         let want = b"reply 0 7 112\n\
               HTTP/1.1 304 Not Modified\r\n\
               Date: Sun, 06 Nov 1994 08:49:37 GMT\r\n\
@@ -121,7 +121,7 @@ fn folder_redirect(rt: HostRuntime) -> Result<(), Fail> {
     match resolve(rt.alloc(), &files, b"GET", b"//docs")? {
         Outcome::Move(location) => {
             let moved = Given::<Brand>::Moved { location };
-            let got = record(rt.alloc(), false, Link::Silent, moved)?;
+            let got = record(rt.alloc(), false, Persistence::Silent, moved)?;
             let want = b"reply 0 7 157\n\
                   HTTP/1.1 301 Moved Permanently\r\n\
                   Date: Sun, 06 Nov 1994 08:49:37 GMT\r\n\
@@ -155,7 +155,7 @@ fn longest_location(rt: HostRuntime) -> Result<(), Fail> {
         Outcome::Move(location) => {
             assert_eq!(rt; location.as_slice().len(), 3068);
             let moved = Given::<Brand>::Moved { location };
-            let got = record(alloc, false, Link::Silent, moved)?;
+            let got = record(alloc, false, Persistence::Silent, moved)?;
             let want = format!(in alloc;
                 "reply 0 7 3219\n\
                  HTTP/1.1 301 Moved Permanently\r\n\
@@ -178,10 +178,10 @@ fn longest_location(rt: HostRuntime) -> Result<(), Fail> {
 #[test]
 fn plain_statuses(rt: HostRuntime) -> Result<(), Fail> {
     let busy = Status::ServiceUnavailable { retry_after: 1 };
-    let table: [(bool, Link, Status, &str); 7] = [
+    let table: [(bool, Persistence, Status, &str); 7] = [
         (
             false,
-            Link::Close,
+            Persistence::Close,
             Status::BadRequest,
             "reply 0 7 146\n\
              HTTP/1.1 400 Bad Request\r\n\
@@ -195,7 +195,7 @@ fn plain_statuses(rt: HostRuntime) -> Result<(), Fail> {
         ),
         (
             false,
-            Link::Silent,
+            Persistence::Silent,
             Status::NotFound,
             "reply 0 7 123\n\
              HTTP/1.1 404 Not Found\r\n\
@@ -208,7 +208,7 @@ fn plain_statuses(rt: HostRuntime) -> Result<(), Fail> {
         ),
         (
             false,
-            Link::Silent,
+            Persistence::Silent,
             Status::MethodNotAllowed,
             "reply 0 7 159\n\
              HTTP/1.1 405 Method Not Allowed\r\n\
@@ -222,7 +222,7 @@ fn plain_statuses(rt: HostRuntime) -> Result<(), Fail> {
         ),
         (
             false,
-            Link::Close,
+            Persistence::Close,
             Status::ContentTooLarge,
             "reply 0 7 158\n\
              HTTP/1.1 413 Content Too Large\r\n\
@@ -236,7 +236,7 @@ fn plain_statuses(rt: HostRuntime) -> Result<(), Fail> {
         ),
         (
             false,
-            Link::Close,
+            Persistence::Close,
             Status::NotImplemented,
             "reply 0 7 154\n\
              HTTP/1.1 501 Not Implemented\r\n\
@@ -250,7 +250,7 @@ fn plain_statuses(rt: HostRuntime) -> Result<(), Fail> {
         ),
         (
             false,
-            Link::Silent,
+            Persistence::Silent,
             busy,
             "reply 0 7 159\n\
              HTTP/1.1 503 Service Unavailable\r\n\
@@ -264,7 +264,7 @@ fn plain_statuses(rt: HostRuntime) -> Result<(), Fail> {
         ),
         (
             true,
-            Link::Silent,
+            Persistence::Silent,
             busy,
             "reply 0 7 135\n\
              HTTP/1.1 503 Service Unavailable\r\n\

@@ -1,6 +1,6 @@
 //! Out of memory: `checks/refuse_growths.py` refuses each growth in turn.
 use devices::{Bytes, Output};
-use responses::{Given, Link, Slip, Status, render, write_reply};
+use responses::{Given, Persistence, Slip, Status, render, write_reply};
 use std::marker::Brand;
 
 static BUSY: &[u8] = b"reply 1 2 178\n\
@@ -37,7 +37,7 @@ fn each_growth_refused(rt: HostRuntime) {
         conn: 2,
         date: 253_402_300_799,
         head: false,
-        link: Link::Close,
+        link: Persistence::Close,
         what: Given::<Brand>::Plain {
             status: Status::ServiceUnavailable { retry_after: 1 },
         },
@@ -61,7 +61,7 @@ fn long_head(rt: HostRuntime) {
         conn: 0,
         date: 784_111_777,
         head: false,
-        link: Link::Silent,
+        link: Persistence::Silent,
         what: Given::<Brand>::Moved {
             location: Bytes::from_vec(location),
         },

@@ -6,7 +6,7 @@ ghost use Rattle.responses.specs.Replies.{OnlyHead, HasLocation};
 use devices::{Bytes, Output};
 use page_cache::Page;
 use paths::{Snapshot, Tree};
-use responses::{Given, Link, SharedPage, Slip, render, write_reply};
+use responses::{Given, Persistence, SharedPage, Slip, render, write_reply};
 use std::alloc::Global;
 use std::marker::Brand;
 use std::test::Fail;
@@ -33,7 +33,7 @@ pub static FILES: &str = "haboob-snapshot 1\n\
 pub fn record<F: Tree>(
     alloc: Global,
     head: bool,
-    link: Link,
+    link: Persistence,
     what: Given<F>,
 ) -> Result<Vec<u8>, Fail>
     requires known { OnlyHead head what }
@@ -59,7 +59,7 @@ fn page_in<F: Tree>(
     alloc: Global,
     files: &Snapshot,
     file: usize,
-    link: Link,
+    link: Persistence,
 ) -> Result<Vec<u8>, Fail>
     requires snapshot { files.now ≡ F.files }
     requires file { file < length files.now }
@@ -70,7 +70,7 @@ fn page_in<F: Tree>(
 }
 
 /// The record that gives a file.
-pub fn page(alloc: Global, file: usize, link: Link) -> Result<Vec<u8>, Fail> {
+pub fn page(alloc: Global, file: usize, link: Persistence) -> Result<Vec<u8>, Fail> {
     let files = snapshot(alloc, FILES.as_bytes())?;
     if file >= files.len() {
         return Ok(Vec::new(alloc));

@@ -1,5 +1,5 @@
 //! Out of memory: `checks/refuse_growths.py` refuses each growth in turn.
-use http_requests::{Cutter, Meaning, Message, Version};
+use http_requests::{Cutter, HttpVersion, Meaning, Message};
 use std::test::Fail;
 
 static TEXT: &str = "GET /a HTTP/1.1\r\n\
@@ -61,7 +61,7 @@ fn is_like(message: &Message, want: &Want) -> bool {
             message.end == want.end
                 && method.as_slice() == want.method.as_bytes()
                 && target.as_slice() == want.target.as_bytes()
-                && *version == Version::Http11
+                && *version == HttpVersion::Http11
                 && *closes == want.closes
                 && *modified_since == want.modified_since
         }

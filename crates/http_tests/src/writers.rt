@@ -1,7 +1,7 @@
 //! A writer that takes a byte at a time, and one that fails at one of its writes.
 use crate::reply_records::page;
 use devices::Output;
-use responses::{Given, Link, Slip, Status, Write, render, write_reply};
+use responses::{Given, Persistence, Slip, Status, Write, render, write_reply};
 use std::marker::Brand;
 use std::test::Fail;
 use test_support::Slow;
@@ -23,7 +23,7 @@ fn each_write_failing(rt: HostRuntime) -> Result<(), Fail> {
         conn: 12,
         date: 0,
         head: false,
-        link: Link::Silent,
+        link: Persistence::Silent,
         what: Given::<Brand>::Plain {
             status: Status::NotFound,
         },

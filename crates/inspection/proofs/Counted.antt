@@ -9,10 +9,10 @@ use Rattle.captures.specs.declared.record.Record.TheVariants.{Piece, End, Tier}
 use Rattle.http_requests.specs.declared.messages.Message.{Message}
 use Rattle.http_requests.specs.declared.messages.Meaning.{Meaning}
 use Rattle.http_requests.specs.declared.messages.Meaning.TheVariants.{Request, Bad}
-use Rattle.http_requests.specs.declared.messages.Version.{Version}
-use Rattle.http_requests.specs.declared.messages.Version.TheVariants.{Http10, Http11}
-use Rattle.http_requests.specs.declared.messages.Fault.{Fault}
-use Rattle.http_requests.specs.declared.messages.Fault.TheVariants.{TooLong, Block, Host, Coding, Length, BodySize}
+use Rattle.http_requests.specs.declared.messages.HttpVersion.{HttpVersion}
+use Rattle.http_requests.specs.declared.messages.HttpVersion.TheVariants.{Http10, Http11}
+use Rattle.http_requests.specs.declared.messages.MessageFault.{MessageFault}
+use Rattle.http_requests.specs.declared.messages.MessageFault.TheVariants.{TooLong, Block, Host, Coding, Length, BodySize}
 use Rattle.inspection.specs.declared.counts.RecordCounts.{RecordCounts}
 use Rattle.inspection.specs.declared.counts.MethodCounts.{MethodCounts}
 use Rattle.inspection.specs.declared.counts.FaultCounts.{FaultCounts}
@@ -61,7 +61,7 @@ few_records records n h = record {
 same_methods : (c d : MethodCounts) → c.get ≡ d.get → c.head ≡ d.head → c.other ≡ d.other → c ≡ d
 same_methods c d g h o = λ i. record { get = g i; head = h i; other = o i }
 
-pub method_counted : (whats : List Meaning) (method target : List ℕ) (version : Version) (closing : Bool) (since : Option ℕ)
+pub method_counted : (whats : List Meaning) (method target : List ℕ) (version : HttpVersion) (closing : Bool) (since : Option ℕ)
     → methods_by_kind (whats ++ Request method target version closing since ∷ []) ≡ with_method (methods_by_kind whats) method
 method_counted whats method target version closing since = go (bytes_eq method (codes "GET")) refl (bytes_eq method (codes "HEAD")) refl
   where
@@ -74,7 +74,7 @@ method_counted whats method target version closing since = go (bytes_eq method (
     go false e true f = rw (e, f) (same_methods _ _ (no_more (has_method (codes "GET")) whats w e) (one_more (has_method (codes "HEAD")) whats w f) (no_more has_other_method whats w (rw (e, f) refl)))
     go false e false f = rw (e, f) (same_methods _ _ (no_more (has_method (codes "GET")) whats w e) (no_more (has_method (codes "HEAD")) whats w f) (one_more has_other_method whats w (rw (e, f) refl)))
 
-versions_counted : (whats : List Meaning) (method target : List ℕ) (version : Version) (closing : Bool) (since : Option ℕ)
+versions_counted : (whats : List Meaning) (method target : List ℕ) (version : HttpVersion) (closing : Bool) (since : Option ℕ)
     → versions_by_kind (whats ++ Request method target version closing since ∷ []) ≡ with_version (versions_by_kind whats) version
 versions_counted whats method target Http10 closing since =
     let w = Request method target Http10 closing since in λ i. record { http10 = one_more is_http10 whats w refl i; http11 = no_more is_http11 whats w refl i }
@@ -86,13 +86,13 @@ versions_counted whats method target Http11 closing since =
 same_faults : (c d : FaultCounts) → c.too_long ≡ d.too_long → c.block ≡ d.block → c.host ≡ d.host → c.coding ≡ d.coding → c.length ≡ d.length → c.body_size ≡ d.body_size → c ≡ d
 same_faults c d t b h o l s = λ i. record { too_long = t i; block = b i; host = h i; coding = o i; length = l i; body_size = s i }
 
-no_fault : (whats : List Meaning) (method target : List ℕ) (version : Version) (closing : Bool) (since : Option ℕ)
+no_fault : (whats : List Meaning) (method target : List ℕ) (version : HttpVersion) (closing : Bool) (since : Option ℕ)
     → faults_by_kind (whats ++ Request method target version closing since ∷ []) ≡ faults_by_kind whats
 no_fault whats method target version closing since =
     let w = Request method target version closing since in
     same_faults _ _ (no_more is_too_long whats w refl) (no_more is_bad_block whats w refl) (no_more is_bad_host whats w refl) (no_more is_bad_coding whats w refl) (no_more is_bad_length whats w refl) (no_more is_bad_body_size whats w refl)
 
-fault_counted : (whats : List Meaning) (fault : Fault) → faults_by_kind (whats ++ Bad fault ∷ []) ≡ with_fault (faults_by_kind whats) fault
+fault_counted : (whats : List Meaning) (fault : MessageFault) → faults_by_kind (whats ++ Bad fault ∷ []) ≡ with_fault (faults_by_kind whats) fault
 fault_counted whats TooLong =
     let w = Bad TooLong in
     same_faults _ _ (one_more is_too_long whats w refl) (no_more is_bad_block whats w refl) (no_more is_bad_host whats w refl) (no_more is_bad_coding whats w refl) (no_more is_bad_length whats w refl) (no_more is_bad_body_size whats w refl)
@@ -117,12 +117,12 @@ fault_counted whats BodySize =
 same_messages : (c d : MessageCounts) → c.all ≡ d.all → c.requests ≡ d.requests → c.methods ≡ d.methods → c.versions ≡ d.versions → c.faults ≡ d.faults → c ≡ d
 same_messages c d a r m v f = λ i. record { all = a i; requests = r i; methods = m i; versions = v i; faults = f i }
 
-no_method : (whats : List Meaning) (fault : Fault) → methods_by_kind (whats ++ Bad fault ∷ []) ≡ methods_by_kind whats
+no_method : (whats : List Meaning) (fault : MessageFault) → methods_by_kind (whats ++ Bad fault ∷ []) ≡ methods_by_kind whats
 no_method whats fault =
     let w = Bad fault in
     same_methods _ _ (no_more (has_method (codes "GET")) whats w refl) (no_more (has_method (codes "HEAD")) whats w refl) (no_more has_other_method whats w refl)
 
-no_version : (whats : List Meaning) (fault : Fault) → versions_by_kind (whats ++ Bad fault ∷ []) ≡ versions_by_kind whats
+no_version : (whats : List Meaning) (fault : MessageFault) → versions_by_kind (whats ++ Bad fault ∷ []) ≡ versions_by_kind whats
 no_version whats fault = let w = Bad fault in λ i. record { http10 = no_more is_http10 whats w refl i; http11 = no_more is_http11 whats w refl i }
 
 pub message_counted : (whats : List Meaning) (what : Meaning) → messages_by_kind (whats ++ what ∷ []) ≡ with_message (messages_by_kind whats) what

@@ -20,7 +20,7 @@ use Rattle.inspection.specs.declared.inspection.Inspection.{Inspection}
 use Rattle.inspection.specs.declared.found.Found.{Found}
 use Rattle.inspection.specs.Figures.{AreFigures}
 use Rattle.inspection.specs.Running.{IsFound, Holds, IsNoEarlier}
-use Rattle.inspection.specs.Inspections.{HoldsAll, HoldsBefore, Stops, told_as, stop_of}
+use Rattle.inspection.specs.Inspections.{HoldsAll, HoldsBefore, Stops, reported_as, stop_of}
 use Rattle.inspection.proofs.Holding.{last_le}
 
 pub holds_none : (connections : List Connection) (f : Found) → connections ≡ [] → IsFound [] [] f → Holds [] [] connections f
@@ -70,10 +70,10 @@ holds_before v text now start records arrivals connections f p q ahead fault i f
 }
 
 -- what is said of a capture's fault, where the inspection tells it
-pub told : (input ahead : Option (List ℕ)) (held : Inspection) (f : CaptureFault) → HoldsBefore input ahead held f → Stops input ahead (stop_of held f)
-told input ahead held f h = go f.kind refl
+pub reported : (input ahead : Option (List ℕ)) (held : Inspection) (f : CaptureFault) → HoldsBefore input ahead held f → Stops input ahead (stop_of held f)
+reported input ahead held f h = go f.kind refl
   where
-    go : (k : CaptureFaultKind) → f.kind ≡ k → Stops input ahead (told_as k held f)
+    go : (k : CaptureFaultKind) → f.kind ≡ k → Stops input ahead (reported_as k held f)
     go kinds.Cut e = (λ m. absurd (let z : kinds.Cut ≡ kinds.Memory = sym e ∙ m in cc), h)
     go kinds.Header e = (λ m. absurd (let z : kinds.Header ≡ kinds.Memory = sym e ∙ m in cc), h)
     go kinds.Kind e = (λ m. absurd (let z : kinds.Kind ≡ kinds.Memory = sym e ∙ m in cc), h)

@@ -15,8 +15,8 @@ use Rattle.captures.specs.Reference.{IsCapture, IsRecord, last_connection}
 use Rattle.captures.specs.Captures.{size_of, sizes_of}
 use Rattle.http_requests.specs.declared.messages.Meaning.{Meaning}
 use Rattle.http_requests.specs.declared.messages.Meaning.TheVariants.{Request, Bad}
-use Rattle.http_requests.specs.declared.messages.Version.TheVariants.{Http10, Http11}
-use Rattle.http_requests.specs.declared.messages.Fault.TheVariants.{TooLong, Block, Host, Coding, Length, BodySize}
+use Rattle.http_requests.specs.declared.messages.HttpVersion.TheVariants.{Http10, Http11}
+use Rattle.http_requests.specs.declared.messages.MessageFault.TheVariants.{TooLong, Block, Host, Coding, Length, BodySize}
 use Rattle.arrivals.specs.Reference.{bytes_to, text_of}
 use Rattle.arrivals.proofs.Arriving.{own_bytes, other_bytes}
 use Rattle.inspection.specs.Figures.{connection_numbers, every_connection, is_request, has_method, has_other_method, is_http10, is_http11, is_too_long, is_bad_block, is_bad_host, is_bad_coding, is_bad_length, is_bad_body_size}

@@ -9,8 +9,9 @@ use Rattle.captures.specs.Reference.{last_connection, last_of, ticks_of}
 use Rattle.http_requests.specs.declared.messages.Message.{Message}
 use Rattle.http_requests.specs.declared.messages.Meaning.{Meaning}
 use Rattle.http_requests.specs.declared.messages.Meaning.TheVariants.{Request, Bad}
-use Rattle.http_requests.specs.declared.messages.Version.TheVariants.{Http10, Http11}
-use Rattle.http_requests.specs.declared.messages.Fault.TheVariants.{TooLong, Block, Host, Coding, Length, BodySize}
+use Rattle.http_requests.specs.declared.messages.HttpVersion.TheVariants.{Http10, Http11}
+use Rattle.http_requests.specs.declared.messages.MessageFault.TheVariants.{TooLong, Block, Host, Coding}
+use Rattle.http_requests.specs.declared.messages.MessageFault.TheVariants.{Length, BodySize}
 use Rattle.http_requests.specs.Reference.{is_get_or_head}
 use Rattle.arrivals.specs.Reference.{Arrival, text_of, messages_of}
 use Rattle.arrivals.specs.Connections.{some_closes}

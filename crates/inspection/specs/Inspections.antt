@@ -38,12 +38,12 @@ Stops input ahead (Stopped held f) = (f.kind ≢ kinds.Memory) × HoldsBefore in
 Stops input ahead Memory = Unit {0}
 
 -- where the reader is out of memory, the call is
-abbrev pub told_as : CaptureFaultKind → Inspection → CaptureFault → InspectFault
-told_as kinds.Memory held f = Memory
-told_as other held f = Stopped held f
+abbrev pub reported_as : CaptureFaultKind → Inspection → CaptureFault → InspectFault
+reported_as kinds.Memory held f = Memory
+reported_as other held f = Stopped held f
 
 abbrev pub stop_of : Inspection → CaptureFault → InspectFault
-stop_of held f = told_as f.kind held f
+stop_of held f = reported_as f.kind held f
 
 -- how often the reader failed in a call that answered this fault
 abbrev pub reader_failures : InspectFault → ℕ

@@ -8,10 +8,11 @@ use Rattle.captures.specs.Captures.{sizes_of, size_of}
 use Rattle.http_requests.specs.declared.messages.Message.{Message}
 use Rattle.http_requests.specs.declared.messages.Meaning.{Meaning}
 use Rattle.http_requests.specs.declared.messages.Meaning.TheVariants.{Request, Bad}
-use Rattle.http_requests.specs.declared.messages.Version.{Version}
-use Rattle.http_requests.specs.declared.messages.Version.TheVariants.{Http10, Http11}
-use Rattle.http_requests.specs.declared.messages.Fault.{Fault}
-use Rattle.http_requests.specs.declared.messages.Fault.TheVariants.{TooLong, Block, Host, Coding, Length, BodySize}
+use Rattle.http_requests.specs.declared.messages.HttpVersion.{HttpVersion}
+use Rattle.http_requests.specs.declared.messages.HttpVersion.TheVariants.{Http10, Http11}
+use Rattle.http_requests.specs.declared.messages.MessageFault.{MessageFault}
+use Rattle.http_requests.specs.declared.messages.MessageFault.TheVariants.{TooLong, Block, Host, Coding}
+use Rattle.http_requests.specs.declared.messages.MessageFault.TheVariants.{Length, BodySize}
 use Rattle.arrivals.specs.Reference.{Arrival, AreArrivals, text_of, messages_of}
 use Rattle.arrivals.specs.Connections.{HaveRead, some_closes}
 use Rattle.arrivals.specs.declared.connections.Connection.{Connection}
@@ -77,12 +78,12 @@ with_method c method =
     else if bytes_eq method (codes "HEAD") then record c { head = c.head + 1 }
     else record c { other = c.other + 1 }
 
-abbrev pub with_version : VersionCounts → Version → VersionCounts
+abbrev pub with_version : VersionCounts → HttpVersion → VersionCounts
 with_version c Http10 = record c { http10 = c.http10 + 1 }
 with_version c Http11 = record c { http11 = c.http11 + 1 }
 
 -- the counts with one more message of this fault
-abbrev pub with_fault : FaultCounts → Fault → FaultCounts
+abbrev pub with_fault : FaultCounts → MessageFault → FaultCounts
 with_fault c TooLong = record c { too_long = c.too_long + 1 }
 with_fault c Block = record c { block = c.block + 1 }
 with_fault c Host = record c { host = c.host + 1 }

@@ -7,7 +7,7 @@ ghost use Rattle.inspection.specs.Running.{FewRecords, FewMethods, FewVersions, 
 ghost use Rattle.inspection.specs.Running.{with_end, with_tier, with_method, with_version, with_fault, with_message};
 
 use crate::counts::{FaultCounts, MessageCounts, MethodCounts, RecordCounts, VersionCounts};
-use http_requests::{Fault, Meaning, Message, Version};
+use http_requests::{HttpVersion, Meaning, Message, MessageFault};
 
 impl RecordCounts {
     /// Counts one more piece.
@@ -56,30 +56,30 @@ impl MethodCounts {
 
 impl VersionCounts {
     /// Counts one more request by its version.
-    fn note(&mut self, version: Version)
+    fn note(&mut self, version: HttpVersion)
         requires { FewVersions (2 ^ 64 - 1) self.old }
         ensures { self.new ≡ with_version self.old version }
     {
         match version {
-            Version::Http10 => self.http10 += 1,
-            Version::Http11 => self.http11 += 1,
+            HttpVersion::Http10 => self.http10 += 1,
+            HttpVersion::Http11 => self.http11 += 1,
         }
     }
 }
 
 impl FaultCounts {
     /// Counts one more message by its fault.
-    fn note(&mut self, fault: Fault)
+    fn note(&mut self, fault: MessageFault)
         requires { FewFaults (2 ^ 64 - 1) self.old }
         ensures { self.new ≡ with_fault self.old fault }
     {
         match fault {
-            Fault::TooLong => self.too_long += 1,
-            Fault::Block => self.block += 1,
-            Fault::Host => self.host += 1,
-            Fault::Coding => self.coding += 1,
-            Fault::Length => self.length += 1,
-            Fault::BodySize => self.body_size += 1,
+            MessageFault::TooLong => self.too_long += 1,
+            MessageFault::Block => self.block += 1,
+            MessageFault::Host => self.host += 1,
+            MessageFault::Coding => self.coding += 1,
+            MessageFault::Length => self.length += 1,
+            MessageFault::BodySize => self.body_size += 1,
         }
     }
 }

@@ -5,8 +5,8 @@ use Rattle.std.proofs.lemmas.List.{append_assoc, append-nil, flat_map_more}
 use Rattle.devices.specs.Reference.{line_feed}
 use Rattle.paths.specs.declared.file.File.{File}
 use Rattle.paths.specs.declared.file.FileLine.{FileLine}
-use Rattle.paths.specs.declared.file.Heading.{Heading}
-use Rattle.paths.specs.declared.file.Heading.TheVariants as headings
+use Rattle.paths.specs.declared.file.EntryHeading.{EntryHeading}
+use Rattle.paths.specs.declared.file.EntryHeading.TheVariants as headings
 use Rattle.paths.specs.declared.snapshot_fault.SnapshotFaultKind.{SnapshotFaultKind}
 use Rattle.paths.specs.declared.snapshot_fault.SnapshotFaultKind.TheVariants.{Count, Trailing}
 use Rattle.devices.specs.Texts.{Ahead, ahead_of, line_at}
@@ -31,7 +31,7 @@ file_parts : (f : File) (l : FileLine) → f.mtime ≡ l.mtime → length f.name
     → ((codes "file " ++ (decimal l.mtime ++ 32 ∷ (decimal l.name_len ++ 32 ∷ decimal l.len))) ++ line_feed ∷ []) ++ ((f.name ++ line_feed ∷ []) ++ (f.bytes ++ line_feed ∷ [])) ≡ file_text f
 file_parts f l m n b = rw (← m, ← n, ← b) (parts (codes "file ") (decimal f.mtime) (decimal (length f.name)) (decimal (length f.bytes)) f.name f.bytes)
 
-announced_takes : (files : List File) (line : List ℕ) (heading : Heading) (a b : Ahead) (o : Option File) → heading_of line ≡ Ok heading → length files ≤ max_files
+announced_takes : (files : List File) (line : List ℕ) (heading : EntryHeading) (a b : Ahead) (o : Option File) → heading_of line ≡ Ok heading → length files ≤ max_files
     → announced files heading a ≡ Ok (o, b) → (rest : List ℕ) × TakesAhead a rest b × ((line ++ line_feed ∷ []) ++ rest ≡ entry_text files o)
 announced_takes files line (headings.File l) a b o is small h =
     let file = bind_ok (file_at files l a) _ _ h in

@@ -12,8 +12,8 @@ use Rattle.paths.specs.Reference.{lies_in}
 use Rattle.devices.specs.Texts.{Ahead, byte_at, run_at, line_at}
 use Rattle.paths.specs.declared.file.File.{File}
 use Rattle.paths.specs.declared.file.FileLine.{FileLine}
-use Rattle.paths.specs.declared.file.Heading.{Heading}
-use Rattle.paths.specs.declared.file.Heading.TheVariants as headings
+use Rattle.paths.specs.declared.file.EntryHeading.{EntryHeading}
+use Rattle.paths.specs.declared.file.EntryHeading.TheVariants as headings
 use Rattle.paths.specs.declared.snapshot_fault.SnapshotFault.{SnapshotFault}
 use Rattle.paths.specs.declared.snapshot_fault.SnapshotFaultKind.{SnapshotFaultKind}
 use Rattle.paths.specs.declared.snapshot_fault.SnapshotFaultKind.TheVariants.{Name, Order, Conflict, Number, TooLarge, Count, Trailing}
@@ -68,7 +68,7 @@ file_follows files l a b f h =
     let good : Follows files made = record { room = few; file = is; order = fits.1; apart = fits.2 } in
     subst (λ (v : File). Follows files v) (ap (λ (p : File × Ahead). p.0) pair) good
 
-announced_follows : (files : List File) (heading : Heading) (a b : Ahead) (f : File) → announced files heading a ≡ Ok (Some f, b) → Follows files f
+announced_follows : (files : List File) (heading : EntryHeading) (a b : Ahead) (f : File) → announced files heading a ≡ Ok (Some f, b) → Follows files f
 announced_follows files (headings.File l) a b f h =
     let file = bind_ok (file_at files l a) _ _ h in
     let pair : (Some file.0.0, file.0.1) ≡ (Some f, b) = ok_is {A = Option File × Ahead} {E = SnapshotFaultKind} _ _ _ _ refl refl file.2 in

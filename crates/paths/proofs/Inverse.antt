@@ -14,7 +14,7 @@ use Rattle.devices.specs.Texts.{Ahead, byte_at, line_at, run_at}
 use Rattle.paths.specs.Snapshots.{first_line, max_time, max_file_bytes, max_name_bytes, max_files, is_name, comes_before}
 use Rattle.paths.specs.SnapshotFaults.{kind_of, header_kind_of, named, ◌>>=◌, header_at, file_heading, end_heading, heading_of, name_at, body_at, file_at}
 use Rattle.devices.proofs.Inverse.{TakesAhead, ahead_then, unless_ok, when_ok, ok_is, line_inverse, run_inverse, byte_takes, number_inverse, three_inverse, begins, chosen, ends_by_feed}
-use Rattle.paths.specs.declared.file.Heading.TheVariants as headings
+use Rattle.paths.specs.declared.file.EntryHeading.TheVariants as headings
 
 -- ---- the steps of a definition that may refuse
 

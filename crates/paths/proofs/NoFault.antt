@@ -20,7 +20,7 @@ use Rattle.paths.specs.SnapshotFaults.{kind_of, header_kind_of, named, ◌>>=◌
 use Rattle.devices.proofs.Taking.{line_whole}
 use Rattle.devices.proofs.Again.{meet, number_again, decimal_passes, passes_append, digits_short, split, end_text, pass, neither, byte_again, run_again, nothing_after}
 use Rattle.paths.proofs.OneList.{file_is_line, announces, heading_again, following, file_then, same_file, end_apart, header, parts, one_list}
-use Rattle.paths.specs.declared.file.Heading.TheVariants as headings
+use Rattle.paths.specs.declared.file.EntryHeading.TheVariants as headings
 
 pub bind_is : {A B : Type 0} (r : Result A SnapshotFaultKind) (f : A → Result B SnapshotFaultKind) (x : A) → r ≡ Ok x → (r >>= f) ≡ f x
 bind_is r f x h = ap (λ (q : Result _ SnapshotFaultKind). q >>= f) h

@@ -8,14 +8,14 @@ use Rattle.devices.specs.Texts.{Ahead, line_at}
 use Rattle.devices.specs.declared.text.Stop.{Stop}
 use Rattle.paths.specs.declared.file.File.{File}
 use Rattle.paths.specs.declared.file.FileLine.{FileLine}
-use Rattle.paths.specs.declared.file.Heading.{Heading}
+use Rattle.paths.specs.declared.file.EntryHeading.{EntryHeading}
 use Rattle.paths.specs.declared.snapshot_fault.SnapshotFaultKind.{SnapshotFaultKind}
 use Rattle.paths.specs.Snapshots.{file_line, file_text, first_line, last_line, text_before_end, snapshot_text, max_time, max_name_bytes, max_file_bytes, IsFile, IsSnapshot}
 use Rattle.paths.specs.SnapshotFaults.{file_heading, heading_of}
 use Rattle.devices.proofs.Taking.{line_whole}
 use Rattle.devices.proofs.Inverse.{ok_is}
 use Rattle.devices.proofs.Again.{decimal_passes, passes_append, three_again, words, IsLine, digits_short, split, end_text}
-use Rattle.paths.specs.declared.file.Heading.TheVariants as headings
+use Rattle.paths.specs.declared.file.EntryHeading.TheVariants as headings
 
 -- ---- numbers
 
@@ -52,7 +52,7 @@ file_then f x =
     append_assoc (file_line f) (line_feed ∷ (f.name ++ line_feed ∷ (f.bytes ++ line_feed ∷ []))) x
     ∙ ap (λ w. file_line f ++ line_feed ∷ w) (append_assoc f.name (line_feed ∷ (f.bytes ++ line_feed ∷ [])) x ∙ ap (λ w. f.name ++ line_feed ∷ w) (append_assoc f.bytes (line_feed ∷ []) x))
 
-same_heading : (a b : FileLine) → (let r : Result Heading SnapshotFaultKind = Ok (headings.File a) in r) ≡ Ok (headings.File b) → a ≡ b
+same_heading : (a b : FileLine) → (let r : Result EntryHeading SnapshotFaultKind = Ok (headings.File a) in r) ≡ Ok (headings.File b) → a ≡ b
 same_heading a b h = cc
 
 same_line : (f g : File) (x y : List ℕ) → IsFile f → IsFile g → file_text f ++ x ≡ file_text g ++ y → (file_line f ≡ file_line g) × (following f x ≡ following g y)

@@ -9,7 +9,7 @@ use Rattle.paths.specs.Reference.{lies_in}
 use Rattle.devices.specs.declared.text.Stop.{Stop}
 use Rattle.paths.specs.declared.file.File.{File}
 use Rattle.paths.specs.declared.file.FileLine.{FileLine}
-use Rattle.paths.specs.declared.file.Heading.{Heading}
+use Rattle.paths.specs.declared.file.EntryHeading.{EntryHeading}
 use Rattle.paths.specs.declared.snapshot_fault.SnapshotFaultKind.{SnapshotFaultKind}
 use Rattle.paths.specs.declared.snapshot_fault.SnapshotFaultKind.TheVariants.{Cut, Read, Memory, Number, Kind}
 use Rattle.devices.specs.Numbers.{number_of, three_numbers}
@@ -177,8 +177,8 @@ pub heading_not_lacking : (line : List ℕ) (kind : SnapshotFaultKind) → headi
 heading_not_lacking line kind h is = elim (heading_kinds line kind h) [ inl number ↦ absurd cc | inr other ↦ absurd cc ]
 
 -- a call failed in what a line announced: the line had been taken
-pub entry_fails : (files : List File) (o m p : Option (List ℕ)) (l ml pl : ℕ) (line : List ℕ) (heading : Heading) → heading_of line ≡ Ok heading
-    → (is_some o ≡ true → (following : Ahead) × (line_at (ahead_of o l) ≡ Ok (line, following)) × (is_some m ≡ true) × ((h : Heading) → heading_of line ≡ Ok h → following ≡ ahead_of m ml))
+pub entry_fails : (files : List File) (o m p : Option (List ℕ)) (l ml pl : ℕ) (line : List ℕ) (heading : EntryHeading) → heading_of line ≡ Ok heading
+    → (is_some o ≡ true → (following : Ahead) × (line_at (ahead_of o l) ≡ Ok (line, following)) × (is_some m ≡ true) × ((h : EntryHeading) → heading_of line ≡ Ok h → following ≡ ahead_of m ml))
     → (is_some m ≡ true → TookPart (λ part. announced files heading (record { bytes = part; left = ml }) ≡ Err Cut) m ml p pl) → is_some o ≡ true
     → TookPart (λ part. (0 < length part) × (entry_at files (record { bytes = part; left = l }) ≡ Err Cut)) o l p pl
 entry_fails files o m p l ml pl line heading is read h k =

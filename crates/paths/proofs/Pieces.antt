@@ -2,7 +2,7 @@
 use Rattle.std.proofs.Common.{◌≡◌, ℕ, ◌≤◌, cond, Bool, true, false, List, length, drop, Option, Some, None, Result, Ok, Err, refl, arith, codes, nat_eq}
 use Rattle.std.specs.List.{starts_with}
 use Rattle.std.proofs.lemmas.List.{length-drop}
-use Rattle.paths.specs.declared.file.Heading.{Heading}
+use Rattle.paths.specs.declared.file.EntryHeading.{EntryHeading}
 use Rattle.devices.specs.Numbers.{number_of, three_numbers}
 use Rattle.paths.specs.SnapshotFaults.{heading_of, file_heading, end_heading}
 use Rattle.paths.specs.declared.snapshot_fault.SnapshotFaultKind.TheVariants.{Kind}
@@ -13,7 +13,7 @@ use Rattle.devices.proofs.Pieces.{number_long, three_long}
 
 -- ---- a file's line has ten bytes at least
 
-file_long : (text : List ℕ) (h : Heading) → file_heading (three_numbers text) ≡ Ok h → 5 ≤ length text
+file_long : (text : List ℕ) (h : EntryHeading) → file_heading (three_numbers text) ≡ Ok h → 5 ≤ length text
 file_long text h is = go (three_numbers text) refl is
   where
     go : (o : Option (ℕ × ℕ × ℕ)) → three_numbers text ≡ o → file_heading o ≡ Ok h → 5 ≤ length text
@@ -21,7 +21,7 @@ file_long text h is = go (three_numbers text) refl is
     go (Some numbers) e f = three_long text numbers e
 
 -- a snapshot's line that announces something is that long
-pub heading_long : (line : List ℕ) (h : Heading) → heading_of line ≡ Ok h → IsLong 6 (codes "file ") 11 line
+pub heading_long : (line : List ℕ) (h : EntryHeading) → heading_of line ≡ Ok h → IsLong 6 (codes "file ") 11 line
 heading_long line h is = go (starts_with nat_eq line (codes "file ")) (starts_with nat_eq line (codes "end ")) refl (number_of (drop 4 line)) refl is
   where
     go : (b c : Bool) → starts_with nat_eq line (codes "file ") ≡ b → (o : Option ℕ) → number_of (drop 4 line) ≡ o

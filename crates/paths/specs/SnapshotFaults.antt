@@ -14,8 +14,8 @@ use Rattle.devices.specs.declared.text.Stop.{Stop}
 use Rattle.devices.specs.declared.text.Stop.TheVariants as stops
 use Rattle.paths.specs.declared.file.File.{File}
 use Rattle.paths.specs.declared.file.FileLine.{FileLine}
-use Rattle.paths.specs.declared.file.Heading.{Heading}
-use Rattle.paths.specs.declared.file.Heading.TheVariants as headings
+use Rattle.paths.specs.declared.file.EntryHeading.{EntryHeading}
+use Rattle.paths.specs.declared.file.EntryHeading.TheVariants as headings
 use Rattle.paths.specs.declared.snapshot_fault.SnapshotFault.{SnapshotFault}
 use Rattle.paths.specs.declared.snapshot_fault.SnapshotFaultKind.{SnapshotFaultKind}
 use Rattle.paths.specs.declared.snapshot_fault.SnapshotFaultKind.TheVariants.{Cut, Header, Kind, Number, TooLarge, Name}
@@ -71,15 +71,15 @@ header_at a = do
   if bytes_eq line.0 first_line then Ok (tt, line.1) else Err Header
 
 -- what a line announces: a file's time, the length of its name and its own, or the number of files
-abbrev pub file_heading : Option (ℕ × ℕ × ℕ) → Result Heading SnapshotFaultKind
+abbrev pub file_heading : Option (ℕ × ℕ × ℕ) → Result EntryHeading SnapshotFaultKind
 file_heading (Some n) = Ok (headings.File (record { mtime = n.0; name_len = n.1; len = n.2 }))
 file_heading None = Err Number
 
-abbrev pub end_heading : Option ℕ → Result Heading SnapshotFaultKind
+abbrev pub end_heading : Option ℕ → Result EntryHeading SnapshotFaultKind
 end_heading (Some n) = Ok (headings.End n)
 end_heading None = Err Number
 
-abbrev pub heading_of : List ℕ → Result Heading SnapshotFaultKind
+abbrev pub heading_of : List ℕ → Result EntryHeading SnapshotFaultKind
 heading_of line =
     if starts_with nat_eq line (codes "file ") then file_heading (three_numbers (drop 5 line))
     else if starts_with nat_eq line (codes "end ") then end_heading (number_of (drop 4 line))
@@ -114,7 +114,7 @@ file_at files line a =
       Ok (record { name = name.0; mtime = line.mtime; bytes = bytes.0 }, bytes.1))
 
 -- what a heading announces: a file, or the end (None)
-abbrev pub announced : List File → Heading → Ahead → Result (Option File × Ahead) SnapshotFaultKind
+abbrev pub announced : List File → EntryHeading → Ahead → Result (Option File × Ahead) SnapshotFaultKind
 announced files (headings.File line) a = do
   file ← file_at files line a
   Ok (Some file.0, file.1)

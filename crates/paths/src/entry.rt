@@ -11,7 +11,7 @@ ghost use Rattle.paths.specs.SnapshotFaults.{CountsKind, is_unforeseen_kind, hea
 ghost use Rattle.paths.specs.SnapshotFaults.{announced, entry_at};
 
 use crate::bytes::is_text;
-use crate::file::{FileLine, Heading};
+use crate::file::{EntryHeading, FileLine};
 use crate::heading::{read_entry_line, read_heading};
 use crate::{
     File, MAX_FILE_BYTES, MAX_FILES, MAX_NAME_BYTES, MAX_TIME, Snapshot, SnapshotFaultKind,
@@ -177,7 +177,7 @@ fn read_announced<R: Read>(
     input: &mut Input<R>,
     left: &mut usize,
     files: &Snapshot,
-    heading: Heading,
+    heading: EntryHeading,
 ) -> Result<Option<File>, SnapshotFaultKind>
     requires { CanFail input.old }
     ensures entry { Gives is_unforeseen_kind
@@ -192,11 +192,11 @@ fn read_announced<R: Read>(
     ensures count { CountsKind input.old.failures input.new.failures result }
 {
     match heading {
-        Heading::File(line) => match read_file(alloc, input, left, files, line) {
+        EntryHeading::File(line) => match read_file(alloc, input, left, files, line) {
             Ok(file) => Ok(Some(file)),
             Err(kind) => Err(kind),
         },
-        Heading::End(count) => {
+        EntryHeading::End(count) => {
             if count == files.len() as u64 {
                 Ok(None)
             } else {

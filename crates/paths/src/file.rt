@@ -23,7 +23,7 @@ pub struct FileLine {
 
 /// What a line of a snapshot announces: a file, or the end after n files.
 #[derive(Clone, Copy, Debug, PartialEq, Eq)]
-pub enum Heading {
+pub enum EntryHeading {
     File(FileLine),
     End(u64),
 }

@@ -8,7 +8,7 @@ ghost use Rattle.paths.specs.SnapshotFaults.{heading_of};
 ghost use Rattle.paths.specs.Owed.{GivesLine};
 
 use crate::SnapshotFaultKind;
-use crate::file::{FileLine, Heading};
+use crate::file::{EntryHeading, FileLine};
 use devices::{Input, Line, Stop, number, read_long_line, three_numbers};
 use std::io::Read;
 
@@ -32,12 +32,12 @@ pub(crate) fn read_entry_line<R: Read>(input: &mut Input<R>, left: &mut usize) -
 }
 
 /// What a line of a snapshot announces.
-pub(crate) fn read_heading(line: &[u8]) -> Result<Heading, SnapshotFaultKind>
+pub(crate) fn read_heading(line: &[u8]) -> Result<EntryHeading, SnapshotFaultKind>
     ensures { result ≡ heading_of line.now }
 {
     if let Some(fields) = line.strip_prefix(b"file ") {
         return match three_numbers(fields) {
-            Some((mtime, name_len, len)) => Ok(Heading::File(FileLine {
+            Some((mtime, name_len, len)) => Ok(EntryHeading::File(FileLine {
                 mtime,
                 name_len,
                 len,
@@ -47,7 +47,7 @@ pub(crate) fn read_heading(line: &[u8]) -> Result<Heading, SnapshotFaultKind>
     }
     match line.strip_prefix(b"end ") {
         Some(field) => match number(field) {
-            Some(count) => Ok(Heading::End(count)),
+            Some(count) => Ok(EntryHeading::End(count)),
             None => Err(SnapshotFaultKind::Number),
         },
         None => Err(SnapshotFaultKind::Kind),

@@ -33,7 +33,7 @@ pub enum Asked {
 
 /// What a segment did to a walk.
 #[derive(Clone, Copy)]
-pub enum Step {
+pub enum WalkStep {
     /// The walk goes on.
     On,
     /// No file has a name with this segment.
@@ -180,9 +180,9 @@ fn walk(alloc: Global, path: &[u8]) -> Result<Asked, AllocError>
         let (part, more) = split_segment(text);
         let segment = decode(alloc, part)?;
         match take_step(&mut kept, &mut folder, segment)? {
-            Step::On => ahead = more,
-            Step::Missing => return Ok(Asked::Missing),
-            Step::AboveRoot => return Ok(Asked::BadTarget),
+            WalkStep::On => ahead = more,
+            WalkStep::Missing => return Ok(Asked::Missing),
+            WalkStep::AboveRoot => return Ok(Asked::BadTarget),
         }
     }
     Ok(Asked::Path {
@@ -228,28 +228,28 @@ fn decode(alloc: Global, part: &[u8]) -> Result<Bytes, AllocError>
 }
 
 /// Walks over one decoded segment.
-fn take_step(kept: &mut Segments, folder: &mut bool, segment: Bytes) -> Result<Step, AllocError>
+fn take_step(kept: &mut Segments, folder: &mut bool, segment: Bytes) -> Result<WalkStep, AllocError>
     ensures { IfOk result (λ step. (more : List (List ℕ)) →
         walked kept.old folder.old (segment ∷ more) ≡ after_step step kept.new folder.new more) }
 {
     if is_nameless(segment.as_slice()) {
-        return Ok(Step::Missing);
+        return Ok(WalkStep::Missing);
     }
     if segment.as_slice().is_empty() || segment.as_slice() == b".".as_slice() {
         *folder = true;
-        return Ok(Step::On);
+        return Ok(WalkStep::On);
     }
     if segment.as_slice() == b"..".as_slice() {
         if kept.is_empty() {
-            return Ok(Step::AboveRoot);
+            return Ok(WalkStep::AboveRoot);
         }
         kept.drop_last();
         *folder = true;
-        return Ok(Step::On);
+        return Ok(WalkStep::On);
     }
     kept.push(segment)?;
     *folder = false;
-    Ok(Step::On)
+    Ok(WalkStep::On)
 }
 
 /// Whether no file's name has this segment as a part.

@@ -7,7 +7,7 @@ use Rattle.reference.specs.declared.replay_fault.ReplayFault.{ReplayFault}
 use Rattle.reference.specs.declared.summary.Outcome.{Outcome}
 use Rattle.reference.specs.Reference.{Choice, terms_of, Answers}
 use Rattle.reference.specs.Outcomes.{Leaves}
-use Rattle.reference.specs.Telling.{replies_told}
+use Rattle.reference.specs.Texts.{reply_texts}
 use Rattle.settings.specs.SettingsTable.{default_choice}
 use Rattle.program.specs.Bundles.{AfterSnapshot, WritesAnswer, default_terms}
 
@@ -34,7 +34,7 @@ answers_after files choice input rest old new outcome is reads rules answers =
 -- or it came to no end
 pub stops_after_snapshot : (files : List File) (choice : Choice) (input rest ahead old new : Option (List ℕ)) (f : ReplayFault) → choice ≡ default_choice
     → ReadsFront input rest files → IsSnapshot files
-    → Leaves (replies_told (terms_of files choice)) rest ahead old new f
-    → AfterSnapshot input (λ its capture. Leaves (replies_told (default_terms its)) capture ahead old new f)
+    → Leaves (reply_texts (terms_of files choice)) rest ahead old new f
+    → AfterSnapshot input (λ its capture. Leaves (reply_texts (default_terms its)) capture ahead old new f)
 stops_after_snapshot files choice input rest ahead old new f is reads rules leaves =
-    following input rest files _ reads rules (subst (λ (c : Choice). Leaves (replies_told (terms_of files c)) rest ahead old new f) is leaves)
+    following input rest files _ reads rules (subst (λ (c : Choice). Leaves (reply_texts (terms_of files c)) rest ahead old new f) is leaves)

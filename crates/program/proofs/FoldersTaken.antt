@@ -64,19 +64,19 @@ file_refused files before f old new s next rules.Text why is same rule took = ((
 file_refused files before f old new s next rules.Write why is same rule took = cc
 file_refused files before f old new s next rules.Memory why is same rule took = cc
 
-pub file_cut : (files : List File) (before : Option (List ℕ)) (f : File) (old new : Device) (s next : SoFar) (fault : WriteFault) (told : Fault) → refusal fault ≡ Err told
+pub file_cut : (files : List File) (before : Option (List ℕ)) (f : File) (old new : Device) (s next : SoFar) (fault : WriteFault) (reported : Fault) → refusal fault ≡ Err reported
     → (fault ≡ rules.Write → AppendsPrefix before new.bytes (text_before_end (files ++ f ∷ [])))
     → (fault ≢ rules.Write → (next ≡ s) × (new ≡ old)) → refused_for (Err fault) ≡ broken_rule files f → Took files before old.bytes s
-    → CutsFile files before f new.bytes told
-file_cut files before f old new s next rules.Time told is part same rule took = cc
-file_cut files before f old new s next rules.Size told is part same rule took = cc
-file_cut files before f old new s next rules.Count told is part same rule took = cc
-file_cut files before f old new s next rules.Name told is part same rule took = cc
-file_cut files before f old new s next rules.Order told is part same rule took = cc
-file_cut files before f old new s next rules.Conflict told is part same rule took = cc
-file_cut files before f old new s next rules.Text told is part same rule took = cc
-file_cut files before f old new s next rules.Write told is part same rule took = (let told_is : told ≡ Write Output = cc in inl (told_is, sym rule, part refl))
-file_cut files before f old new s next rules.Memory told is part same rule took = (let told_is : told ≡ Memory = cc in inr (told_is, (still files before old new s next (same (λ e. cc)) took).text))
+    → CutsFile files before f new.bytes reported
+file_cut files before f old new s next rules.Time reported is part same rule took = cc
+file_cut files before f old new s next rules.Size reported is part same rule took = cc
+file_cut files before f old new s next rules.Count reported is part same rule took = cc
+file_cut files before f old new s next rules.Name reported is part same rule took = cc
+file_cut files before f old new s next rules.Order reported is part same rule took = cc
+file_cut files before f old new s next rules.Conflict reported is part same rule took = cc
+file_cut files before f old new s next rules.Text reported is part same rule took = cc
+file_cut files before f old new s next rules.Write reported is part same rule took = (let reported_is : reported ≡ Write Output = cc in inl (reported_is, sym rule, part refl))
+file_cut files before f old new s next rules.Memory reported is part same rule took = (let reported_is : reported ≡ Memory = cc in inr (reported_is, (still files before old new s next (same (λ e. cc)) took).text))
 
 -- ---- what was found
 
@@ -95,10 +95,10 @@ pub found_ok : (answers : Answering) (files : List File) (before : Option (List 
 found_ok answers files before found c (Ok o) now s known says h = found_added answers files before found c o now s known says h
 found_ok answers files before found c (Err f) now s known says h = tt
 
-cut_found : (answers : Answering) (files : List File) (before : Option (List ℕ)) (found : Found) (c : Contents) (told : Fault) (now : Option (List ℕ)) → found.fault ≡ None → answers (name_of found) (Ok c)
-    → CutsFile files before (a_file (name_of found) c.mtime c.bytes.items) now told → CutsFound answers files before found now told
-cut_found answers files before found c told now known says (inl h) = inl (h.0, a_file (name_of found) c.mtime c.bytes.items, ((c, known, says, refl), h.1), h.2)
-cut_found answers files before found c told now known says (inr h) = inr (inl h.0, h.1)
+cut_found : (answers : Answering) (files : List File) (before : Option (List ℕ)) (found : Found) (c : Contents) (reported : Fault) (now : Option (List ℕ)) → found.fault ≡ None → answers (name_of found) (Ok c)
+    → CutsFile files before (a_file (name_of found) c.mtime c.bytes.items) now reported → CutsFound answers files before found now reported
+cut_found answers files before found c reported now known says (inl h) = inl (h.0, a_file (name_of found) c.mtime c.bytes.items, ((c, known, says, refl), h.1), h.2)
+cut_found answers files before found c reported now known says (inr h) = inr (inl h.0, h.1)
 
 pub found_err : (answers : Answering) (files : List File) (before : Option (List ℕ)) (found : Found) (c : Contents) (r : Result (Option FileFault) Fault) (now : Option (List ℕ)) → found.fault ≡ None → answers (name_of found) (Ok c)
     → IfErr r (CutsFile files before (a_file (name_of found) c.mtime c.bytes.items) now) → IfErr r (CutsFound answers files before found now)
@@ -200,26 +200,26 @@ cut_prefix answers found at skip skipped old now new s item f lt is stands taken
   prefix_first old new (text_before_end (stands.files ++ f ∷ [])) (last_line (stands.files ++ f ∷ []) ++ line_feed ∷ []) h,
 )
 
-cut_short : {told : Fault} → (told ≡ Memory) ⊎ (told ≡ Open places.Folder) → IsOutputFault told ⊎ (told ≡ Open places.Folder)
+cut_short : {reported : Fault} → (reported ≡ Memory) ⊎ (reported ≡ Open places.Folder) → IsOutputFault reported ⊎ (reported ≡ Open places.Folder)
 cut_short (inl memory) = inl (inr memory)
 cut_short (inr opening) = inr opening
 
-pub stopped : (answers : Answering) (found : List Found) (at : ℕ) (skip : Bool) (skipped : ℕ) (old now new : Option (List ℕ)) (s : SoFar) (item : Found) (told : Fault) → at < length found → item ≡ get_or found at item
-    → (stands : Stands answers found at skip skipped old now s) → CutsFound answers stands.files old item new told → IsSnapshotRunFault answers found skip old new told
-stopped answers found at skip skipped old now new s item told lt is stands (inl h) = inl (inl (inl h.0), cut_prefix answers found at skip skipped old now new s item h.1 lt is stands h.2 h.3)
-stopped answers found at skip skipped old now new s item told lt is stands (inr h) = inl (cut_short h.0, kept_prefix answers found at skipped old new stands.files s now stands.takes stands.took h.1)
+pub stopped : (answers : Answering) (found : List Found) (at : ℕ) (skip : Bool) (skipped : ℕ) (old now new : Option (List ℕ)) (s : SoFar) (item : Found) (reported : Fault) → at < length found → item ≡ get_or found at item
+    → (stands : Stands answers found at skip skipped old now s) → CutsFound answers stands.files old item new reported → IsSnapshotRunFault answers found skip old new reported
+stopped answers found at skip skipped old now new s item reported lt is stands (inl h) = inl (inl (inl h.0), cut_prefix answers found at skip skipped old now new s item h.1 lt is stands h.2 h.3)
+stopped answers found at skip skipped old now new s item reported lt is stands (inr h) = inl (cut_short h.0, kept_prefix answers found at skipped old new stands.files s now stands.takes stands.took h.1)
 
 -- out of memory once a file was left out
-pub lacking : (answers : Answering) (found : List Found) (at : ℕ) (skip : Bool) (skipped : ℕ) (old now new : Option (List ℕ)) (s next : SoFar) (item : Found) (fault : FileFault) (told : Fault) → told ≡ Memory → item ≡ get_or found at item
-    → (stands : Stands answers found at skip skipped old now s) → AddsFound answers stands.files old item (Some fault) new next → IsSnapshotRunFault answers found skip old new told
-lacking answers found at skip skipped old now new s next item fault told memory is stands adds =
+pub lacking : (answers : Answering) (found : List Found) (at : ℕ) (skip : Bool) (skipped : ℕ) (old now new : Option (List ℕ)) (s next : SoFar) (item : Found) (fault : FileFault) (reported : Fault) → reported ≡ Memory → item ≡ get_or found at item
+    → (stands : Stands answers found at skip skipped old now s) → AddsFound answers stands.files old item (Some fault) new next → IsSnapshotRunFault answers found skip old new reported
+lacking answers found at skip skipped old now new s next item fault reported memory is stands adds =
     inl (inl (inr memory), kept_prefix answers found at skipped old new stands.files next new stands.takes adds.1 adds.1.text)
 
-pub refused_first : (answers : Answering) (found : List Found) (at : ℕ) (skip : Bool) (skipped : ℕ) (old now new : Option (List ℕ)) (s next : SoFar) (item : Found) (fault : FileFault) (told : Fault) → at < length found → item ≡ get_or found at item → skip ≡ false
-    → (stands : Stands answers found at skip skipped old now s) → AddsFound answers stands.files old item (Some fault) new next → Names (name_of item) fault told → IsSnapshotRunFault answers found skip old new told
-refused_first answers found at skip skipped old now new s next item fault told lt is never stands adds (inl memory) =
+pub refused_first : (answers : Answering) (found : List Found) (at : ℕ) (skip : Bool) (skipped : ℕ) (old now new : Option (List ℕ)) (s next : SoFar) (item : Found) (fault : FileFault) (reported : Fault) → at < length found → item ≡ get_or found at item → skip ≡ false
+    → (stands : Stands answers found at skip skipped old now s) → AddsFound answers stands.files old item (Some fault) new next → Names (name_of item) fault reported → IsSnapshotRunFault answers found skip old new reported
+refused_first answers found at skip skipped old now new s next item fault reported lt is never stands adds (inl memory) =
     inl (inl (inr memory), kept_prefix answers found at skipped old new stands.files next new stands.takes adds.1 adds.1.text)
-refused_first answers found at skip skipped old now new s next item fault told lt is never stands adds (inr named) =
+refused_first answers found at skip skipped old now new s next item fault reported lt is never stands adds (inr named) =
     inr (
       named.0,
       named.1,
@@ -247,7 +247,7 @@ pub ended : (answers : Answering) (found : List Found) (at : ℕ) (skip : Bool) 
 ended answers found at skip skipped old now new s le stands h =
     (stands.files, all_taken answers found at stands.files skipped le stands.takes, stands.all, whole stands.files old now s stands.took, h)
 
-pub unended : (answers : Answering) (found : List Found) (at : ℕ) (skip : Bool) (skipped : ℕ) (old now new : Option (List ℕ)) (s : SoFar) (told : Fault) → length found ≤ at
-    → (stands : Stands answers found at skip skipped old now s) → Cuts (snapshot_text stands.files) old new told → IsSnapshotRunFault answers found skip old new told
-unended answers found at skip skipped old now new s told le stands h =
+pub unended : (answers : Answering) (found : List Found) (at : ℕ) (skip : Bool) (skipped : ℕ) (old now new : Option (List ℕ)) (s : SoFar) (reported : Fault) → length found ≤ at
+    → (stands : Stands answers found at skip skipped old now s) → Cuts (snapshot_text stands.files) old new reported → IsSnapshotRunFault answers found skip old new reported
+unended answers found at skip skipped old now new s reported le stands h =
     inl (inl h.0, (found, [], stands.files, skipped, sym (append-nil found), all_taken answers found at stands.files skipped le stands.takes, whole stands.files old now s stands.took, h.1))

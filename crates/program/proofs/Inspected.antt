@@ -13,7 +13,7 @@ use Rattle.program.specs.declared.place.Place.TheVariants as places
 use Rattle.program.specs.Replays.{IsReportFault}
 use Rattle.program.specs.Upgrading.{IsCaptureOfSomeVersion}
 use Rattle.program.specs.Inspecting.{Inspects, InspectsBefore, AreDue, IsInspectFault, IsInspectFilesFault, InspectSays, AtReport, is_unwritten}
-use Rattle.program.proofs.Settling.{told_by}
+use Rattle.program.proofs.Settling.{reported_by}
 
 -- the text that was due wasn't written
 pub due_fault : (input ahead : Option (List ℕ)) (i : Inspection) (old new : Device) (f : Fault) → AreDue input ahead i → IsReportFault (inspection_text i) old new f → IsInspectFault input ahead old new f
@@ -40,34 +40,34 @@ first_of_inspection input ahead old new f (memory, inl first) foreseen = λ know
 first_of_inspection input ahead old new f (memory, inr later) foreseen = λ known. (let held = later.1 in inr (held.read.version, held.read.start, held.read.records, held.faults.fault foreseen known))
 
 -- a fault of the run is one of the program
-told_of_inspection : (input ahead : Option (List ℕ)) (old new : Device) (f : Fault) → IsInspectFault input ahead old new f → IsInspectFilesFault input f
-told_of_inspection input ahead old new (Replay (replays.Capture f)) says = first_of_inspection input ahead old new f says
-told_of_inspection input ahead old new (Write places.Report) says = tt
-told_of_inspection input ahead old new Memory says = tt
-told_of_inspection input ahead old new other says = absurd says
+reported_of_inspection : (input ahead : Option (List ℕ)) (old new : Device) (f : Fault) → IsInspectFault input ahead old new f → IsInspectFilesFault input f
+reported_of_inspection input ahead old new (Replay (replays.Capture f)) says = first_of_inspection input ahead old new f says
+reported_of_inspection input ahead old new (Write places.Report) says = tt
+reported_of_inspection input ahead old new Memory says = tt
+reported_of_inspection input ahead old new other says = absurd says
 
-told_of_ran : (input old whole : Option (List ℕ)) (ran : Result Unit Fault) → InspectSays input old ran whole → IfErr ran (IsInspectFilesFault input)
-told_of_ran input old whole (Ok done) says = tt
-told_of_ran input old whole (Err f) says = told_of_inspection input says.0 (fresh old) (record { bytes = whole; failures = says.1 }) f says.2
+reported_of_ran : (input old whole : Option (List ℕ)) (ran : Result Unit Fault) → InspectSays input old ran whole → IfErr ran (IsInspectFilesFault input)
+reported_of_ran input old whole (Ok done) says = tt
+reported_of_ran input old whole (Err f) says = reported_of_inspection input says.0 (fresh old) (record { bytes = whole; failures = says.1 }) f says.2
 
-told_of_rest : (input : Option (List ℕ)) (ran told : Result Unit Fault) → IfErr ran (IsInspectFilesFault input)
-    → (told ≡ ran) ⊎ (told ≡ Err (Write places.Report)) → IfErr told (IsInspectFilesFault input)
-told_of_rest input ran told says (inl same) = rw same says
-told_of_rest input ran told says (inr unwritten) = rw unwritten tt
+reported_of_rest : (input : Option (List ℕ)) (ran reported : Result Unit Fault) → IfErr ran (IsInspectFilesFault input)
+    → (reported ≡ ran) ⊎ (reported ≡ Err (Write places.Report)) → IfErr reported (IsInspectFilesFault input)
+reported_of_rest input ran reported says (inl same) = rw same says
+reported_of_rest input ran reported says (inr unwritten) = rw unwritten tt
 
-pub inspected_fault : (input old new : Option (List ℕ)) (told : Result Unit Fault) → AtReport (InspectSays input old) old new told → IfErr told (IsInspectFilesFault input)
-inspected_fault input old new told at =
-    told_of_rest input at.ran told (told_of_ran input old at.whole at.ran at.says) (told_by (is_unwritten at.ran) places.Report old at.whole new at.ran told at.stands)
+pub inspected_fault : (input old new : Option (List ℕ)) (reported : Result Unit Fault) → AtReport (InspectSays input old) old new reported → IfErr reported (IsInspectFilesFault input)
+inspected_fault input old new reported at =
+    reported_of_rest input at.ran reported (reported_of_ran input old at.whole at.ran at.says) (reported_by (is_unwritten at.ran) places.Report old at.whole new at.ran reported at.stands)
 
 -- where the program came to its end, its input was a capture's text
 held : (input old whole : Option (List ℕ)) (ran : Result Unit Fault) → InspectSays input old ran whole → OnOk ran (WhereKnown input IsCaptureOfSomeVersion)
 held input old whole (Ok done) says = λ known. (let all = says.2.1 in (all.capture.version, all.capture.start, all.capture.records, all.capture.text known))
 held input old whole (Err f) says = tt
 
-held_by_rest : (P : Type 0) (ran told : Result Unit Fault) → OnOk ran P → (told ≡ ran) ⊎ (told ≡ Err (Write places.Report)) → OnOk told P
-held_by_rest P ran told says (inl same) = rw same says
-held_by_rest P ran told says (inr unwritten) = rw unwritten tt
+held_by_rest : (P : Type 0) (ran reported : Result Unit Fault) → OnOk ran P → (reported ≡ ran) ⊎ (reported ≡ Err (Write places.Report)) → OnOk reported P
+held_by_rest P ran reported says (inl same) = rw same says
+held_by_rest P ran reported says (inr unwritten) = rw unwritten tt
 
-pub inspected_ok : (input old new : Option (List ℕ)) (told : Result Unit Fault) → AtReport (InspectSays input old) old new told → OnOk told (WhereKnown input IsCaptureOfSomeVersion)
-inspected_ok input old new told at =
-    held_by_rest (WhereKnown input IsCaptureOfSomeVersion) at.ran told (held input old at.whole at.ran at.says) (told_by (is_unwritten at.ran) places.Report old at.whole new at.ran told at.stands)
+pub inspected_ok : (input old new : Option (List ℕ)) (reported : Result Unit Fault) → AtReport (InspectSays input old) old new reported → OnOk reported (WhereKnown input IsCaptureOfSomeVersion)
+inspected_ok input old new reported at =
+    held_by_rest (WhereKnown input IsCaptureOfSomeVersion) at.ran reported (held input old at.whole at.ran at.says) (reported_by (is_unwritten at.ran) places.Report old at.whole new at.ran reported at.stands)

@@ -40,43 +40,43 @@ files_weaker snapshot P Q weaker its = record {
 }
 
 -- a fault of the run is one of the program
-pub told_of_replay : (wanted : Wanted) (choice : Choice) (snapshot capture ahead : Option (List ℕ)) (old new out_old out_new : Device) (f : Fault) → IsReplayFault wanted choice snapshot capture ahead old new out_old out_new f → IsFilesFault snapshot capture f
-told_of_replay wanted choice snapshot capture ahead old new out_old out_new (Words f) says = absurd says
-told_of_replay wanted choice snapshot capture ahead old new out_old out_new (Settings f) says = absurd says
-told_of_replay wanted choice snapshot capture ahead old new out_old out_new (Snapshot f) says = says.0
-told_of_replay wanted choice snapshot capture ahead old new out_old out_new (Replay f) says =
-    files_weaker snapshot (λ files. Leaves (wanted_of wanted (terms_of files choice)) capture ahead old.bytes new.bytes f) _ (λ files told. first_of_replay (wanted_of wanted (terms_of files choice)) capture ahead old.bytes new.bytes f told) says.0
-told_of_replay wanted choice snapshot capture ahead old new out_old out_new (Upgrade f) says = absurd says
-told_of_replay wanted choice snapshot capture ahead old new out_old out_new (Folder f) says = absurd says
-told_of_replay wanted choice snapshot capture ahead old new out_old out_new (Open place) says = absurd says
-told_of_replay wanted choice snapshot capture ahead old new out_old out_new (Read place) says = absurd says
-told_of_replay wanted choice snapshot capture ahead old new out_old out_new (Write places.Settings) says = absurd says
-told_of_replay wanted choice snapshot capture ahead old new out_old out_new (Write places.Snapshot) says = absurd says
-told_of_replay wanted choice snapshot capture ahead old new out_old out_new (Write places.Capture) says = absurd says
-told_of_replay wanted choice snapshot capture ahead old new out_old out_new (Write places.Replies) says = absurd says
-told_of_replay wanted choice snapshot capture ahead old new out_old out_new (Write places.Messages) says = absurd says
-told_of_replay wanted choice snapshot capture ahead old new out_old out_new (Write places.Report) says = tt
-told_of_replay wanted choice snapshot capture ahead old new out_old out_new (Write places.Output) says = absurd says
-told_of_replay wanted choice snapshot capture ahead old new out_old out_new (Write places.Folder) says = absurd says
-told_of_replay wanted choice snapshot capture ahead old new out_old out_new Memory says = tt
+pub reported_of_replay : (wanted : Wanted) (choice : Choice) (snapshot capture ahead : Option (List ℕ)) (old new out_old out_new : Device) (f : Fault) → IsReplayFault wanted choice snapshot capture ahead old new out_old out_new f → IsFilesFault snapshot capture f
+reported_of_replay wanted choice snapshot capture ahead old new out_old out_new (Words f) says = absurd says
+reported_of_replay wanted choice snapshot capture ahead old new out_old out_new (Settings f) says = absurd says
+reported_of_replay wanted choice snapshot capture ahead old new out_old out_new (Snapshot f) says = says.0
+reported_of_replay wanted choice snapshot capture ahead old new out_old out_new (Replay f) says =
+    files_weaker snapshot (λ files. Leaves (wanted_of wanted (terms_of files choice)) capture ahead old.bytes new.bytes f) _ (λ files reported. first_of_replay (wanted_of wanted (terms_of files choice)) capture ahead old.bytes new.bytes f reported) says.0
+reported_of_replay wanted choice snapshot capture ahead old new out_old out_new (Upgrade f) says = absurd says
+reported_of_replay wanted choice snapshot capture ahead old new out_old out_new (Folder f) says = absurd says
+reported_of_replay wanted choice snapshot capture ahead old new out_old out_new (Open place) says = absurd says
+reported_of_replay wanted choice snapshot capture ahead old new out_old out_new (Read place) says = absurd says
+reported_of_replay wanted choice snapshot capture ahead old new out_old out_new (Write places.Settings) says = absurd says
+reported_of_replay wanted choice snapshot capture ahead old new out_old out_new (Write places.Snapshot) says = absurd says
+reported_of_replay wanted choice snapshot capture ahead old new out_old out_new (Write places.Capture) says = absurd says
+reported_of_replay wanted choice snapshot capture ahead old new out_old out_new (Write places.Replies) says = absurd says
+reported_of_replay wanted choice snapshot capture ahead old new out_old out_new (Write places.Messages) says = absurd says
+reported_of_replay wanted choice snapshot capture ahead old new out_old out_new (Write places.Report) says = tt
+reported_of_replay wanted choice snapshot capture ahead old new out_old out_new (Write places.Output) says = absurd says
+reported_of_replay wanted choice snapshot capture ahead old new out_old out_new (Write places.Folder) says = absurd says
+reported_of_replay wanted choice snapshot capture ahead old new out_old out_new Memory says = tt
 
-told_of_ran : (wanted : Wanted) (choice : Choice) (snapshot capture ahead : Option (List ℕ)) (old new out_old out_new : Device) (ran : Result Unit Fault) → IfErr ran (IsReplayFault wanted choice snapshot capture ahead old new out_old out_new) → IfErr ran (IsFilesFault snapshot capture)
-told_of_ran wanted choice snapshot capture ahead old new out_old out_new (Ok x) says = tt
-told_of_ran wanted choice snapshot capture ahead old new out_old out_new (Err f) says = told_of_replay wanted choice snapshot capture ahead old new out_old out_new f says
+reported_of_ran : (wanted : Wanted) (choice : Choice) (snapshot capture ahead : Option (List ℕ)) (old new out_old out_new : Device) (ran : Result Unit Fault) → IfErr ran (IsReplayFault wanted choice snapshot capture ahead old new out_old out_new) → IfErr ran (IsFilesFault snapshot capture)
+reported_of_ran wanted choice snapshot capture ahead old new out_old out_new (Ok x) says = tt
+reported_of_ran wanted choice snapshot capture ahead old new out_old out_new (Err f) says = reported_of_replay wanted choice snapshot capture ahead old new out_old out_new f says
 
 -- a fault after it is that the rest of an output can't be written
-told_of_rest : (snapshot capture : Option (List ℕ)) (place : Place) (ran told : Result Unit Fault) → IsFilesFault snapshot capture (Write place) → IfErr ran (IsFilesFault snapshot capture)
-    → (told ≡ ran) ⊎ (told ≡ Err (Write place)) → IfErr told (IsFilesFault snapshot capture)
-told_of_rest snapshot capture place ran told allowed says (inl same) = rw same says
-told_of_rest snapshot capture place ran told allowed says (inr unwritten) = rw unwritten allowed
+reported_of_rest : (snapshot capture : Option (List ℕ)) (place : Place) (ran reported : Result Unit Fault) → IsFilesFault snapshot capture (Write place) → IfErr ran (IsFilesFault snapshot capture)
+    → (reported ≡ ran) ⊎ (reported ≡ Err (Write place)) → IfErr reported (IsFilesFault snapshot capture)
+reported_of_rest snapshot capture place ran reported allowed says (inl same) = rw same says
+reported_of_rest snapshot capture place ran reported allowed says (inr unwritten) = rw unwritten allowed
 
-pub told_of_files : (wanted : Wanted) (choice : Choice) (snapshot capture ahead : Option (List ℕ)) (old new out_old out_new : Device) (ran rest told : Result Unit Fault)
+pub reported_of_files : (wanted : Wanted) (choice : Choice) (snapshot capture ahead : Option (List ℕ)) (old new out_old out_new : Device) (ran rest reported : Result Unit Fault)
     → IfErr ran (IsReplayFault wanted choice snapshot capture ahead old new out_old out_new)
     → (rest ≡ ran) ⊎ (rest ≡ Err (Write places.Replies))
-    → (told ≡ rest) ⊎ (told ≡ Err (Write places.Report)) → IfErr told (IsFilesFault snapshot capture)
-told_of_files wanted choice snapshot capture ahead old new out_old out_new ran rest told says replies_rest report_rest =
-    told_of_rest snapshot capture places.Report rest told tt
-    (told_of_rest snapshot capture places.Replies ran rest tt (told_of_ran wanted choice snapshot capture ahead old new out_old out_new ran says) replies_rest)
+    → (reported ≡ rest) ⊎ (reported ≡ Err (Write places.Report)) → IfErr reported (IsFilesFault snapshot capture)
+reported_of_files wanted choice snapshot capture ahead old new out_old out_new ran rest reported says replies_rest report_rest =
+    reported_of_rest snapshot capture places.Report rest reported tt
+    (reported_of_rest snapshot capture places.Replies ran rest tt (reported_of_ran wanted choice snapshot capture ahead old new out_old out_new ran says) replies_rest)
     report_rest
 
 -- where the program came to its end, so did the run, and the capture that it answered is a capture's text
@@ -84,22 +84,22 @@ ok_weaker : (P Q : Type 0) (ran : Result Unit Fault) → (P → Q) → OnOk ran 
 ok_weaker P Q (Ok x) weaker says = weaker says
 ok_weaker P Q (Err f) weaker says = tt
 
-ok_of_rest : (P : Type 0) (f : Fault) (ran told : Result Unit Fault) → OnOk ran P → (told ≡ ran) ⊎ (told ≡ Err f) → OnOk told P
-ok_of_rest P f ran told says (inl same) = rw same says
-ok_of_rest P f ran told says (inr unwritten) = rw unwritten tt
+ok_of_rest : (P : Type 0) (f : Fault) (ran reported : Result Unit Fault) → OnOk ran P → (reported ≡ ran) ⊎ (reported ≡ Err f) → OnOk reported P
+ok_of_rest P f ran reported says (inl same) = rw same says
+ok_of_rest P f ran reported says (inr unwritten) = rw unwritten tt
 
 is_text : (wanted : Wanted) (terms : Terms) (capture old new : Option (List ℕ)) (outcome : Outcome) → HasWritten wanted terms capture old new outcome → HoldsCapture terms.files capture
 is_text (wants.Replies engine) terms capture old new outcome h known = (let c = h.read.capture in (c.version, c.start, c.records, c.text known))
 is_text wants.Rows terms capture old new outcome h known = (let c = h.read.capture in (c.version, c.start, c.records, c.text known))
 
-pub ok_of_files : (wanted : Wanted) (choice : Choice) (snapshot capture old new : Option (List ℕ)) (P : Outcome → Type 0) (ran rest told : Result Unit Fault)
+pub ok_of_files : (wanted : Wanted) (choice : Choice) (snapshot capture old new : Option (List ℕ)) (P : Outcome → Type 0) (ran rest reported : Result Unit Fault)
     → OnOk ran (OfSnapshot snapshot (λ files. AnswersAnd wanted (terms_of files choice) capture old new P))
     → (rest ≡ ran) ⊎ (rest ≡ Err (Write places.Replies))
-    → (told ≡ rest) ⊎ (told ≡ Err (Write places.Report)) → OnOk told (OfSnapshot snapshot (λ files. HoldsCapture files capture))
-ok_of_files wanted choice snapshot capture old new P ran rest told says replies_rest report_rest =
+    → (reported ≡ rest) ⊎ (reported ≡ Err (Write places.Report)) → OnOk reported (OfSnapshot snapshot (λ files. HoldsCapture files capture))
+ok_of_files wanted choice snapshot capture old new P ran rest reported says replies_rest report_rest =
     let answered : List File → Type 0 = λ files. AnswersAnd wanted (terms_of files choice) capture old new P in
     let held : List File → Type 0 = λ files. HoldsCapture files capture in
-    ok_of_rest (OfSnapshot snapshot held) (Write places.Report) rest told
+    ok_of_rest (OfSnapshot snapshot held) (Write places.Report) rest reported
     (ok_of_rest (OfSnapshot snapshot held) (Write places.Replies) ran rest
     (ok_weaker (OfSnapshot snapshot answered) (OfSnapshot snapshot held) ran
     (files_weaker snapshot answered held (λ files answer known. is_text wanted (terms_of files choice) capture old new answer.outcome answer.answer known)) says) replies_rest)

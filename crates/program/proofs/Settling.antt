@@ -16,19 +16,19 @@ use Rattle.program.specs.Devices.{Settles, AtDevice, AtDevices, is_cut, is_fault
 use Rattle.program.specs.Replays.{OfSnapshot, AnswersAnd, IsReplayFault, IsFilesFault, FilesSays}
 use Rattle.program.specs.Upgrading.{IsCaptureOfSomeVersion, IsUpgradeFault, IsUpgradeFilesFault, UpgradeSays}
 use Rattle.program.proofs.Buffering.{append_nothing}
-use Rattle.program.proofs.Programs.{after_weaker, told_of_program}
-use Rattle.program.proofs.Reporting.{ok_of_files, told_of_files}
-use Rattle.program.proofs.Upgraded.{ok_of_upgraded_files, told_of_upgraded_files}
+use Rattle.program.proofs.Programs.{after_weaker, reported_of_program}
+use Rattle.program.proofs.Reporting.{ok_of_files, reported_of_files}
+use Rattle.program.proofs.Upgraded.{ok_of_upgraded_files, reported_of_upgraded_files}
 
-pub settled : (cut its : Bool) (place : Place) (stood old mid whole new : Option (List ℕ)) (ran told : Result Unit Fault) → old ≡ stood → mid ≡ whole → cut ≡ its
-    → Settles cut place stood mid new ran told → Settles its place old whole new ran told
-settled cut its place stood old mid whole new ran told from to same stands = rw (from, ← to, ← same) stands
+pub settled : (cut its : Bool) (place : Place) (stood old mid whole new : Option (List ℕ)) (ran reported : Result Unit Fault) → old ≡ stood → mid ≡ whole → cut ≡ its
+    → Settles cut place stood mid new ran reported → Settles its place old whole new ran reported
+settled cut its place stood old mid whole new ran reported from to same stands = rw (from, ← to, ← same) stands
 
-pub told_by : (cut : Bool) (place : Place) (old whole new : Option (List ℕ)) (ran told : Result Unit Fault) → Settles cut place old whole new ran told
-    → (told ≡ ran) ⊎ (told ≡ Err (Write place))
-told_by cut place old whole new ran told (inl all) = inl all.0
-told_by cut place old whole new ran told (inr (inl stopped)) = inl stopped.0
-told_by cut place old whole new ran told (inr (inr failed)) = inr failed.0
+pub reported_by : (cut : Bool) (place : Place) (old whole new : Option (List ℕ)) (ran reported : Result Unit Fault) → Settles cut place old whole new ran reported
+    → (reported ≡ ran) ⊎ (reported ≡ Err (Write place))
+reported_by cut place old whole new ran reported (inl all) = inl all.0
+reported_by cut place old whole new ran reported (inr (inl stopped)) = inl stopped.0
+reported_by cut place old whole new ran reported (inr (inr failed)) = inr failed.0
 
 -- a buffer that is empty shows what stands at its device
 pub opened : (known its : Option (List ℕ)) (items : List ℕ) (view : Device) → view ≡ fresh (append_known its items) → its ≡ known → items ≡ [] → view ≡ fresh known
@@ -51,21 +51,21 @@ fault_of : (input ahead old whole : Option (List ℕ)) (count : ℕ) (ran : Resu
 fault_of input ahead old whole count (Ok done) says = tt
 fault_of input ahead old whole count (Err f) says = says.2
 
-pub program_fault : (input old new : Option (List ℕ)) (told : Result Unit Fault) → AtDevice places.Replies (BundleSays input old) old new told → IfErr told (IsProgramFault input)
-program_fault input old new told at =
-    told_of_program input at.says.0 (fresh old) (record { bytes = at.whole; failures = at.says.1 }) at.ran told (fault_of input at.says.0 old at.whole at.says.1 at.ran at.says)
-    (told_by (is_cut at.ran) places.Replies old at.whole new at.ran told at.stands)
+pub program_fault : (input old new : Option (List ℕ)) (reported : Result Unit Fault) → AtDevice places.Replies (BundleSays input old) old new reported → IfErr reported (IsProgramFault input)
+program_fault input old new reported at =
+    reported_of_program input at.says.0 (fresh old) (record { bytes = at.whole; failures = at.says.1 }) at.ran reported (fault_of input at.says.0 old at.whole at.says.1 at.ran at.says)
+    (reported_by (is_cut at.ran) places.Replies old at.whole new at.ran reported at.stands)
 
-answered : (input old whole : Option (List ℕ)) (ran told : Result Unit Fault) → BundleSays input old ran whole
-    → (told ≡ ran) ⊎ (told ≡ Err (Write places.Replies)) → OnOk told (AfterSnapshot input HoldsCapture)
-answered input old whole (Ok done) told says (inl same) =
+answered : (input old whole : Option (List ℕ)) (ran reported : Result Unit Fault) → BundleSays input old ran whole
+    → (reported ≡ ran) ⊎ (reported ≡ Err (Write places.Replies)) → OnOk reported (AfterSnapshot input HoldsCapture)
+answered input old whole (Ok done) reported says (inl same) =
     rw same (after_weaker input (WritesAnswer old whole) HoldsCapture (λ files rest answer known. (let c = answer.1.read.capture in (c.version, c.start, c.records, c.text known))) says.2)
-answered input old whole (Err f) told says (inl same) = rw same tt
-answered input old whole ran told says (inr unwritten) = rw unwritten tt
+answered input old whole (Err f) reported says (inl same) = rw same tt
+answered input old whole ran reported says (inr unwritten) = rw unwritten tt
 
-pub program_ok : (input old new : Option (List ℕ)) (told : Result Unit Fault) → AtDevice places.Replies (BundleSays input old) old new told
-    → OnOk told (AfterSnapshot input HoldsCapture)
-program_ok input old new told at = answered input old at.whole at.ran told at.says (told_by (is_cut at.ran) places.Replies old at.whole new at.ran told at.stands)
+pub program_ok : (input old new : Option (List ℕ)) (reported : Result Unit Fault) → AtDevice places.Replies (BundleSays input old) old new reported
+    → OnOk reported (AfterSnapshot input HoldsCapture)
+program_ok input old new reported at = answered input old at.whole at.ran reported at.says (reported_by (is_cut at.ran) places.Replies old at.whole new at.ran reported at.stands)
 
 pub upgrade_says : (input old : Option (List ℕ)) (seen left before after : Device) (ran : Result Unit Fault) → seen ≡ fresh input → before ≡ fresh old
     → OnOk ran (Upgrades seen.bytes before.bytes after.bytes)
@@ -87,15 +87,15 @@ upgrade_ok_of : (input old whole : Option (List ℕ)) (ran : Result Unit Fault) 
 upgrade_ok_of input old whole (Ok done) says = says.1
 upgrade_ok_of input old whole (Err f) says = tt
 
-pub upgraded_fault : (input old new : Option (List ℕ)) (told : Result Unit Fault) → AtDevice places.Output (UpgradeSays input old) old new told → IfErr told (IsUpgradeFilesFault input)
-upgraded_fault input old new told at =
-    told_of_upgraded_files input at.says.0 old at.whole at.ran told (upgrade_fault_of input old at.whole at.ran at.says)
-    (told_by (is_cut at.ran) places.Output old at.whole new at.ran told at.stands)
+pub upgraded_fault : (input old new : Option (List ℕ)) (reported : Result Unit Fault) → AtDevice places.Output (UpgradeSays input old) old new reported → IfErr reported (IsUpgradeFilesFault input)
+upgraded_fault input old new reported at =
+    reported_of_upgraded_files input at.says.0 old at.whole at.ran reported (upgrade_fault_of input old at.whole at.ran at.says)
+    (reported_by (is_cut at.ran) places.Output old at.whole new at.ran reported at.stands)
 
-pub upgraded_ok : (input old new : Option (List ℕ)) (told : Result Unit Fault) → AtDevice places.Output (UpgradeSays input old) old new told → OnOk told (WhereKnown input IsCaptureOfSomeVersion)
-upgraded_ok input old new told at =
-    ok_of_upgraded_files input old at.whole at.ran told (upgrade_ok_of input old at.whole at.ran at.says)
-    (told_by (is_cut at.ran) places.Output old at.whole new at.ran told at.stands)
+pub upgraded_ok : (input old new : Option (List ℕ)) (reported : Result Unit Fault) → AtDevice places.Output (UpgradeSays input old) old new reported → OnOk reported (WhereKnown input IsCaptureOfSomeVersion)
+upgraded_ok input old new reported at =
+    ok_of_upgraded_files input old at.whole at.ran reported (upgrade_ok_of input old at.whole at.ran at.says)
+    (reported_by (is_cut at.ran) places.Output old at.whole new at.ran reported at.stands)
 
 pub files_says : (wanted : Wanted) (choice : Choice) (snapshot capture old out_old : Option (List ℕ)) (snapshot_seen capture_seen left before after out_before out_after : Device) (ran : Result Unit Fault)
     → snapshot_seen ≡ fresh snapshot → capture_seen ≡ fresh capture → before ≡ fresh old → out_before ≡ fresh out_old
@@ -124,18 +124,18 @@ files_ok_of : (wanted : Wanted) (choice : Choice) (snapshot capture old whole ou
 files_ok_of wanted choice snapshot capture old whole out_old out_whole (Ok done) says = says.3
 files_ok_of wanted choice snapshot capture old whole out_old out_whole (Err f) says = tt
 
-pub files_fault : (wanted : Wanted) (choice : Choice) (snapshot capture old new out_old out_new : Option (List ℕ)) (told : Result Unit Fault)
-    → AtDevices (FilesSays wanted choice snapshot capture old out_old) old new out_old out_new told → IfErr told (IsFilesFault snapshot capture)
-files_fault wanted choice snapshot capture old new out_old out_new told at =
-    told_of_files wanted choice snapshot capture at.says.0 (fresh old) (record { bytes = at.whole; failures = at.says.1 }) (fresh out_old) (record { bytes = at.out_whole; failures = at.says.2 }) at.ran at.rest told
+pub files_fault : (wanted : Wanted) (choice : Choice) (snapshot capture old new out_old out_new : Option (List ℕ)) (reported : Result Unit Fault)
+    → AtDevices (FilesSays wanted choice snapshot capture old out_old) old new out_old out_new reported → IfErr reported (IsFilesFault snapshot capture)
+files_fault wanted choice snapshot capture old new out_old out_new reported at =
+    reported_of_files wanted choice snapshot capture at.says.0 (fresh old) (record { bytes = at.whole; failures = at.says.1 }) (fresh out_old) (record { bytes = at.out_whole; failures = at.says.2 }) at.ran at.rest reported
     (files_fault_of wanted choice snapshot capture old at.whole out_old at.out_whole at.ran at.says)
-    (told_by (is_cut at.ran) places.Replies old at.whole new at.ran at.rest at.replies)
-    (told_by (is_fault at.rest) places.Report out_old at.out_whole out_new at.rest told at.report)
+    (reported_by (is_cut at.ran) places.Replies old at.whole new at.ran at.rest at.replies)
+    (reported_by (is_fault at.rest) places.Report out_old at.out_whole out_new at.rest reported at.report)
 
-pub files_ok : (wanted : Wanted) (choice : Choice) (snapshot capture old new out_old out_new : Option (List ℕ)) (told : Result Unit Fault)
-    → AtDevices (FilesSays wanted choice snapshot capture old out_old) old new out_old out_new told → OnOk told (OfSnapshot snapshot (λ files. HoldsCapture files capture))
-files_ok wanted choice snapshot capture old new out_old out_new told at =
-    ok_of_files wanted choice snapshot capture old at.whole (λ outcome. Appends out_old at.out_whole (report_text outcome)) at.ran at.rest told
+pub files_ok : (wanted : Wanted) (choice : Choice) (snapshot capture old new out_old out_new : Option (List ℕ)) (reported : Result Unit Fault)
+    → AtDevices (FilesSays wanted choice snapshot capture old out_old) old new out_old out_new reported → OnOk reported (OfSnapshot snapshot (λ files. HoldsCapture files capture))
+files_ok wanted choice snapshot capture old new out_old out_new reported at =
+    ok_of_files wanted choice snapshot capture old at.whole (λ outcome. Appends out_old at.out_whole (report_text outcome)) at.ran at.rest reported
     (files_ok_of wanted choice snapshot capture old at.whole out_old at.out_whole at.ran at.says)
-    (told_by (is_cut at.ran) places.Replies old at.whole new at.ran at.rest at.replies)
-    (told_by (is_fault at.rest) places.Report out_old at.out_whole out_new at.rest told at.report)
+    (reported_by (is_cut at.ran) places.Replies old at.whole new at.ran at.rest at.replies)
+    (reported_by (is_fault at.rest) places.Report out_old at.out_whole out_new at.rest reported at.report)

@@ -9,7 +9,7 @@ use Rattle.captures.specs.CaptureFaults.{is_unforeseen_kind, IsFirstFault}
 use Rattle.reference.specs.declared.summary.Outcome.{Outcome}
 use Rattle.reference.specs.Reference.{Terms, terms_of, Answers}
 use Rattle.reference.specs.Outcomes.{IfCapture, Leaves}
-use Rattle.reference.specs.Telling.{replies_told}
+use Rattle.reference.specs.Texts.{reply_texts}
 use Rattle.settings.specs.SettingsTable.{default_choice}
 use Rattle.reference.specs.Outcomes as replays
 use Rattle.program.specs.declared.fault.Fault.{Fault}
@@ -43,7 +43,7 @@ abbrev pub IsBundleFault : Option (List ℕ) → Option (List ℕ) → Device �
     → Type 0
 IsBundleFault input ahead old new (Snapshot f) = IsForeseen IsFrontFault input f × (new ≡ old)
 IsBundleFault input ahead old new (Replay f) = AfterSnapshot input
-    (λ files capture. Leaves (replies_told (default_terms files)) capture ahead old.bytes new.bytes f)
+    (λ files capture. Leaves (reply_texts (default_terms files)) capture ahead old.bytes new.bytes f)
 IsBundleFault input ahead old new Memory = new ≡ old
 IsBundleFault input ahead old new other = ⊥
 

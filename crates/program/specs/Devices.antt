@@ -27,31 +27,31 @@ is_fault (Err f) = true
 -- any more, and a prefix stands; or it was due and a write failed, which is then the fault, and a prefix stands.
 abbrev pub Settles : Bool → Place → Option (List ℕ) → Option (List ℕ) → Option (List ℕ) → Result Unit Fault
     → Result Unit Fault → Type 0
-Settles cut place old whole new ran told =
-    ((told ≡ ran) × (cut ≡ false) × Keeps whole new)
-    ⊎ (((told ≡ ran) × (cut ≡ true) × IsPrefix old whole new)
-    ⊎ ((told ≡ Err (Write place)) × (cut ≡ false) × IsPrefix old whole new))
+Settles cut place old whole new ran reported =
+    ((reported ≡ ran) × (cut ≡ false) × Keeps whole new)
+    ⊎ (((reported ≡ ran) × (cut ≡ true) × IsPrefix old whole new)
+    ⊎ ((reported ≡ Err (Write place)) × (cut ≡ false) × IsPrefix old whole new))
 
 -- A run over one device with a buffer before it came to `ran` and was to leave `whole` at the device, of which P holds.
 pub record AtDevice (place : Place) (P : Result Unit Fault → Option (List ℕ) → Type 0) (old new : Option (List ℕ))
-    (told : Result Unit Fault) : Type 0 where
+    (reported : Result Unit Fault) : Type 0 where
   pub ran : Result Unit Fault
   pub whole : Option (List ℕ)
   pub says : P ran whole
-  pub stands : Settles (is_cut ran) place old whole new ran told
+  pub stands : Settles (is_cut ran) place old whole new ran reported
 
 -- there was no memory for the buffers, and nothing was written
 abbrev pub Refused : Option (List ℕ) → Option (List ℕ) → Result Unit Fault → Type 0
-Refused old new told = (told ≡ Err Memory) × Keeps old new
+Refused old new reported = (reported ≡ Err Memory) × Keeps old new
 
 -- The same of a run over the devices of the replies and of the report. Whatever the fault, no more of the report is
 -- due.
 pub record AtDevices (P : Result Unit Fault → Option (List ℕ) → Option (List ℕ) → Type 0)
-    (old new out_old out_new : Option (List ℕ)) (told : Result Unit Fault) : Type 0 where
+    (old new out_old out_new : Option (List ℕ)) (reported : Result Unit Fault) : Type 0 where
   pub ran : Result Unit Fault
   pub whole : Option (List ℕ)
   pub out_whole : Option (List ℕ)
   pub rest : Result Unit Fault
   pub says : P ran whole out_whole
   pub replies : Settles (is_cut ran) Replies old whole new ran rest
-  pub report : Settles (is_fault rest) Report out_old out_whole out_new rest told
+  pub report : Settles (is_fault rest) Report out_old out_whole out_new rest reported

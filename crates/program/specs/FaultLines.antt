@@ -28,36 +28,36 @@ use Rattle.program.specs.declared.fault.Fault.{Fault}
 use Rattle.program.specs.declared.fault.Fault.TheVariants as faults
 use Rattle.program.specs.declared.file_fault.FileFault.{FileFault}
 use Rattle.program.specs.declared.file_fault.FileFault.TheVariants as files
-use Rattle.program.specs.declared.told.Told.{Told}
-use Rattle.program.specs.declared.told.Told.TheVariants.{Usage, Engine, Settings, Entry, Record, TooMany, File}
-use Rattle.program.specs.declared.told.Told.TheVariants.{Open, Read}
-use Rattle.program.specs.declared.told.Told.TheVariants.{Write, Memory}
+use Rattle.program.specs.declared.reported.Reported.{Reported}
+use Rattle.program.specs.declared.reported.Reported.TheVariants.{Usage, Engine, Settings, Entry, Record, TooMany, File}
+use Rattle.program.specs.declared.reported.Reported.TheVariants.{Open, Read}
+use Rattle.program.specs.declared.reported.Reported.TheVariants.{Write, Memory}
 
 -- a failed read or write and out of memory are reported alike, whatever fault they stand in
-abbrev pub told_entry : SnapshotFaultKind → SnapshotFault → Told
-told_entry entries.Read f = Read places.Snapshot
-told_entry entries.Memory f = Memory
-told_entry other f = Entry f
+abbrev pub reported_entry : SnapshotFaultKind → SnapshotFault → Reported
+reported_entry entries.Read f = Read places.Snapshot
+reported_entry entries.Memory f = Memory
+reported_entry other f = Entry f
 
-abbrev pub told_record : CaptureFaultKind → CaptureFault → Told
-told_record records.Read f = Read places.Capture
-told_record records.Memory f = Memory
-told_record other f = Record f
+abbrev pub reported_record : CaptureFaultKind → CaptureFault → Reported
+reported_record records.Read f = Read places.Capture
+reported_record records.Memory f = Memory
+reported_record other f = Record f
 
-abbrev pub told_replay : ReplayFault → Told
-told_replay (replays.Capture f) = told_record f.kind f
-told_replay (replays.TooMany number) = TooMany number
-told_replay replays.Write = Write places.Replies
-told_replay replays.Memory = Memory
+abbrev pub reported_replay : ReplayFault → Reported
+reported_replay (replays.Capture f) = reported_record f.kind f
+reported_replay (replays.TooMany number) = TooMany number
+reported_replay replays.Write = Write places.Replies
+reported_replay replays.Memory = Memory
 
-abbrev pub told_upgrade : UpgradeFault → Told
-told_upgrade (upgrades.Capture f) = told_record f.kind f
-told_upgrade upgrades.Write = Write places.Output
-told_upgrade upgrades.Memory = Memory
+abbrev pub reported_upgrade : UpgradeFault → Reported
+reported_upgrade (upgrades.Capture f) = reported_record f.kind f
+reported_upgrade upgrades.Write = Write places.Output
+reported_upgrade upgrades.Memory = Memory
 
-abbrev pub told_file : FileFault → Told
-told_file files.Read = Read places.Folder
-told_file other = File other
+abbrev pub reported_file : FileFault → Reported
+reported_file files.Read = Read places.Folder
+reported_file other = File other
 
 -- the fault of a run that writes rows, of one that writes replies
 abbrev pub of_rows : Fault → Fault
@@ -65,29 +65,29 @@ of_rows (faults.Replay replays.Write) = faults.Write places.Messages
 of_rows (faults.Write places.Replies) = faults.Write places.Messages
 of_rows f = f
 
-abbrev pub told_words : WordFault → Told
-told_words (words.Words text) = Usage
-told_words words.Engine = Engine
-told_words words.Memory = Memory
+abbrev pub reported_words : WordFault → Reported
+reported_words (words.Words text) = Usage
+reported_words words.Engine = Engine
+reported_words words.Memory = Memory
 
-abbrev pub told_settings : ConfigFaultKind → ConfigFault → Told
-told_settings settings.Memory f = Memory
-told_settings other f = Settings f
+abbrev pub reported_settings : ConfigFaultKind → ConfigFault → Reported
+reported_settings settings.Memory f = Memory
+reported_settings other f = Settings f
 
-abbrev pub told : Fault → Told
-told (faults.Words f) = told_words f
-told (faults.Settings f) = told_settings f.kind f
-told (faults.Snapshot f) = told_entry f.kind f
-told (faults.Replay f) = told_replay f
-told (faults.Upgrade f) = told_upgrade f
-told (faults.Folder f) = told_file f.fault
-told (faults.Open place) = Open place
-told (faults.Read place) = Read place
-told (faults.Write place) = Write place
-told faults.Memory = Memory
+abbrev pub reported : Fault → Reported
+reported (faults.Words f) = reported_words f
+reported (faults.Settings f) = reported_settings f.kind f
+reported (faults.Snapshot f) = reported_entry f.kind f
+reported (faults.Replay f) = reported_replay f
+reported (faults.Upgrade f) = reported_upgrade f
+reported (faults.Folder f) = reported_file f.fault
+reported (faults.Open place) = Open place
+reported (faults.Read place) = Read place
+reported (faults.Write place) = Write place
+reported faults.Memory = Memory
 
 -- the status that the program ends with
-abbrev pub status_of : Told → ℕ
+abbrev pub status_of : Reported → ℕ
 status_of Usage = 2
 status_of Engine = 2
 status_of (Settings f) = 3
@@ -125,7 +125,7 @@ file_fault_name files.Changed = codes "Changed"
 file_fault_name files.Read = codes "Read"
 
 -- the line on standard error
-abbrev pub text_of : Told → List ℕ
+abbrev pub text_of : Reported → List ℕ
 text_of Usage = codes "usage"
 text_of Engine = codes "engine"
 text_of (Settings f) = codes "settings: " ++ fault_text f
@@ -138,11 +138,11 @@ text_of (Read place) = codes "read: " ++ place_name place
 text_of (Write place) = codes "write: " ++ place_name place
 text_of Memory = codes "memory"
 
-abbrev pub line_of : Told → List ℕ
+abbrev pub line_of : Reported → List ℕ
 line_of t = codes "haboob: " ++ text_of t ++ codes "\n"
 
 -- the same with the name concerned
-abbrev pub named_line_of : Told → List ℕ → List ℕ
+abbrev pub named_line_of : Reported → List ℕ → List ℕ
 named_line_of t name = codes "haboob: " ++ text_of t ++ codes " " ++ name ++ codes "\n"
 
 -- a character that ends a line or acts on a terminal (a control, U+2028, U+2029), or that says in which direction
@@ -170,12 +170,12 @@ usage_of other = None
 
 -- the line of what is told with its name
 abbrev pub named_line : Fault → Option (List ℕ)
-named_line (faults.Folder f) = Some (named_line_of (told_file f.fault) f.name.items)
+named_line (faults.Folder f) = Some (named_line_of (reported_file f.fault) f.name.items)
 named_line other = None
 
 -- what is written of a fault: one of these, or its line
-abbrev pub text_told : Fault → List ℕ
-text_told f = unwrap_or (usage_of f) (unwrap_or (named_line f) (line_of (told f)))
+abbrev pub text_reported : Fault → List ℕ
+text_reported f = unwrap_or (usage_of f) (unwrap_or (named_line f) (line_of (reported f)))
 
 -- what is written of the number of those that were left out
 abbrev pub skipped_line : ℕ → List ℕ

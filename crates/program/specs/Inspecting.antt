@@ -66,8 +66,8 @@ InspectSays input old ran whole = (ahead : Option (List ℕ)) × (count : ℕ) �
 -- A run over the device of the report with a buffer before it came to `ran` and was to leave `whole` at the device, of
 -- which P holds.
 pub record AtReport (P : Result Unit Fault → Option (List ℕ) → Type 0) (old new : Option (List ℕ))
-    (told : Result Unit Fault) : Type 0 where
+    (reported : Result Unit Fault) : Type 0 where
   pub ran : Result Unit Fault
   pub whole : Option (List ℕ)
   pub says : P ran whole
-  pub stands : Settles (is_unwritten ran) Report old whole new ran told
+  pub stands : Settles (is_unwritten ran) Report old whole new ran reported

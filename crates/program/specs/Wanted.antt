@@ -2,15 +2,15 @@
 use Rattle.std.specs.Prelude.{ℕ, List, Option}
 use Rattle.reference.specs.declared.summary.Outcome.{Outcome}
 use Rattle.reference.specs.Reference.{Terms, Answers}
-use Rattle.reference.specs.Explaining.{Explains, rows_told}
-use Rattle.reference.specs.Telling.{Telling, replies_told}
+use Rattle.reference.specs.Explaining.{Explains, row_texts}
+use Rattle.reference.specs.Texts.{Texts, reply_texts}
 use Rattle.program.specs.declared.replaying.Wanted.{Wanted}
 use Rattle.program.specs.declared.replaying.Wanted.TheVariants.{Replies, Rows}
 
 -- the texts that are wanted
-abbrev pub wanted_of : Wanted → Terms → Telling
-wanted_of (Replies engine) terms = replies_told terms
-wanted_of Rows terms = rows_told terms
+abbrev pub wanted_of : Wanted → Terms → Texts
+wanted_of (Replies engine) terms = reply_texts terms
+wanted_of Rows terms = row_texts terms
 
 -- The answer of the reference server to the capture was written, whatever the engine, or the table of its decisions;
 -- and this is the outcome.

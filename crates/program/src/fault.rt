@@ -1,11 +1,12 @@
 //! All faults of the program, with their status.
 
 ghost use Rattle.std.specs.Prelude.{◌≡◌};
-ghost use Rattle.program.specs.FaultLines.{told, told_entry, told_file, told_record, of_rows, status_of};
+ghost use Rattle.program.specs.FaultLines.{reported, reported_entry, reported_file, reported_record, of_rows};
+ghost use Rattle.program.specs.FaultLines.{status_of};
 
 use crate::file_fault::{FileFault, FolderFault};
 use crate::place::Place;
-use crate::told::Told;
+use crate::reported::Reported;
 use captures::{CaptureFault, CaptureFaultKind, UpgradeFault};
 use command_line::WordFault;
 use paths::{SnapshotFault, SnapshotFaultKind};
@@ -99,63 +100,63 @@ impl From<AllocError> for Fault {
 }
 
 /// What is told of a snapshot's fault.
-fn told_entry(fault: SnapshotFault) -> Told
-    ensures { result ≡ told_entry fault.kind fault }
+fn reported_entry(fault: SnapshotFault) -> Reported
+    ensures { result ≡ reported_entry fault.kind fault }
 {
     match fault.kind {
-        SnapshotFaultKind::Read => Told::Read(Place::Snapshot),
-        SnapshotFaultKind::Memory => Told::Memory,
-        _ => Told::Entry(fault),
+        SnapshotFaultKind::Read => Reported::Read(Place::Snapshot),
+        SnapshotFaultKind::Memory => Reported::Memory,
+        _ => Reported::Entry(fault),
     }
 }
 
 /// What is told of a capture's fault.
-fn told_record(fault: CaptureFault) -> Told
-    ensures { result ≡ told_record fault.kind fault }
+fn reported_record(fault: CaptureFault) -> Reported
+    ensures { result ≡ reported_record fault.kind fault }
 {
     match fault.kind {
-        CaptureFaultKind::Read => Told::Read(Place::Capture),
-        CaptureFaultKind::Memory => Told::Memory,
-        _ => Told::Record(fault),
+        CaptureFaultKind::Read => Reported::Read(Place::Capture),
+        CaptureFaultKind::Memory => Reported::Memory,
+        _ => Reported::Record(fault),
     }
 }
 
 /// What is told of what was found in a folder.
-pub(crate) fn told_file(fault: FileFault) -> Told
-    ensures { result ≡ told_file fault }
+pub(crate) fn reported_file(fault: FileFault) -> Reported
+    ensures { result ≡ reported_file fault }
 {
     match fault {
-        FileFault::Read => Told::Read(Place::Folder),
-        _ => Told::File(fault),
+        FileFault::Read => Reported::Read(Place::Folder),
+        _ => Reported::File(fault),
     }
 }
 
 impl Fault {
     /// What is told of the fault.
-    pub(crate) fn told(&self) -> Told
-        ensures { result ≡ told self.now }
+    pub(crate) fn reported(&self) -> Reported
+        ensures { result ≡ reported self.now }
     {
         match self {
-            Fault::Words(WordFault::Words(_)) => Told::Usage,
-            Fault::Words(WordFault::Engine) => Told::Engine,
+            Fault::Words(WordFault::Words(_)) => Reported::Usage,
+            Fault::Words(WordFault::Engine) => Reported::Engine,
             Fault::Settings(fault) if fault.kind != ConfigFaultKind::Memory => {
-                Told::Settings(*fault)
+                Reported::Settings(*fault)
             }
-            Fault::Snapshot(fault) => told_entry(*fault),
-            Fault::Replay(ReplayFault::Capture(fault)) => told_record(*fault),
-            Fault::Upgrade(UpgradeFault::Capture(fault)) => told_record(*fault),
-            Fault::Replay(ReplayFault::TooMany(number)) => Told::TooMany(*number),
-            Fault::Replay(ReplayFault::Write) => Told::Write(Place::Replies),
-            Fault::Upgrade(UpgradeFault::Write) => Told::Write(Place::Output),
-            Fault::Folder(fault) => told_file(fault.fault),
-            Fault::Open(place) => Told::Open(*place),
-            Fault::Read(place) => Told::Read(*place),
-            Fault::Write(place) => Told::Write(*place),
+            Fault::Snapshot(fault) => reported_entry(*fault),
+            Fault::Replay(ReplayFault::Capture(fault)) => reported_record(*fault),
+            Fault::Upgrade(UpgradeFault::Capture(fault)) => reported_record(*fault),
+            Fault::Replay(ReplayFault::TooMany(number)) => Reported::TooMany(*number),
+            Fault::Replay(ReplayFault::Write) => Reported::Write(Place::Replies),
+            Fault::Upgrade(UpgradeFault::Write) => Reported::Write(Place::Output),
+            Fault::Folder(fault) => reported_file(fault.fault),
+            Fault::Open(place) => Reported::Open(*place),
+            Fault::Read(place) => Reported::Read(*place),
+            Fault::Write(place) => Reported::Write(*place),
             Fault::Words(WordFault::Memory)
             | Fault::Settings(_)
             | Fault::Replay(ReplayFault::Memory)
             | Fault::Upgrade(UpgradeFault::Memory)
-            | Fault::Memory => Told::Memory,
+            | Fault::Memory => Reported::Memory,
         }
     }
 
@@ -173,15 +174,15 @@ impl Fault {
 
     /// The status that the program ends with, from 2 to 7.
     pub fn status(&self) -> u8
-        ensures { result ≡ status_of (told self.now) }
+        ensures { result ≡ status_of (reported self.now) }
     {
-        match self.told() {
-            Told::Usage | Told::Engine => 2,
-            Told::Settings(_) => 3,
-            Told::Entry(_) | Told::File(_) => 4,
-            Told::Record(_) | Told::TooMany(_) => 5,
-            Told::Open(_) | Told::Read(_) | Told::Write(_) => 6,
-            Told::Memory => 7,
+        match self.reported() {
+            Reported::Usage | Reported::Engine => 2,
+            Reported::Settings(_) => 3,
+            Reported::Entry(_) | Reported::File(_) => 4,
+            Reported::Record(_) | Reported::TooMany(_) => 5,
+            Reported::Open(_) | Reported::Read(_) | Reported::Write(_) => 6,
+            Reported::Memory => 7,
         }
     }
 }

@@ -2,15 +2,15 @@
 
 ghost use Rattle.std.specs.Prelude.{◌≡◌, ◌-◌, ◌+◌, ◌<◌, ◌≤◌, ◌^◌, ◌++◌, ◌∷◌, [], length, codes, decimal, option_map};
 ghost use Rattle.devices.specs.Devices.{CanFail, WritesProperPrefix, CountsFailed};
-ghost use Rattle.program.specs.FaultLines.{line_of, named_line, named_line_of, skipped_line, text_of, text_told};
-ghost use Rattle.program.specs.FaultLines.{told_file, usage_of};
+ghost use Rattle.program.specs.FaultLines.{line_of, named_line, named_line_of, skipped_line, text_of, text_reported};
+ghost use Rattle.program.specs.FaultLines.{reported_file, usage_of};
 ghost use Rattle.arrayvec.specs.ArrayVec.{array_vec_len};
 ghost use Rattle.settings.specs.ConfigFaults.{fault_text};
 ghost use Rattle.settings.specs.Keys.{path_of};
 
-use crate::fault::{Fault, told_file};
+use crate::fault::{Fault, reported_file};
 use crate::file_fault::{FileFault, FolderFault};
-use crate::told::Told;
+use crate::reported::Reported;
 use arrayvec::ArrayVec;
 use command_line::WordFault;
 use devices::{Failed, Output};
@@ -85,27 +85,31 @@ fn push_key(line: &mut Line, key: Key)
 }
 
 /// The line of what is reported. (A fault of usage is told by its text.)
-fn line_of(told: Told) -> Line
-    ensures { result.items ≡ line_of told }
+fn line_of(reported: Reported) -> Line
+    ensures { result.items ≡ line_of reported }
 {
-    match told {
-        Told::Usage => plain_line("", "usage", b'\n'),
-        Told::Engine => plain_line("", "engine", b'\n'),
-        Told::Settings(fault) => settings_line(fault),
-        Told::Entry(fault) => { numbered_line("snapshot: entry ", fault.entry, fault.kind.name()) }
-        Told::Record(fault) => { numbered_line("capture: record ", fault.at, fault.kind.name()) }
-        Told::TooMany(number) => numbered_line("capture: message ", number, "TooMany"),
-        Told::File(fault) => plain_line("folder: ", fault.name(), b'\n'),
-        Told::Open(place) => plain_line("open: ", place.name(), b'\n'),
-        Told::Read(place) => plain_line("read: ", place.name(), b'\n'),
-        Told::Write(place) => plain_line("write: ", place.name(), b'\n'),
-        Told::Memory => plain_line("", "memory", b'\n'),
+    match reported {
+        Reported::Usage => plain_line("", "usage", b'\n'),
+        Reported::Engine => plain_line("", "engine", b'\n'),
+        Reported::Settings(fault) => settings_line(fault),
+        Reported::Entry(fault) => {
+            numbered_line("snapshot: entry ", fault.entry, fault.kind.name())
+        }
+        Reported::Record(fault) => {
+            numbered_line("capture: record ", fault.at, fault.kind.name())
+        }
+        Reported::TooMany(number) => numbered_line("capture: message ", number, "TooMany"),
+        Reported::File(fault) => plain_line("folder: ", fault.name(), b'\n'),
+        Reported::Open(place) => plain_line("open: ", place.name(), b'\n'),
+        Reported::Read(place) => plain_line("read: ", place.name(), b'\n'),
+        Reported::Write(place) => plain_line("write: ", place.name(), b'\n'),
+        Reported::Memory => plain_line("", "memory", b'\n'),
     }
 }
 
 /// What stands before the name in the line of what can't be taken.
 fn file_heading(fault: FileFault) -> Line
-    ensures { result.items ≡ codes "haboob: " ++ text_of (told_file fault) ++ codes " " }
+    ensures { result.items ≡ codes "haboob: " ++ text_of (reported_file fault) ++ codes " " }
 {
     match fault {
         FileFault::Read => plain_line("read: ", "folder", b' '),
@@ -117,7 +121,7 @@ fn file_heading(fault: FileFault) -> Line
 fn write_named<W: io::Write>(writer: &mut Output<W>, fault: &FolderFault) -> Result<(), Failed>
     requires { CanFail writer.old }
     ensures line { WritesProperPrefix writer.old.bytes writer.new.bytes result
-        (named_line_of (told_file fault.now.fault) fault.now.name.items) }
+        (named_line_of (reported_file fault.now.fault) fault.now.name.items) }
     ensures count { CountsFailed writer.old.failures writer.new.failures result }
 {
     match writer.write_all(file_heading(fault.fault).as_slice()) {
@@ -162,7 +166,7 @@ impl Fault {
 
     /// What can't be taken, where the fault is of that.
     fn named(&self) -> Option<&FolderFault>
-        ensures { option_map (λ f. named_line_of (told_file f.now.fault) f.now.name.items) result
+        ensures { option_map (λ f. named_line_of (reported_file f.now.fault) f.now.name.items) result
             ≡ named_line self.now }
     {
         match self {
@@ -175,7 +179,7 @@ impl Fault {
     /// `Err` the writer failed in this call, and a prefix of the line stands there.
     pub fn write_line<W: io::Write>(&self, writer: &mut Output<W>) -> Result<(), Write>
         requires { CanFail writer.old }
-        ensures line { WritesProperPrefix writer.old.bytes writer.new.bytes result (text_told self.now) }
+        ensures line { WritesProperPrefix writer.old.bytes writer.new.bytes result (text_reported self.now) }
         ensures count { CountsFailed writer.old.failures writer.new.failures result }
     {
         if let Some(text) = self.usage() {
@@ -183,7 +187,7 @@ impl Fault {
         } else if let Some(fault) = self.named() {
             write_named(writer, fault)?;
         } else {
-            writer.write_all(line_of(self.told()).as_slice())?;
+            writer.write_all(line_of(self.reported()).as_slice())?;
         }
         Ok(())
     }

@@ -17,8 +17,8 @@ mod inspecting;
 mod place;
 mod program;
 mod replaying;
+mod reported;
 mod snapshotting;
-mod told;
 mod upgrading;
 mod words_after;
 

@@ -402,10 +402,10 @@ fn texts(rt: HostRuntime) -> Result<(), Fail> {
         (REPLIES_OF_AN_UPGRADE.as_slice(), UNEXPECTED_TEXT),
     ];
     for (words, text) in cases {
-        let Err(WordFault::Words(told)) = read_words(rt.alloc(), words) else {
+        let Err(WordFault::Words(reported)) = read_words(rt.alloc(), words) else {
             return Err(Fail::from("no text"));
         };
-        assert_eq!(rt; told.as_str(), text);
+        assert_eq!(rt; reported.as_str(), text);
     }
     Ok(())
 }

@@ -175,8 +175,8 @@ fn lines_of_files(rt: HostRuntime) {
 #[test]
 fn line_into_a_dead_writer(rt: HostRuntime) {
     let mut text = Narrow::new(7, 1);
-    let told = Fault::Memory.write_line(&mut Output::new(&mut text));
-    assert_eq!(rt; told, Err(Write));
+    let reported = Fault::Memory.write_line(&mut Output::new(&mut text));
+    assert_eq!(rt; reported, Err(Write));
     assert_eq!(rt; text.text(), b"haboob:".as_slice());
 }
 

@@ -44,7 +44,7 @@ static DOCUMENTS: [(&str, &str); 22] = [
 ];
 
 /// What is wrong with a document, or `ok`.
-fn told(alloc: Global, text: &str) -> Result<String, Fail> {
+fn reported(alloc: Global, text: &str) -> Result<String, Fail> {
     match read_settings(alloc, text.as_bytes()) {
         Ok(_) => Ok(String::from_str(alloc, "ok")?),
         Err(fault) => Ok(format!(in alloc; "{fault}")?),
@@ -54,7 +54,7 @@ fn told(alloc: Global, text: &str) -> Result<String, Fail> {
 #[test]
 fn settings_and_words(rt: HostRuntime) -> Result<(), Fail> {
     for (text, line) in DOCUMENTS.iter() {
-        let shown = told(rt.alloc(), text)?;
+        let shown = reported(rt.alloc(), text)?;
         assert_eq!(rt; shown.as_str(), *line);
     }
     Ok(())
@@ -118,7 +118,7 @@ depth = 2
 #[test]
 fn tiers(rt: HostRuntime) -> Result<(), Fail> {
     for (text, line) in TIERS.iter() {
-        let shown = told(rt.alloc(), text)?;
+        let shown = reported(rt.alloc(), text)?;
         assert_eq!(rt; shown.as_str(), *line);
     }
     Ok(())
@@ -159,7 +159,7 @@ fn limits_of_a_policy(rt: HostRuntime) -> Result<(), Fail> {
     for table in TABLES.iter() {
         for numbers in [LEAST, MOST] {
             let text = format!(in rt.alloc(); "[{table}]\n{numbers}")?;
-            assert_eq!(rt; told(rt.alloc(), text.as_str())?.as_str(), "ok");
+            assert_eq!(rt; reported(rt.alloc(), text.as_str())?.as_str(), "ok");
         }
     }
     Ok(())
@@ -187,7 +187,10 @@ fn beyond_the_limits_of_a_policy(rt: HostRuntime) -> Result<(), Fail> {
             for number in [*below, *above] {
                 let text = format!(in rt.alloc(); "[{table}]\n{key} = {number}\n")?;
                 let line = format!(in rt.alloc(); "Range {table}.{key}")?;
-                assert_eq!(rt; told(rt.alloc(), text.as_str())?.as_str(), line.as_str());
+                assert_eq!(rt;
+                    reported(rt.alloc(), text.as_str())?.as_str(),
+                    line.as_str()
+                );
             }
         }
     }

@@ -560,7 +560,7 @@ pub former_answers_hold : FormerAnswersHold
 former_answers_hold terms input old new former f =
     let arrivals : List Arrival = map lowered f.arrivals in
     let lowest = lowered_all f.arrivals in
-    let told : former_outcome (former_terms terms) arrivals ≡ former =
+    let reported : former_outcome (former_terms terms) arrivals ≡ former =
     lowered_outcome (former_terms terms) f.arrivals ∙ sym f.outcome in
     let text : former_replies (former_terms terms) f.start (former_handled (former_terms terms) f.arrivals)
     ≡ replies_of terms f.start (handled terms arrivals) =
@@ -582,8 +582,8 @@ former_answers_hold terms input old new former f =
         };
         written = subst (λ rs. Appends old new (replies_text rs)) text f.written;
         outcome_is = same_outcome (in_tiers former) (outcome_of terms arrivals)
-            (sym (ap (λ (o : FormerOutcome). o.rejected) told) ∙ sym (rejected_same terms arrivals lowest))
-            (sym (ap (λ (o : FormerOutcome). (in_tiers o).summary) told) ∙ sym (summary_same terms arrivals lowest));
+            (sym (ap (λ (o : FormerOutcome). o.rejected) reported) ∙ sym (rejected_same terms arrivals lowest))
+            (sym (ap (λ (o : FormerOutcome). (in_tiers o).summary) reported) ∙ sym (summary_same terms arrivals lowest));
       },
       refl,
     )

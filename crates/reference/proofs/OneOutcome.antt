@@ -10,9 +10,9 @@ use Rattle.captures.proofs.Records.{stop_text}
 use Rattle.captures.proofs.Agree.{Agrees, no_fault, few_records, one_fault as one_first_fault, agree_on, no_last_line, no_header_fault, no_fault_among}
 use Rattle.arrivals.specs.Reference.{Arrival, AreArrivals}
 use Rattle.reference.specs.Reference.{Terms, handled, max_messages, first_line, text_before_stop, replies_of}
-use Rattle.reference.specs.Telling.{replies_told}
+use Rattle.reference.specs.Texts.{reply_texts}
 use Rattle.captures.specs.Passes.{RecordsRead, FaultsNext}
-use Rattle.reference.specs.Outcomes.{TellsAll, Stops, StopsFull}
+use Rattle.reference.specs.Outcomes.{WritesAll, Stops, StopsFull}
 use Rattle.reference.specs.Laws.{AnsweredNotFaulty, AnsweredNotFull, FaultyNotFull, OneFault, OneLimit}
 use Rattle.arrivals.proofs.ArrivalLaws.{one_list_of_arrivals, arrivals_begin}
 use Rattle.reference.proofs.OneAnswer.{grows_once}
@@ -79,8 +79,8 @@ go_on v w bytes s t rs ss f x y xs ys (q ∷ more) fault a few b beyond rules si
     no_fault_among v w bytes s t rs ss f x y q more fault rules size same start is rest
 
 after_not_full : (terms others : Terms) (input ahead old new before after : Option (List ℕ)) (f : CaptureFault) (number : ℕ) → is_some input ≡ true → is_unforeseen_kind f.kind ≡ false
-    → (r : RecordsRead input) → FaultsNext input ahead r f → TellsAll (replies_told terms) r.start r.records old new → StopsFull others input before after number → ⊥
-after_not_full terms others input ahead old new before after f number known foreseen r faults told full =
+    → (r : RecordsRead input) → FaultsNext input ahead r f → WritesAll (reply_texts terms) r.start r.records old new → StopsFull others input before after number → ⊥
+after_not_full terms others input ahead old new before after f number known foreseen r faults reported full =
     let bytes = unwrap_or input [] in
     let t = full.taken.read in
     let at = faults.fault foreseen known in
@@ -88,10 +88,10 @@ after_not_full terms others input ahead old new before after f number known fore
     let both = agree_on bytes r.version t.version r.start t.start r.records t.records at.0 t.rest fault.rules t.rules fault.whole (t.begins known) in
     elim both.2 [
       | inl longer ↦
-          go_on r.version t.version bytes r.start t.start r.records t.records f at.0 t.rest told.arrivals full.taken.arrivals longer.0 fault told.arrived told.few full.taken.arrived full.beyond t.rules (t.size known) both.0 both.1 longer.1 longer.2
+          go_on r.version t.version bytes r.start t.start r.records t.records f at.0 t.rest reported.arrivals full.taken.arrivals longer.0 fault reported.arrived reported.few full.taken.arrived full.beyond t.rules (t.size known) both.0 both.1 longer.1 longer.2
       | inr shorter ↦
-          (let le = no_fewer t.records r.records (shorter.0 ∷ shorter.1) full.taken.arrivals told.arrivals shorter.2 full.taken.arrived told.arrived in
-          let few = told.few in
+          (let le = no_fewer t.records r.records (shorter.0 ∷ shorter.1) full.taken.arrivals reported.arrivals shorter.2 full.taken.arrived reported.arrived in
+          let few = reported.few in
           let beyond = full.beyond in
           omega (arith, le, few, beyond))
     ]
@@ -137,7 +137,7 @@ one_limit terms input old new other number another known given a b =
 
 same_after : (terms : Terms) (input ahead following old new other : Option (List ℕ)) (f g : CaptureFault) → is_some input ≡ true → is_some old ≡ true → f ≡ g
     → (r t : RecordsRead input) → FaultsNext input ahead r f → FaultsNext input following t g
-    → TellsAll (replies_told terms) r.start r.records old new → TellsAll (replies_told terms) t.start t.records old other → new ≡ other
+    → WritesAll (reply_texts terms) r.start r.records old new → WritesAll (reply_texts terms) t.start t.records old other → new ≡ other
 same_after terms input ahead following old new other f g known given same r t at after a b =
     let both = agree_on (unwrap_or input []) r.version t.version r.start t.start r.records t.records r.rest t.rest r.rules t.rules (r.begins known) (t.begins known) in
     let place = ap (λ (k : CaptureFault). k.at) same in

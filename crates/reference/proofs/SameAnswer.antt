@@ -6,7 +6,7 @@ use Rattle.paths.specs.declared.resolution.Outcome.{Outcome}
 use Rattle.paths.specs.declared.resolution.Outcome.TheVariants as outcomes
 use Rattle.http_requests.specs.declared.messages.Meaning.{Meaning}
 use Rattle.http_requests.specs.declared.messages.Meaning.TheVariants.{Request, Bad}
-use Rattle.responses.specs.declared.slip.Link.{Link}
+use Rattle.responses.specs.declared.slip.Persistence.{Persistence}
 use Rattle.responses.specs.declared.slip.Given.{Given}
 use Rattle.responses.specs.declared.slip.Given.TheVariants.{Page, Known, Unmodified, Moved, Plain}
 use Rattle.responses.specs.declared.slip.Slip.{Slip}
@@ -56,11 +56,11 @@ pub status_same : (X Y : Type 0) (terms : Terms) (away : Bool) (what : Meaning) 
 status_same X Y terms away what = sym (status_kept X Y (given terms away what)) ∙ ap status_of (given_same X Y terms away what)
 
 -- a slip of these parts
-slip_with : {X : Type 0} → ℕ → ℕ → ℕ → Bool → Link → Given X → Slip X
-slip_with number conn date head link told = record { number = number; conn = conn; date = date; head = head; link = link; what = told }
+slip_with : {X : Type 0} → ℕ → ℕ → ℕ → Bool → Persistence → Given X → Slip X
+slip_with number conn date head link reported = record { number = number; conn = conn; date = date; head = head; link = link; what = reported }
 
-text_kept : (X Y : Type 0) (files : List File) (number conn date : ℕ) (head : Bool) (link : Link) (told : Given X)
-    → reply_text files (slip_with number conn date head link (at_pages {X = X} {Y = Y} told)) ≡ reply_text files (slip_with number conn date head link told)
+text_kept : (X Y : Type 0) (files : List File) (number conn date : ℕ) (head : Bool) (link : Persistence) (reported : Given X)
+    → reply_text files (slip_with number conn date head link (at_pages {X = X} {Y = Y} reported)) ≡ reply_text files (slip_with number conn date head link reported)
 unfolding slip_with
 text_kept X Y files number conn date head link (Page file mtime) = refl
 text_kept X Y files number conn date head link (Known media len mtime) = refl
@@ -73,7 +73,7 @@ unfolding slip_with
 text_same X Y terms start h =
     let slip : Slip X = slip_of terms start h in
     sym (text_kept X Y terms.files slip.number slip.conn slip.date slip.head slip.link slip.what)
-    ∙ ap (λ told. reply_text terms.files (slip_with slip.number slip.conn slip.date slip.head slip.link told)) (given_same X Y terms h.turned_away h.arrival.message.what)
+    ∙ ap (λ reported. reply_text terms.files (slip_with slip.number slip.conn slip.date slip.head slip.link reported)) (given_same X Y terms h.turned_away h.arrival.message.what)
 
 -- a rendered slip is the reply
 pub reply_is : {X : Type 0} (terms : Terms) (start : ℕ) (h : Handled) (slip : Slip X) (r : ℕ × ℕ × List ℕ)

@@ -9,9 +9,9 @@ use Rattle.decision_table.specs.Rows.{heading}
 use Rattle.arrivals.specs.Reference.{Arrival}
 use Rattle.arrivals.specs.declared.incoming.Origin.{Origin}
 use Rattle.reference.specs.Reference.{Terms, offer_at, offers_of, rejects}
-use Rattle.reference.specs.Telling.{IsTelling}
-use Rattle.reference.specs.Explaining.{first_offered, row_after, rows_after, table, rows_told}
-use Rattle.reference.specs.Laws.{is_told_rejected, RowsAgree, StartsOnceFree}
+use Rattle.reference.specs.Texts.{AreTexts}
+use Rattle.reference.specs.Explaining.{first_offered, row_after, rows_after, table, row_texts}
+use Rattle.reference.specs.Laws.{is_row_rejected, RowsAgree, StartsOnceFree}
 use Rattle.reference.proofs.Offering.{finish_is}
 
 -- ---- rows after rows
@@ -33,7 +33,7 @@ unfolding rows_after
 rows_one terms earlier a = append-nil (row_after terms earlier a)
 
 -- the rows are told from the heading on
-pub rows_laws : (terms : Terms) → IsTelling (rows_told terms)
+pub rows_laws : (terms : Terms) → AreTexts (row_texts terms)
 rows_laws terms = record {
   begins = λ start. ap (λ v. heading ++ v) (rows_none terms []) ∙ append-nil heading;
   goes_on = λ start arrivals more. ap (λ v. heading ++ v) (rows_more terms [] arrivals more) ∙ sym (append_assoc heading (rows_after terms [] arrivals) (rows_after terms arrivals more));
@@ -48,14 +48,14 @@ alone false = refl
 
 -- ---- what rows say
 
-rejected_told : (terms : Terms) (earlier : List Arrival) (origin : Origin) (what : Meaning)
-    → is_told_rejected (first_offered terms earlier (offer_at terms origin what)) ≡ list_any (rejects terms.policies (offers_of terms earlier)) (offer_at terms origin what)
+rejected_row : (terms : Terms) (earlier : List Arrival) (origin : Origin) (what : Meaning)
+    → is_row_rejected (first_offered terms earlier (offer_at terms origin what)) ≡ list_any (rejects terms.policies (offers_of terms earlier)) (offer_at terms origin what)
 unfolding rejects
-rejected_told terms earlier origin (Request method target version closing since) = sym (alone (is_rejected (decide terms.policies (decided terms.policies (offers_of terms earlier)) _)))
-rejected_told terms earlier origin (Bad fault) = refl
+rejected_row terms earlier origin (Request method target version closing since) = sym (alone (is_rejected (decide terms.policies (decided terms.policies (offers_of terms earlier)) _)))
+rejected_row terms earlier origin (Bad fault) = refl
 
 pub rows_agree : RowsAgree
-rows_agree terms earlier a = rejected_told terms earlier a.origin a.message.what
+rows_agree terms earlier a = rejected_row terms earlier a.origin a.message.what
 
 pub starts_once_free : StartsOnceFree
 starts_once_free terms earlier offer finish admitted =

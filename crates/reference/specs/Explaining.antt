@@ -10,7 +10,7 @@ use Rattle.decision_table.specs.declared.row.Row.{Row}
 use Rattle.decision_table.specs.Rows.{heading, row_text}
 use Rattle.arrivals.specs.Reference.{Arrival}
 use Rattle.reference.specs.Reference.{Terms, offer_at, offers_of, handled_next, status_for, outcome_of, ArrivedCapture}
-use Rattle.reference.specs.Telling.{Telling}
+use Rattle.reference.specs.Texts.{Texts}
 use Rattle.reference.specs.declared.summary.Outcome.{Outcome}
 
 -- an offer after those of the earlier messages: what it finds, and the decision on it
@@ -59,8 +59,8 @@ abbrev pub table : Terms → List Arrival → List ℕ
 table terms arrivals = heading ++ rows_after terms [] arrivals
 
 -- the table has no last line
-abbrev pub rows_told : Terms → Telling
-rows_told terms = record {
+abbrev pub row_texts : Terms → Texts
+row_texts terms = record {
   first = heading;
   so_far = λ start arrivals. table terms arrivals;
   after = λ start earlier arrivals. rows_after terms earlier arrivals;

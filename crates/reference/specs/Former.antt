@@ -27,7 +27,8 @@ use Rattle.admission.specs.Reference.{Offer, served, samples, is_rejected, contr
 use Rattle.admission.specs.OneTier.{decide_alone, decided_alone}
 use Rattle.reference.specs.declared.summary.Counts.{Counts}
 use Rattle.arrivals.specs.Reference.{Arrival, Precedes, text_of, messages_of}
-use Rattle.reference.specs.Reference.{is_head, answers_head, link_of, answer, Handled, length_given, is_unmodified_file}
+use Rattle.reference.specs.Reference.{is_head, answers_head, persistence_of, answer, Handled, length_given}
+use Rattle.reference.specs.Reference.{is_unmodified_file}
 use Rattle.reference.specs.Reference.{bypassed_of, rejected_of, max_messages, replies_text}
 
 -- what an answer depended on besides its capture: the rules are those of the one policy
@@ -113,7 +114,7 @@ former_slip terms start h = record {
   conn = h.arrival.origin.conn;
   date = start + h.arrival.origin.tick / 1000000;
   head = answers_head h.arrival.message.what;
-  link = link_of h.arrival.message.what;
+  link = persistence_of h.arrival.message.what;
   what = formerly_given terms h.turned_away h.arrival.message.what;
 }
 

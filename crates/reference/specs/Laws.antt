@@ -88,14 +88,14 @@ DueBegin = (terms : Terms) (start : ℕ) (records more : List Record) (xs ys : L
 
 -- ---- rows and replies
 
-abbrev pub is_told_rejected : Option Offered → Bool
-is_told_rejected None = false
-is_told_rejected (Some o) = is_rejected o.decision
+abbrev pub is_row_rejected : Option Offered → Bool
+is_row_rejected None = false
+is_row_rejected (Some o) = is_rejected o.decision
 
 -- a row says that a request was rejected exactly where its reply turns it away
 abbrev pub RowsAgree : Type 0
 RowsAgree = (terms : Terms) (earlier : List Arrival) (a : Arrival)
-    → is_told_rejected (row_of terms earlier a).offered ≡ (handled_next terms earlier a).turned_away
+    → is_row_rejected (row_of terms earlier a).offered ≡ (handled_next terms earlier a).turned_away
 
 -- the service of an admitted request begins when it came, or once it has waited as long as its row says
 abbrev pub StartsOnceFree : Type 0

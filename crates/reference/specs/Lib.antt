@@ -4,4 +4,4 @@ pub mod Former
 pub mod Laws
 pub mod Outcomes
 pub mod Reference
-pub mod Telling
+pub mod Texts

@@ -12,15 +12,15 @@ use Rattle.reference.specs.declared.replay_fault.ReplayFault.{ReplayFault}
 use Rattle.reference.specs.declared.replay_fault.ReplayFault.TheVariants.{Capture, TooMany, Memory, Write as Unwritten}
 use Rattle.arrivals.specs.Reference.{Arrival, AreArrivals}
 use Rattle.reference.specs.Reference.{Terms, max_messages, ArrivedCapture}
-use Rattle.reference.specs.Telling.{Telling, replies_told}
+use Rattle.reference.specs.Texts.{Texts, reply_texts}
 
 -- where the reader is out of memory, the call is
-abbrev pub told_as : CaptureFaultKind → CaptureFault → ReplayFault
-told_as kinds.Memory f = Memory
-told_as other f = Capture f
+abbrev pub reported_as : CaptureFaultKind → CaptureFault → ReplayFault
+reported_as kinds.Memory f = Memory
+reported_as other f = Capture f
 
 abbrev pub capture_fault : CaptureFault → ReplayFault
-capture_fault f = told_as f.kind f
+capture_fault f = reported_as f.kind f
 
 abbrev pub is_memory : CaptureFaultKind → Bool
 is_memory kinds.Memory = true
@@ -61,7 +61,7 @@ pub record Taken (input : Option (List ℕ)) : Type 0 where
   pub arrived : AreArrivals read.records arrivals
 
 -- the messages that arrived with these records are within the limit, and what is told of them was written
-pub record TellsAll (t : Telling) (start : ℕ) (records : List Record) (old new : Option (List ℕ)) : Type 0 where
+pub record WritesAll (t : Texts) (start : ℕ) (records : List Record) (old new : Option (List ℕ)) : Type 0 where
   pub arrivals : List Arrival
   pub arrived : AreArrivals records arrivals
   pub few : length arrivals ≤ max_messages
@@ -70,46 +70,46 @@ pub record TellsAll (t : Telling) (start : ℕ) (records : List Record) (old new
 -- The replay stopped at a fault of the capture: it has written the first line, and what is told of the messages that
 -- arrived with the whole records before it, and no last line. (What is written are these texts, here and below: the
 -- replies, or the rows of a table.)
-abbrev pub StopsTelling : Telling → Option (List ℕ) → Option (List ℕ) → Option (List ℕ) → Option (List ℕ) → CaptureFault
+abbrev pub StopsWriting : Texts → Option (List ℕ) → Option (List ℕ) → Option (List ℕ) → Option (List ℕ) → CaptureFault
     → Type 0
-StopsTelling t input ahead old new f =
-    StopsAt input ahead (Appends old new t.first) (λ read. TellsAll t read.start read.records old new) f
+StopsWriting t input ahead old new f =
+    StopsAt input ahead (Appends old new t.first) (λ read. WritesAll t read.start read.records old new) f
 
 abbrev pub Stops : Terms → Option (List ℕ) → Option (List ℕ) → Option (List ℕ) → Option (List ℕ) → CaptureFault → Type 0
-Stops terms input ahead old new f = StopsTelling (replies_told terms) input ahead old new f
+Stops terms input ahead old new f = StopsWriting (reply_texts terms) input ahead old new f
 
 -- The messages that arrived with these records are more than the limit: what is told of those within it was written,
 -- and no last line. The number is that of the first beyond it.
-pub record StopsBeyond (t : Telling) (input old new : Option (List ℕ)) (number : ℕ) : Type 0 where
+pub record StopsBeyond (t : Texts) (input old new : Option (List ℕ)) (number : ℕ) : Type 0 where
   pub taken : Taken input
   pub beyond : max_messages < length taken.arrivals
   pub is_number : number ≡ max_messages
   pub written : Appends old new (t.so_far taken.read.start (take max_messages taken.arrivals))
 
 abbrev pub StopsFull : Terms → Option (List ℕ) → Option (List ℕ) → Option (List ℕ) → ℕ → Type 0
-StopsFull terms input old new number = StopsBeyond (replies_told terms) input old new number
+StopsFull terms input old new number = StopsBeyond (reply_texts terms) input old new number
 
 -- A prefix was written of the first line and what is told of the messages, within the limit, that arrived with these
 -- records.
-pub record StopsAmong (t : Telling) (input old new : Option (List ℕ)) : Type 0 where
+pub record StopsAmong (t : Texts) (input old new : Option (List ℕ)) : Type 0 where
   pub taken : Taken input
   pub within : ℕ
   pub few : within ≤ max_messages
   pub written : AppendsPrefix old new (t.so_far taken.read.start (take within taken.arrivals))
 
 -- the input is a capture's text, and a prefix of all that is told of it was written
-abbrev pub StopsAtEnd : Telling → Option (List ℕ) → Option (List ℕ) → Option (List ℕ) → Type 0
+abbrev pub StopsAtEnd : Texts → Option (List ℕ) → Option (List ℕ) → Option (List ℕ) → Type 0
 StopsAtEnd t input old new =
     (read : ArrivedCapture input) × AppendsPrefix old new (t.whole read.capture.start read.arrivals)
 
 -- a replay that was cut short has written a prefix of what was due
-abbrev pub IsCutOff : Telling → Option (List ℕ) → Option (List ℕ) → Option (List ℕ) → Type 0
+abbrev pub IsCutOff : Texts → Option (List ℕ) → Option (List ℕ) → Option (List ℕ) → Type 0
 IsCutOff t input old new = AppendsPrefix old new t.first ⊎ (StopsAmong t input old new ⊎ StopsAtEnd t input old new)
 
 -- What stands where a replay stopped, by its fault. A reader's being out of memory is the call's.
-abbrev pub Leaves : Telling → Option (List ℕ) → Option (List ℕ) → Option (List ℕ) → Option (List ℕ) → ReplayFault
+abbrev pub Leaves : Texts → Option (List ℕ) → Option (List ℕ) → Option (List ℕ) → Option (List ℕ) → ReplayFault
     → Type 0
-Leaves t input ahead old new (Capture f) = (is_memory f.kind ≡ false) × StopsTelling t input ahead old new f
+Leaves t input ahead old new (Capture f) = (is_memory f.kind ≡ false) × StopsWriting t input ahead old new f
 Leaves t input ahead old new (TooMany number) = StopsBeyond t input old new number
 Leaves t input ahead old new Unwritten = IsCutOff t input old new
 Leaves t input ahead old new Memory = IsCutOff t input old new

@@ -12,15 +12,15 @@ use Rattle.admission.specs.Reference.{of_tier, controls_until, tick_from}
 use Rattle.paths.specs.declared.file.File.{File}
 use Rattle.paths.specs.Reference.{file_of, asked, outcome}
 use Rattle.paths.specs.declared.resolution.Outcome.{Outcome as PathOutcome}
-use Rattle.http_requests.specs.declared.messages.Version.{Version}
-use Rattle.http_requests.specs.declared.messages.Version.TheVariants.{Http10, Http11}
-use Rattle.http_requests.specs.declared.messages.Fault.{Fault}
-use Rattle.http_requests.specs.declared.messages.Fault.TheVariants.{Coding, BodySize}
+use Rattle.http_requests.specs.declared.messages.HttpVersion.{HttpVersion}
+use Rattle.http_requests.specs.declared.messages.HttpVersion.TheVariants.{Http10, Http11}
+use Rattle.http_requests.specs.declared.messages.MessageFault.{MessageFault}
+use Rattle.http_requests.specs.declared.messages.MessageFault.TheVariants.{Coding, BodySize}
 use Rattle.http_requests.specs.declared.messages.Meaning.{Meaning}
 use Rattle.http_requests.specs.declared.messages.Meaning.TheVariants.{Request, Bad}
 use Rattle.page_cache.specs.Reference.{media_of}
-use Rattle.responses.specs.declared.slip.Link.{Link}
-use Rattle.responses.specs.declared.slip.Link.TheVariants.{Close, KeepAlive, Silent}
+use Rattle.responses.specs.declared.slip.Persistence.{Persistence}
+use Rattle.responses.specs.declared.slip.Persistence.TheVariants.{Close, KeepAlive, Silent}
 use Rattle.responses.specs.declared.slip.Status.{Status}
 use Rattle.responses.specs.declared.slip.Status.TheVariants.{BadRequest, NotFound, MethodNotAllowed, ContentTooLarge}
 use Rattle.responses.specs.declared.slip.Status.TheVariants.{NotImplemented, ServiceUnavailable}
@@ -64,7 +64,7 @@ terms_of files c = record { files = files; costs = c.costs; policies = c.policie
 -- the messages one after another in the order of their arrival.
 
 -- the status of a message that breaks a rule
-abbrev pub fault_status : Fault → Status
+abbrev pub fault_status : MessageFault → Status
 fault_status Coding = NotImplemented
 fault_status BodySize = ContentTooLarge
 fault_status fault = BadRequest
@@ -105,14 +105,14 @@ answer files (Request method target version closing since) = outcome_answer file
 answer files (Bad fault) = Plain (fault_status fault)
 
 -- what the reply tells of its connection (RFC 9112, 9.3)
-abbrev pub request_link : Version → Bool → Link
-request_link version true = Close
-request_link Http10 false = KeepAlive
-request_link Http11 false = Silent
+abbrev pub request_persistence : HttpVersion → Bool → Persistence
+request_persistence version true = Close
+request_persistence Http10 false = KeepAlive
+request_persistence Http11 false = Silent
 
-abbrev pub link_of : Meaning → Link
-link_of (Request method target version closing since) = request_link version closing
-link_of (Bad fault) = Close
+abbrev pub persistence_of : Meaning → Persistence
+persistence_of (Request method target version closing since) = request_persistence version closing
+persistence_of (Bad fault) = Close
 
 -- how a message is answered: a request that is turned away may come again in n seconds; each other message is
 -- answered
@@ -192,7 +192,7 @@ slip_of terms start h = record {
   conn = h.arrival.origin.conn;
   date = start + h.arrival.origin.tick / 1000000;
   head = answers_head h.arrival.message.what;
-  link = link_of h.arrival.message.what;
+  link = persistence_of h.arrival.message.what;
   what = given terms h.turned_away h.arrival.message.what;
 }
 

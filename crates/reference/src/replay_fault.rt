@@ -69,7 +69,7 @@ impl From<Failed> for ReplayFault {
 impl From<CaptureFault> for ReplayFault {
     ghost use Rattle.reference.specs.Outcomes.{capture_fault};
 
-    ghost from_gives = { λ fault told. told ≡ capture_fault fault };
+    ghost from_gives = { λ fault reported. reported ≡ capture_fault fault };
 
     fn from(fault: CaptureFault) -> ReplayFault {
         match fault.kind {

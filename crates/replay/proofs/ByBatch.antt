@@ -20,9 +20,9 @@ use Rattle.reference.specs.Reference.{Terms}
 use Rattle.arrivals.specs.Reference.{Arrival, ArrivesWith, AreArrivals, Precedes, text_of, messages_of}
 use Rattle.arrivals.specs.Batches.{ReadsOn, pieces_to, with_tier, tiers_of, origins_of, lists_to, arrivals_in, incoming_from, Stand}
 use Rattle.arrivals.specs.Connections.{HaveRead, connection_at, arrivals_with}
-use Rattle.arrivals.specs.Places.{Place, place_at, with_lists, total, IsReady, IsCutOf, count_to}
+use Rattle.arrivals.specs.SeatStates.{SeatState, seat_at, with_lists, total, IsReady, IsCutOf, count_to}
 use Rattle.replay.specs.Serving.{Serves}
-use Rattle.replay.specs.Ticketing.{incoming_of, InTime}
+use Rattle.replay.specs.Pending.{incoming_of, InTime}
 use Rattle.replay.specs.Waiting.{connections_of, Waiting, ComeNext, Upcoming}
 use Rattle.arrivals.specs.Gathering.{Adds}
 use Rattle.arrivals.specs.declared.connections.Connection.{Connection}
@@ -35,13 +35,13 @@ use Rattle.replay.proofs.ByRecord.{text_below, tick_at, ticks_before, ticks_befo
 
 -- ---- what the engine keeps
 
-pub connection_of : (places : List Place) (c : ℕ) → connection_at (connections_of places) c ≡ (place_at places c).connection
+pub connection_of : (places : List SeatState) (c : ℕ) → connection_at (connections_of places) c ≡ (seat_at places c).connection
 connection_of [] zero = refl
 connection_of [] (suc c) = refl
 connection_of (p ∷ places) zero = refl
 connection_of (p ∷ places) (suc c) = connection_of places c
 
-serves_same : (terms : Terms) (records : List Record) (arrivals : List Arrival) (old new : List Place) (desk : Desk) → ((c : ℕ) → (place_at new c).connection ≡ (place_at old c).connection)
+serves_same : (terms : Terms) (records : List Record) (arrivals : List Arrival) (old new : List SeatState) (desk : Desk) → ((c : ℕ) → (seat_at new c).connection ≡ (seat_at old c).connection)
     → Serves terms records arrivals (connections_of old) desk → Serves terms records arrivals (connections_of new) desk
 serves_same terms records arrivals old new desk same serves = record {
   reads = record { each = λ c. rw (connection_of new c, same c, ← connection_of old c) (serves.reads.each c) };
@@ -50,14 +50,14 @@ serves_same terms records arrivals old new desk same serves = record {
 }
 
 -- a batch was read
-pub come_next : (terms : Terms) (text ahead : Option (List ℕ)) (start : ℕ) (records rs : List Record) (arrivals : List Arrival) (old new : List Place) (origins : List Origin) (desk : Desk) (p : Progress) (v : Version)
+pub come_next : (terms : Terms) (text ahead : Option (List ℕ)) (start : ℕ) (records rs : List Record) (arrivals : List Arrival) (old new : List SeatState) (origins : List Origin) (desk : Desk) (p : Progress) (v : Version)
     → Serves terms records arrivals (connections_of old) desk → Waiting [] old → Adds rs old new → origins ≡ origins_of (tiers_of records) rs → ReaderAfter v text start (records ++ rs) p ahead → start ≡ desk.start
     → ComeNext terms records rs arrivals new origins desk
 come_next terms text ahead start records rs arrivals old new origins desk p v serves idle adds from fits begun = record {
-  serves = serves_same terms records arrivals old new desk (λ c. ap (λ (q : Place). q.connection) (adds c)) serves;
+  serves = serves_same terms records arrivals old new desk (λ c. ap (λ (q : SeatState). q.connection) (adds c)) serves;
   waiting = λ c. (
-    ap (λ (q : Place). q.pieces) (adds c) ∙ ap (λ xs. xs ++ pieces_to c rs) (idle c).0,
-    ap (λ (q : Place). q.lists) (adds c) ∙ (idle c).1,
+    ap (λ (q : SeatState). q.pieces) (adds c) ∙ ap (λ xs. xs ++ pieces_to c rs) (idle c).0,
+    ap (λ (q : SeatState). q.lists) (adds c) ∙ (idle c).1,
   );
   origins_are = from;
   version = v;
@@ -81,15 +81,15 @@ total_below c (Piece tick conn bytes ∷ rs) =
 total_below c (End tick conn ∷ rs) = let more = sum_by-cons size_of (End tick conn) rs in let ih = total_below c rs in omega (arith, more, ih)
 total_below c (Tier conn tier ∷ rs) = let more = sum_by-cons size_of (Tier conn tier) rs in let ih = total_below c rs in omega (arith, more, ih)
 
-pub all_ready : (terms : Terms) (records rs : List Record) (arrivals : List Arrival) (places : List Place) (origins : List Origin) (desk : Desk)
+pub all_ready : (terms : Terms) (records rs : List Record) (arrivals : List Arrival) (places : List SeatState) (origins : List Origin) (desk : Desk)
     → ComeNext terms records rs arrivals places origins desk → All IsReady places
 all_ready terms records rs arrivals places origins desk next = λ k d lt.
-    let same : place_at places k ≡ get_or places k d = get_or_default places k _ d lt in
+    let same : seat_at places k ≡ get_or places k d = get_or_default places k _ d lt in
     let below = text_below k records in
     let more = total_below k rs in
     let sum = sum_by-append size_of records rs in
     let small = next.small in
-    let at : (place_at places k).pieces ≡ pieces_to k rs = (next.waiting k).0 in
+    let at : (seat_at places k).pieces ≡ pieces_to k rs = (next.waiting k).0 in
     subst IsReady same (record {
       can = record {
         text = text_of k records;
@@ -101,7 +101,7 @@ all_ready terms records rs arrivals places origins desk next = λ k d lt.
     })
 
 -- a place of the cut connections
-cut_at : (places cut : List Place) (c : ℕ) → AllZip IsCutOf places cut → IsCutOf (place_at places c) (place_at cut c)
+cut_at : (places cut : List SeatState) (c : ℕ) → AllZip IsCutOf places cut → IsCutOf (seat_at places c) (seat_at cut c)
 cut_at [] [] zero h = record { reads = refl; done = refl }
 cut_at [] [] (suc c) h = record { reads = refl; done = refl }
 cut_at [] (q ∷ cut) c h = absurd h
@@ -125,17 +125,17 @@ pieces_count c tiers (Piece tick conn bytes ∷ rs) = go (conn == c) (pieces_cou
 pieces_count c tiers (End tick conn ∷ rs) = pieces_count c tiers rs
 pieces_count c tiers (Tier conn tier ∷ rs) = pieces_count c (with_tier conn tier tiers) rs
 
-pub lists_count : (terms : Terms) (records rs : List Record) (arrivals : List Arrival) (places cut : List Place) (origins : List Origin) (desk : Desk)
-    → ComeNext terms records rs arrivals places origins desk → AllZip IsCutOf places cut → (c : ℕ) → length (place_at cut c).lists ≡ count_to c origins
+pub lists_count : (terms : Terms) (records rs : List Record) (arrivals : List Arrival) (places cut : List SeatState) (origins : List Origin) (desk : Desk)
+    → ComeNext terms records rs arrivals places origins desk → AllZip IsCutOf places cut → (c : ℕ) → length (seat_at cut c).lists ≡ count_to c origins
 lists_count terms records rs arrivals places cut origins desk next cuts c =
     let own = cut_at places cut c cuts in
-    reads_count _ _ (place_at places c).pieces (place_at cut c).lists own.reads ∙ ap length (next.waiting c).0 ∙ pieces_count c (tiers_of records) rs ∙ ap (count_to c) (sym next.origins_are)
+    reads_count _ _ (seat_at places c).pieces (seat_at cut c).lists own.reads ∙ ap length (next.waiting c).0 ∙ pieces_count c (tiers_of records) rs ∙ ap (count_to c) (sym next.origins_are)
 
 -- nothing waits once the lists were taken
-pub none_wait : (places cut after : List Place) → AllZip IsCutOf places cut → ((c : ℕ) → place_at after c ≡ with_lists [] (place_at cut c)) → Waiting [] after
+pub none_wait : (places cut after : List SeatState) → AllZip IsCutOf places cut → ((c : ℕ) → seat_at after c ≡ with_lists [] (seat_at cut c)) → Waiting [] after
 none_wait places cut after cuts taken = λ c. (
-  ap (λ (q : Place). q.pieces) (taken c) ∙ (cut_at places cut c cuts).done,
-  ap (λ (q : Place). q.lists) (taken c),
+  ap (λ (q : SeatState). q.pieces) (taken c) ∙ (cut_at places cut c cuts).done,
+  ap (λ (q : SeatState). q.lists) (taken c),
 )
 
 -- ---- messages in the order of their arrival
@@ -220,19 +220,19 @@ in_time v start records arrivals (a ∷ more) rules arrived = (
 
 -- ---- what a batch brings
 
-pub record Brings (terms : Terms) (records rs : List Record) (arrivals : List Arrival) (desk : Desk) (after : List Place) (messages : List Incoming) : Type 0 where
+pub record Brings (terms : Terms) (records rs : List Record) (arrivals : List Arrival) (desk : Desk) (after : List SeatState) (messages : List Incoming) : Type 0 where
   pub more : List Arrival
   pub reads : HaveRead (records ++ rs) (arrivals ++ more) (connections_of after)
   pub arrived : AreArrivals (records ++ rs) (arrivals ++ more)
   pub up : Upcoming terms arrivals more messages desk
 
-pub brings : (terms : Terms) (records rs : List Record) (arrivals : List Arrival) (places cut after : List Place) (origins : List Origin) (pieces : List PieceMessages) (messages : List Incoming) (desk : Desk)
+pub brings : (terms : Terms) (records rs : List Record) (arrivals : List Arrival) (places cut after : List SeatState) (origins : List Origin) (pieces : List PieceMessages) (messages : List Incoming) (desk : Desk)
     → ComeNext terms records rs arrivals places origins desk → AllZip IsCutOf places cut → map (λ p. p.origin) pieces ≡ origins
-    → ((c : ℕ) → (place_at cut c).lists ≡ lists_to c origins (map (λ p. p.messages) pieces)) → ((c : ℕ) → place_at after c ≡ with_lists [] (place_at cut c))
+    → ((c : ℕ) → (seat_at cut c).lists ≡ lists_to c origins (map (λ p. p.messages) pieces)) → ((c : ℕ) → seat_at after c ≡ with_lists [] (seat_at cut c))
     → messages ≡ flat_map incoming_from pieces → Brings terms records rs arrivals desk after messages
 brings terms records rs arrivals places cut after origins pieces messages desk next cuts from found taken are = record {
   more = more;
-  reads = record { each = λ c. rw (connection_of after c, ap (λ (q : Place). q.connection) (taken c)) (stand.each c) };
+  reads = record { each = λ c. rw (connection_of after c, ap (λ (q : SeatState). q.connection) (taken c)) (stand.each c) };
   arrived = stand.arrived;
   up = record {
     stands = next.serves.stands;
@@ -250,15 +250,15 @@ brings terms records rs arrivals places cut after origins pieces messages desk n
     count : length lists ≡ length (origins_of (tiers_of records) rs)
     count = length-map pieces _ ∙ sym (length-map pieces (λ p. p.origin)) ∙ ap length (from ∙ next.origins_are)
 
-    reading : (c : ℕ) → ReadsOn (place_at places c).connection (pieces_to c rs) (lists_to c (origins_of (tiers_of records) rs) lists) (place_at cut c).connection
+    reading : (c : ℕ) → ReadsOn (seat_at places c).connection (pieces_to c rs) (lists_to c (origins_of (tiers_of records) rs) lists) (seat_at cut c).connection
     reading c = rw ((next.waiting c).0, found c, next.origins_are) at (cut_at places cut c cuts).reads
 
-    stand : Stand (records ++ rs) (arrivals ++ more) (λ c. (place_at cut c).connection)
-    stand = stand_batch (tiers_of records) rs lists records arrivals (λ c. (place_at places c).connection) (λ c. (place_at cut c).connection) refl count
+    stand : Stand (records ++ rs) (arrivals ++ more) (λ c. (seat_at cut c).connection)
+    stand = stand_batch (tiers_of records) rs lists records arrivals (λ c. (seat_at places c).connection) (λ c. (seat_at cut c).connection) refl count
         (record { each = λ c. rw (← connection_of places c) (next.serves.reads.each c); arrived = next.serves.arrived }) reading
 
 -- no seat is taken yet
-pub waits_none : (places : List Place) → places ≡ [] → Waiting [] places
+pub waits_none : (places : List SeatState) → places ≡ [] → Waiting [] places
 waits_none places none = rw none at_none
   where
     at_none : Waiting [] []

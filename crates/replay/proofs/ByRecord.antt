@@ -37,13 +37,13 @@ use Rattle.reference.specs.declared.replay_fault.ReplayFault.TheVariants as faul
 use Rattle.reference.specs.Reference.{Terms, handled, replies_of, first_line, last_line, text_before_stop, summary_of, outcome_of, Answers}
 use Rattle.arrivals.specs.Reference.{Arrival, AreArrivals, bytes_to, text_of, messages_of}
 use Rattle.arrivals.specs.Connections.{HasRead, HasRoom, ReadMore, HaveRead, connection_at, arrivals_with}
-use Rattle.replay.specs.Serving.{DeskAfter, AreBy, IsLater, Serves, Written, ServesFull, ServesInPart, TellsMore, TellsFull, TellsInPart, HasTold}
-use Rattle.reference.specs.Telling.{Telling, IsTelling, Told, ToldInPart, replies_told}
+use Rattle.replay.specs.Serving.{DeskAfter, AreBy, IsLater, Serves, Written, ServesFull, ServesInPart, WritesMore, WritesFull, WritesInPart, WritesWhole}
+use Rattle.reference.specs.Texts.{Texts, AreTexts, Wrote, WroteInPart, reply_texts}
 use Rattle.devices.specs.Reference.{WhereKnown}
-use Rattle.reference.specs.Outcomes.{told_as, capture_fault, IfTooMany, IfCutShort, IsOwn, IsWriteOrMemory, IsCutOff, StopsBeyond, StopsFull, StopsTelling, Stops, Taken, Leaves, reader_failures, writer_failures}
+use Rattle.reference.specs.Outcomes.{reported_as, capture_fault, IfTooMany, IfCutShort, IsOwn, IsWriteOrMemory, IsCutOff, StopsBeyond, StopsFull, StopsWriting, Stops, Taken, Leaves, reader_failures, writer_failures}
 use Rattle.arrivals.proofs.Arriving.{from_piece, reads_none, arrives_none, reads_piece, reads_end, reads_tier, arrives_piece, arrives_end, arrives_tier}
 use Rattle.replay.proofs.Writing.{replies_laws}
-use Rattle.replay.proofs.Texts.{told_none, text_begun, text_told, text_part, text_ended, text_ended_part}
+use Rattle.replay.proofs.Texts.{wrote_none, text_begun, text_wrote, text_part, text_ended, text_ended_part}
 use Rattle.replay.proofs.Judging.{answered_is}
 use Rattle.reference.proofs.OneAnswer.{same_outcome}
 
@@ -158,8 +158,8 @@ tiers_after_tier conn tier r records old new is given are = λ c.
 pub no_tiers : (tiers : List ℕ) → tiers ≡ [] → AreTiers [] tiers
 no_tiers tiers none = λ c. rw none (sym (tier_of_none c))
 
-pub serves_end : (t : Telling) (terms : Terms) (tick conn : ℕ) (records : List Record) (arrivals : List Arrival) (r : Record) (connections : List Connection) (desk : Desk) (old : Option (List ℕ))
-    → IsTelling t → r ≡ End tick conn → Serves terms records arrivals connections desk → TellsMore t terms records arrivals (r ∷ []) connections desk old old
+pub serves_end : (t : Texts) (terms : Terms) (tick conn : ℕ) (records : List Record) (arrivals : List Arrival) (r : Record) (connections : List Connection) (desk : Desk) (old : Option (List ℕ))
+    → AreTexts t → r ≡ End tick conn → Serves terms records arrivals connections desk → WritesMore t terms records arrivals (r ∷ []) connections desk old old
 serves_end t terms tick conn records arrivals r connections desk old laws is serves =
     let reads = reads_end records arrivals connections tick conn serves.reads in
     let more : Serves terms (records ++ End tick conn ∷ []) arrivals connections desk = record {
@@ -167,10 +167,10 @@ serves_end t terms tick conn records arrivals r connections desk old laws is ser
       arrived = arrives_end records arrivals connections tick conn serves.arrived reads;
       stands = serves.stands;
     } in
-    rw is (record { more = []; serves = rw (append-nil arrivals) more; written = told_none t desk.start arrivals old laws })
+    rw is (record { more = []; serves = rw (append-nil arrivals) more; written = wrote_none t desk.start arrivals old laws })
 
-pub serves_tier : (t : Telling) (terms : Terms) (conn tier : ℕ) (records : List Record) (arrivals : List Arrival) (r : Record) (connections : List Connection) (desk : Desk) (old : Option (List ℕ))
-    → IsTelling t → r ≡ Tier conn tier → Serves terms records arrivals connections desk → TellsMore t terms records arrivals (r ∷ []) connections desk old old
+pub serves_tier : (t : Texts) (terms : Terms) (conn tier : ℕ) (records : List Record) (arrivals : List Arrival) (r : Record) (connections : List Connection) (desk : Desk) (old : Option (List ℕ))
+    → AreTexts t → r ≡ Tier conn tier → Serves terms records arrivals connections desk → WritesMore t terms records arrivals (r ∷ []) connections desk old old
 serves_tier t terms conn tier records arrivals r connections desk old laws is serves =
     let reads = reads_tier records arrivals connections conn tier serves.reads in
     let more : Serves terms (records ++ Tier conn tier ∷ []) arrivals connections desk = record {
@@ -178,7 +178,7 @@ serves_tier t terms conn tier records arrivals r connections desk old laws is se
       arrived = arrives_tier records arrivals connections conn tier serves.arrived reads;
       stands = serves.stands;
     } in
-    rw is (record { more = []; serves = rw (append-nil arrivals) more; written = told_none t desk.start arrivals old laws })
+    rw is (record { more = []; serves = rw (append-nil arrivals) more; written = wrote_none t desk.start arrivals old laws })
 
 -- what a piece has brought
 pub record Took (n : ℕ) (before after : List Connection) (piece : List ℕ) (out : List Message) : Type 0 where
@@ -200,10 +200,10 @@ brought terms tier tick conn n bytes piece ms out records arrivals r before afte
     let ends = (reading (text_of conn records) (messages_of conn arrivals) (serves.reads.each conn)).in_piece in
     rw is (record { reads = reads; arrived = arrives_piece records arrivals after tier tick conn bytes ms own serves.arrived ends reads })
 
-pub serves_piece : (t : Telling) (terms : Terms) (tier tick conn : ℕ) (ms : List Message) (records : List Record) (arrivals : List Arrival) (r : Record) (after : List Connection) (desk now : Desk) (old new : Option (List ℕ))
+pub serves_piece : (t : Texts) (terms : Terms) (tier tick conn : ℕ) (ms : List Message) (records : List Record) (arrivals : List Arrival) (r : Record) (after : List Connection) (desk now : Desk) (old new : Option (List ℕ))
     → Brought records arrivals r after (arrivals_with (length records) (from_piece tier tick conn) ms) → now.start ≡ desk.start
     → DeskAfter terms (arrivals ++ arrivals_with (length records) (from_piece tier tick conn) ms) now
-    → Told t desk.start arrivals (arrivals_with (length records) (from_piece tier tick conn) ms) old new → TellsMore t terms records arrivals (r ∷ []) after now old new
+    → Wrote t desk.start arrivals (arrivals_with (length records) (from_piece tier tick conn) ms) old new → WritesMore t terms records arrivals (r ∷ []) after now old new
 serves_piece t terms tier tick conn ms records arrivals r after desk now old new brings start stands written = record {
   more = arrivals_with (length records) (from_piece tier tick conn) ms;
   serves = record { reads = brings.reads; arrived = brings.arrived; stands = stands };
@@ -218,10 +218,10 @@ map_take f (suc i) (x ∷ xs) = ap (λ ys. f x ∷ ys) (map_take f i xs)
 take_with : (place : ℕ) (origin : Origin) (i : ℕ) (ms : List Message) → arrivals_with place origin (take i ms) ≡ take i (arrivals_with place origin ms)
 take_with place origin i ms = map_take (λ m. record { origin = origin; place = place; message = m }) i ms
 
-pub serves_full : (t : Telling) (terms : Terms) (tier tick conn i : ℕ) (ms : List Message) (records : List Record) (arrivals : List Arrival) (r : Record) (after : List Connection) (before : List Connection) (desk : Desk) (old new : Option (List ℕ))
+pub serves_full : (t : Texts) (terms : Terms) (tier tick conn i : ℕ) (ms : List Message) (records : List Record) (arrivals : List Arrival) (r : Record) (after : List Connection) (before : List Connection) (desk : Desk) (old new : Option (List ℕ))
     → Brought records arrivals r after (arrivals_with (length records) (from_piece tier tick conn) ms) → Serves terms records arrivals before desk
-    → i < length ms → desk.totals.answered + i ≡ 1048576 → Told t desk.start arrivals (arrivals_with (length records) (from_piece tier tick conn) (take i ms)) old new
-    → TellsFull t desk.start records arrivals (r ∷ []) old new
+    → i < length ms → desk.totals.answered + i ≡ 1048576 → Wrote t desk.start arrivals (arrivals_with (length records) (from_piece tier tick conn) (take i ms)) old new
+    → WritesFull t desk.start records arrivals (r ∷ []) old new
 serves_full t terms tier tick conn i ms records arrivals r after before desk old new brings serves lt full written =
     let place = length records in
     let is = answered_is terms arrivals desk serves.stands in
@@ -235,10 +235,10 @@ serves_full t terms tier tick conn i ms records arrivals r after before desk old
       written = rw (take_with place (from_piece tier tick conn) i ms) at written;
     }
 
-pub serves_part : (t : Telling) (terms : Terms) (tier tick conn i : ℕ) (ms : List Message) (records : List Record) (arrivals : List Arrival) (r : Record) (after : List Connection) (before : List Connection) (desk : Desk) (old new : Option (List ℕ))
+pub serves_part : (t : Texts) (terms : Terms) (tier tick conn i : ℕ) (ms : List Message) (records : List Record) (arrivals : List Arrival) (r : Record) (after : List Connection) (before : List Connection) (desk : Desk) (old new : Option (List ℕ))
     → Brought records arrivals r after (arrivals_with (length records) (from_piece tier tick conn) ms) → Serves terms records arrivals before desk
-    → desk.totals.answered + i ≤ 1048576 → ToldInPart t desk.start arrivals (arrivals_with (length records) (from_piece tier tick conn) (take i ms)) old new
-    → TellsInPart t desk.start records arrivals (r ∷ []) old new
+    → desk.totals.answered + i ≤ 1048576 → WroteInPart t desk.start arrivals (arrivals_with (length records) (from_piece tier tick conn) (take i ms)) old new
+    → WritesInPart t desk.start records arrivals (r ∷ []) old new
 serves_part t terms tier tick conn i ms records arrivals r after before desk old new brings serves few written =
     let place = length records in
     let is = answered_is terms arrivals desk serves.stands in
@@ -289,12 +289,12 @@ gave_end v text now start records p x is h = subst (λ (o : Option Record). Gave
 -- ---- the end
 
 -- the whole capture was told of
-pub all_told : (t : Telling) (terms : Terms) (v : Version) (start count : ℕ) (records : List Record) (arrivals : List Arrival) (connections : List Connection) (desk : Desk)
-    (input old mid new : Option (List ℕ)) (outcome : Outcome) → IsTelling t → IsCapture v start records → WhereKnown input (λ bytes. IsCaptureText v bytes start records)
+pub all_written : (t : Texts) (terms : Terms) (v : Version) (start count : ℕ) (records : List Record) (arrivals : List Arrival) (connections : List Connection) (desk : Desk)
+    (input old mid new : Option (List ℕ)) (outcome : Outcome) → AreTexts t → IsCapture v start records → WhereKnown input (λ bytes. IsCaptureText v bytes start records)
     → Serves terms records arrivals connections desk
     → Appends old mid (t.so_far start arrivals) → Appends mid new (t.last count) → count ≡ desk.totals.answered
-    → outcome.rejected ≡ desk.totals.rejected → outcome.summary ≡ summary_of terms arrivals → HasTold t terms input old new outcome
-all_told t terms v start count records arrivals connections desk input old mid new outcome laws rules capture serves before last counted rejected told = record {
+    → outcome.rejected ≡ desk.totals.rejected → outcome.summary ≡ summary_of terms arrivals → WritesWhole t terms input old new outcome
+all_written t terms v start count records arrivals connections desk input old mid new outcome laws rules capture serves before last counted rejected given_by = record {
   read = record {
     capture = record { version = v; start = start; records = records; rules = rules; text = capture };
     arrivals = arrivals;
@@ -302,12 +302,12 @@ all_told t terms v start count records arrivals connections desk input old mid n
     few = serves.stands.few;
   };
   written = text_ended t start count arrivals old mid new laws (counted ∙ answered_is terms arrivals desk serves.stands) before last;
-  outcome_is = same_outcome outcome (outcome_of terms arrivals) (rejected ∙ ap (λ t. t.rejected) serves.stands.totals) told;
+  outcome_is = same_outcome outcome (outcome_of terms arrivals) (rejected ∙ ap (λ t. t.rejected) serves.stands.totals) given_by;
 }
 
 -- the last line was not
-pub ends_short : (t : Telling) (terms : Terms) (v : Version) (start count : ℕ) (records : List Record) (arrivals : List Arrival) (connections : List Connection) (desk : Desk)
-    (input old mid new : Option (List ℕ)) → IsTelling t → IsCapture v start records → WhereKnown input (λ bytes. IsCaptureText v bytes start records)
+pub ends_short : (t : Texts) (terms : Terms) (v : Version) (start count : ℕ) (records : List Record) (arrivals : List Arrival) (connections : List Connection) (desk : Desk)
+    (input old mid new : Option (List ℕ)) → AreTexts t → IsCapture v start records → WhereKnown input (λ bytes. IsCaptureText v bytes start records)
     → Serves terms records arrivals connections desk
     → Appends old mid (t.so_far start arrivals) → AppendsPrefix mid new (t.last count) → count ≡ desk.totals.answered
     → IsCutOff t input old new
@@ -325,11 +325,11 @@ ends_short t terms v start count records arrivals connections desk input old mid
 -- ---- faults
 
 -- what stands where the capture has a fault: what is due there, or else a prefix of what is due
-pub leaves_told : (t : Telling) (input ahead old new : Option (List ℕ)) (f : CaptureFault) → StopsTelling t input ahead old new f → IsCutOff t input old new
+pub leaves_reported : (t : Texts) (input ahead old new : Option (List ℕ)) (f : CaptureFault) → StopsWriting t input ahead old new f → IsCutOff t input old new
     → Leaves t input ahead old new (capture_fault f)
-leaves_told t input ahead old new f stops cut = go f.kind refl
+leaves_reported t input ahead old new f stops cut = go f.kind refl
   where
-    go : (k : CaptureFaultKind) → f.kind ≡ k → Leaves t input ahead old new (told_as k f)
+    go : (k : CaptureFaultKind) → f.kind ≡ k → Leaves t input ahead old new (reported_as k f)
     go kinds.Cut e = (rw e refl, stops)
     go kinds.Header e = (rw e refl, stops)
     go kinds.Kind e = (rw e refl, stops)
@@ -346,23 +346,23 @@ leaves_told t input ahead old new f stops cut = go f.kind refl
     go kinds.Memory e = cut
 
 -- the same of the call's own faults
-pub own_leaves : (t : Telling) (input ahead old new : Option (List ℕ)) (f : ReplayFault) → IsOwn f → IfTooMany f (StopsBeyond t input old new) → IfCutShort f (IsCutOff t input old new)
+pub own_leaves : (t : Texts) (input ahead old new : Option (List ℕ)) (f : ReplayFault) → IsOwn f → IfTooMany f (StopsBeyond t input old new) → IfCutShort f (IsCutOff t input old new)
     → Leaves t input ahead old new f
 own_leaves t input ahead old new (faults.Capture f) own many cut = absurd own
 own_leaves t input ahead old new (faults.TooMany n) own many cut = many
 own_leaves t input ahead old new faults.Write own many cut = cut
 own_leaves t input ahead old new faults.Memory own many cut = cut
 
-pub short_leaves : (t : Telling) (input ahead old new : Option (List ℕ)) (f : ReplayFault) → IsWriteOrMemory f → IsCutOff t input old new → Leaves t input ahead old new f
+pub short_leaves : (t : Texts) (input ahead old new : Option (List ℕ)) (f : ReplayFault) → IsWriteOrMemory f → IsCutOff t input old new → Leaves t input ahead old new f
 short_leaves t input ahead old new (faults.Capture f) own cut = absurd own
 short_leaves t input ahead old new (faults.TooMany n) own cut = absurd own
 short_leaves t input ahead old new faults.Write own cut = cut
 short_leaves t input ahead old new faults.Memory own cut = cut
 
-pub told_reads : (f : CaptureFault) → reader_failures (capture_fault f) ≡ failures_of f.kind
-told_reads f = go f.kind refl
+pub reported_reads : (f : CaptureFault) → reader_failures (capture_fault f) ≡ failures_of f.kind
+reported_reads f = go f.kind refl
   where
-    go : (k : CaptureFaultKind) → f.kind ≡ k → reader_failures (told_as k f) ≡ failures_of f.kind
+    go : (k : CaptureFaultKind) → f.kind ≡ k → reader_failures (reported_as k f) ≡ failures_of f.kind
     go kinds.Cut e = refl
     go kinds.Header e = refl
     go kinds.Kind e = refl
@@ -378,10 +378,10 @@ told_reads f = go f.kind refl
     go kinds.Read e = refl
     go kinds.Memory e = rw e refl
 
-pub told_writes : (f : CaptureFault) → writer_failures (capture_fault f) ≡ 0
-told_writes f = go f.kind
+pub reported_writes : (f : CaptureFault) → writer_failures (capture_fault f) ≡ 0
+reported_writes f = go f.kind
   where
-    go : (k : CaptureFaultKind) → writer_failures (told_as k f) ≡ 0
+    go : (k : CaptureFaultKind) → writer_failures (reported_as k f) ≡ 0
     go kinds.Cut = refl
     go kinds.Header = refl
     go kinds.Kind = refl
@@ -397,8 +397,8 @@ told_writes f = go f.kind
     go kinds.Read = refl
     go kinds.Memory = refl
 
-pub halts_first : (t : Telling) (input ahead old new : Option (List ℕ)) (f : CaptureFault) → Appends old new t.first → f.at ≡ 0 → IsForeseen IsHeaderFault input f
-    → FailsFirst input f ahead → StopsTelling t input ahead old new f
+pub halts_first : (t : Texts) (input ahead old new : Option (List ℕ)) (f : CaptureFault) → Appends old new t.first → f.at ≡ 0 → IsForeseen IsHeaderFault input f
+    → FailsFirst input f ahead → StopsWriting t input ahead old new f
 halts_first t input ahead old new f written at fault failed = inl (record { at = at; fault = λ foreseen known. fault known foreseen; failed = failed }, written)
 
 -- the records that a reader has given
@@ -410,10 +410,10 @@ taken v input now start records arrivals p fits arrived = record {
   arrived = arrived;
 }
 
-pub halts_after : (t : Telling) (terms : Terms) (v : Version) (input now ahead left old new : Option (List ℕ)) (start : ℕ) (records : List Record) (arrivals : List Arrival) (p : Progress) (connections : List Connection) (desk : Desk)
+pub halts_after : (t : Texts) (terms : Terms) (v : Version) (input now ahead left old new : Option (List ℕ)) (start : ℕ) (records : List Record) (arrivals : List Arrival) (p : Progress) (connections : List Connection) (desk : Desk)
     (f : CaptureFault) → ReaderAfter v input start records p now → Serves terms records arrivals connections desk → Appends old new (t.so_far start arrivals)
     → (f.at ≡ length records + 1) × IsForeseen (λ bytes. IsFaultAfter v bytes start records) input f → FailsNext v input start records (Err f) left
-    → ahead ≡ left → StopsTelling t input ahead old new f
+    → ahead ≡ left → StopsWriting t input ahead old new f
 halts_after t terms v input now ahead left old new start records arrivals p connections desk f fits serves written fault failed same = inr (
   reads_of v input now start records p fits,
   record {
@@ -428,7 +428,7 @@ take_all : {A : Type 0} (xs : List A) → take (length xs) xs ≡ xs
 take_all xs = grind (arith, common_steps)
 
 -- all of the messages so far were answered, and nothing of the next
-pub cut_among : (t : Telling) (terms : Terms) (v : Version) (input now old new : Option (List ℕ)) (start : ℕ) (records : List Record) (arrivals : List Arrival) (p : Progress) (connections : List Connection) (desk : Desk)
+pub cut_among : (t : Texts) (terms : Terms) (v : Version) (input now old new : Option (List ℕ)) (start : ℕ) (records : List Record) (arrivals : List Arrival) (p : Progress) (connections : List Connection) (desk : Desk)
     → ReaderAfter v input start records p now → Serves terms records arrivals connections desk → Appends old new (t.so_far start arrivals)
     → IsCutOff t input old new
 cut_among t terms v input now old new start records arrivals p connections desk fits serves written = inr (inl (record {
@@ -439,32 +439,32 @@ cut_among t terms v input now old new start records arrivals p connections desk 
 }))
 
 -- a fault of the reader that was reported
-pub halts_told : (t : Telling) (terms : Terms) (v : Version) (input now ahead left old new : Option (List ℕ)) (start : ℕ) (records : List Record) (arrivals : List Arrival) (p : Progress) (connections : List Connection) (desk : Desk)
+pub halts_written : (t : Texts) (terms : Terms) (v : Version) (input now ahead left old new : Option (List ℕ)) (start : ℕ) (records : List Record) (arrivals : List Arrival) (p : Progress) (connections : List Connection) (desk : Desk)
     (f : CaptureFault) (r : ReplayFault) → r ≡ capture_fault f
     → ReaderAfter v input start records p now → Serves terms records arrivals connections desk → Appends old new (t.so_far start arrivals)
     → (f.at ≡ length records + 1) × IsForeseen (λ bytes. IsFaultAfter v bytes start records) input f → FailsNext v input start records (Err f) left
     → ahead ≡ left → Leaves t input ahead old new r
-halts_told t terms v input now ahead left old new start records arrivals p connections desk f r is fits serves written fault failed same =
+halts_written t terms v input now ahead left old new start records arrivals p connections desk f r is fits serves written fault failed same =
     rw is
-    (leaves_told t input ahead old new f
+    (leaves_reported t input ahead old new f
     (halts_after t terms v input now ahead left old new start records arrivals p connections desk f fits serves written fault failed same)
     (cut_among t terms v input now old new start records arrivals p connections desk fits serves written))
 
-pub halts_full : (t : Telling) (v : Version) (input now old mid new : Option (List ℕ)) (start n : ℕ) (records : List Record) (arrivals : List Arrival) (rs : List Record) (p : Progress)
-    → IsTelling t → ReaderAfter v input start (records ++ rs) p now → Appends old mid (t.so_far start arrivals) → n ≡ 1048576
-    → TellsFull t start records arrivals rs mid new → StopsBeyond t input old new n
+pub halts_full : (t : Texts) (v : Version) (input now old mid new : Option (List ℕ)) (start n : ℕ) (records : List Record) (arrivals : List Arrival) (rs : List Record) (p : Progress)
+    → AreTexts t → ReaderAfter v input start (records ++ rs) p now → Appends old mid (t.so_far start arrivals) → n ≡ 1048576
+    → WritesFull t start records arrivals rs mid new → StopsBeyond t input old new n
 halts_full t v input now old mid new start n records arrivals rs p laws fits written number full =
     let here : take 1048576 (arrivals ++ full.more) ≡ arrivals ++ take full.within full.more = rw (← full.full) (take-append-add arrivals full.more full.within) in
     record {
       taken = taken v input now start (records ++ rs) (arrivals ++ full.more) p fits full.arrived;
       beyond = let all = full.full in let more = full.beyond in let len = length-append arrivals full.more in omega (arith, all, more, len);
       is_number = number;
-      written = rw here (text_told t start arrivals (take full.within full.more) old mid new laws written full.written);
+      written = rw here (text_wrote t start arrivals (take full.within full.more) old mid new laws written full.written);
     }
 
-pub cut_part : (t : Telling) (v : Version) (input now old mid new : Option (List ℕ)) (start : ℕ) (records : List Record) (arrivals : List Arrival) (rs : List Record) (p : Progress)
-    → IsTelling t → ReaderAfter v input start (records ++ rs) p now → Appends old mid (t.so_far start arrivals)
-    → TellsInPart t start records arrivals rs mid new → IsCutOff t input old new
+pub cut_part : (t : Texts) (v : Version) (input now old mid new : Option (List ℕ)) (start : ℕ) (records : List Record) (arrivals : List Arrival) (rs : List Record) (p : Progress)
+    → AreTexts t → ReaderAfter v input start (records ++ rs) p now → Appends old mid (t.so_far start arrivals)
+    → WritesInPart t start records arrivals rs mid new → IsCutOff t input old new
 cut_part t v input now old mid new start records arrivals rs p laws fits written part =
     let here : take (length arrivals + part.within) (arrivals ++ part.more) ≡ arrivals ++ take part.within part.more = take-append-add arrivals part.more part.within in
     inr (inl (record {
@@ -475,9 +475,9 @@ cut_part t v input now old mid new start records arrivals rs p laws fits written
     }))
 
 -- a reader that failed is reported, and at most once
-pub blamed_told : (old new : ℕ) (f : CaptureFault) (r : ReplayFault) → r ≡ capture_fault f → new ≡ old + failures_of f.kind → (old + reader_failures r ≤ new) × (new ≤ old + 1)
-blamed_told old new f r is count =
-    let same : reader_failures r ≡ failures_of f.kind = ap reader_failures is ∙ told_reads f in
+pub blamed_reported : (old new : ℕ) (f : CaptureFault) (r : ReplayFault) → r ≡ capture_fault f → new ≡ old + failures_of f.kind → (old + reader_failures r ≤ new) × (new ≤ old + 1)
+blamed_reported old new f r is count =
+    let same : reader_failures r ≡ failures_of f.kind = ap reader_failures is ∙ reported_reads f in
     let most = once f.kind in
     (omega (arith, same, count), omega (arith, most, count))
   where
@@ -500,14 +500,14 @@ blamed_told old new f r is count =
 -- ---- where the replies are reported
 
 pub first_written : (terms : Terms) (start : ℕ) (old new : Option (List ℕ)) → Appends old new first_line → Appends old new (text_before_stop (replies_of terms start (handled terms [])))
-first_written terms start old new h = text_begun (replies_told terms) start old new (replies_laws terms) h
+first_written terms start old new h = text_begun (reply_texts terms) start old new (replies_laws terms) h
 
 pub more_written : (terms : Terms) (start : ℕ) (arrivals more : List Arrival) (old mid new : Option (List ℕ)) → Appends old mid (text_before_stop (replies_of terms start (handled terms arrivals)))
     → Written terms start arrivals more mid new → Appends old new (text_before_stop (replies_of terms start (handled terms (arrivals ++ more))))
-more_written terms start arrivals more old mid new before after = text_told (replies_told terms) start arrivals more old mid new (replies_laws terms) before after
+more_written terms start arrivals more old mid new before after = text_wrote (reply_texts terms) start arrivals more old mid new (replies_laws terms) before after
 
 -- what was told is the answer
-pub has_answered : (terms : Terms) (input old new : Option (List ℕ)) (outcome : Outcome) → HasTold (replies_told terms) terms input old new outcome → Answers terms input old new outcome
+pub has_answered : (terms : Terms) (input old new : Option (List ℕ)) (outcome : Outcome) → WritesWhole (reply_texts terms) terms input old new outcome → Answers terms input old new outcome
 has_answered terms input old new outcome h = record { read = h.read; written = h.written; outcome_is = h.outcome_is }
 
 pub answers_all : (terms : Terms) (v : Version) (start count : ℕ) (records : List Record) (arrivals : List Arrival) (connections : List Connection) (desk : Desk)
@@ -515,49 +515,49 @@ pub answers_all : (terms : Terms) (v : Version) (start count : ℕ) (records : L
     → Serves terms records arrivals connections desk
     → Appends old mid (text_before_stop (replies_of terms start (handled terms arrivals))) → Appends mid new (last_line count) → count ≡ desk.totals.answered
     → outcome.rejected ≡ desk.totals.rejected → outcome.summary ≡ summary_of terms arrivals → Answers terms input old new outcome
-answers_all terms v start count records arrivals connections desk input old mid new outcome rules capture serves before last counted rejected told =
+answers_all terms v start count records arrivals connections desk input old mid new outcome rules capture serves before last counted rejected given_by =
     has_answered terms input old new outcome
-    (all_told (replies_told terms) terms v start count records arrivals connections desk input old mid new outcome (replies_laws terms) rules capture serves before last counted rejected told)
+    (all_written (reply_texts terms) terms v start count records arrivals connections desk input old mid new outcome (replies_laws terms) rules capture serves before last counted rejected given_by)
 
 pub ends_in_part : (terms : Terms) (v : Version) (start count : ℕ) (records : List Record) (arrivals : List Arrival) (connections : List Connection) (desk : Desk)
     (input old mid new : Option (List ℕ)) → IsCapture v start records → WhereKnown input (λ bytes. IsCaptureText v bytes start records)
     → Serves terms records arrivals connections desk
     → Appends old mid (text_before_stop (replies_of terms start (handled terms arrivals))) → AppendsPrefix mid new (last_line count) → count ≡ desk.totals.answered
-    → IsCutOff (replies_told terms) input old new
+    → IsCutOff (reply_texts terms) input old new
 ends_in_part terms v start count records arrivals connections desk input old mid new rules capture serves before last counted =
-    ends_short (replies_told terms) terms v start count records arrivals connections desk input old mid new (replies_laws terms) rules capture serves before last counted
+    ends_short (reply_texts terms) terms v start count records arrivals connections desk input old mid new (replies_laws terms) rules capture serves before last counted
 
 pub stops_first : (terms : Terms) (input ahead old new : Option (List ℕ)) (f : CaptureFault) → Appends old new first_line → f.at ≡ 0 → IsForeseen IsHeaderFault input f
     → FailsFirst input f ahead → Stops terms input ahead old new f
-stops_first terms input ahead old new f written at fault failed = halts_first (replies_told terms) input ahead old new f written at fault failed
+stops_first terms input ahead old new f written at fault failed = halts_first (reply_texts terms) input ahead old new f written at fault failed
 
-pub stops_told : (terms : Terms) (v : Version) (input now ahead left old new : Option (List ℕ)) (start : ℕ) (records : List Record) (arrivals : List Arrival) (p : Progress) (connections : List Connection) (desk : Desk)
+pub stops_reported : (terms : Terms) (v : Version) (input now ahead left old new : Option (List ℕ)) (start : ℕ) (records : List Record) (arrivals : List Arrival) (p : Progress) (connections : List Connection) (desk : Desk)
     (f : CaptureFault) (r : ReplayFault) → r ≡ capture_fault f
     → ReaderAfter v input start records p now → Serves terms records arrivals connections desk → Appends old new (text_before_stop (replies_of terms start (handled terms arrivals)))
     → (f.at ≡ length records + 1) × IsForeseen (λ bytes. IsFaultAfter v bytes start records) input f → FailsNext v input start records (Err f) left
-    → ahead ≡ left → Leaves (replies_told terms) input ahead old new r
-stops_told terms v input now ahead left old new start records arrivals p connections desk f r is fits serves written fault failed same =
-    halts_told (replies_told terms) terms v input now ahead left old new start records arrivals p connections desk f r is fits serves written fault failed same
+    → ahead ≡ left → Leaves (reply_texts terms) input ahead old new r
+stops_reported terms v input now ahead left old new start records arrivals p connections desk f r is fits serves written fault failed same =
+    halts_written (reply_texts terms) terms v input now ahead left old new start records arrivals p connections desk f r is fits serves written fault failed same
 
 -- what is left of the input, found before the rest is in sight
 pub left_first : (terms : Terms) (input ahead left old new : Option (List ℕ)) (r : ReplayFault) → ahead ≡ left
-    → (ahead ≡ left → Leaves (replies_told terms) input ahead old new r) → Leaves (replies_told terms) input ahead old new r
+    → (ahead ≡ left → Leaves (reply_texts terms) input ahead old new r) → Leaves (reply_texts terms) input ahead old new r
 left_first terms input ahead left old new r same rest = rest same
 
 pub short_among : (terms : Terms) (v : Version) (input now old new : Option (List ℕ)) (start : ℕ) (records : List Record) (arrivals : List Arrival) (p : Progress) (connections : List Connection) (desk : Desk)
     → ReaderAfter v input start records p now → Serves terms records arrivals connections desk → Appends old new (text_before_stop (replies_of terms start (handled terms arrivals)))
-    → IsCutOff (replies_told terms) input old new
+    → IsCutOff (reply_texts terms) input old new
 short_among terms v input now old new start records arrivals p connections desk fits serves written =
-    cut_among (replies_told terms) terms v input now old new start records arrivals p connections desk fits serves written
+    cut_among (reply_texts terms) terms v input now old new start records arrivals p connections desk fits serves written
 
 pub stops_full : (terms : Terms) (v : Version) (input now old mid new : Option (List ℕ)) (start n : ℕ) (records : List Record) (arrivals : List Arrival) (rs : List Record) (p : Progress)
     → ReaderAfter v input start (records ++ rs) p now → Appends old mid (text_before_stop (replies_of terms start (handled terms arrivals))) → n ≡ 1048576
     → ServesFull terms start records arrivals rs mid new → StopsFull terms input old new n
 stops_full terms v input now old mid new start n records arrivals rs p fits written number full =
-    halts_full (replies_told terms) v input now old mid new start n records arrivals rs p (replies_laws terms) fits written number full
+    halts_full (reply_texts terms) v input now old mid new start n records arrivals rs p (replies_laws terms) fits written number full
 
 pub short_part : (terms : Terms) (v : Version) (input now old mid new : Option (List ℕ)) (start : ℕ) (records : List Record) (arrivals : List Arrival) (rs : List Record) (p : Progress)
     → ReaderAfter v input start (records ++ rs) p now → Appends old mid (text_before_stop (replies_of terms start (handled terms arrivals)))
-    → ServesInPart terms start records arrivals rs mid new → IsCutOff (replies_told terms) input old new
+    → ServesInPart terms start records arrivals rs mid new → IsCutOff (reply_texts terms) input old new
 short_part terms v input now old mid new start records arrivals rs p fits written part =
-    cut_part (replies_told terms) v input now old mid new start records arrivals rs p (replies_laws terms) fits written part
+    cut_part (reply_texts terms) v input now old mid new start records arrivals rs p (replies_laws terms) fits written part

@@ -9,15 +9,15 @@ use Rattle.admission.specs.declared.control.Decision.TheVariants.{Admitted, Reje
 use Rattle.admission.specs.Reference.{Offer, served, decide, decided, decided_from}
 use Rattle.admission.specs.Standing.{Standing, policies_of}
 use Rattle.admission.specs.After.{ControllerAfter}
-use Rattle.responses.specs.declared.slip.Link.{Link}
+use Rattle.responses.specs.declared.slip.Persistence.{Persistence}
 use Rattle.responses.specs.declared.slip.Slip.{Slip}
 use Rattle.responses.specs.Reference.{status_of, reply_text, record_text}
-use Rattle.reference.specs.Reference.{Choice, Terms, terms_of, given, answers_head, is_head, link_of, outcome_answer, slip_of, is_unmodified_file, length_given, offer_at, offers_of, is_turned_away, handled_next, handled_after, handled, bypassed_of, samples_of, tally_of, breaks_a_rule}
+use Rattle.reference.specs.Reference.{Choice, Terms, terms_of, given, answers_head, is_head, persistence_of, outcome_answer, slip_of, is_unmodified_file, length_given, offer_at, offers_of, is_turned_away, handled_next, handled_after, handled, bypassed_of, samples_of, tally_of, breaks_a_rule}
 use Rattle.arrivals.specs.Reference.{Arrival}
 use Rattle.paths.specs.Reference.{asked, outcome}
 use Rattle.paths.specs.declared.file.File.{File}
 use Rattle.paths.specs.declared.resolution.Outcome.{Outcome}
-use Rattle.http_requests.specs.declared.messages.Version.{Version}
+use Rattle.http_requests.specs.declared.messages.HttpVersion.{HttpVersion}
 use Rattle.http_requests.specs.declared.messages.Meaning.TheVariants.{Request}
 use Rattle.cost_model.specs.Reference.{CostTable, service}
 use Rattle.responses.specs.declared.slip.Given.{Given}
@@ -59,9 +59,9 @@ pub decides_admitted : (offers : List Offer) (offer : Offer) (finish : ℕ) (dec
     → policies_of controller ≡ policies_of old.controller → ControllerAfter (offers ++ offer ∷ []) controller → old.totals.samples ≡ samples_of (policies_of old.controller) offers
     → new ≡ record { start = old.start; controller = controller; totals = decided_totals old.totals (old.totals.samples ++ (finish - offer.tick) ∷ []) false }
     → Decides offers (offer ∷ []) old new false
-decides_admitted offers offer finish decision old new controller is e rules fits samples told =
+decides_admitted offers offer finish decision old new controller is e rules fits samples given_by =
     let own : Admitted finish ≡ decide (policies_of old.controller) (decided (policies_of old.controller) offers) offer = sym is ∙ e in
-    rw told (record {
+    rw given_by (record {
       policies = rules;
       fits = fits;
       is_away = is_admitted_one (policies_of old.controller) offers offer finish own;
@@ -74,9 +74,9 @@ pub decides_rejected : (offers : List Offer) (offer : Offer) (decision : Decisio
     → policies_of controller ≡ policies_of old.controller → ControllerAfter (offers ++ offer ∷ []) controller → old.totals.samples ≡ samples_of (policies_of old.controller) offers
     → new ≡ record { start = old.start; controller = controller; totals = decided_totals old.totals old.totals.samples true }
     → Decides offers (offer ∷ []) old new true
-decides_rejected offers offer decision old new controller is e rules fits samples told =
+decides_rejected offers offer decision old new controller is e rules fits samples given_by =
     let own : Rejected ≡ decide (policies_of old.controller) (decided (policies_of old.controller) offers) offer = sym is ∙ e in
-    rw told (record {
+    rw given_by (record {
       policies = rules;
       fits = fits;
       is_away = is_rejected_one (policies_of old.controller) offers offer own;
@@ -103,7 +103,7 @@ pub desk_rejected : (desk : Desk) (controller : Standing) (rejected : List ℕ) 
 desk_rejected desk controller rejected e = rw e refl
 
 -- a request is what was offered
-pub decides_request : (snapshot files : List File) (choice : Choice) (costs : CostTable) (offers : List Offer) (origin : Origin) (what : Meaning) (method target : List ℕ) (version : Version) (closing : Bool) (since : Option ℕ)
+pub decides_request : (snapshot files : List File) (choice : Choice) (costs : CostTable) (offers : List Offer) (origin : Origin) (what : Meaning) (method target : List ℕ) (version : HttpVersion) (closing : Bool) (since : Option ℕ)
     (o : Outcome) (cost : ℕ) (head : Bool) (old new : Desk) (away : Bool) → snapshot ≡ files → costs ≡ choice.costs → what ≡ Request method target version closing since
     → o ≡ outcome snapshot (asked method target) → head ≡ answers_head what
     → cost ≡ service costs o head (is_unmodified_file snapshot since o) (length_given snapshot o)
@@ -115,14 +115,14 @@ decides_request snapshot files choice costs offers origin what method target ver
     rw (is, ← e) decides
 
 -- a request that was turned away is told so, another is answered by its outcome
-pub told_away : (X : Type 0) (files : List File) (choice : Choice) (what : Meaning) (seconds : ℕ) (told : Given X) → seconds ≡ choice.retry_after → told ≡ Plain (ServiceUnavailable seconds)
-    → told ≡ given (terms_of files choice) true what
-told_away X files choice what seconds told e is = is ∙ rw e refl
+pub given_away : (X : Type 0) (files : List File) (choice : Choice) (what : Meaning) (seconds : ℕ) (given_by : Given X) → seconds ≡ choice.retry_after → given_by ≡ Plain (ServiceUnavailable seconds)
+    → given_by ≡ given (terms_of files choice) true what
+given_away X files choice what seconds given_by e is = is ∙ rw e refl
 
-pub told_answer : (X : Type 0) (snapshot files : List File) (choice : Choice) (what : Meaning) (method target : List ℕ) (version : Version) (closing : Bool) (since : Option ℕ) (o : Outcome) (head : Bool) (told : Given X)
+pub given_answer : (X : Type 0) (snapshot files : List File) (choice : Choice) (what : Meaning) (method target : List ℕ) (version : HttpVersion) (closing : Bool) (since : Option ℕ) (o : Outcome) (head : Bool) (given_by : Given X)
     → snapshot ≡ files → what ≡ Request method target version closing since → o ≡ outcome snapshot (asked method target) → head ≡ answers_head what
-    → told ≡ outcome_answer files head since o → told ≡ given (terms_of files choice) false what
-told_answer X snapshot files choice what method target version closing since o head told same is found heads e =
+    → given_by ≡ outcome_answer files head since o → given_by ≡ given (terms_of files choice) false what
+given_answer X snapshot files choice what method target version closing since o head given_by same is found heads e =
     let own : head ≡ is_head method = heads ∙ ap answers_head is in
     e ∙ rw (is, found, same, own) refl
 
@@ -153,12 +153,12 @@ pub stands_more : (terms : Terms) (arrivals : List Arrival) (a : Arrival) (away 
     → status ≡ status_of (given {X = Unit {0}} terms away a.message.what)
     → new.controller ≡ mid.controller → new.totals ≡ noted mid.totals status (breaks_a_rule a.message.what)
     → length arrivals < 1048576 → DeskAfter terms (arrivals ++ a ∷ []) new
-stands_more terms arrivals a away old mid new status stands decides told same counted few =
+stands_more terms arrivals a away old mid new status stands decides given_by same counted few =
     let away_is : away ≡ is_turned_away terms arrivals a = rw stands.policies at decides.is_away in
     record {
       policies = ap policies_of same ∙ decides.policies ∙ stands.policies;
       fits = rw (same, offers_more terms arrivals a) decides.fits;
-      totals = counted ∙ rw (decides.totals, stands.totals, stands.policies, told) (totals_more terms arrivals a away away_is);
+      totals = counted ∙ rw (decides.totals, stands.totals, stands.policies, given_by) (totals_more terms arrivals a away away_is);
       few = let len = length-append arrivals (a ∷ []) in omega (arith, len, few);
     }
 
@@ -190,7 +190,7 @@ bypassed_room terms arrivals desk n stands lt =
 pub tally_is : (terms : Terms) (arrivals : List Arrival) (desk : Desk) (tally : Tally) (tier : ℕ) → DeskAfter terms arrivals desk
     → ((offers : List Offer) → ControllerAfter offers desk.controller → tally ≡ tally_of (policies_of desk.controller) offers tier)
     → tally ≡ tally_of terms.policies (offers_of terms arrivals) tier
-tally_is terms arrivals desk tally tier stands told = rw stands.policies at (told (offers_of terms arrivals) stands.fits)
+tally_is terms arrivals desk tally tier stands given_by = rw stands.policies at (given_by (offers_of terms arrivals) stands.fits)
 
 -- ---- one message at the desk
 
@@ -200,39 +200,39 @@ room_left terms arrivals desk stands full = let e = answered_is terms arrivals d
 
 -- what the desk has made of a message that is told this
 abbrev pub Judged : {X : Type 0} → Terms → List Offer → Origin → Meaning → Desk → Desk → Given X → Type 0
-Judged terms offers origin what old mid told = (away : Bool) × Decides offers (offer_at terms origin what) old mid away × (told ≡ given terms away what)
+Judged terms offers origin what old mid given_by = (away : Bool) × Decides offers (offer_at terms origin what) old mid away × (given_by ≡ given terms away what)
 
-pub counts_kept : (X : Type 0) (terms : Terms) (arrivals : List Arrival) (origin : Origin) (what : Meaning) (old mid : Desk) (told : Given X) (n : ℕ) → DeskAfter terms arrivals old
-    → Judged terms (offers_of terms arrivals) origin what old mid told → length arrivals < n → AreBelow n mid.totals.counts × (mid.totals.bypassed < n) × (mid.totals.answered ≡ old.totals.answered)
-counts_kept X terms arrivals origin what old mid told n stands judged lt =
+pub counts_kept : (X : Type 0) (terms : Terms) (arrivals : List Arrival) (origin : Origin) (what : Meaning) (old mid : Desk) (given_by : Given X) (n : ℕ) → DeskAfter terms arrivals old
+    → Judged terms (offers_of terms arrivals) origin what old mid given_by → length arrivals < n → AreBelow n mid.totals.counts × (mid.totals.bypassed < n) × (mid.totals.answered ≡ old.totals.answered)
+counts_kept X terms arrivals origin what old mid given_by n stands judged lt =
     let kept = judged.1.totals in (
       rw kept (counts_room terms arrivals old n stands lt),
       rw kept (bypassed_room terms arrivals old n stands lt),
       ap (λ t. t.answered) kept,
     )
 
-pub stands_after : (X : Type 0) (terms : Terms) (arrivals : List Arrival) (a : Arrival) (origin : Origin) (what : Meaning) (old mid : Desk) (totals : Totals) (told : Given X) → DeskAfter terms arrivals old
-    → a.origin ≡ origin → a.message.what ≡ what → old.totals.answered < 1048576 → Judged terms (offers_of terms arrivals) origin what old mid told
-    → totals ≡ noted mid.totals (status_of told) (breaks_a_rule what)
+pub stands_after : (X : Type 0) (terms : Terms) (arrivals : List Arrival) (a : Arrival) (origin : Origin) (what : Meaning) (old mid : Desk) (totals : Totals) (given_by : Given X) → DeskAfter terms arrivals old
+    → a.origin ≡ origin → a.message.what ≡ what → old.totals.answered < 1048576 → Judged terms (offers_of terms arrivals) origin what old mid given_by
+    → totals ≡ noted mid.totals (status_of given_by) (breaks_a_rule what)
     → DeskAfter terms (arrivals ++ a ∷ []) (record { start = mid.start; controller = mid.controller; totals = totals })
-stands_after X terms arrivals a origin what old mid totals told stands from meaning room judged counted =
+stands_after X terms arrivals a origin what old mid totals given_by stands from meaning room judged counted =
     let e = answered_is terms arrivals old stands in
-    let status : status_of told ≡ status_of (given {X = Unit {0}} terms judged.0 a.message.what) = rw (judged.2, meaning) (status_same X (Unit {0}) terms judged.0 what) in
-    stands_more terms arrivals a judged.0 old mid _ (status_of told) stands (rw (from, meaning) judged.1) status refl (rw meaning counted) (omega (arith, e, room))
+    let status : status_of given_by ≡ status_of (given {X = Unit {0}} terms judged.0 a.message.what) = rw (judged.2, meaning) (status_same X (Unit {0}) terms judged.0 what) in
+    stands_more terms arrivals a judged.0 old mid _ (status_of given_by) stands (rw (from, meaning) judged.1) status refl (rw meaning counted) (omega (arith, e, room))
 
-pub slip_is : (X : Type 0) (terms : Terms) (start : ℕ) (arrivals : List Arrival) (a : Arrival) (origin : Origin) (what : Meaning) (old mid : Desk) (told : Given X) (conn : ℕ) (head : Bool) (link : Link) (slip : Slip X)
-    → DeskAfter terms arrivals old → a.origin ≡ origin → a.message.what ≡ what → Judged terms (offers_of terms arrivals) origin what old mid told
-    → conn ≡ origin.conn → head ≡ answers_head what → link ≡ link_of what
-    → slip ≡ record { number = old.totals.answered; conn = conn; date = start + origin.tick / 1000000; head = head; link = link; what = told }
+pub slip_is : (X : Type 0) (terms : Terms) (start : ℕ) (arrivals : List Arrival) (a : Arrival) (origin : Origin) (what : Meaning) (old mid : Desk) (given_by : Given X) (conn : ℕ) (head : Bool) (link : Persistence) (slip : Slip X)
+    → DeskAfter terms arrivals old → a.origin ≡ origin → a.message.what ≡ what → Judged terms (offers_of terms arrivals) origin what old mid given_by
+    → conn ≡ origin.conn → head ≡ answers_head what → link ≡ persistence_of what
+    → slip ≡ record { number = old.totals.answered; conn = conn; date = start + origin.tick / 1000000; head = head; link = link; what = given_by }
     → slip ≡ slip_of terms start (handled_next terms arrivals a)
-slip_is X terms start arrivals a origin what old mid told conn head link slip stands from meaning judged conns heads links slips =
+slip_is X terms start arrivals a origin what old mid given_by conn head link slip stands from meaning judged conns heads links slips =
     let away_is : judged.0 ≡ is_turned_away terms arrivals a = rw (from, meaning) (rw stands.policies at judged.1.is_away) in
     slips ∙ rw (answered_is terms arrivals old stands, conns, heads, links, judged.2, away_is, from, meaning) refl
 
 -- what a message's reply has written
 pub reply_written : (X : Type 0) (terms : Terms) (start : ℕ) (arrivals : List Arrival) (a : Arrival) (slip : Slip X) (r : ℕ × ℕ × List ℕ) → slip ≡ slip_of terms start (handled_next terms arrivals a)
     → r ≡ (slip.number, slip.conn, reply_text terms.files slip) → record_text r ≡ records_after terms start arrivals (a ∷ [])
-reply_written X terms start arrivals a slip r slips told = ap record_text (reply_is terms start (handled_next terms arrivals a) slip r slips told) ∙ sym (records_one terms start arrivals a)
+reply_written X terms start arrivals a slip r slips given_by = ap record_text (reply_is terms start (handled_next terms arrivals a) slip r slips given_by) ∙ sym (records_one terms start arrivals a)
 
 -- ---- faults
 

@@ -5,8 +5,8 @@ pub mod Writing
 pub mod Texts
 pub mod RowByRow
 pub mod ByRecord
-pub mod Sights
-pub mod Ticketed
+pub mod Lookups
+pub mod PendingReplies
 pub mod Upcoming
 pub mod Grouping
 pub mod ByBatch

@@ -8,7 +8,7 @@ use Rattle.paths.specs.declared.file.File.{File}
 use Rattle.paths.specs.declared.resolution.Outcome.{Outcome}
 use Rattle.paths.specs.declared.resolution.Outcome.TheVariants as outcomes
 use Rattle.cost_model.specs.Reference.{CostTable}
-use Rattle.http_requests.specs.declared.messages.Fault.TheVariants as faults
+use Rattle.http_requests.specs.declared.messages.MessageFault.TheVariants as faults
 use Rattle.http_requests.specs.declared.messages.Meaning.{Meaning}
 use Rattle.http_requests.specs.declared.messages.Meaning.TheVariants.{Request, Bad}
 use Rattle.admission.specs.declared.policy.PolicyNumbers.{PolicyNumbers}
@@ -27,12 +27,12 @@ use Rattle.decision_table.specs.Rows.{row_text}
 use Rattle.arrivals.specs.Reference.{Arrival}
 use Rattle.arrivals.specs.declared.incoming.Origin.{Origin}
 use Rattle.reference.specs.Reference.{Terms, given, outcome_answer, is_unmodified, is_head, service_of, offer_at, offers_of, rejects, is_turned_away, handled_next, slip_of}
-use Rattle.replay.specs.Fronts.{sight_of}
+use Rattle.replay.specs.Fronts.{lookup_of}
 use Rattle.replay.specs.Serving.{DeskAfter}
 use Rattle.reference.specs.Explaining.{first_offered, row_of, method_of, target_of, row_after, rows_after}
 use Rattle.replay.specs.Rowing.{service_in, turns_away, offered_with}
 use Rattle.replay.specs.declared.desk.Desk.{Desk}
-use Rattle.replay.specs.declared.sight.Sight.{Sight}
+use Rattle.replay.specs.declared.lookup.Lookup.{Lookup}
 use Rattle.reference.proofs.Table.{rows_one, alone}
 use Rattle.reference.proofs.SameAnswer.{status_same}
 
@@ -78,7 +78,7 @@ decision_is policies offers offer away e =
     (by_away _ _ away (e ∙ any ∙ alone (is_rejected d)))
 
 offered_is : (terms : Terms) (arrivals : List Arrival) (origin : Origin) (what : Meaning) (service : Option ℕ) (found : Outlook) (away : Bool)
-    → service ≡ service_in (sight_of terms.files terms.costs what) → found ≡ outlook terms.policies (decided terms.policies (offers_of terms arrivals)) origin.tier origin.tick
+    → service ≡ service_in (lookup_of terms.files terms.costs what) → found ≡ outlook terms.policies (decided terms.policies (offers_of terms arrivals)) origin.tier origin.tick
     → away ≡ list_any (rejects terms.policies (offers_of terms arrivals)) (offer_at terms origin what)
     → option_map (λ s. offered_with found origin.tick s away) service ≡ first_offered terms arrivals (offer_at terms origin what)
 offered_is terms arrivals origin (Request method target version closing since) service found away costs finds is =
@@ -87,14 +87,14 @@ offered_is terms arrivals origin (Request method target version closing since) s
 offered_is terms arrivals origin (Bad fault) service found away costs finds is = rw costs refl
 
 pub row_is : (X : Type 0) (terms : Terms) (start : ℕ) (arrivals : List Arrival) (a : Arrival) (origin : Origin) (service : Option ℕ) (found : Outlook) (slip : Slip X) (row : Row)
-    → a.origin ≡ origin → service ≡ service_in (sight_of terms.files terms.costs a.message.what)
+    → a.origin ≡ origin → service ≡ service_in (lookup_of terms.files terms.costs a.message.what)
     → found ≡ outlook terms.policies (decided terms.policies (offers_of terms arrivals)) origin.tier origin.tick → slip ≡ slip_of terms start (handled_next terms arrivals a)
     → row ≡ record { number = slip.number; conn = slip.conn; tick = origin.tick; tier = origin.tier; status = status_of slip.what; offered = option_map (λ s. offered_with found origin.tick s (turns_away slip.what)) service }
     → row ≡ row_of terms arrivals a
 row_is X terms start arrivals a origin service found slip row from costs finds slips is =
     let away = is_turned_away terms arrivals a in
-    let told = offered_is terms arrivals a.origin a.message.what service found away costs (rw from finds) refl in
-    is ∙ rw (slips, ← from, away_is X terms away a.message.what, status_same X (Unit {0}) terms away a.message.what, told) refl
+    let given_by = offered_is terms arrivals a.origin a.message.what service found away costs (rw from finds) refl in
+    is ∙ rw (slips, ← from, away_is X terms away a.message.what, status_same X (Unit {0}) terms away a.message.what, given_by) refl
 
 -- ---- one row written
 
@@ -112,6 +112,6 @@ row_written terms arrivals a row what method target is meaning methods targets =
     ∙ ap (λ t. row_text (row_of terms arrivals a) (method_of a.message.what) t) (targets ∙ ap target_of (sym meaning)) ∙ sym (rows_one terms arrivals a)
 
 -- how long a message takes, as it was looked into
-pub costs_known : (files : List File) (costs : CostTable) (said what : Meaning) (sight : Sight) (service : Option ℕ)
-    → service ≡ service_in sight → sight ≡ sight_of files costs said → what ≡ said → service ≡ service_in (sight_of files costs what)
-costs_known files costs said what sight service is sees meaning = is ∙ ap service_in sees ∙ ap (λ w. service_in (sight_of files costs w)) (sym meaning)
+pub costs_known : (files : List File) (costs : CostTable) (said what : Meaning) (lookup : Lookup) (service : Option ℕ)
+    → service ≡ service_in lookup → lookup ≡ lookup_of files costs said → what ≡ said → service ≡ service_in (lookup_of files costs what)
+costs_known files costs said what lookup service is sees meaning = is ∙ ap service_in sees ∙ ap (λ w. service_in (lookup_of files costs w)) (sym meaning)

@@ -4,44 +4,44 @@ use Rattle.std.specs.Io.KnownBytes.{Appends}
 use Rattle.devices.proofs.Appending.{appends_none, appends_then, prefix_then}
 use Rattle.devices.specs.Devices.{AppendsPrefix}
 use Rattle.arrivals.specs.Reference.{Arrival}
-use Rattle.reference.specs.Telling.{Telling, IsTelling, Told, ToldInPart}
+use Rattle.reference.specs.Texts.{Texts, AreTexts, Wrote, WroteInPart}
 
 -- ---- messages that come after others
 
-pub told_none : (t : Telling) (start : ℕ) (earlier : List Arrival) (old : Option (List ℕ)) → IsTelling t → Told t start earlier [] old old
-told_none t start earlier old laws = rw (laws.none start earlier) (appends_none old)
+pub wrote_none : (t : Texts) (start : ℕ) (earlier : List Arrival) (old : Option (List ℕ)) → AreTexts t → Wrote t start earlier [] old old
+wrote_none t start earlier old laws = rw (laws.none start earlier) (appends_none old)
 
-pub told_more : (t : Telling) (start : ℕ) (earlier first more : List Arrival) (old mid new : Option (List ℕ)) → IsTelling t → Told t start earlier first old mid
-    → Told t start (earlier ++ first) more mid new → Told t start earlier (first ++ more) old new
-told_more t start earlier first more old mid new laws before after =
+pub wrote_more : (t : Texts) (start : ℕ) (earlier first more : List Arrival) (old mid new : Option (List ℕ)) → AreTexts t → Wrote t start earlier first old mid
+    → Wrote t start (earlier ++ first) more mid new → Wrote t start earlier (first ++ more) old new
+wrote_more t start earlier first more old mid new laws before after =
     rw (laws.more start earlier first more) (appends_then old mid new (t.after start earlier first) (t.after start (earlier ++ first) more) before after)
 
-pub told_part : (t : Telling) (start : ℕ) (earlier first more : List Arrival) (old mid new : Option (List ℕ)) → IsTelling t → Told t start earlier first old mid
-    → ToldInPart t start (earlier ++ first) more mid new → ToldInPart t start earlier (first ++ more) old new
-told_part t start earlier first more old mid new laws before after =
+pub wrote_part : (t : Texts) (start : ℕ) (earlier first more : List Arrival) (old mid new : Option (List ℕ)) → AreTexts t → Wrote t start earlier first old mid
+    → WroteInPart t start (earlier ++ first) more mid new → WroteInPart t start earlier (first ++ more) old new
+wrote_part t start earlier first more old mid new laws before after =
     rw (laws.more start earlier first more) (prefix_then old mid new (t.after start earlier first) (t.after start (earlier ++ first) more) before after)
 
 -- ---- the whole text
 
-pub text_begun : (t : Telling) (start : ℕ) (old new : Option (List ℕ)) → IsTelling t → Appends old new t.first → Appends old new (t.so_far start [])
+pub text_begun : (t : Texts) (start : ℕ) (old new : Option (List ℕ)) → AreTexts t → Appends old new t.first → Appends old new (t.so_far start [])
 text_begun t start old new laws h = rw (laws.begins start) h
 
-pub text_told : (t : Telling) (start : ℕ) (arrivals more : List Arrival) (old mid new : Option (List ℕ)) → IsTelling t → Appends old mid (t.so_far start arrivals)
-    → Told t start arrivals more mid new → Appends old new (t.so_far start (arrivals ++ more))
-text_told t start arrivals more old mid new laws before after =
+pub text_wrote : (t : Texts) (start : ℕ) (arrivals more : List Arrival) (old mid new : Option (List ℕ)) → AreTexts t → Appends old mid (t.so_far start arrivals)
+    → Wrote t start arrivals more mid new → Appends old new (t.so_far start (arrivals ++ more))
+text_wrote t start arrivals more old mid new laws before after =
     rw (laws.goes_on start arrivals more) (appends_then old mid new (t.so_far start arrivals) (t.after start arrivals more) before after)
 
-pub text_part : (t : Telling) (start : ℕ) (arrivals more : List Arrival) (old mid new : Option (List ℕ)) → IsTelling t → Appends old mid (t.so_far start arrivals)
-    → ToldInPart t start arrivals more mid new → AppendsPrefix old new (t.so_far start (arrivals ++ more))
+pub text_part : (t : Texts) (start : ℕ) (arrivals more : List Arrival) (old mid new : Option (List ℕ)) → AreTexts t → Appends old mid (t.so_far start arrivals)
+    → WroteInPart t start arrivals more mid new → AppendsPrefix old new (t.so_far start (arrivals ++ more))
 text_part t start arrivals more old mid new laws before after =
     rw (laws.goes_on start arrivals more) (prefix_then old mid new (t.so_far start arrivals) (t.after start arrivals more) before after)
 
-pub text_ended : (t : Telling) (start count : ℕ) (arrivals : List Arrival) (old mid new : Option (List ℕ)) → IsTelling t → count ≡ length arrivals
+pub text_ended : (t : Texts) (start count : ℕ) (arrivals : List Arrival) (old mid new : Option (List ℕ)) → AreTexts t → count ≡ length arrivals
     → Appends old mid (t.so_far start arrivals) → Appends mid new (t.last count) → Appends old new (t.whole start arrivals)
 text_ended t start count arrivals old mid new laws e before after =
     rw (laws.ends start arrivals, ← e) (appends_then old mid new (t.so_far start arrivals) (t.last count) before after)
 
-pub text_ended_part : (t : Telling) (start count : ℕ) (arrivals : List Arrival) (old mid new : Option (List ℕ)) → IsTelling t → count ≡ length arrivals
+pub text_ended_part : (t : Texts) (start count : ℕ) (arrivals : List Arrival) (old mid new : Option (List ℕ)) → AreTexts t → count ≡ length arrivals
     → Appends old mid (t.so_far start arrivals) → AppendsPrefix mid new (t.last count) → AppendsPrefix old new (t.whole start arrivals)
 text_ended_part t start count arrivals old mid new laws e before after =
     rw (laws.ends start arrivals, ← e) (prefix_then old mid new (t.so_far start arrivals) (t.last count) before after)

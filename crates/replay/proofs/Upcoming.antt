@@ -14,14 +14,14 @@ use Rattle.reference.specs.Reference.{Terms, Handled, slip_of, replies_of, reply
 use Rattle.arrivals.specs.Reference.{Arrival}
 use Rattle.replay.specs.Serving.{DeskAfter, records_after, Written, WrittenInPart}
 use Rattle.replay.specs.Fronts.{front_value}
-use Rattle.replay.specs.Backs.{slip_of_ticket, reply_to}
+use Rattle.replay.specs.Backs.{slip_of_pending, reply_to}
 use Rattle.arrivals.specs.Batches.{joined}
-use Rattle.replay.specs.Ticketing.{incoming_of, AreOf, AreSighted, InTime}
+use Rattle.replay.specs.Pending.{incoming_of, AreOf, AreLookedUp, InTime}
 use Rattle.reference.specs.Outcomes.{IsWriteOrMemory, IfTooMany, IfCutShort}
 use Rattle.replay.specs.Waiting.{Upcoming}
 use Rattle.arrivals.specs.declared.incoming.Incoming.{Incoming}
-use Rattle.replay.specs.declared.sight.Sighted.{Sighted}
-use Rattle.replay.specs.declared.ticket.Ticket.{Ticket}
+use Rattle.replay.specs.declared.lookup.LookedUp.{LookedUp}
+use Rattle.replay.specs.declared.pending.PendingReply.{PendingReply}
 use Rattle.replay.specs.declared.desk.Desk.{Desk}
 use Rattle.reference.specs.declared.replay_fault.ReplayFault.{ReplayFault}
 use Rattle.reference.specs.declared.replay_fault.ReplayFault.TheVariants as faults
@@ -106,15 +106,15 @@ none_written terms arrivals more messages desk old up none = rw (none_come terms
 
 -- ---- between the floors
 
-pub sighted_are : (files : List File) (costs table : CostTable) (arrivals : List Arrival) (messages : List Incoming) (sights : List Sighted)
-    → table ≡ costs → AreOf arrivals messages → sights ≡ map (front_value files table) messages → AreSighted files costs arrivals sights
-sighted_are files costs table arrivals messages sights same are e =
+pub looked_up_are : (files : List File) (costs table : CostTable) (arrivals : List Arrival) (messages : List Incoming) (lookups : List LookedUp)
+    → table ≡ costs → AreOf arrivals messages → lookups ≡ map (front_value files table) messages → AreLookedUp files costs arrivals lookups
+looked_up_are files costs table arrivals messages lookups same are e =
     e ∙ ap (λ (t : CostTable). map (front_value files t) messages) same ∙ ap (map (front_value files costs)) (sym are) ∙ map_map (front_value files costs) incoming_of arrivals
 
-pub replies_are : (X : Type 0) (terms : Terms) (start : ℕ) (hs : List Handled) (tickets : List (Ticket X)) (replies : List (ℕ × ℕ × List ℕ))
-    → map slip_of_ticket tickets ≡ map (slip_of {X = X} terms start) hs → replies ≡ map (λ t. reply_to terms.files (slip_of_ticket t)) tickets → replies ≡ replies_of terms start hs
-replies_are X terms start hs tickets replies slips e =
-    e ∙ sym (map_map (reply_to terms.files) (slip_of_ticket {X = X}) tickets) ∙ ap (map (reply_to terms.files)) slips ∙ each hs
+pub replies_are : (X : Type 0) (terms : Terms) (start : ℕ) (hs : List Handled) (pending_replies : List (PendingReply X)) (replies : List (ℕ × ℕ × List ℕ))
+    → map slip_of_pending pending_replies ≡ map (slip_of {X = X} terms start) hs → replies ≡ map (λ t. reply_to terms.files (slip_of_pending t)) pending_replies → replies ≡ replies_of terms start hs
+replies_are X terms start hs pending_replies replies slips e =
+    e ∙ sym (map_map (reply_to terms.files) (slip_of_pending {X = X}) pending_replies) ∙ ap (map (reply_to terms.files)) slips ∙ each hs
   where
     each : (hs : List Handled) → map (reply_to terms.files) (map (slip_of {X = X} terms start) hs) ≡ replies_of terms start hs
     each [] = refl

@@ -10,7 +10,7 @@ use Rattle.arrivals.specs.declared.incoming.Origin.{Origin}
 use Rattle.reference.specs.Reference.{Terms, handled_next, handled_after, handled, reply_of, replies_of, first_line, last_line, text_before_stop}
 use Rattle.arrivals.specs.Reference.{Arrival}
 use Rattle.arrivals.specs.Connections.{arrivals_with}
-use Rattle.reference.specs.Telling.{IsTelling, replies_told}
+use Rattle.reference.specs.Texts.{AreTexts, reply_texts}
 use Rattle.replay.specs.Serving.{records_after, Written, WrittenInPart}
 use Rattle.reference.proofs.Offering.{handled_more, handled_one, handled_count}
 
@@ -66,7 +66,7 @@ pub replies_count : (terms : Terms) (start : ℕ) (arrivals : List Arrival) → 
 replies_count terms start arrivals = length-map (handled terms arrivals) (reply_of terms start) ∙ handled_count terms [] arrivals
 
 -- the replies are told from the first line to the last
-pub replies_laws : (terms : Terms) → IsTelling (replies_told terms)
+pub replies_laws : (terms : Terms) → AreTexts (reply_texts terms)
 replies_laws terms = record {
   begins = text_none terms;
   goes_on = text_more terms;

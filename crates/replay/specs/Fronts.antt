@@ -4,31 +4,31 @@ use Rattle.stage_graph.specs.Steps.{value_of}
 use Rattle.paths.specs.Reference.{asked, outcome}
 use Rattle.paths.specs.Resolution.{IsOutcome}
 use Rattle.paths.specs.declared.file.File.{File}
-use Rattle.http_requests.specs.declared.messages.Fault.TheVariants.{Block}
+use Rattle.http_requests.specs.declared.messages.MessageFault.TheVariants.{Block}
 use Rattle.http_requests.specs.declared.messages.Meaning.{Meaning}
 use Rattle.http_requests.specs.declared.messages.Meaning.TheVariants.{Request, Bad}
 use Rattle.cost_model.specs.Reference.{CostTable, service}
 use Rattle.reference.specs.Reference.{is_head, is_unmodified_file, length_given}
-use Rattle.replay.specs.declared.sight.Sight.{Sight}
-use Rattle.replay.specs.declared.sight.Sight.TheVariants.{Unseen, Asked, Found, Priced}
+use Rattle.replay.specs.declared.lookup.Lookup.{Lookup}
+use Rattle.replay.specs.declared.lookup.Lookup.TheVariants.{Unseen, Asked, Found, Priced}
 use Rattle.arrivals.specs.declared.incoming.Incoming.{Incoming}
-use Rattle.replay.specs.declared.sight.Sighted.{Sighted}
+use Rattle.replay.specs.declared.lookup.LookedUp.{LookedUp}
 
 -- what is known of a message after one more step; one that breaks a rule passes unchanged
-abbrev pub sight_after : List File → CostTable → Meaning → Sight → Sight
-sight_after files costs (Bad fault) sight = sight
-sight_after files costs (Request method target version closing since) Unseen = Asked (asked method target)
-sight_after files costs (Request method target version closing since) (Asked a) = Found (outcome files a)
-sight_after files costs (Request method target version closing since) (Found o) = Priced o
+abbrev pub lookup_after : List File → CostTable → Meaning → Lookup → Lookup
+lookup_after files costs (Bad fault) lookup = lookup
+lookup_after files costs (Request method target version closing since) Unseen = Asked (asked method target)
+lookup_after files costs (Request method target version closing since) (Asked a) = Found (outcome files a)
+lookup_after files costs (Request method target version closing since) (Found o) = Priced o
     (service costs o (is_head method) (is_unmodified_file files since o) (length_given files o))
-sight_after files costs (Request method target version closing since) (Priced o cost) = Priced o cost
+lookup_after files costs (Request method target version closing since) (Priced o cost) = Priced o cost
 
-abbrev pub front_step : List File → CostTable → ℕ → Sighted → Sighted
-front_step files costs k v = record { message = v.message; sight = sight_after files costs v.message.what v.sight }
+abbrev pub front_step : List File → CostTable → ℕ → LookedUp → LookedUp
+front_step files costs k v = record { message = v.message; lookup = lookup_after files costs v.message.what v.lookup }
 
 -- a message that wasn't looked into yet
-abbrev pub unseen : Incoming → Sighted
-unseen message = record { message = message; sight = Unseen }
+abbrev pub unseen : Incoming → LookedUp
+unseen message = record { message = message; lookup = Unseen }
 
 -- what stands for a message after the last
 abbrev pub no_message : Incoming
@@ -37,27 +37,27 @@ no_message = record { origin = record { conn = 0; tick = 0; tier = 0 }; what = B
 abbrev pub message_at : List Incoming → ℕ → Incoming
 message_at messages n = slice_index_or messages n no_message
 
-abbrev pub unseen_at : List Incoming → ℕ → Sighted
+abbrev pub unseen_at : List Incoming → ℕ → LookedUp
 unseen_at messages n = unseen (slice_index_or messages n no_message)
 
 -- an outcome that was found is one of these files'
-abbrev pub IsSight : List File → Sight → Type 0
-IsSight files (Found o) = IsOutcome files o
-IsSight files (Priced o cost) = IsOutcome files o
-IsSight files sight = Unit {0}
+abbrev pub IsLookup : List File → Lookup → Type 0
+IsLookup files (Found o) = IsOutcome files o
+IsLookup files (Priced o cost) = IsOutcome files o
+IsLookup files lookup = Unit {0}
 
 -- what is known of a message before it is decided on: what it asks for, what that is, and how long it takes
-abbrev pub front_value : List File → CostTable → Incoming → Sighted
+abbrev pub front_value : List File → CostTable → Incoming → LookedUp
 front_value files costs message = value_of (front_step files costs) 3 (unseen message)
 
 -- the same of the message alone, wherever it came from
-abbrev pub sight_of : List File → CostTable → Meaning → Sight
-sight_of files costs what = sight_after files costs what
-    (sight_after files costs what (sight_after files costs what Unseen))
+abbrev pub lookup_of : List File → CostTable → Meaning → Lookup
+lookup_of files costs what = lookup_after files costs what
+    (lookup_after files costs what (lookup_after files costs what Unseen))
 
 -- A target that was read is worth what it is found to ask for: one that names a file as it stands is looked up where it
 -- is read.
-abbrev pub seen_as : List File → Sight → Sight
+abbrev pub seen_as : List File → Lookup → Lookup
 seen_as files (Asked a) = Found (outcome files a)
 seen_as files Unseen = Unseen
 seen_as files (Found o) = Found o
@@ -65,22 +65,22 @@ seen_as files (Priced o cost) = Priced o cost
 
 -- what is known of a message after step k of the front floor: steps 0 and 1 find what it asks for, step 2 how long that
 -- takes
-abbrev pub floor_sight : List File → CostTable → ℕ → Meaning → Sight → Sight
-floor_sight files costs k (Bad fault) sight = sight
-floor_sight files costs k (Request method target version closing since) Unseen =
+abbrev pub floor_lookup : List File → CostTable → ℕ → Meaning → Lookup → Lookup
+floor_lookup files costs k (Bad fault) lookup = lookup
+floor_lookup files costs k (Request method target version closing since) Unseen =
     Found (outcome files (asked method target))
-floor_sight files costs k (Request method target version closing since) (Asked a) = Found (outcome files a)
-floor_sight files costs k (Request method target version closing since) (Found o) =
+floor_lookup files costs k (Request method target version closing since) (Asked a) = Found (outcome files a)
+floor_lookup files costs k (Request method target version closing since) (Found o) =
     if nat_lt k 2 then Found o
     else Priced o (service costs o (is_head method) (is_unmodified_file files since o) (length_given files o))
-floor_sight files costs k (Request method target version closing since) (Priced o cost) = Priced o cost
+floor_lookup files costs k (Request method target version closing since) (Priced o cost) = Priced o cost
 
-abbrev pub floor_step : List File → CostTable → ℕ → Sighted → Sighted
-floor_step files costs k v = record { message = v.message; sight = floor_sight files costs k v.message.what v.sight }
+abbrev pub floor_step : List File → CostTable → ℕ → LookedUp → LookedUp
+floor_step files costs k v = record { message = v.message; lookup = floor_lookup files costs k v.message.what v.lookup }
 
 -- each message with what is known of it
-abbrev pub each_sighted : List Incoming → List Sight → List Sighted
-each_sighted [] sights = []
-each_sighted (message ∷ messages) [] = []
-each_sighted (message ∷ messages) (sight ∷ sights) =
-    record { message = message; sight = sight } ∷ each_sighted messages sights
+abbrev pub each_looked_up : List Incoming → List Lookup → List LookedUp
+each_looked_up [] lookups = []
+each_looked_up (message ∷ messages) [] = []
+each_looked_up (message ∷ messages) (lookup ∷ lookups) =
+    record { message = message; lookup = lookup } ∷ each_looked_up messages lookups

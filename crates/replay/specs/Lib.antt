@@ -6,6 +6,6 @@ pub mod Groups
 pub mod Rowing
 pub mod Serving
 pub mod Steps
-pub mod Ticketing
+pub mod Pending
 pub mod Totals
 pub mod Waiting

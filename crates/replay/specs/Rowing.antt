@@ -7,13 +7,13 @@ use Rattle.responses.specs.declared.slip.Status.TheVariants.{ServiceUnavailable}
 use Rattle.responses.specs.declared.slip.Given.{Given}
 use Rattle.responses.specs.declared.slip.Given.TheVariants.{Plain}
 use Rattle.decision_table.specs.declared.row.Offered.{Offered}
-use Rattle.replay.specs.declared.sight.Sight.{Sight}
-use Rattle.replay.specs.declared.sight.Sight.TheVariants.{Priced}
+use Rattle.replay.specs.declared.lookup.Lookup.{Lookup}
+use Rattle.replay.specs.declared.lookup.Lookup.TheVariants.{Priced}
 
 -- how long the server works on a message that was looked into; nothing where it is no request
-abbrev pub service_in : Sight → Option ℕ
+abbrev pub service_in : Lookup → Option ℕ
 service_in (Priced o cost) = Some cost
-service_in sight = None
+service_in lookup = None
 
 -- whether a status, and the answer to a message, turns it away
 abbrev pub is_unavailable : Status → Bool

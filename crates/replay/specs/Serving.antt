@@ -11,7 +11,7 @@ use Rattle.reference.specs.Reference.{Terms, ArrivedCapture, offers_of, handled_
 use Rattle.reference.specs.Reference.{outcome_of}
 use Rattle.arrivals.specs.Reference.{Arrival, AreArrivals}
 use Rattle.arrivals.specs.Connections.{HaveRead}
-use Rattle.reference.specs.Telling.{Telling, Told, ToldInPart, replies_told}
+use Rattle.reference.specs.Texts.{Texts, Wrote, WroteInPart, reply_texts}
 use Rattle.replay.specs.Totals.{totals_of}
 use Rattle.arrivals.specs.declared.connections.Connection.{Connection}
 use Rattle.replay.specs.declared.desk.Desk.{Desk}
@@ -58,49 +58,49 @@ abbrev pub ArriveNext : List Record → List Arrival → List Record → List Ar
 ArriveNext records arrivals rs more = AreArrivals (records ++ rs) (arrivals ++ more)
 
 -- more records were read, and the messages that arrived with them were decided on and told of
-pub record TellsMore (t : Telling) (terms : Terms) (records : List Record) (arrivals : List Arrival) (rs : List Record)
+pub record WritesMore (t : Texts) (terms : Terms) (records : List Record) (arrivals : List Arrival) (rs : List Record)
     (connections : List Connection) (desk : Desk)
     (old new : Option (List ℕ)) : Type 0 where
   pub more : List Arrival
   pub serves : Serves terms (records ++ rs) (arrivals ++ more) connections desk
-  pub written : Told t desk.start arrivals more old new
+  pub written : Wrote t desk.start arrivals more old new
 
 -- the messages of the next records reach beyond the limit: those within it were told of
-pub record TellsFull (t : Telling) (start : ℕ) (records : List Record) (arrivals : List Arrival) (rs : List Record)
+pub record WritesFull (t : Texts) (start : ℕ) (records : List Record) (arrivals : List Arrival) (rs : List Record)
     (old new : Option (List ℕ)) : Type 0 where
   pub more : List Arrival
   pub arrived : ArriveNext records arrivals rs more
   pub within : ℕ
   pub full : length arrivals + within ≡ max_messages
   pub beyond : within < length more
-  pub written : Told t start arrivals (take within more) old new
+  pub written : Wrote t start arrivals (take within more) old new
 
 -- a prefix was written of what is told of the messages of the next records within the limit
-pub record TellsInPart (t : Telling) (start : ℕ) (records : List Record) (arrivals : List Arrival) (rs : List Record)
+pub record WritesInPart (t : Texts) (start : ℕ) (records : List Record) (arrivals : List Arrival) (rs : List Record)
     (old new : Option (List ℕ)) : Type 0 where
   pub more : List Arrival
   pub arrived : ArriveNext records arrivals rs more
   pub within : ℕ
   pub few : length arrivals + within ≤ max_messages
-  pub written : ToldInPart t start arrivals (take within more) old new
+  pub written : WroteInPart t start arrivals (take within more) old new
 
 -- the same, where each message is told by its reply
 abbrev pub ServesMore : Terms → List Record → List Arrival → List Record → List Connection → Desk → Option (List ℕ)
     → Option (List ℕ) → Type 0
 ServesMore terms records arrivals rs connections desk old new =
-    TellsMore (replies_told terms) terms records arrivals rs connections desk old new
+    WritesMore (reply_texts terms) terms records arrivals rs connections desk old new
 
 abbrev pub ServesFull : Terms → ℕ → List Record → List Arrival → List Record → Option (List ℕ) → Option (List ℕ)
     → Type 0
-ServesFull terms start records arrivals rs old new = TellsFull (replies_told terms) start records arrivals rs old new
+ServesFull terms start records arrivals rs old new = WritesFull (reply_texts terms) start records arrivals rs old new
 
 abbrev pub ServesInPart : Terms → ℕ → List Record → List Arrival → List Record → Option (List ℕ) → Option (List ℕ)
     → Type 0
 ServesInPart terms start records arrivals rs old new =
-    TellsInPart (replies_told terms) start records arrivals rs old new
+    WritesInPart (reply_texts terms) start records arrivals rs old new
 
 -- a whole capture was told of: as `Answers`, whatever is told
-pub record HasTold (t : Telling) (terms : Terms) (input old new : Option (List ℕ)) (outcome : Outcome) : Type 0 where
+pub record WritesWhole (t : Texts) (terms : Terms) (input old new : Option (List ℕ)) (outcome : Outcome) : Type 0 where
   pub read : ArrivedCapture input
   pub written : Appends old new (t.whole read.capture.start read.arrivals)
   pub outcome_is : outcome ≡ outcome_of terms read.arrivals

@@ -6,7 +6,7 @@ use Rattle.http_requests.specs.declared.messages.Message.{Message}
 use Rattle.http_requests.specs.declared.messages.Meaning.{Meaning}
 use Rattle.arrivals.specs.Reference.{Arrival}
 use Rattle.arrivals.specs.Connections.{arrivals_with}
-use Rattle.arrivals.specs.Places.{Place}
+use Rattle.arrivals.specs.SeatStates.{SeatState}
 use Rattle.arrivals.specs.Tiers.{AreTiers}
 use Rattle.arrivals.specs.declared.connections.Connection.{Connection}
 use Rattle.arrivals.specs.declared.incoming.Incoming.{Incoming}
@@ -15,16 +15,16 @@ use Rattle.reference.specs.Reference.{Terms}
 use Rattle.replay.specs.Serving.{
   DeskAfter,
   Serves,
-  TellsMore,
-  TellsFull,
-  TellsInPart,
+  WritesMore,
+  WritesFull,
+  WritesInPart,
   ServesMore,
   ServesFull,
   ServesInPart,
   Written,
   WrittenInPart,
 }
-use Rattle.reference.specs.Telling.{Telling, Told, ToldInPart}
+use Rattle.reference.specs.Texts.{Texts, Wrote, WroteInPart}
 use Rattle.replay.specs.Waiting.{ComeNext, Upcoming, connections_of}
 use Rattle.replay.specs.declared.desk.Desk.{Desk}
 
@@ -34,14 +34,14 @@ DecidesNext terms origin what before after = (arrivals : List Arrival) (a : Arri
     → a.origin ≡ origin → a.message.what ≡ what → DeskAfter terms (arrivals ++ a ∷ []) after
 
 -- what is told of it was written, and a prefix of that was
-abbrev pub TellsNext : Telling → Terms → Origin → Meaning → Desk → Option (List ℕ) → Option (List ℕ) → Type 0
-TellsNext t terms origin what desk old new = (arrivals : List Arrival) (a : Arrival) → DeskAfter terms arrivals desk
-    → a.origin ≡ origin → a.message.what ≡ what → Told t desk.start arrivals (a ∷ []) old new
+abbrev pub WritesNext : Texts → Terms → Origin → Meaning → Desk → Option (List ℕ) → Option (List ℕ) → Type 0
+WritesNext t terms origin what desk old new = (arrivals : List Arrival) (a : Arrival) → DeskAfter terms arrivals desk
+    → a.origin ≡ origin → a.message.what ≡ what → Wrote t desk.start arrivals (a ∷ []) old new
 
-abbrev pub TellsNextInPart : Telling → Terms → Origin → Meaning → Desk → Option (List ℕ) → Option (List ℕ) → Type 0
-TellsNextInPart t terms origin what desk old new = (arrivals : List Arrival) (a : Arrival)
+abbrev pub WritesNextInPart : Texts → Terms → Origin → Meaning → Desk → Option (List ℕ) → Option (List ℕ) → Type 0
+WritesNextInPart t terms origin what desk old new = (arrivals : List Arrival) (a : Arrival)
     → DeskAfter terms arrivals desk → a.origin ≡ origin → a.message.what ≡ what
-    → ToldInPart t desk.start arrivals (a ∷ []) old new
+    → WroteInPart t desk.start arrivals (a ∷ []) old new
 
 -- the messages of a piece from this origin were decided on
 abbrev pub DecidesPiece : Terms → Origin → List Message → Desk → Desk → Type 0
@@ -49,35 +49,35 @@ DecidesPiece terms origin messages before after = (arrivals : List Arrival) (pla
     → DeskAfter terms arrivals before → DeskAfter terms (arrivals ++ arrivals_with place origin messages) after
 
 -- what is told of them was written, and a prefix of that was
-abbrev pub TellsPiece : Telling → Terms → Origin → List Message → Desk → Option (List ℕ) → Option (List ℕ) → Type 0
-TellsPiece t terms origin messages desk old new = (arrivals : List Arrival) (place : ℕ)
-    → DeskAfter terms arrivals desk → Told t desk.start arrivals (arrivals_with place origin messages) old new
+abbrev pub WritesPiece : Texts → Terms → Origin → List Message → Desk → Option (List ℕ) → Option (List ℕ) → Type 0
+WritesPiece t terms origin messages desk old new = (arrivals : List Arrival) (place : ℕ)
+    → DeskAfter terms arrivals desk → Wrote t desk.start arrivals (arrivals_with place origin messages) old new
 
-abbrev pub TellsPieceInPart : Telling → Terms → Origin → List Message → Desk → Option (List ℕ) → Option (List ℕ)
+abbrev pub WritesPieceInPart : Texts → Terms → Origin → List Message → Desk → Option (List ℕ) → Option (List ℕ)
     → Type 0
-TellsPieceInPart t terms origin messages desk old new = (arrivals : List Arrival) (place : ℕ)
-    → DeskAfter terms arrivals desk → ToldInPart t desk.start arrivals (arrivals_with place origin messages) old new
+WritesPieceInPart t terms origin messages desk old new = (arrivals : List Arrival) (place : ℕ)
+    → DeskAfter terms arrivals desk → WroteInPart t desk.start arrivals (arrivals_with place origin messages) old new
 
 -- the next record was read, and the messages that arrived with it were decided on and told of
-abbrev pub AnswersRecord : Telling → Terms → Record → List ℕ → List Connection → Desk → List Connection → Desk
+abbrev pub AnswersRecord : Texts → Terms → Record → List ℕ → List Connection → Desk → List Connection → Desk
     → Option (List ℕ) → Option (List ℕ) → Type 0
 AnswersRecord t terms next tiers connections desk connections-after desk-after old new =
     (records : List Record) (arrivals : List Arrival) → AreTiers records tiers
     → Serves terms records arrivals connections desk
-    → TellsMore t terms records arrivals (next ∷ []) connections-after desk-after old new
+    → WritesMore t terms records arrivals (next ∷ []) connections-after desk-after old new
 
 -- they reach beyond the limit, and those within it were told of; a prefix of what is told of those within was written
-abbrev pub FillsWithRecord : Telling → Terms → Record → List ℕ → List Connection → Desk → Option (List ℕ)
+abbrev pub FillsWithRecord : Texts → Terms → Record → List ℕ → List Connection → Desk → Option (List ℕ)
     → Option (List ℕ) → Type 0
 FillsWithRecord t terms next tiers connections desk old new = (records : List Record) (arrivals : List Arrival)
     → AreTiers records tiers → Serves terms records arrivals connections desk
-    → TellsFull t desk.start records arrivals (next ∷ []) old new
+    → WritesFull t desk.start records arrivals (next ∷ []) old new
 
-abbrev pub AnswersRecordInPart : Telling → Terms → Record → List ℕ → List Connection → Desk → Option (List ℕ)
+abbrev pub AnswersRecordInPart : Texts → Terms → Record → List ℕ → List Connection → Desk → Option (List ℕ)
     → Option (List ℕ) → Type 0
 AnswersRecordInPart t terms next tiers connections desk old new = (records : List Record) (arrivals : List Arrival)
     → AreTiers records tiers → Serves terms records arrivals connections desk
-    → TellsInPart t desk.start records arrivals (next ∷ []) old new
+    → WritesInPart t desk.start records arrivals (next ∷ []) old new
 
 -- the messages that come next in a batch were decided on
 abbrev pub DecidesComing : Terms → List Incoming → Desk → Desk → Type 0
@@ -102,17 +102,17 @@ WritesFirstInPart i terms messages desk old new = (arrivals more : List Arrival)
     → Upcoming terms arrivals more messages desk → WrittenInPart terms desk.start arrivals (take i more) old new
 
 -- the records whose pieces wait at the seats were read, and the messages that arrived with them were answered
-abbrev pub AnswersBatch : Terms → List Place → List Origin → Desk → List Place → Desk → Option (List ℕ)
+abbrev pub AnswersBatch : Terms → List SeatState → List Origin → Desk → List SeatState → Desk → Option (List ℕ)
     → Option (List ℕ) → Type 0
 AnswersBatch terms seats origins desk seats-after desk-after old new = (records rs : List Record)
     (arrivals : List Arrival) → ComeNext terms records rs arrivals seats origins desk
     → ServesMore terms records arrivals rs (connections_of seats-after) desk-after old new
 
 -- they reach beyond the limit, and those within it were answered; a prefix of the replies to those within was written
-abbrev pub FillsWithBatch : Terms → List Place → List Origin → Desk → Option (List ℕ) → Option (List ℕ) → Type 0
+abbrev pub FillsWithBatch : Terms → List SeatState → List Origin → Desk → Option (List ℕ) → Option (List ℕ) → Type 0
 FillsWithBatch terms seats origins desk old new = (records rs : List Record) (arrivals : List Arrival)
     → ComeNext terms records rs arrivals seats origins desk → ServesFull terms desk.start records arrivals rs old new
 
-abbrev pub AnswersBatchInPart : Terms → List Place → List Origin → Desk → Option (List ℕ) → Option (List ℕ) → Type 0
+abbrev pub AnswersBatchInPart : Terms → List SeatState → List Origin → Desk → Option (List ℕ) → Option (List ℕ) → Type 0
 AnswersBatchInPart terms seats origins desk old new = (records rs : List Record) (arrivals : List Arrival)
     → ComeNext terms records rs arrivals seats origins desk → ServesInPart terms desk.start records arrivals rs old new

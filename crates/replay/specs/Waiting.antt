@@ -6,25 +6,25 @@ use Rattle.captures.specs.Reference.{IsCapture, max_text_bytes}
 use Rattle.captures.specs.Captures.{sizes_of}
 use Rattle.arrivals.specs.Reference.{Arrival}
 use Rattle.arrivals.specs.Batches.{pieces_to, origins_of, tiers_of}
-use Rattle.arrivals.specs.Places.{Place, place_at}
+use Rattle.arrivals.specs.SeatStates.{SeatState, seat_at}
 use Rattle.arrivals.specs.declared.connections.Connection.{Connection}
 use Rattle.arrivals.specs.declared.incoming.Incoming.{Incoming}
 use Rattle.arrivals.specs.declared.incoming.Origin.{Origin}
 use Rattle.reference.specs.Reference.{Terms}
 use Rattle.replay.specs.Serving.{Serves, DeskAfter}
-use Rattle.replay.specs.Ticketing.{AreOf, InTime}
+use Rattle.replay.specs.Pending.{AreOf, InTime}
 use Rattle.replay.specs.declared.desk.Desk.{Desk}
 
 -- the connections at the seats
-abbrev pub connections_of : List Place → List Connection
+abbrev pub connections_of : List SeatState → List Connection
 connections_of places = map (λ p. p.connection) places
 
 -- the pieces that these records bring wait at the seats, and nothing is cut yet
-abbrev pub Waiting : List Record → List Place → Type 0
-Waiting rs places = (c : ℕ) → ((place_at places c).pieces ≡ pieces_to c rs) × ((place_at places c).lists ≡ [])
+abbrev pub Waiting : List Record → List SeatState → Type 0
+Waiting rs places = (c : ℕ) → ((seat_at places c).pieces ≡ pieces_to c rs) × ((seat_at places c).lists ≡ [])
 
 -- These records come next, after others that were served: their pieces wait at the seats, and came from these origins.
-pub record ComeNext (terms : Terms) (records rs : List Record) (arrivals : List Arrival) (places : List Place)
+pub record ComeNext (terms : Terms) (records rs : List Record) (arrivals : List Arrival) (places : List SeatState)
     (origins : List Origin) (desk : Desk) : Type 0 where
   pub serves : Serves terms records arrivals (connections_of places) desk
   pub waiting : Waiting rs places

@@ -9,16 +9,16 @@ ghost use Rattle.paths.specs.Snapshots.{max_time};
 ghost use Rattle.responses.specs.Reference.{record_text};
 ghost use Rattle.captures.specs.Reference.{max_start, max_tick};
 ghost use Rattle.reference.specs.Reference.{terms_of, Terms, fault_status, is_unmodified, outcome_answer, answers_head};
-ghost use Rattle.reference.specs.Reference.{link_of};
+ghost use Rattle.reference.specs.Reference.{persistence_of};
 ghost use Rattle.reference.specs.Reference.{is_unmodified_file, length_given};
 ghost use Rattle.arrivals.specs.Reference.{Arrival};
 ghost use Rattle.reference.specs.Outcomes.{writer_failures, IsOwn, IfTooMany, IfCutShort, IsWriteOrMemory};
 ghost use Rattle.replay.specs.Serving.{DeskAfter, AreBy};
-ghost use Rattle.reference.specs.Telling.{IsTelling};
-ghost use Rattle.replay.specs.Steps.{DecidesNext, TellsNext, TellsNextInPart, DecidesPiece, TellsPiece};
-ghost use Rattle.replay.specs.Steps.{TellsPieceInPart};
-ghost use Rattle.replay.specs.Fronts.{sight_of};
-ghost use Rattle.replay.specs.Backs.{slip_of_ticket, reply_to, given_as, is_back, told, only_head, has_location};
+ghost use Rattle.reference.specs.Texts.{AreTexts};
+ghost use Rattle.replay.specs.Steps.{DecidesNext, WritesNext, WritesNextInPart, DecidesPiece, WritesPiece};
+ghost use Rattle.replay.specs.Steps.{WritesPieceInPart};
+ghost use Rattle.replay.specs.Fronts.{lookup_of};
+ghost use Rattle.replay.specs.Backs.{slip_of_pending, reply_to, given_as, is_back, given_by, only_head, has_location};
 ghost use Rattle.replay.specs.Backs.{is_due};
 ghost use Rattle.replay.specs.declared.back.BackState.TheVariants.{Due as Waits};
 ghost use Rattle.admission.specs.Limits.{MAX_SERVICE};
@@ -27,29 +27,32 @@ ghost use Rattle.page_cache.specs.Reference.{media_of};
 ghost use Rattle.cost_model.specs.Reference.{service};
 
 use crate::desk::Desk;
+use crate::format::Format;
+use crate::lookup::{Lookup, ServiceTime};
+use crate::pending::{Due, PendingReply};
 use crate::server::Server;
-use crate::sight::{ServiceTime, Sight};
-use crate::telling::Tells;
-use crate::ticket::{Due, Ticket};
 use crate::{MAX_MESSAGES, ReplayFault};
 use arrivals::Origin;
 use cost_model::{Costs, service};
 use devices::Output;
-use http_requests::{Fault, Meaning, Message, Version};
+use http_requests::{HttpVersion, Meaning, Message, MessageFault};
 use page_cache::MediaType;
 use paths::{Outcome, Snapshot, Tree, resolve};
-use responses::{Given, HeadRenderer, Link, Slip, Status, render, write_record, write_reply};
+use responses::{
+    Given, HeadRenderer, Persistence, Slip, Status, render, write_record, write_reply,
+};
 use std::alloc::AllocError;
 use std::io::Write;
 
 /// The status of a message that breaks a rule.
-pub(crate) fn fault_status(fault: Fault) -> Status
+pub(crate) fn fault_status(fault: MessageFault) -> Status
     ensures { result ≡ fault_status fault }
 {
     match fault {
-        Fault::Coding => Status::NotImplemented,
-        Fault::BodySize => Status::ContentTooLarge,
-        Fault::TooLong | Fault::Block | Fault::Host | Fault::Length => Status::BadRequest,
+        MessageFault::Coding => Status::NotImplemented,
+        MessageFault::BodySize => Status::ContentTooLarge,
+        MessageFault::TooLong | MessageFault::Block | MessageFault::Host | MessageFault::Length =>
+            Status::BadRequest,
     }
 }
 
@@ -80,16 +83,16 @@ pub(crate) fn known_file<F: Tree>(snapshot: &Snapshot, file: usize, mtime: u64) 
 fn file_answer<F: Tree>(snapshot: &Snapshot, head: bool, since: Option<u64>, file: usize) -> Due<F>
     requires snapshot { snapshot.now ≡ F.files }
     requires file { file < length snapshot.now }
-    ensures told { told result ≡ outcome_answer F.files head since (Outcome.File file) }
+    ensures given_by { given_by result ≡ outcome_answer F.files head since (Outcome.File file) }
     ensures due { is_due F.files result ≡ true }
-    ensures can { (only_head head (told result) && has_location (told result)) ≡ true }
+    ensures can { (only_head head (given_by result) && has_location (given_by result)) ≡ true }
 {
     let mtime = snapshot.mtime(file);
     if is_unmodified(since, mtime) {
-        return Due::Told(Given::Unmodified { mtime });
+        return Due::Ready(Given::Unmodified { mtime });
     }
     if head {
-        return Due::Told(known_file(snapshot, file, mtime));
+        return Due::Ready(known_file(snapshot, file, mtime));
     }
     Due::Page { file, mtime }
 }
@@ -103,19 +106,19 @@ pub(crate) fn outcome_answer<F: Tree>(
 ) -> Due<F>
     requires snapshot { snapshot.now ≡ F.files }
     requires is { IsOutcome F.files outcome }
-    ensures told { told result ≡ outcome_answer F.files head since outcome }
+    ensures given_by { given_by result ≡ outcome_answer F.files head since outcome }
     ensures due { is_due F.files result ≡ true }
-    ensures can { (only_head head (told result) && has_location (told result)) ≡ true }
+    ensures can { (only_head head (given_by result) && has_location (given_by result)) ≡ true }
 {
     let status = match outcome {
         Outcome::File(file) => return file_answer(snapshot, head, since, file),
-        Outcome::Move(location) => return Due::Told(Given::Moved { location }),
+        Outcome::Move(location) => return Due::Ready(Given::Moved { location }),
         Outcome::Missing => Status::NotFound,
         Outcome::BadTarget => Status::BadRequest,
         Outcome::NotAllowed => Status::MethodNotAllowed,
         Outcome::NotKnown => Status::NotImplemented,
     };
-    Due::Told(Given::Plain { status })
+    Due::Ready(Given::Plain { status })
 }
 
 /// Whether a message asks for a head alone.
@@ -129,18 +132,18 @@ pub(crate) fn answers_head(what: &Meaning) -> bool
 }
 
 /// What the reply tells of its connection.
-pub(crate) fn link_of(what: &Meaning) -> Link
-    ensures { result ≡ link_of what.now }
+pub(crate) fn persistence_of(what: &Meaning) -> Persistence
+    ensures { result ≡ persistence_of what.now }
 {
     if what.closes() {
-        return Link::Close;
+        return Persistence::Close;
     }
     match what {
         Meaning::Request {
-            version: Version::Http10,
+            version: HttpVersion::Http10,
             ..
-        } => Link::KeepAlive,
-        _ => Link::Silent,
+        } => Persistence::KeepAlive,
+        _ => Persistence::Silent,
     }
 }
 
@@ -169,11 +172,8 @@ pub(crate) fn service_of(
 }
 
 /// What is known of a message before it is decided on.
-pub(crate) fn look_into<F: Tree>(
-    server: &Server<'_, F>,
-    what: &Meaning,
-) -> Result<Sight, AllocError>
-    ensures { IfOk result (λ sight. sight ≡ sight_of F.files server.now.costs what.now) }
+pub(crate) fn look_up<F: Tree>(server: &Server<'_, F>, what: &Meaning) -> Result<Lookup, AllocError>
+    ensures { IfOk result (λ lookup. lookup ≡ lookup_of F.files server.now.costs what.now) }
 {
     let Meaning::Request {
         method,
@@ -182,7 +182,7 @@ pub(crate) fn look_into<F: Tree>(
         ..
     } = what
     else {
-        return Ok(Sight::Unseen);
+        return Ok(Lookup::Unseen);
     };
     let settings = server.settings;
     let outcome = resolve(
@@ -199,7 +199,7 @@ pub(crate) fn look_into<F: Tree>(
         *modified_since,
         &outcome,
     );
-    Ok(Sight::Priced(outcome, ServiceTime::new(service)))
+    Ok(Lookup::Priced(outcome, ServiceTime::new(service)))
 }
 
 /// Writes the reply that gives a file, by the slip of the answer to HEAD. The bytes go to the writer as they stand in
@@ -232,29 +232,29 @@ fn give_file<F: Tree, W: Write>(
 }
 
 /// Answers a message that was decided on.
-pub(crate) fn answer_ticket<F: Tree, W: Write>(
+pub(crate) fn answer_pending<F: Tree, W: Write>(
     server: &Server<'_, F>,
     heads: &mut HeadRenderer,
-    ticket: Ticket<F>,
+    pending: PendingReply<F>,
     writer: &mut Output<W>,
 ) -> Result<(), ReplayFault>
-    requires ready { is_back F.files (Waits ticket) ≡ true }
+    requires ready { is_back F.files (Waits pending) ≡ true }
     requires failures { CanFail writer.old }
     ensures written { OnOk result (Appends writer.old.bytes writer.new.bytes
-        (record_text (reply_to F.files (slip_of_ticket ticket)))) }
+        (record_text (reply_to F.files (slip_of_pending pending)))) }
     ensures part { OnErr result (AppendsPrefix writer.old.bytes writer.new.bytes
-        (record_text (reply_to F.files (slip_of_ticket ticket)))) }
+        (record_text (reply_to F.files (slip_of_pending pending)))) }
     ensures failures { CountsBy writer_failures writer.old.failures writer.new.failures result }
     ensures own { IfErr result IsWriteOrMemory }
 {
-    let Ticket {
+    let PendingReply {
         number,
         conn,
         date,
         head,
         link,
         due,
-    } = ticket;
+    } = pending;
     match due {
         Due::Page { file, mtime } => {
             let slip = Slip {
@@ -267,7 +267,7 @@ pub(crate) fn answer_ticket<F: Tree, W: Write>(
             };
             give_file(server, heads, &slip, file, writer)
         }
-        Due::Told(what) => {
+        Due::Ready(what) => {
             let slip = Slip {
                 number,
                 conn,
@@ -284,7 +284,7 @@ pub(crate) fn answer_ticket<F: Tree, W: Write>(
 }
 
 /// Answers the next message.
-fn answer_message<T: Tells, F: Tree, W: Write>(
+fn answer_message<T: Format, F: Tree, W: Write>(
     server: &Server<'_, F>,
     heads: &mut HeadRenderer,
     origin: Origin,
@@ -299,14 +299,14 @@ fn answer_message<T: Tells, F: Tree, W: Write>(
         × AreBy origin.tick arrivals }
     requires failures { CanFail writer.old }
     ensures stands { OnOk result (DecidesNext (terms_of F.files server.now) origin what.now desk.old desk.new) }
-    ensures written { OnOk result (TellsNext (T.telling (terms_of F.files server.now)) (terms_of F.files server.now)
+    ensures written { OnOk result (WritesNext (T.texts (terms_of F.files server.now)) (terms_of F.files server.now)
         origin what.now desk.old writer.old.bytes writer.new.bytes) }
     ensures start { OnOk result (desk.new.start ≡ desk.old.start) }
     ensures number { OnOk result (desk.new.totals.answered ≡ desk.old.totals.answered + 1) }
     ensures many { IfErr result (λ f. IfTooMany f (λ n. (n ≡ MAX_MESSAGES)
         × (desk.old.totals.answered ≡ MAX_MESSAGES) × (writer.new ≡ writer.old))) }
     ensures part { IfErr result (λ f. IfCutShort f ((desk.old.totals.answered < MAX_MESSAGES)
-        × TellsNextInPart (T.telling (terms_of F.files server.now)) (terms_of F.files server.now)
+        × WritesNextInPart (T.texts (terms_of F.files server.now)) (terms_of F.files server.now)
         origin what.now desk.old writer.old.bytes writer.new.bytes)) }
     ensures failures { CountsBy writer_failures writer.old.failures writer.new.failures result }
     ensures own { IfErr result IsOwn }
@@ -315,11 +315,11 @@ fn answer_message<T: Tells, F: Tree, W: Write>(
     if number == MAX_MESSAGES {
         return Err(ReplayFault::TooMany(MAX_MESSAGES));
     }
-    T::tell::<F, W>(server, heads, origin, what, desk, writer)
+    T::write_message::<F, W>(server, heads, origin, what, desk, writer)
 }
 
 /// Answers the messages that ended in a piece, in their order.
-pub(crate) fn answer_all<T: Tells, F: Tree, W: Write>(
+pub(crate) fn answer_all<T: Format, F: Tree, W: Write>(
     server: &Server<'_, F>,
     heads: &mut HeadRenderer,
     origin: Origin,
@@ -327,7 +327,7 @@ pub(crate) fn answer_all<T: Tells, F: Tree, W: Write>(
     desk: &mut Desk,
     writer: &mut Output<W>,
 ) -> Result<(), ReplayFault>
-    requires texts { (terms : Terms) → IsTelling (T.telling terms) }
+    requires texts { (terms : Terms) → AreTexts (T.texts terms) }
     requires start { desk.old.start ≤ max_start }
     requires tick { origin.tick ≤ max_tick }
     requires tier { origin.tier < 4 }
@@ -335,16 +335,16 @@ pub(crate) fn answer_all<T: Tells, F: Tree, W: Write>(
         × AreBy origin.tick arrivals }
     requires failures { CanFail writer.old }
     ensures stands { OnOk result (DecidesPiece (terms_of F.files server.now) origin messages.now desk.old desk.new) }
-    ensures written { OnOk result (TellsPiece (T.telling (terms_of F.files server.now)) (terms_of F.files server.now)
+    ensures written { OnOk result (WritesPiece (T.texts (terms_of F.files server.now)) (terms_of F.files server.now)
         origin messages.now desk.old writer.old.bytes writer.new.bytes) }
     ensures start { OnOk result (desk.new.start ≡ desk.old.start) }
     ensures many { IfErr result (λ f. IfTooMany f (λ n. (n ≡ MAX_MESSAGES) × (i : ℕ) × (i < length messages.now)
         × (desk.old.totals.answered + i ≡ MAX_MESSAGES)
-        × TellsPiece (T.telling (terms_of F.files server.now)) (terms_of F.files server.now)
+        × WritesPiece (T.texts (terms_of F.files server.now)) (terms_of F.files server.now)
         origin (take i messages.now) desk.old writer.old.bytes writer.new.bytes)) }
     ensures part { IfErr result (λ f. IfCutShort f ((i : ℕ) × (i ≤ length messages.now)
         × (desk.old.totals.answered + i ≤ MAX_MESSAGES)
-        × TellsPieceInPart (T.telling (terms_of F.files server.now)) (terms_of F.files server.now)
+        × WritesPieceInPart (T.texts (terms_of F.files server.now)) (terms_of F.files server.now)
         origin (take i messages.now) desk.old writer.old.bytes writer.new.bytes)) }
     ensures failures { CountsBy writer_failures writer.old.failures writer.new.failures result }
     ensures own { IfErr result IsOwn }

@@ -9,12 +9,12 @@ ghost use Rattle.stage_graph.specs.declared.event.Event.{Event};
 ghost use Rattle.replay.specs.declared.back.BackState.TheVariants.{Due as Waits};
 ghost use Rattle.std.specs.Arc.{arc_value};
 ghost use Rattle.stage_graph.specs.Steps.{value_of};
-ghost use Rattle.replay.specs.Backs.{slip_of_ticket, back_step, is_back, can_render, is_due, due_at, reply_in};
-ghost use Rattle.replay.specs.Backs.{reply_to, back_after, elsewhere, ticket_elsewhere};
+ghost use Rattle.replay.specs.Backs.{slip_of_pending, back_step, is_back, can_render, is_due, due_at, reply_in};
+ghost use Rattle.replay.specs.Backs.{reply_to, back_after, elsewhere, pending_elsewhere};
 
 use crate::groups::page_len;
+use crate::pending::{Due, PendingReply};
 use crate::server::Server;
-use crate::ticket::{Due, Ticket};
 use page_cache::{Page, PageCache};
 use paths::{Snapshot, Tree};
 use responses::{Given, Reply, SharedPage, Slip, try_render};
@@ -41,7 +41,7 @@ impl Tree for Unnamed {
 #[derive(Drop)]
 pub enum BackState<F: Tree> {
     /// What is told is known, the page isn't there.
-    Due(Ticket<F>),
+    Due(PendingReply<F>),
     /// The page is there.
     Fetched(Slip<F>),
     Rendered(Reply<F>),
@@ -50,16 +50,16 @@ pub enum BackState<F: Tree> {
 /// Names the tickets of a back floor.
 pub trait Backs {
     ghost use Rattle.std.specs.Prelude.{List};
-    ghost use Rattle.replay.specs.declared.ticket.Ticket.{Ticket};
+    ghost use Rattle.replay.specs.declared.pending.PendingReply.{PendingReply};
     ghost use Rattle.replay.specs.declared.back.Unnamed.{Unnamed};
 
-    ghost tickets: { List (Ticket Unnamed) };
+    ghost pending_replies: { List (PendingReply Unnamed) };
 }
 
 impl Backs for Brand {
     ghost use Rattle.std.specs.Prelude.{[]};
 
-    ghost tickets = { [] };
+    ghost pending_replies = { [] };
 }
 
 /// A reply on its way.
@@ -70,7 +70,7 @@ pub struct BackItem<F: Tree, K: Backs> {
     pub state: BackState<F>,
     of: PhantomData<K>,
     pub ghost is: { is_back F.files state ≡ true },
-    pub ghost own: { elsewhere state ≡ value_of (back_step F.files) done (due_at K.tickets number) },
+    pub ghost own: { elsewhere state ≡ value_of (back_step F.files) done (due_at K.pending_replies number) },
 }
 
 impl<F: Tree, K: Backs> Named for BackItem<F, K> {
@@ -115,25 +115,25 @@ impl<'a, F: Tree, K: Backs, R: Wait> Back<'a, F, K, R> {
     }
 
     /// Fetches the page of a ticket, where one is due.
-    fn fetch(&self, ticket: Ticket<F>) -> Result<Slip<F>, Ticket<F>>
-        requires { is_due F.files ticket.due ≡ true }
-        ensures ok { IfOk result (λ slip. slip ≡ slip_of_ticket ticket) }
-        ensures err { IfErr result (λ t. t ≡ ticket) }
+    fn fetch(&self, pending: PendingReply<F>) -> Result<Slip<F>, PendingReply<F>>
+        requires { is_due F.files pending.due ≡ true }
+        ensures ok { IfOk result (λ slip. slip ≡ slip_of_pending pending) }
+        ensures err { IfErr result (λ t. t ≡ pending) }
     {
-        let Ticket {
+        let PendingReply {
             number,
             conn,
             date,
             head,
             link,
             due,
-        } = ticket;
+        } = pending;
         let what = match due {
-            Due::Told(what) => what,
+            Due::Ready(what) => what,
             Due::Page { file, mtime } => match self.page(file) {
                 Ok(page) => Given::Page { page, mtime },
                 Err(_) => {
-                    return Err(Ticket {
+                    return Err(PendingReply {
                         number,
                         conn,
                         date,
@@ -162,9 +162,9 @@ impl<'a, F: Tree, K: Backs, R: Wait> Back<'a, F, K, R> {
         ensures err { IfErr result (λ s. s ≡ state) }
     {
         match state {
-            BackState::Due(ticket) => match self.fetch(ticket) {
+            BackState::Due(pending) => match self.fetch(pending) {
                 Ok(slip) => Ok(BackState::Fetched(slip)),
-                Err(ticket) => Err(BackState::Due(ticket)),
+                Err(pending) => Err(BackState::Due(pending)),
             },
             BackState::Fetched(slip) => match try_render(self.alloc, slip) {
                 Ok(reply) => Ok(BackState::Rendered(reply)),
@@ -184,7 +184,7 @@ impl<'a, F: Tree, K: Backs, R: Wait> Chain for Back<'a, F, K, R> {
 
     ghost step = { back_step F.files };
 
-    ghost input_at = { λ n. due_at K.tickets n };
+    ghost input_at = { λ n. due_at K.pending_replies n };
 
     ghost content = { λ x. elsewhere x.state };
 
@@ -218,15 +218,15 @@ impl<'a, F: Tree, K: Backs, R: Wait> Chain for Back<'a, F, K, R> {
     ghost holds = { λ x. x.own };
 }
 
-fn back_item<F: Tree, K: Backs>(number: usize, ticket: Ticket<F>) -> BackItem<F, K>
-    requires named { due_at K.tickets number ≡ Waits (ticket_elsewhere ticket) }
-    requires ready { is_back F.files (Waits ticket) ≡ true }
+fn back_item<F: Tree, K: Backs>(number: usize, pending: PendingReply<F>) -> BackItem<F, K>
+    requires named { due_at K.pending_replies number ≡ Waits (pending_elsewhere pending) }
+    requires ready { is_back F.files (Waits pending) ≡ true }
     ensures { (result.number ≡ number) × (result.done ≡ 0) }
 {
     BackItem {
         number,
         done: 0,
-        state: BackState::Due(ticket),
+        state: BackState::Due(pending),
         of: PhantomData,
     }
 }
@@ -253,20 +253,20 @@ fn back_items<F: Tree, K: Backs>(
     alloc: Global,
     snapshot: &Snapshot,
     plan: Plan,
-    tickets: Vec<Ticket<F>>,
+    pending_replies: Vec<PendingReply<F>>,
 ) -> Result<Lotted<BackItem<F, K>>, AllocError>
-    requires named { map ticket_elsewhere tickets.items ≡ K.tickets }
-    requires ready { list_all (λ t. is_back F.files (Waits t)) tickets.items ≡ true }
+    requires named { map pending_elsewhere pending_replies.items ≡ K.pending_replies }
+    requires ready { list_all (λ t. is_back F.files (Waits t)) pending_replies.items ≡ true }
     ensures fresh { IfOk result (λ v. map (λ x. (x.number, x.done)) v.items
-        ≡ map (with_steps 0) (range_with_len 0 (length tickets.items))) }
-    ensures len { IfOk result (λ v. length v.items ≡ length tickets.items) }
+        ≡ map (with_steps 0) (range_with_len 0 (length pending_replies.items))) }
+    ensures len { IfOk result (λ v. length v.items ≡ length pending_replies.items) }
     ensures plan { IfOk result (λ v. v.plan ≡ plan) }
 {
-    let mut items = Lotted::new(alloc, plan, tickets.len())?;
+    let mut items = Lotted::new(alloc, plan, pending_replies.len())?;
     let mut number = 0;
-    for ticket in tickets {
-        let is_large = page_len(snapshot, &ticket) > LARGE;
-        add_item(alloc, &mut items, back_item(number, ticket), is_large)?;
+    for pending in pending_replies {
+        let is_large = page_len(snapshot, &pending) > LARGE;
+        add_item(alloc, &mut items, back_item(number, pending), is_large)?;
         number += 1;
     }
     Ok(items)
@@ -314,18 +314,19 @@ fn run_back_with<
     threads: usize,
     plan: Plan,
     cache: &Mutex<PageCache<F>>,
-    tickets: Vec<Ticket<F>>,
+    pending_replies: Vec<PendingReply<F>>,
     gate: &G,
 ) -> Result<Vec<Reply<F>>, Unrun>
-    requires named { map ticket_elsewhere tickets.items ≡ K.tickets }
-    requires ready { list_all (λ t. is_back F.files (Waits t)) tickets.items ≡ true }
+    requires named { map pending_elsewhere pending_replies.items ≡ K.pending_replies }
+    requires ready { list_all (λ t. is_back F.files (Waits t)) pending_replies.items ≡ true }
     requires cut { last_cut plan ≡ 2 }
-    ensures replies { IfOk result (λ v. v.items ≡ map (λ t. reply_to F.files (slip_of_ticket t)) tickets.items) }
-    ensures ran { IfOk result (λ _. (h : List Event) × HasGoneThrough plan (length tickets.items) h) }
+    ensures replies { IfOk result
+        (λ v. v.items ≡ map (λ t. reply_to F.files (slip_of_pending t)) pending_replies.items) }
+    ensures ran { IfOk result (λ _. (h : List Event) × HasGoneThrough plan (length pending_replies.items) h) }
 {
     let alloc = server.alloc;
-    let count = tickets.len();
-    let items = back_items::<F, K>(alloc, server.snapshot, plan, tickets)?;
+    let count = pending_replies.len();
+    let items = back_items::<F, K>(alloc, server.snapshot, plan, pending_replies)?;
     let chain = Back::<F, K, T> {
         rt,
         alloc,
@@ -343,15 +344,16 @@ pub(crate) fn run_back<F: Tree + Send + Sync, G: Gate + Sync, T: Threads + Wait 
     rt: &T,
     threads: usize,
     cache: &Mutex<PageCache<F>>,
-    tickets: Vec<Ticket<F>>,
+    pending_replies: Vec<PendingReply<F>>,
     gate: &G,
 ) -> Result<Vec<Reply<F>>, Unrun>
-    requires ready { list_all (λ t. is_back F.files (Waits t)) tickets.items ≡ true }
-    ensures replies { IfOk result (λ v. v.items ≡ map (λ t. reply_to F.files (slip_of_ticket t)) tickets.items) }
+    requires ready { list_all (λ t. is_back F.files (Waits t)) pending_replies.items ≡ true }
+    ensures replies { IfOk result
+        (λ v. v.items ≡ map (λ t. reply_to F.files (slip_of_pending t)) pending_replies.items) }
     ensures ran { IfOk result
-        (λ _. (h : List Event) × HasGoneThrough server.now.back (length tickets.items) h) }
+        (λ _. (h : List Event) × HasGoneThrough server.now.back (length pending_replies.items) h) }
 {
     let settings = server.settings;
     let plan = settings.back().try_clone(server.alloc)?;
-    run_back_with::<F, Brand, G, T>(server, rt, threads, plan, cache, tickets, gate)
+    run_back_with::<F, Brand, G, T>(server, rt, threads, plan, cache, pending_replies, gate)
 }

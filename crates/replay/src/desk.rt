@@ -8,21 +8,21 @@ ghost use Rattle.reference.specs.Reference.{terms_of, answers_head, given, offer
 ghost use Rattle.reference.specs.Reference.{handled_after};
 ghost use Rattle.reference.specs.Reference.{max_messages, slip_of};
 ghost use Rattle.replay.specs.Deciding.{Decides};
-ghost use Rattle.replay.specs.Fronts.{sight_of};
-ghost use Rattle.replay.specs.Backs.{told, only_head, has_location, is_due, is_back, slip_of_ticket};
+ghost use Rattle.replay.specs.Fronts.{lookup_of};
+ghost use Rattle.replay.specs.Backs.{given_by, only_head, has_location, is_due, is_back, slip_of_pending};
 ghost use Rattle.std.specs.List.{list_all};
 ghost use Rattle.captures.specs.Reference.{max_start, max_tick};
 ghost use Rattle.arrivals.specs.Reference.{Arrival};
 ghost use Rattle.replay.specs.Serving.{DeskAfter, AreBy};
 ghost use Rattle.replay.specs.Steps.{DecidesNext};
-ghost use Rattle.replay.specs.Ticketing.{AreSighted, InTime};
+ghost use Rattle.replay.specs.Pending.{AreLookedUp, InTime};
 ghost use Rattle.replay.specs.declared.back.BackState.TheVariants.{Due as Waits};
 
 use crate::MAX_MESSAGES;
-use crate::answering::{answers_head, fault_status, link_of, outcome_answer};
+use crate::answering::{answers_head, fault_status, outcome_answer, persistence_of};
+use crate::lookup::{LookedUp, Lookup};
+use crate::pending::{Due, PendingReply};
 use crate::server::Server;
-use crate::sight::{Sight, Sighted};
-use crate::ticket::{Due, Ticket};
 use crate::totals::Totals;
 use admission::{Controller, Decision, MAX_SERVICE, MAX_TICK};
 use arrivals::Origin;
@@ -71,37 +71,37 @@ impl Desk {
         server: &Server<'_, F>,
         origin: Origin,
         what: &Meaning,
-        sight: Sight,
+        lookup: Lookup,
     ) -> Result<Due<F>, AllocError>
         requires offers { (offers : List Offer) × ControllerAfter offers self.old.controller
             × (tick_from 0 offers ≤ origin.tick)
             × (length offers < MAX_MESSAGES) }
         requires tier { origin.tier < 4 }
         requires tick { origin.tick ≤ MAX_TICK }
-        requires sight { sight ≡ sight_of F.files server.now.costs what.now }
-        ensures told { IfOk result (λ due. (offers : List Offer) → ControllerAfter offers self.old.controller
+        requires lookup { lookup ≡ lookup_of F.files server.now.costs what.now }
+        ensures given_by { IfOk result (λ due. (offers : List Offer) → ControllerAfter offers self.old.controller
             → self.old.totals.samples ≡ samples_of (policies_of self.old.controller) offers
             → (away : Bool) × Decides offers
             (offer_at (terms_of F.files server.now) origin what.now) self.old self.new away
-            × (told due ≡ given (terms_of F.files server.now) away what.now)) }
+            × (given_by due ≡ given (terms_of F.files server.now) away what.now)) }
         ensures due { IfOk result (λ due. is_due F.files due ≡ true) }
-        ensures can { IfOk result (λ due. (only_head (answers_head what.now) (told due) && has_location (told due))
-            ≡ true) }
+        ensures can { IfOk result
+            (λ due. (only_head (answers_head what.now) (given_by due) && has_location (given_by due)) ≡ true) }
     {
         match what {
-            Meaning::Bad(fault) => Ok(Due::Told(Given::Plain {
+            Meaning::Bad(fault) => Ok(Due::Ready(Given::Plain {
                 status: fault_status(*fault),
             })),
             Meaning::Request { modified_since, .. } => {
                 let since = *modified_since;
                 let head = answers_head(what);
-                let Sight::Priced(outcome, service) = sight else {
+                let Lookup::Priced(outcome, service) = lookup else {
                     unreachable!()
                 };
                 if self.offer(origin.tier, origin.tick, service.ticks())? {
                     let settings = server.settings;
                     let retry_after = settings.retry_after();
-                    return Ok(Due::Told(Given::Plain {
+                    return Ok(Due::Ready(Given::Plain {
                         status: Status::ServiceUnavailable { retry_after },
                     }));
                 }
@@ -116,20 +116,20 @@ pub(crate) fn settle<F: Tree>(
     server: &Server<'_, F>,
     origin: Origin,
     what: &Meaning,
-    sight: Sight,
+    lookup: Lookup,
     desk: &mut Desk,
-) -> Result<Ticket<F>, AllocError>
+) -> Result<PendingReply<F>, AllocError>
     requires start { desk.old.start ≤ max_start }
     requires tick { origin.tick ≤ max_tick }
     requires tier { origin.tier < 4 }
     requires few { desk.old.totals.answered < MAX_MESSAGES }
     requires stands { (arrivals : List Arrival) × DeskAfter (terms_of F.files server.now) arrivals desk.old
         × AreBy origin.tick arrivals }
-    requires sight { sight ≡ sight_of F.files server.now.costs what.now }
+    requires lookup { lookup ≡ lookup_of F.files server.now.costs what.now }
     ensures stands { OnOk result (DecidesNext (terms_of F.files server.now) origin what.now desk.old desk.new) }
     ensures slip { IfOk result (λ t. (arrivals : List Arrival) (a : Arrival)
         → DeskAfter (terms_of F.files server.now) arrivals desk.old → a.origin ≡ origin → a.message.what ≡ what.now
-        → slip_of_ticket t ≡ slip_of (terms_of F.files server.now) desk.old.start
+        → slip_of_pending t ≡ slip_of (terms_of F.files server.now) desk.old.start
         (handled_next (terms_of F.files server.now) arrivals a)) }
     ensures ready { IfOk result (λ t. is_back F.files (Waits t) ≡ true) }
     ensures start { OnOk result (desk.new.start ≡ desk.old.start) }
@@ -138,10 +138,10 @@ pub(crate) fn settle<F: Tree>(
     let number = desk.totals.answered;
     let date = desk.start + origin.tick / 1_000_000;
     let head = answers_head(what);
-    let link = link_of(what);
-    let due = desk.decide(server, origin, what, sight)?;
+    let link = persistence_of(what);
+    let due = desk.decide(server, origin, what, lookup)?;
     desk.totals.note(&due, what);
-    Ok(Ticket {
+    Ok(PendingReply {
         number,
         conn: usize::from(origin.conn),
         date,
@@ -154,32 +154,32 @@ pub(crate) fn settle<F: Tree>(
 /// Decides on messages, in their order.
 pub(crate) fn decide_all<F: Tree>(
     server: &Server<'_, F>,
-    sights: Vec<Sighted>,
+    lookups: Vec<LookedUp>,
     desk: &mut Desk,
-) -> Result<Vec<Ticket<F>>, AllocError>
+) -> Result<Vec<PendingReply<F>>, AllocError>
     requires start { desk.old.start ≤ max_start }
     requires arrived { (arrivals : List Arrival) × (more : List Arrival)
         × DeskAfter (terms_of F.files server.now) arrivals desk.old
-        × AreSighted F.files server.now.costs more sights.items × InTime arrivals more
+        × AreLookedUp F.files server.now.costs more lookups.items × InTime arrivals more
         × (length arrivals + length more ≤ max_messages) }
     ensures stands { OnOk result ((arrivals more : List Arrival)
         → DeskAfter (terms_of F.files server.now) arrivals desk.old
-        → AreSighted F.files server.now.costs more sights.items
+        → AreLookedUp F.files server.now.costs more lookups.items
         → DeskAfter (terms_of F.files server.now) (arrivals ++ more) desk.new) }
     ensures slips { IfOk result (λ v. (arrivals more : List Arrival)
         → DeskAfter (terms_of F.files server.now) arrivals desk.old
-        → AreSighted F.files server.now.costs more sights.items
-        → map slip_of_ticket v.items
+        → AreLookedUp F.files server.now.costs more lookups.items
+        → map slip_of_pending v.items
         ≡ map (slip_of (terms_of F.files server.now) desk.old.start)
         (handled_after (terms_of F.files server.now) arrivals more)) }
     ensures ready { IfOk result (λ v. list_all (λ t. is_back F.files (Waits t)) v.items ≡ true) }
     ensures start { OnOk result (desk.new.start ≡ desk.old.start) }
 {
-    let mut tickets = Vec::with_capacity(server.alloc, sights.len())?;
-    for sighted in sights {
-        let Sighted { message, sight } = sighted;
-        let ticket = settle(server, message.origin, &message.what, sight, desk)?;
-        tickets.push(ticket)?;
+    let mut pending_replies = Vec::with_capacity(server.alloc, lookups.len())?;
+    for looked_up in lookups {
+        let LookedUp { message, lookup } = looked_up;
+        let pending = settle(server, message.origin, &message.what, lookup, desk)?;
+        pending_replies.push(pending)?;
     }
-    Ok(tickets)
+    Ok(pending_replies)
 }

@@ -5,16 +5,16 @@ ghost use Rattle.std.specs.List.{range_with_len};
 ghost use Rattle.stage_graph.specs.After.{last_cut, with_steps};
 ghost use Rattle.stage_graph.specs.Through.{HasGoneThrough};
 ghost use Rattle.stage_graph.specs.declared.event.Event.{Event};
-ghost use Rattle.replay.specs.Fronts.{front_value, unseen_at, IsSight};
+ghost use Rattle.replay.specs.Fronts.{front_value, unseen_at, IsLookup};
 ghost use Rattle.stage_graph.specs.Steps.{value_of};
 ghost use Rattle.paths.specs.Reference.{asked, outcome};
 ghost use Rattle.paths.specs.Resolution.{IsOutcome};
-ghost use Rattle.replay.specs.declared.sight.Sight.TheVariants.{Unseen, Found};
-ghost use Rattle.replay.specs.Fronts.{floor_sight, floor_step, seen_as, message_at, each_sighted};
+ghost use Rattle.replay.specs.declared.lookup.Lookup.TheVariants.{Unseen, Found};
+ghost use Rattle.replay.specs.Fronts.{floor_lookup, floor_step, seen_as, message_at, each_looked_up};
 
 use crate::answering::{answers_head, service_of};
+use crate::lookup::{LookedUp, Lookup, ServiceTime};
 use crate::server::Server;
-use crate::sight::{ServiceTime, Sight, Sighted};
 use arrivals::Incoming;
 use cost_model::Costs;
 use http_requests::Meaning;
@@ -52,10 +52,10 @@ impl Fronts for Brand {
 pub struct FrontItem<F: Tree, K: Fronts> {
     pub number: usize,
     pub done: usize,
-    pub sight: Sight,
+    pub lookup: Lookup,
     tree: PhantomData<F>,
     of: PhantomData<K>,
-    pub ghost own: { record { message = message_at K.messages number; sight = seen_as F.files sight }
+    pub ghost own: { record { message = message_at K.messages number; lookup = seen_as F.files lookup }
         ≡ value_of (floor_step F.files K.costs) done (unseen_at K.messages number) },
 }
 
@@ -90,69 +90,69 @@ pub struct Front<'a, F: Tree, K: Fronts> {
 
 impl<'a, F: Tree, K: Fronts> Front<'a, F, K> {
     /// Reads what a request asks for. A file that its target names as it stands is found at once, without memory.
-    fn read(&self, method: &[u8], target: &[u8]) -> Result<Sight, Sight>
+    fn read(&self, method: &[u8], target: &[u8]) -> Result<Lookup, Lookup>
         ensures ok { IfOk result (λ s. seen_as F.files s ≡ Found (outcome F.files (asked method.now target.now))) }
-        ensures is { IfOk result (IsSight F.files) }
+        ensures is { IfOk result (IsLookup F.files) }
         ensures err { IfErr result (λ s. s ≡ Unseen) }
     {
         if let Some(file) = find_plain(self.snapshot, method, target) {
-            return Ok(Sight::Found(Outcome::File(file)));
+            return Ok(Lookup::Found(Outcome::File(file)));
         }
         match inspect(self.alloc, method, target) {
-            Ok(asked) => Ok(Sight::Asked(asked)),
-            Err(_) => Err(Sight::Unseen),
+            Ok(asked) => Ok(Lookup::Asked(asked)),
+            Err(_) => Err(Lookup::Unseen),
         }
     }
 
     /// What is known of a message after this step where this is what it asks for: the last step prices it.
-    fn found(&self, done: usize, what: &Meaning, outcome: Outcome) -> Sight
+    fn found(&self, done: usize, what: &Meaning, outcome: Outcome) -> Lookup
         requires { IsOutcome F.files outcome }
-        ensures sight { seen_as F.files result ≡ floor_sight F.files K.costs done what.now (Found outcome) }
-        ensures is { IsSight F.files result }
+        ensures lookup { seen_as F.files result ≡ floor_lookup F.files K.costs done what.now (Found outcome) }
+        ensures is { IsLookup F.files result }
     {
         let Meaning::Request { modified_since, .. } = what else {
-            return Sight::Found(outcome);
+            return Lookup::Found(outcome);
         };
         if done < LAST_STEP {
-            return Sight::Found(outcome);
+            return Lookup::Found(outcome);
         }
         let head = answers_head(what);
         let service = service_of(self.snapshot, self.costs, head, *modified_since, &outcome);
-        Sight::Priced(outcome, ServiceTime::new(service))
+        Lookup::Priced(outcome, ServiceTime::new(service))
     }
 
     /// Looks one step further into a message, after so many steps.
-    fn look(&self, done: usize, what: &Meaning, sight: Sight) -> Result<Sight, Sight>
-        requires { IsSight F.files sight }
+    fn look(&self, done: usize, what: &Meaning, lookup: Lookup) -> Result<Lookup, Lookup>
+        requires { IsLookup F.files lookup }
         ensures ok { IfOk result
-            (λ s. seen_as F.files s ≡ floor_sight F.files K.costs done what.now (seen_as F.files sight)) }
-        ensures is { IfOk result (IsSight F.files) }
-        ensures err { IfErr result (λ s. s ≡ sight) }
+            (λ s. seen_as F.files s ≡ floor_lookup F.files K.costs done what.now (seen_as F.files lookup)) }
+        ensures is { IfOk result (IsLookup F.files) }
+        ensures err { IfErr result (λ s. s ≡ lookup) }
     {
         let Meaning::Request { method, target, .. } = what else {
-            return Ok(sight);
+            return Ok(lookup);
         };
-        match sight {
-            Sight::Unseen => self.read(method.as_slice(), target.as_slice()),
-            Sight::Asked(asked) => match locate(self.alloc, self.snapshot, &asked) {
+        match lookup {
+            Lookup::Unseen => self.read(method.as_slice(), target.as_slice()),
+            Lookup::Asked(asked) => match locate(self.alloc, self.snapshot, &asked) {
                 Ok(outcome) => Ok(self.found(done, what, outcome)),
-                Err(_) => Err(Sight::Asked(asked)),
+                Err(_) => Err(Lookup::Asked(asked)),
             },
-            Sight::Found(outcome) => Ok(self.found(done, what, outcome)),
-            Sight::Priced(outcome, service) => Ok(Sight::Priced(outcome, service)),
+            Lookup::Found(outcome) => Ok(self.found(done, what, outcome)),
+            Lookup::Priced(outcome, service) => Ok(Lookup::Priced(outcome, service)),
         }
     }
 
     /// Looks one step further into the message of a number, after so many steps.
-    fn look_at(&self, number: usize, done: usize, sight: Sight) -> Result<Sight, Sight>
-        requires { IsSight F.files sight }
+    fn look_at(&self, number: usize, done: usize, lookup: Lookup) -> Result<Lookup, Lookup>
+        requires { IsLookup F.files lookup }
         ensures ok { IfOk result (λ s. seen_as F.files s
-            ≡ floor_sight F.files K.costs done (message_at K.messages number).what (seen_as F.files sight)) }
-        ensures err { IfErr result (λ s. s ≡ sight) }
+            ≡ floor_lookup F.files K.costs done (message_at K.messages number).what (seen_as F.files lookup)) }
+        ensures err { IfErr result (λ s. s ≡ lookup) }
     {
         match self.messages.get(number) {
-            Some(message) => self.look(done, &message.what, sight),
-            None => Ok(sight),
+            Some(message) => self.look(done, &message.what, lookup),
+            None => Ok(lookup),
         }
     }
 }
@@ -160,7 +160,7 @@ impl<'a, F: Tree, K: Fronts> Front<'a, F, K> {
 impl<'a, F: Tree, K: Fronts> Chain for Front<'a, F, K> {
     type Item = FrontItem<F, K>;
 
-    type Value = Sighted;
+    type Value = LookedUp;
 
     ghost steps = { 3 };
 
@@ -168,7 +168,7 @@ impl<'a, F: Tree, K: Fronts> Chain for Front<'a, F, K> {
 
     ghost input_at = { λ n. unseen_at K.messages n };
 
-    ghost content = { λ x. record { message = message_at K.messages x.number; sight = seen_as F.files x.sight } };
+    ghost content = { λ x. record { message = message_at K.messages x.number; lookup = seen_as F.files x.lookup } };
 
     fn steps(&self) -> usize {
         3
@@ -178,22 +178,22 @@ impl<'a, F: Tree, K: Fronts> Chain for Front<'a, F, K> {
         let FrontItem {
             number,
             done,
-            sight,
+            lookup,
             tree,
             of,
         } = item;
-        match self.look_at(number, done, sight) {
-            Ok(sight) => Ok(FrontItem {
+        match self.look_at(number, done, lookup) {
+            Ok(lookup) => Ok(FrontItem {
                 number,
                 done: done + 1,
-                sight,
+                lookup,
                 tree,
                 of,
             }),
-            Err(sight) => Err(FrontItem {
+            Err(lookup) => Err(FrontItem {
                 number,
                 done,
-                sight,
+                lookup,
                 tree,
                 of,
             }),
@@ -209,7 +209,7 @@ fn front_item<F: Tree, K: Fronts>(number: usize) -> FrontItem<F, K>
     FrontItem {
         number,
         done: 0,
-        sight: Sight::Unseen,
+        lookup: Lookup::Unseen,
         tree: PhantomData,
         of: PhantomData,
     }
@@ -234,49 +234,49 @@ fn front_items<F: Tree, K: Fronts>(
 }
 
 /// What is known of the messages of a lot, after others.
-fn add_sights<F: Tree, K: Fronts>(
-    sights: &mut Vec<Sight>,
+fn add_lookups<F: Tree, K: Fronts>(
+    lookups: &mut Vec<Lookup>,
     lot: Vec<FrontItem<F, K>>,
 ) -> Result<(), AllocError>
-    ensures { OnOk result (sights.new.items ≡ sights.old.items ++ map (λ x. x.sight) lot.items) }
+    ensures { OnOk result (lookups.new.items ≡ lookups.old.items ++ map (λ x. x.lookup) lot.items) }
 {
     for item in lot {
-        let FrontItem { sight, .. } = item;
-        sights.push(sight)?;
+        let FrontItem { lookup, .. } = item;
+        lookups.push(lookup)?;
     }
     Ok(())
 }
 
 /// What is known of the messages, of which there are so many.
-fn sights_of<F: Tree, K: Fronts>(
+fn lookups_of<F: Tree, K: Fronts>(
     alloc: Global,
     count: usize,
     lots: Vec<Vec<FrontItem<F, K>>>,
-) -> Result<Vec<Sight>, AllocError>
-    ensures { IfOk result (λ v. v.items ≡ flat_map (λ lot. map (λ x. x.sight) lot.items) lots.items) }
+) -> Result<Vec<Lookup>, AllocError>
+    ensures { IfOk result (λ v. v.items ≡ flat_map (λ lot. map (λ x. x.lookup) lot.items) lots.items) }
 {
-    let mut sights = Vec::with_capacity(alloc, count)?;
+    let mut lookups = Vec::with_capacity(alloc, count)?;
     for lot in lots {
-        add_sights(&mut sights, lot)?;
+        add_lookups(&mut lookups, lot)?;
     }
-    Ok(sights)
+    Ok(lookups)
 }
 
 /// The messages, each with what is known of it.
-fn with_sights(
+fn with_lookups(
     alloc: Global,
     messages: Vec<Incoming>,
-    sights: Vec<Sight>,
-) -> Result<Vec<Sighted>, AllocError>
-    ensures { IfOk result (λ v. v.items ≡ each_sighted messages.items sights.items) }
+    lookups: Vec<Lookup>,
+) -> Result<Vec<LookedUp>, AllocError>
+    ensures { IfOk result (λ v. v.items ≡ each_looked_up messages.items lookups.items) }
 {
     let mut all = Vec::with_capacity(alloc, messages.len())?;
-    let mut sights = sights.into_iter();
+    let mut lookups = lookups.into_iter();
     for message in messages {
-        let Some(sight) = sights.next() else {
+        let Some(lookup) = lookups.next() else {
             return Ok(all);
         };
-        all.push(Sighted { message, sight })?;
+        all.push(LookedUp { message, lookup })?;
     }
     Ok(all)
 }
@@ -293,7 +293,7 @@ fn run_front_with<
     plan: Plan,
     messages: Vec<Incoming>,
     gate: &G,
-) -> Result<Vec<Sighted>, Unrun>
+) -> Result<Vec<LookedUp>, Unrun>
     requires costs { server.now.costs ≡ K.costs }
     requires messages { messages.items ≡ K.messages }
     requires cut { last_cut plan ≡ 3 }
@@ -313,8 +313,8 @@ fn run_front_with<
         of: PhantomData,
     };
     let carried = run_through::<Front<F, K>, G, T>(rt, alloc, threads, &chain, items, gate)?;
-    let sights = sights_of(alloc, count, carried.lots)?;
-    Ok(with_sights(alloc, messages, sights)?)
+    let lookups = lookups_of(alloc, count, carried.lots)?;
+    Ok(with_lookups(alloc, messages, lookups)?)
 }
 
 /// What is known of each message before it is decided on, by the front floor of the settings and so many threads.
@@ -324,7 +324,7 @@ pub(crate) fn run_front<F: Tree + Send + Sync, G: Gate + Sync, T: Threads + Wait
     threads: usize,
     messages: Vec<Incoming>,
     gate: &G,
-) -> Result<Vec<Sighted>, Unrun>
+) -> Result<Vec<LookedUp>, Unrun>
     ensures seen { IfOk result (λ v. v.items ≡ map (front_value F.files server.now.costs) messages.items) }
     ensures ran { IfOk result
         (λ _. (h : List Event) × HasGoneThrough server.now.front (length messages.items) h) }

@@ -3,7 +3,7 @@
 ghost use Rattle.std.specs.Prelude.{◌≡◌, ◌++◌, IfOk};
 ghost use Rattle.replay.specs.Groups.{all_of};
 
-use crate::ticket::{Due, Ticket};
+use crate::pending::{Due, PendingReply};
 use arrivals::Series;
 use page_cache::PageCache;
 use paths::{Snapshot, Tree};
@@ -39,8 +39,8 @@ pub(crate) fn room_for_pages(snapshot: &Snapshot, cache: usize) -> usize {
 }
 
 /// How many bytes of a file the page of a ticket holds.
-pub(crate) fn page_len<F: Tree>(snapshot: &Snapshot, ticket: &Ticket<F>) -> usize {
-    match &ticket.due {
+pub(crate) fn page_len<F: Tree>(snapshot: &Snapshot, pending: &PendingReply<F>) -> usize {
+    match &pending.due {
         Due::Page { file, .. } if *file < snapshot.len() => snapshot.bytes(*file).len(),
         _ => 0,
     }
@@ -49,10 +49,10 @@ pub(crate) fn page_len<F: Tree>(snapshot: &Snapshot, ticket: &Ticket<F>) -> usiz
 /// Puts a group after the others if it is full: what is left of it.
 fn laid_by<F: Tree>(
     alloc: Global,
-    groups: &mut Vec<Series<Ticket<F>>>,
-    group: Vec<Ticket<F>>,
+    groups: &mut Vec<Series<PendingReply<F>>>,
+    group: Vec<PendingReply<F>>,
     is_full: bool,
-) -> Result<Vec<Ticket<F>>, AllocError>
+) -> Result<Vec<PendingReply<F>>, AllocError>
     ensures { IfOk result (λ rest. all_of groups.new.items ++ rest.items ≡ all_of groups.old.items ++ group.items) }
 {
     if !is_full {
@@ -63,10 +63,10 @@ fn laid_by<F: Tree>(
 }
 
 /// How many bytes of pages the tickets hold, each counted as often as it is due.
-fn held_by<F: Tree>(snapshot: &Snapshot, tickets: &[Ticket<F>]) -> usize {
+fn held_by<F: Tree>(snapshot: &Snapshot, pending_replies: &[PendingReply<F>]) -> usize {
     let mut held: usize = 0;
-    for ticket in tickets {
-        held = held.saturating_add(page_len(snapshot, ticket));
+    for pending in pending_replies {
+        held = held.saturating_add(page_len(snapshot, pending));
     }
     held
 }
@@ -77,15 +77,15 @@ pub(crate) fn work_of<F: Tree, R: Wait>(
     rt: &R,
     snapshot: &Snapshot,
     cache: &Mutex<PageCache<F>>,
-    tickets: &[Ticket<F>],
+    pending_replies: &[PendingReply<F>],
 ) -> usize {
     let pages = cache.lock(rt);
     let mut work: usize = 0;
-    for ticket in tickets {
+    for pending in pending_replies {
         work = work.saturating_add(REPLY);
-        if let Due::Page { file, .. } = &ticket.due {
+        if let Due::Page { file, .. } = &pending.due {
             if !pages.holds(*file) {
-                work = work.saturating_add(page_len(snapshot, ticket));
+                work = work.saturating_add(page_len(snapshot, pending));
             }
         }
     }
@@ -95,12 +95,12 @@ pub(crate) fn work_of<F: Tree, R: Wait>(
 /// The tickets in one group.
 fn one_group<F: Tree>(
     alloc: Global,
-    tickets: Vec<Ticket<F>>,
-) -> Result<Vec<Series<Ticket<F>>>, AllocError>
-    ensures { IfOk result (λ groups. all_of groups.items ≡ tickets.items) }
+    pending_replies: Vec<PendingReply<F>>,
+) -> Result<Vec<Series<PendingReply<F>>>, AllocError>
+    ensures { IfOk result (λ groups. all_of groups.items ≡ pending_replies.items) }
 {
     let mut whole = Vec::with_capacity(alloc, 1)?;
-    whole.push(Series::from_vec(tickets))?;
+    whole.push(Series::from_vec(pending_replies))?;
     Ok(whole)
 }
 
@@ -109,18 +109,18 @@ pub(crate) fn groups_of<F: Tree>(
     alloc: Global,
     snapshot: &Snapshot,
     room: usize,
-    tickets: Vec<Ticket<F>>,
-) -> Result<Vec<Series<Ticket<F>>>, AllocError>
-    ensures { IfOk result (λ groups. all_of groups.items ≡ tickets.items) }
+    pending_replies: Vec<PendingReply<F>>,
+) -> Result<Vec<Series<PendingReply<F>>>, AllocError>
+    ensures { IfOk result (λ groups. all_of groups.items ≡ pending_replies.items) }
 {
-    if room == usize::MAX || held_by(snapshot, &tickets) <= room {
-        return one_group(alloc, tickets);
+    if room == usize::MAX || held_by(snapshot, &pending_replies) <= room {
+        return one_group(alloc, pending_replies);
     }
     let mut groups = Vec::new(alloc);
     let mut group = Vec::new(alloc);
     let mut held: usize = 0;
-    for ticket in tickets {
-        let own = page_len(snapshot, &ticket);
+    for pending in pending_replies {
+        let own = page_len(snapshot, &pending);
         let is_full = own > room.saturating_sub(held);
         group = laid_by(alloc, &mut groups, group, is_full)?;
         held = if is_full {
@@ -128,7 +128,7 @@ pub(crate) fn groups_of<F: Tree>(
         } else {
             held.saturating_add(own)
         };
-        group.push(ticket)?;
+        group.push(pending)?;
     }
     groups.push(Series::from_vec(group))?;
     Ok(groups)

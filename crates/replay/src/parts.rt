@@ -20,9 +20,9 @@ use crate::back::run_back;
 use crate::desk::{Desk, decide_all};
 use crate::front::run_front;
 use crate::groups::{Pages, groups_of, work_of};
+use crate::pending::PendingReply;
 use crate::server::Server;
 use crate::shifted::Shifted;
-use crate::ticket::Ticket;
 use crate::{MAX_MESSAGES, ReplayFault};
 use arrivals::{Incoming, Series};
 use devices::Output;
@@ -88,7 +88,7 @@ fn write_replies<F: Tree, W: Write>(
 fn answer_group<F: Tree + Send + Sync, G: Gate + Sync, T: Threads + Wait + Sync, W: Write>(
     server: &Server<'_, F>,
     floors: &Floors<'_, F, G, T>,
-    group: Vec<Ticket<F>>,
+    group: Vec<PendingReply<F>>,
     writer: &mut Output<W>,
 ) -> Result<(), ReplayFault>
     requires ready { list_all (λ t. is_back F.files (Waits t)) group.items ≡ true }
@@ -99,7 +99,7 @@ fn answer_group<F: Tree + Send + Sync, G: Gate + Sync, T: Threads + Wait + Sync,
     ensures own { IfErr result IsWriteOrMemory }
 {
     let first = match group.first() {
-        Some(ticket) => ticket.number,
+        Some(pending) => pending.number,
         None => return Ok(()),
     };
     let settings = server.settings;
@@ -122,20 +122,27 @@ fn answer_group<F: Tree + Send + Sync, G: Gate + Sync, T: Threads + Wait + Sync,
 }
 
 /// Answers messages that were decided on, a group of them at a time, so that memory holds the pages of one.
-fn answer_tickets<F: Tree + Send + Sync, G: Gate + Sync, T: Threads + Wait + Sync, W: Write>(
+fn answer_all_pending<F: Tree + Send + Sync, G: Gate + Sync, T: Threads + Wait + Sync, W: Write>(
     server: &Server<'_, F>,
     floors: &Floors<'_, F, G, T>,
-    tickets: Vec<Ticket<F>>,
+    pending_replies: Vec<PendingReply<F>>,
     writer: &mut Output<W>,
 ) -> Result<(), ReplayFault>
-    requires ready { list_all (λ t. is_back F.files (Waits t)) tickets.items ≡ true }
+    requires ready { list_all (λ t. is_back F.files (Waits t)) pending_replies.items ≡ true }
     requires failures { CanFail writer.old }
-    ensures written { OnOk result (Appends writer.old.bytes writer.new.bytes (records_of F.files tickets.items)) }
-    ensures part { OnErr result (AppendsPrefix writer.old.bytes writer.new.bytes (records_of F.files tickets.items)) }
+    ensures written { OnOk result
+        (Appends writer.old.bytes writer.new.bytes (records_of F.files pending_replies.items)) }
+    ensures part { OnErr result
+        (AppendsPrefix writer.old.bytes writer.new.bytes (records_of F.files pending_replies.items)) }
     ensures failures { CountsBy writer_failures writer.old.failures writer.new.failures result }
     ensures own { IfErr result IsWriteOrMemory }
 {
-    for group in groups_of(server.alloc, server.snapshot, floors.pages.room, tickets)? {
+    for group in groups_of(
+        server.alloc,
+        server.snapshot,
+        floors.pages.room,
+        pending_replies,
+    )? {
         answer_group(server, floors, group.into_vec(), writer)?;
     }
     Ok(())
@@ -173,15 +180,15 @@ fn serve_few<F: Tree + Send + Sync, G: Gate + Sync, T: Threads + Wait + Sync, W:
         first,
     };
     let worth = looking_of(&messages) / WORTH_LOOKING;
-    let sights = run_front::<F, Shifted<G>, T>(
+    let lookups = run_front::<F, Shifted<G>, T>(
         server,
         floors.rt,
         floors.threads.min(worth),
         messages,
         &before,
     )?;
-    let tickets = decide_all(server, sights, desk)?;
-    answer_tickets(server, floors, tickets, writer)
+    let pending_replies = decide_all(server, lookups, desk)?;
+    answer_all_pending(server, floors, pending_replies, writer)
 }
 
 /// Serves messages: those within the limit.

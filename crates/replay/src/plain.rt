@@ -8,10 +8,10 @@ ghost use Rattle.captures.specs.Captures.{size_of, sizes_of};
 ghost use Rattle.captures.specs.declared.record.Record.{Record as ARecord};
 ghost use Rattle.reference.specs.Reference.{Terms, terms_of, summary_of, tally_of, Answers};
 ghost use Rattle.arrivals.specs.Reference.{Arrival};
-ghost use Rattle.reference.specs.Telling.{IsTelling, replies_told};
+ghost use Rattle.reference.specs.Texts.{AreTexts, reply_texts};
 ghost use Rattle.reference.specs.Outcomes.{IfTooMany, IfCutShort, IsOwn, Leaves, reader_failures};
 ghost use Rattle.reference.specs.Outcomes.{writer_failures};
-ghost use Rattle.replay.specs.Serving.{IsLater, Serves, DeskAfter, HasTold};
+ghost use Rattle.replay.specs.Serving.{IsLater, Serves, DeskAfter, WritesWhole};
 ghost use Rattle.replay.specs.Steps.{AnswersRecord, FillsWithRecord, AnswersRecordInPart};
 ghost use Rattle.arrivals.specs.Tiers.{AreTiers};
 ghost use Rattle.admission.specs.Reference.{Offer};
@@ -20,9 +20,9 @@ ghost use Rattle.admission.specs.Standing.{policies_of};
 
 use crate::answering::answer_all;
 use crate::desk::Desk;
+use crate::format::Format;
 use crate::replies::Replies;
 use crate::server::Server;
-use crate::telling::Tells;
 use crate::totals::Totals;
 use crate::{MAX_MESSAGES, ReplayFault, Settings, Summary, Tally};
 use admission::Controller;
@@ -76,7 +76,7 @@ pub(crate) fn outcome_of(alloc: Global, desk: Desk) -> Result<Outcome, AllocErro
 }
 
 /// Reads one more record: answers the messages that arrive with it. `messages` is room for them.
-fn answer_record<T: Tells, F: Tree, W: Write>(
+fn answer_record<T: Format, F: Tree, W: Write>(
     server: &Server<'_, F>,
     heads: &mut HeadRenderer,
     messages: &mut Vec<Message>,
@@ -86,7 +86,7 @@ fn answer_record<T: Tells, F: Tree, W: Write>(
     desk: &mut Desk,
     writer: &mut Output<W>,
 ) -> Result<(), ReplayFault>
-    requires texts { (terms : Terms) → IsTelling (T.telling terms) }
+    requires texts { (terms : Terms) → AreTexts (T.texts terms) }
     requires start { desk.old.start ≤ max_start }
     requires record { (version : AVersion) × IsRecord version next.now }
     requires room { (records : List ARecord) × (arrivals : List Arrival)
@@ -95,14 +95,14 @@ fn answer_record<T: Tells, F: Tree, W: Write>(
     requires failures { CanFail writer.old }
     ensures tiers { OnOk result ((records : List ARecord) → AreTiers records tiers.old
         → AreTiers (records ++ next.now ∷ []) tiers.new) }
-    ensures serves { OnOk result (AnswersRecord (T.telling (terms_of F.files server.now)) (terms_of F.files server.now)
+    ensures serves { OnOk result (AnswersRecord (T.texts (terms_of F.files server.now)) (terms_of F.files server.now)
         next.now tiers.old connections.old desk.old connections.new desk.new writer.old.bytes writer.new.bytes) }
     ensures start { OnOk result (desk.new.start ≡ desk.old.start) }
     ensures many { IfErr result (λ f. IfTooMany f (λ n. (n ≡ MAX_MESSAGES)
-        × FillsWithRecord (T.telling (terms_of F.files server.now)) (terms_of F.files server.now)
+        × FillsWithRecord (T.texts (terms_of F.files server.now)) (terms_of F.files server.now)
         next.now tiers.old connections.old desk.old writer.old.bytes writer.new.bytes)) }
     ensures part { IfErr result (λ f. IfCutShort f ((writer.new.bytes ≡ writer.old.bytes)
-        ⊎ AnswersRecordInPart (T.telling (terms_of F.files server.now)) (terms_of F.files server.now)
+        ⊎ AnswersRecordInPart (T.texts (terms_of F.files server.now)) (terms_of F.files server.now)
         next.now tiers.old connections.old desk.old writer.old.bytes writer.new.bytes)) }
     ensures failures { CountsBy writer_failures writer.old.failures writer.new.failures result }
     ensures own { IfErr result IsOwn }
@@ -128,7 +128,7 @@ fn answer_record<T: Tells, F: Tree, W: Write>(
 
 /// Replays a capture on one thread: each message is decided on and told of, in the order of their arrival, before the
 /// next record is read. The first line is written before anything is read, the last one after the end of the input.
-pub(crate) fn replay_telling<T: Tells, F: Tree, R: Read, W: Write>(
+pub(crate) fn replay_writing<T: Format, F: Tree, R: Read, W: Write>(
     alloc: Global,
     snapshot: &Snapshot,
     settings: &Settings,
@@ -138,11 +138,11 @@ pub(crate) fn replay_telling<T: Tells, F: Tree, R: Read, W: Write>(
     requires snapshot { snapshot.now ≡ F.files }
     requires reading { CanFail reader.old }
     requires writing { CanFail writer.old }
-    ensures fault { IfErr result (Leaves (T.telling (terms_of F.files settings.now))
+    ensures fault { IfErr result (Leaves (T.texts (terms_of F.files settings.now))
         reader.old.bytes reader.new.bytes writer.old.bytes writer.new.bytes) }
     ensures reads { CountsBy reader_failures reader.old.failures reader.new.failures result }
     ensures writes { CountsBy writer_failures writer.old.failures writer.new.failures result }
-    ensures ok { IfOk result (HasTold (T.telling (terms_of F.files settings.now)) (terms_of F.files settings.now)
+    ensures ok { IfOk result (WritesWhole (T.texts (terms_of F.files settings.now)) (terms_of F.files settings.now)
         reader.old.bytes writer.old.bytes writer.new.bytes) }
 {
     T::begin(writer)?;
@@ -207,7 +207,7 @@ pub fn plain_replay<F: Tree, R: Read, W: Write>(
     requires writing { CanFail writer.old }
     // After a fault of the capture, the replies of the messages of the whole records before it stand; after too many
     // messages, those of the messages within the limit; else a prefix of what was due.
-    ensures fault { IfErr result (Leaves (replies_told (terms_of F.files settings.now))
+    ensures fault { IfErr result (Leaves (reply_texts (terms_of F.files settings.now))
         reader.old.bytes reader.new.bytes writer.old.bytes writer.new.bytes) }
     // A device is blamed only where it failed in this call.
     ensures reads { CountsBy reader_failures reader.old.failures reader.new.failures result }
@@ -215,5 +215,5 @@ pub fn plain_replay<F: Tree, R: Read, W: Write>(
     ensures ok { IfOk result
         (Answers (terms_of F.files settings.now) reader.old.bytes writer.old.bytes writer.new.bytes) }
 {
-    replay_telling::<Replies, F, R, W>(alloc, snapshot, settings, reader, writer)
+    replay_writing::<Replies, F, R, W>(alloc, snapshot, settings, reader, writer)
 }

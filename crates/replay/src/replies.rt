@@ -7,10 +7,10 @@ ghost use Rattle.reference.specs.Reference.{first_line, last_line};
 ghost use Rattle.reference.specs.Outcomes.{IsWriteOrMemory, writer_failures};
 
 use crate::ReplayFault;
-use crate::answering::{answer_ticket, look_into};
+use crate::answering::{answer_pending, look_up};
 use crate::desk::{Desk, settle};
+use crate::format::Format;
 use crate::server::Server;
-use crate::telling::Tells;
 use arrivals::Origin;
 use devices::Output;
 use http_requests::Meaning;
@@ -51,16 +51,16 @@ pub(crate) fn write_last_line<W: Write>(
 /// Each message is told by its reply.
 pub(crate) struct Replies;
 
-impl Tells for Replies {
-    ghost use Rattle.reference.specs.Telling.{replies_told};
+impl Format for Replies {
+    ghost use Rattle.reference.specs.Texts.{reply_texts};
 
-    ghost telling = { replies_told };
+    ghost texts = { reply_texts };
 
     fn begin<W: Write>(writer: &mut Output<W>) -> Result<(), ReplayFault> {
         write_first_line(writer)
     }
 
-    fn tell<F: Tree, W: Write>(
+    fn write_message<F: Tree, W: Write>(
         server: &Server<'_, F>,
         heads: &mut HeadRenderer,
         origin: Origin,
@@ -68,9 +68,9 @@ impl Tells for Replies {
         desk: &mut Desk,
         writer: &mut Output<W>,
     ) -> Result<(), ReplayFault> {
-        let sight = look_into(server, what)?;
-        let ticket = settle(server, origin, what, sight, desk)?;
-        answer_ticket(server, heads, ticket, writer)
+        let lookup = look_up(server, what)?;
+        let pending = settle(server, origin, what, lookup, desk)?;
+        answer_pending(server, heads, pending, writer)
     }
 
     fn finish<W: Write>(

@@ -7,18 +7,18 @@ ghost use Rattle.admission.specs.Reference.{decided};
 ghost use Rattle.admission.specs.Decisions.{outlook};
 ghost use Rattle.arrivals.specs.Reference.{Arrival};
 ghost use Rattle.reference.specs.Reference.{Terms, handled_next, offers_of, slip_of};
-ghost use Rattle.replay.specs.Fronts.{sight_of};
-ghost use Rattle.replay.specs.Backs.{slip_of_ticket, told};
+ghost use Rattle.replay.specs.Fronts.{lookup_of};
+ghost use Rattle.replay.specs.Backs.{slip_of_pending, given_by};
 ghost use Rattle.reference.specs.Explaining.{row_of, method_of, target_of};
 ghost use Rattle.replay.specs.Rowing.{service_in, turns_away, offered_with};
 
 use crate::ReplayFault;
-use crate::answering::look_into;
+use crate::answering::look_up;
 use crate::desk::{Desk, settle};
+use crate::format::Format;
+use crate::lookup::Lookup;
+use crate::pending::{Due, PendingReply};
 use crate::server::Server;
-use crate::sight::Sight;
-use crate::telling::Tells;
-use crate::ticket::{Due, Ticket};
 use admission::{Decision, MAX_OFFERS, MAX_SERVICE, MAX_TICK, Outlook};
 use arrivals::Origin;
 use decision_table::{Offered, Row, write_heading, write_row};
@@ -30,32 +30,32 @@ use std::alloc::Global;
 use std::io::Write;
 
 /// How long the server works on a message that was looked into, in ticks: nothing where it is no request.
-fn service_in(sight: &Sight) -> Option<u64>
-    ensures is { result ≡ service_in sight.now }
+fn service_in(lookup: &Lookup) -> Option<u64>
+    ensures is { result ≡ service_in lookup.now }
     ensures range { IfSome result (λ service. service ≤ MAX_SERVICE) }
 {
-    match sight {
-        Sight::Priced(_, service) => Some(service.ticks()),
+    match lookup {
+        Lookup::Priced(_, service) => Some(service.ticks()),
         _ => None,
     }
 }
 
 /// The status that a message is answered with.
 fn status_of<F: Tree>(due: &Due<F>) -> u16
-    ensures { result ≡ status_of (told due.now) }
+    ensures { result ≡ status_of (given_by due.now) }
 {
     match due {
         Due::Page { .. } => STATUS_CODES[OK_PLACE],
-        Due::Told(given) => given.code(),
+        Due::Ready(given) => given.code(),
     }
 }
 
 /// Whether a message is turned away.
 fn turns_away<F: Tree>(due: &Due<F>) -> bool
-    ensures { result ≡ turns_away (told due.now) }
+    ensures { result ≡ turns_away (given_by due.now) }
 {
     match due {
-        Due::Told(
+        Due::Ready(
             Given::Plain {
                 status: Status::ServiceUnavailable { .. },
             },
@@ -99,23 +99,28 @@ fn offered_of(found: Outlook, tick: u64, service: Option<u64>, away: bool) -> Op
 }
 
 /// The row of a message that came from there, takes that long, found this and has this ticket.
-fn row_of<F: Tree>(origin: Origin, service: Option<u64>, found: Outlook, ticket: &Ticket<F>) -> Row
+fn row_of<F: Tree>(
+    origin: Origin,
+    service: Option<u64>,
+    found: Outlook,
+    pending: &PendingReply<F>,
+) -> Row
     requires free { found.free ≤ MAX_TICK + MAX_SERVICE * MAX_OFFERS }
     requires tick { origin.tick ≤ MAX_TICK }
     requires service { IfSome service (λ service. service ≤ MAX_SERVICE) }
     ensures { (terms : Terms) (start : ℕ) (arrivals : List Arrival) (a : Arrival) → a.origin ≡ origin
-        → service ≡ service_in (sight_of terms.files terms.costs a.message.what)
+        → service ≡ service_in (lookup_of terms.files terms.costs a.message.what)
         → found ≡ outlook terms.policies (decided terms.policies (offers_of terms arrivals)) origin.tier origin.tick
-        → slip_of_ticket ticket.now ≡ slip_of terms start (handled_next terms arrivals a)
+        → slip_of_pending pending.now ≡ slip_of terms start (handled_next terms arrivals a)
         → result ≡ row_of terms arrivals a }
 {
-    let away = turns_away(&ticket.due);
+    let away = turns_away(&pending.due);
     Row {
-        number: ticket.number,
-        conn: ticket.conn,
+        number: pending.number,
+        conn: pending.conn,
         tick: origin.tick,
         tier: origin.tier,
-        status: status_of(&ticket.due),
+        status: status_of(&pending.due),
         offered: offered_of(found, origin.tick, service, away),
     }
 }
@@ -141,17 +146,17 @@ fn target_of(what: &Meaning) -> &[u8]
 /// Each message is told by its row of a table.
 pub(crate) struct Rows;
 
-impl Tells for Rows {
-    ghost use Rattle.reference.specs.Explaining.{rows_told};
+impl Format for Rows {
+    ghost use Rattle.reference.specs.Explaining.{row_texts};
 
-    ghost telling = { rows_told };
+    ghost texts = { row_texts };
 
     fn begin<W: Write>(writer: &mut Output<W>) -> Result<(), ReplayFault> {
         write_heading(writer)?;
         Ok(())
     }
 
-    fn tell<F: Tree, W: Write>(
+    fn write_message<F: Tree, W: Write>(
         server: &Server<'_, F>,
         _heads: &mut HeadRenderer,
         origin: Origin,
@@ -159,11 +164,11 @@ impl Tells for Rows {
         desk: &mut Desk,
         writer: &mut Output<W>,
     ) -> Result<(), ReplayFault> {
-        let sight = look_into(server, what)?;
-        let service = service_in(&sight);
+        let lookup = look_up(server, what)?;
+        let service = service_in(&lookup);
         let found = desk.controller.outlook(origin.tier, origin.tick);
-        let ticket = settle(server, origin, what, sight, desk)?;
-        let row = row_of(origin, service, found, &ticket);
+        let pending = settle(server, origin, what, lookup, desk)?;
+        let row = row_of(origin, service, found, &pending);
         write_row(writer, &row, method_of(what), target_of(what))?;
         Ok(())
     }

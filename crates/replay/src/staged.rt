@@ -7,7 +7,7 @@ ghost use Rattle.captures.specs.declared.record.Record.{Record as ARecord};
 ghost use Rattle.arrivals.specs.Reference.{Arrival};
 ghost use Rattle.reference.specs.Reference.{terms_of, Answers};
 ghost use Rattle.reference.specs.Outcomes.{IfTooMany, IfCutShort, IsOwn, Leaves, reader_failures, writer_failures};
-ghost use Rattle.reference.specs.Telling.{replies_told};
+ghost use Rattle.reference.specs.Texts.{reply_texts};
 ghost use Rattle.replay.specs.Steps.{AnswersBatch, FillsWithBatch, AnswersBatchInPart};
 ghost use Rattle.replay.specs.Waiting.{ComeNext, Waiting};
 
@@ -105,7 +105,7 @@ pub fn staged_replay<
     requires writing { CanFail writer.old }
     // After a fault of the capture, the replies of the messages of the whole records before it stand; after too many
     // messages, those of the messages within the limit; else a prefix of what was due.
-    ensures fault { IfErr result (Leaves (replies_told (terms_of F.files settings.now))
+    ensures fault { IfErr result (Leaves (reply_texts (terms_of F.files settings.now))
         reader.old.bytes reader.new.bytes writer.old.bytes writer.new.bytes) }
     // A device is blamed only where it failed in this call. A read that failed may not be reported: where the messages
     // before it are too many, where they can't be written, and where memory runs out.

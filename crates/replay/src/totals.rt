@@ -5,9 +5,9 @@ ghost use Rattle.responses.specs.Reference.{status_of};
 ghost use Rattle.reference.specs.Reference.{breaks_a_rule};
 ghost use Rattle.replay.specs.Counting.{AreBelow, with_status};
 ghost use Rattle.replay.specs.Totals.{no_counts, noted};
-ghost use Rattle.replay.specs.Backs.{told};
+ghost use Rattle.replay.specs.Backs.{given_by};
 
-use crate::ticket::Due;
+use crate::pending::Due;
 use arrivals::Series;
 use http_requests::Meaning;
 use paths::Tree;
@@ -50,7 +50,7 @@ impl Totals {
         requires number { self.old.answered < 2 ^ 64 - 1 }
         requires counts { AreBelow (2 ^ 64 - 1) self.old.counts }
         requires bypassed { self.old.bypassed < 2 ^ 64 - 1 }
-        ensures { self.new ≡ noted self.old (status_of (told due.now)) (breaks_a_rule what.now) }
+        ensures { self.new ≡ noted self.old (status_of (given_by due.now)) (breaks_a_rule what.now) }
     {
         self.answered += 1;
         count_status(&mut self.counts, due);
@@ -63,7 +63,7 @@ impl Totals {
 /// Counts one more message, by the status that it is to be answered with.
 pub(crate) fn count_status<F: Tree>(counts: &mut Counts, due: &Due<F>)
     requires { AreBelow (2 ^ 64 - 1) counts.old }
-    ensures { counts.new ≡ with_status counts.old (status_of (told due.now)) }
+    ensures { counts.new ≡ with_status counts.old (status_of (given_by due.now)) }
 {
     counts.by_status[due.status_place()] += 1;
 }

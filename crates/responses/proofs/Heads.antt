@@ -9,8 +9,8 @@ use Rattle.std.proofs.lemmas.List.{append_assoc}
 use Rattle.std.proofs.lemmas.List.Elements.{All-cons, All-nil}
 use Rattle.httparse.specs.Grammar.{crlf, Field, IsField, print_field, print_response, ResponseHead, IsResponseHead, is_token_byte, is_value_byte}
 use Rattle.paths.specs.declared.file.File.{File}
-use Rattle.responses.specs.declared.slip.Link.{Link}
-use Rattle.responses.specs.declared.slip.Link.TheVariants.{Close, KeepAlive, Silent}
+use Rattle.responses.specs.declared.slip.Persistence.{Persistence}
+use Rattle.responses.specs.declared.slip.Persistence.TheVariants.{Close, KeepAlive, Silent}
 use Rattle.responses.specs.declared.slip.Status.TheVariants.{BadRequest, NotFound, MethodNotAllowed, ContentTooLarge, NotImplemented, ServiceUnavailable}
 use Rattle.responses.specs.declared.slip.Given.{Given}
 use Rattle.responses.specs.declared.slip.Given.TheVariants.{Page, Known, Unmodified, Moved, Plain}
@@ -128,7 +128,7 @@ good_allow (Plain ContentTooLarge) = tt
 good_allow (Plain NotImplemented) = tt
 good_allow (Plain (ServiceUnavailable seconds)) = tt
 
-good_connection : (link : Link) → GoodValue (connection_of link)
+good_connection : (link : Persistence) → GoodValue (connection_of link)
 good_connection Close = record { all = refl }
 good_connection KeepAlive = record { all = refl }
 good_connection Silent = tt

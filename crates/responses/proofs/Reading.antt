@@ -20,7 +20,7 @@ use Rattle.responses.specs.declared.slip.Status.{Status}
 use Rattle.responses.specs.declared.slip.Status.TheVariants.{BadRequest, NotFound, MethodNotAllowed, ContentTooLarge, NotImplemented, ServiceUnavailable}
 use Rattle.responses.specs.Reference.{imf_date, content_type, last_modified, location_of, allow_of, retry_after_of, connection_of, plain_status, status_of, content_length, content_of, fields_of, head_text, body_text, reply_text}
 use Rattle.responses.specs.Replies.{HasLocation, OnlyHead}
-use Rattle.responses.specs.Messages.{told_length, body_length, is_bodyless, Reads, IsHead, IsReply}
+use Rattle.responses.specs.Messages.{stated_length, body_length, is_bodyless, Reads, IsHead, IsReply}
 use Rattle.responses.proofs.Bytes.{both, decimal_digits, decimal_no_space}
 use Rattle.responses.proofs.Heads.{add_field, parsed, in_words, head_of, head_printed, head_valid}
 
@@ -77,33 +77,33 @@ lone_length files slip n is =
     ∙ ap (λ v. v ∷ []) (trimmed n)
 
 -- what the head tells of the body
-told_number : (n : ℕ) → n < 2 ^ 64 → told_length (decimal n ∷ []) ≡ Some n
-told_number n lt =
+stated_number : (n : ℕ) → n < 2 ^ 64 → stated_length (decimal n ∷ []) ≡ Some n
+stated_number n lt =
     let some : nat_lt 0 (length (decimal n)) ≡ true = lt-ltb 0 (length (decimal n)) (decimal_nonempty n lt) in
     ap (λ t. cond (t && list_all is_ascii_digit (decimal n)) (Some (digits_value 10 (decimal n))) None) some
     ∙ ap (λ t. cond t (Some (digits_value 10 (decimal n))) None) (decimal_digits n)
     ∙ ap Some (decimal_is_IsNumeral n lt).1
 
-told_by : (head : Bool) (h : ResponseHead) (status n : ℕ) → status_code h ≡ status → is_bodyless status ≡ false → head ≡ false → values_of (codes "transfer-encoding") (lines_of h.fields) ≡ []
+stated_by : (head : Bool) (h : ResponseHead) (status n : ℕ) → status_code h ≡ status → is_bodyless status ≡ false → head ≡ false → values_of (codes "transfer-encoding") (lines_of h.fields) ≡ []
     → values_of (codes "content-length") (lines_of h.fields) ≡ decimal n ∷ [] → n < 2 ^ 64 → body_length head h ≡ Some n
-told_by head h status n code body get coding value lt =
-    let rest : List (List ℕ) → List (List ℕ) → Option ℕ = λ c v. cond (is_given c) None (told_length v) in
+stated_by head h status n code body get coding value lt =
+    let rest : List (List ℕ) → List (List ℕ) → Option ℕ = λ c v. cond (is_given c) None (stated_length v) in
     ap (λ t. cond (t || is_bodyless (status_code h)) (Some 0) (rest (values_of (codes "transfer-encoding") (lines_of h.fields)) (values_of (codes "content-length") (lines_of h.fields)))) get
     ∙ ap (λ s. cond (is_bodyless s) (Some 0) (rest (values_of (codes "transfer-encoding") (lines_of h.fields)) (values_of (codes "content-length") (lines_of h.fields)))) code
     ∙ ap (λ t. cond t (Some 0) (rest (values_of (codes "transfer-encoding") (lines_of h.fields)) (values_of (codes "content-length") (lines_of h.fields)))) body
     ∙ ap (λ c. rest c (values_of (codes "content-length") (lines_of h.fields))) coding
     ∙ ap (λ v. rest [] v) value
-    ∙ told_number n lt
+    ∙ stated_number n lt
 
 -- what stands in the place of a body where the answer isn't to HEAD
-get_told : {X : Type 0} (files : List File) (what : Given X) (h : ResponseHead) → OnlyHead false what → length (content_of files what) < 2 ^ 64 → status_code h ≡ status_of what
+get_stated : {X : Type 0} (files : List File) (what : Given X) (h : ResponseHead) → OnlyHead false what → length (content_of files what) < 2 ^ 64 → status_code h ≡ status_of what
     → values_of (codes "transfer-encoding") (lines_of h.fields) ≡ [] → ((n : ℕ) → content_length files what ≡ Some n → values_of (codes "content-length") (lines_of h.fields) ≡ decimal n ∷ [])
     → body_length false h ≡ Some (length (content_of files what))
-get_told files (Page file mtime) h only fits code coding value = told_by false h 200 _ code refl refl coding (value _ refl) fits
-get_told files (Known media len mtime) h only fits code coding value = absurd (cc)
-get_told files (Unmodified mtime) h only fits code coding value = ap (λ s. cond (is_bodyless s) (Some 0) (cond (is_given (values_of (codes "transfer-encoding") (lines_of h.fields))) None (told_length (values_of (codes "content-length") (lines_of h.fields))))) code
-get_told files (Moved location) h only fits code coding value = told_by false h 301 _ code refl refl coding (value _ refl) fits
-get_told files (Plain status) h only fits code coding value = told_by false h (plain_status status) _ code (has_body status) refl coding (value _ refl) fits
+get_stated files (Page file mtime) h only fits code coding value = stated_by false h 200 _ code refl refl coding (value _ refl) fits
+get_stated files (Known media len mtime) h only fits code coding value = absurd (cc)
+get_stated files (Unmodified mtime) h only fits code coding value = ap (λ s. cond (is_bodyless s) (Some 0) (cond (is_given (values_of (codes "transfer-encoding") (lines_of h.fields))) None (stated_length (values_of (codes "content-length") (lines_of h.fields))))) code
+get_stated files (Moved location) h only fits code coding value = stated_by false h 301 _ code refl refl coding (value _ refl) fits
+get_stated files (Plain status) h only fits code coding value = stated_by false h (plain_status status) _ code (has_body status) refl coding (value _ refl) fits
   where
     has_body : (status : Status) → is_bodyless (plain_status status) ≡ false
     has_body BadRequest = refl
@@ -113,11 +113,11 @@ get_told files (Plain status) h only fits code coding value = told_by false h (p
     has_body NotImplemented = refl
     has_body (ServiceUnavailable seconds) = refl
 
-told : {X : Type 0} (files : List File) (what : Given X) (head : Bool) (h : ResponseHead) → OnlyHead head what → (head ≡ false → length (content_of files what) < 2 ^ 64) → status_code h ≡ status_of what
+stated : {X : Type 0} (files : List File) (what : Given X) (head : Bool) (h : ResponseHead) → OnlyHead head what → (head ≡ false → length (content_of files what) < 2 ^ 64) → status_code h ≡ status_of what
     → values_of (codes "transfer-encoding") (lines_of h.fields) ≡ [] → ((n : ℕ) → content_length files what ≡ Some n → values_of (codes "content-length") (lines_of h.fields) ≡ decimal n ∷ [])
     → body_length head h ≡ Some (length (cond head [] (content_of files what)))
-told files what true h only fits code coding value = refl
-told files what false h only fits code coding value = get_told files what h only (fits refl) code coding value
+stated files what true h only fits code coding value = refl
+stated files what false h only fits code coding value = get_stated files what h only (fits refl) code coding value
 
 -- two lists with equal fronts
 same_parts : (a b c d : List ℕ) → length a ≡ length c → a ++ b ≡ c ++ d → (a ≡ c) × (b ≡ d)
@@ -136,16 +136,16 @@ reply_read files slip most only has fits =
     let body = body_text files slip in
     let code : status_code h ≡ status_of slip.what = (in_words slip.what).code in
     let is_head : IsHead (status_of slip.what) h = record { blank = refl; minor = refl; status = code } in
-    let length_told : body_length slip.head h ≡ Some (length body) = told files slip.what slip.head h only fits code (no_coding files slip) (lone_length files slip) in
+    let length_stated : body_length slip.head h ≡ Some (length body) = stated files slip.what slip.head h only fits code (no_coding files slip) (lone_length files slip) in
     let read : (more : List ℕ) → Reads slip.head (reply_text files slip ++ more) h body more = λ more. record {
       grammar = (head_valid files slip most has, append_assoc (head_text files slip) body more ∙ ap (λ v. v ++ (body ++ more)) (sym (head_printed files slip)));
-      told = length_told;
+      stated = length_stated;
     } in
     record {
       read = (h, is_head, read);
       alone = λ more k part rest found.
           let unique = response_unique (reply_text files slip ++ more) h k (body ++ more) (part ++ rest) (read more).grammar found.grammar in
-          let size : length body ≡ length part = some_same (length body) (length part) (sym length_told ∙ ap (body_length slip.head) unique.0 ∙ found.told) in
+          let size : length body ≡ length part = some_same (length body) (length part) (sym length_stated ∙ ap (body_length slip.head) unique.0 ∙ found.stated) in
           let same = same_parts body more part rest size unique.1 in
           (subst (IsHead (status_of slip.what)) unique.0 is_head, sym same.0, sym same.1);
     }

@@ -7,10 +7,10 @@ use Rattle.httparse.specs.Grammar.{ResponseHead, ReadsResponse, status_code}
 use Rattle.http_requests.specs.Reference.{is_given, is_numeral, lines_of, values_of}
 
 -- the number of a lone Content-Length: one digit or more, and nothing else (RFC 9110, 8.6)
-abbrev pub told_length : List (List ℕ) → Option ℕ
-told_length [] = None
-told_length (value ∷ []) = if is_numeral value then Some (digits_value 10 value) else None
-told_length (value ∷ other ∷ values) = None
+abbrev pub stated_length : List (List ℕ) → Option ℕ
+stated_length [] = None
+stated_length (value ∷ []) = if is_numeral value then Some (digits_value 10 value) else None
+stated_length (value ∷ other ∷ values) = None
 
 -- a status whose message ends with its head: 1xx, 204 and 304
 abbrev pub is_bodyless : ℕ → Bool
@@ -22,12 +22,12 @@ abbrev pub body_length : Bool → ResponseHead → Option ℕ
 body_length head h =
     if head || is_bodyless (status_code h) then Some 0
     else if is_given (values_of (codes "transfer-encoding") (lines_of h.fields)) then None
-    else told_length (values_of (codes "content-length") (lines_of h.fields))
+    else stated_length (values_of (codes "content-length") (lines_of h.fields))
 
 -- the bytes begin with this head and the body that it tells of, and the rest follows
 pub record Reads (head : Bool) (bytes : List ℕ) (h : ResponseHead) (body rest : List ℕ) : Type 0 where
   pub grammar : ReadsResponse bytes h (body ++ rest)
-  pub told : body_length head h ≡ Some (length body)
+  pub stated : body_length head h ≡ Some (length body)
 
 -- a head of HTTP/1.1 with this status, and nothing before it
 pub record IsHead (code : ℕ) (h : ResponseHead) : Type 0 where

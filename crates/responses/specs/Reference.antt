@@ -8,8 +8,8 @@ use Rattle.httpdate.specs.Text.{imf_fixdate}
 use Rattle.paths.specs.Reference.{file_of}
 use Rattle.paths.specs.declared.file.File.{File}
 use Rattle.page_cache.specs.Reference.{media_of, media_text}
-use Rattle.responses.specs.declared.slip.Link.{Link}
-use Rattle.responses.specs.declared.slip.Link.TheVariants.{Close, KeepAlive, Silent}
+use Rattle.responses.specs.declared.slip.Persistence.{Persistence}
+use Rattle.responses.specs.declared.slip.Persistence.TheVariants.{Close, KeepAlive, Silent}
 use Rattle.responses.specs.declared.slip.Status.{Status}
 use Rattle.responses.specs.declared.slip.Status.TheVariants.{BadRequest, NotFound, MethodNotAllowed, ContentTooLarge}
 use Rattle.responses.specs.declared.slip.Status.TheVariants.{NotImplemented, ServiceUnavailable}
@@ -140,7 +140,7 @@ abbrev pub retry_after_of : {X : Type 0} → Given X → Option ℕ
 retry_after_of (Plain (ServiceUnavailable seconds)) = Some seconds
 retry_after_of what = None
 
-abbrev pub connection_of : Link → Option (List ℕ)
+abbrev pub connection_of : Persistence → Option (List ℕ)
 connection_of Close = Some (codes "close")
 connection_of KeepAlive = Some (codes "keep-alive")
 connection_of Silent = None

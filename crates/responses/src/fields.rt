@@ -9,7 +9,7 @@ ghost use Rattle.responses.specs.Reference.{field_line};
 
 use crate::dates::DateText;
 use crate::head::{push_date, push_field, push_number};
-use crate::{Given, Link, Status};
+use crate::{Given, Persistence, Status};
 use paths::Tree;
 use std::alloc::AllocError;
 
@@ -107,12 +107,12 @@ pub(crate) fn push_own<F: Tree>(head: &mut Vec<u8>, what: &Given<F>) -> Result<(
 }
 
 /// Adds Connection, where there is something to tell.
-pub(crate) fn push_connection(head: &mut Vec<u8>, link: Link) -> Result<(), AllocError>
+pub(crate) fn push_connection(head: &mut Vec<u8>, link: Persistence) -> Result<(), AllocError>
     ensures { OnOk result (head.new.items ≡ head.old.items ++ field_line (codes "Connection") (connection_of link)) }
 {
     match link {
-        Link::Close => push_field(head, b"Connection", b"close"),
-        Link::KeepAlive => push_field(head, b"Connection", b"keep-alive"),
-        Link::Silent => Ok(()),
+        Persistence::Close => push_field(head, b"Connection", b"close"),
+        Persistence::KeepAlive => push_field(head, b"Connection", b"keep-alive"),
+        Persistence::Silent => Ok(()),
     }
 }

@@ -14,4 +14,4 @@ pub use record::{Write, write_record, write_reply};
 pub use rendering::HeadRenderer;
 pub use reply::{Reply, render, try_render};
 pub use shared_page::SharedPage;
-pub use slip::{Given, Link, OK_PLACE, STATUS_CODES, Slip, Status};
+pub use slip::{Given, OK_PLACE, Persistence, STATUS_CODES, Slip, Status};

@@ -10,7 +10,7 @@ use paths::Tree;
 
 /// What a reply tells of its connection (RFC 9112, section 9.3).
 #[derive(Clone, Copy, Debug, PartialEq, Eq)]
-pub enum Link {
+pub enum Persistence {
     /// It ends after this reply.
     Close,
     /// It goes on, which a client of HTTP/1.0 has to be told.
@@ -123,6 +123,6 @@ pub struct Slip<F: Tree> {
     pub date: u64,
     /// Whether it answers HEAD, and so has no body (RFC 9110, section 9.3.2).
     pub head: bool,
-    pub link: Link,
+    pub link: Persistence,
     pub what: Given<F>,
 }

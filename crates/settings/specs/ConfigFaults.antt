@@ -46,4 +46,4 @@ fault_text fault = kind_name fault.kind ++ key_text fault.key
 
 -- The call answers what is reported. Out of memory comes where it happens: no definition foresees it.
 abbrev pub IsAnswer : {X : Type 0} → Result X ConfigFault → Result X ConfigFault → Type 0
-IsAnswer told r = MatchResult r (λ x. told ≡ Ok x) (λ fault. is_memory fault ≡ false → told ≡ Err fault)
+IsAnswer reported r = MatchResult r (λ x. reported ≡ Ok x) (λ fault. is_memory fault ≡ false → reported ≡ Err fault)

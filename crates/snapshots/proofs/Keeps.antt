@@ -10,7 +10,7 @@ use Rattle.paths.specs.Reference.{no_file, file_of}
 use Rattle.paths.specs.declared.file.File.{File}
 use Rattle.paths.specs.Snapshots.{file_text, last_line, text_before_end, snapshot_text, max_text_bytes, IsSnapshot, Follows}
 use Rattle.paths.proofs.OneList.{header}
-use Rattle.snapshots.specs.declared.so_far.SoFar.{SoFar}
+use Rattle.snapshots.specs.declared.so_far.FilesSoFar.{FilesSoFar}
 use Rattle.snapshots.specs.Keeping.{last_name, lengths_within, IsSoFar, Grown}
 use Rattle.snapshots.proofs.Prefixes.{begins_itself, passes, filter_within}
 
@@ -43,7 +43,7 @@ whole_size files f =
     ap (λ (n : ℕ). length ((codes "end " ++ decimal n) ++ line_feed ∷ [])) one_more ∙ omega (arith, length-append (decimal (length files + 1)) (line_feed ∷ [])) in
     length-append (text_before_end (files ++ f ∷ [])) (last_line (files ++ f ∷ []) ++ line_feed ∷ []) ∙ omega (arith, last, size_push files f)
 
-pub kept_more : (files : List File) (f : File) (s next : SoFar) (n : ℕ) → IsSnapshot files → Follows files f → length (snapshot_text (files ++ f ∷ [])) ≤ max_text_bytes
+pub kept_more : (files : List File) (f : File) (s next : FilesSoFar) (n : ℕ) → IsSnapshot files → Follows files f → length (snapshot_text (files ++ f ∷ [])) ≤ max_text_bytes
     → IsSoFar files s → n ≡ length (file_text f) → Grown s f.name n next → IsSoFar (files ++ f ∷ []) next
 kept_more files f s next n rules fits small kept is h = record {
   count = h.count ∙ (let few = rules.count in omega (arith, kept.count, length-append files (f ∷ [])));

@@ -12,7 +12,7 @@ use Rattle.paths.proofs.Names.{order_by_last}
 use Rattle.devices.proofs.Again.{pass}
 use Rattle.paths.proofs.NoFault.{follows_prefix}
 use Rattle.paths.proofs.FilesOrFault.{rules_more}
-use Rattle.snapshots.specs.declared.so_far.SoFar.{SoFar}
+use Rattle.snapshots.specs.declared.so_far.FilesSoFar.{FilesSoFar}
 use Rattle.snapshots.specs.Rules.{is_good_name, broken_rule}
 use Rattle.snapshots.specs.Keeping.{last_name, IsSoFar, broken_by, more}
 use Rattle.snapshots.proofs.Prefixes.{passes, any_within}
@@ -46,7 +46,7 @@ order_is [] [] rules some = absurd (omega arith)
 order_is [] (x ∷ name) rules some = refl
 order_is (f ∷ files) name rules some = order_by_last (f ∷ files) rules.rising name (omega arith)
 
-above_is : (files : List File) (f : File) (s : SoFar) → IsSnapshot files → IsSoFar files s → list_all (λ g. comes_before g.name f.name) files ≡ true
+above_is : (files : List File) (f : File) (s : FilesSoFar) → IsSnapshot files → IsSoFar files s → list_all (λ g. comes_before g.name f.name) files ≡ true
     → list_any (λ len. lies_in (take len s.names.last.items) f.name) s.names.lengths.items ≡ list_any (λ g. lies_in g.name f.name) files
 above_is files f s rules kept order =
     ap (λ (v : List ℕ). list_any (λ len. lies_in (take len v) f.name) s.names.lengths.items) kept.last
@@ -67,7 +67,7 @@ limit a b d n short is = elim (cases_lt max_text_bytes n) [
       tested ∙ sym over
 ]
 
-size_is : (files : List File) (f : File) (s : SoFar) → IsSoFar files s → nat_le max_files (length files) ≡ false
+size_is : (files : List File) (f : File) (s : FilesSoFar) → IsSoFar files s → nat_le max_files (length files) ≡ false
     → nat_lt (max_text_bytes - (5 + length (decimal (s.count + 1)))) (more s.size (length (file_text f))) ≡ nat_lt max_text_bytes (length (snapshot_text (files ++ f ∷ [])))
 size_is files f s kept few =
     let room : length files < max_files = grind (arith, nat_tests) in
@@ -76,7 +76,7 @@ size_is files f s kept few =
     ∙ (ap (λ (n : ℕ). nat_lt (max_text_bytes - (5 + length (decimal (length files + 1)))) (more n (length (file_text f)))) kept.size
     ∙ limit (length (text_before_end files)) (length (file_text f)) (length (decimal (length files + 1))) (length (snapshot_text (files ++ f ∷ []))) short (whole_size files f))
 
-pub rule_is : (files : List File) (f : File) (s : SoFar) → IsSnapshot files → IsSoFar files s → broken_by s f ≡ broken_rule files f
+pub rule_is : (files : List File) (f : File) (s : FilesSoFar) → IsSnapshot files → IsSoFar files s → broken_by s f ≡ broken_rule files f
 unfolding broken_by broken_rule
 rule_is files f s rules kept =
     let time = nat_lt max_time f.mtime in

@@ -13,14 +13,14 @@ use Rattle.paths.proofs.OneList.{one_list}
 use Rattle.paths.proofs.NoFault.{no_fault}
 use Rattle.paths.specs.SnapshotFaults.{IsForeseen, IsFirstFault, is_unforeseen_kind}
 use Rattle.paths.specs.declared.snapshot_fault.SnapshotFault.{SnapshotFault}
-use Rattle.snapshots.specs.declared.so_far.SoFar.{SoFar}
+use Rattle.snapshots.specs.declared.so_far.FilesSoFar.{FilesSoFar}
 use Rattle.snapshots.specs.Rules.{broken_rule}
 use Rattle.snapshots.specs.Keeping.{Grown, more}
 use Rattle.snapshots.specs.Writers.{Took}
 use Rattle.snapshots.proofs.Keeps.{kept_more, text_push, whole_size}
 use Rattle.snapshots.proofs.Rulings.{none_broken}
 
-pub took_none : (old new : Option (List ℕ)) (s : SoFar) → Appends old new (text_before_end []) → s.count ≡ 0 → s.size ≡ 18 → s.names.last.items ≡ [] → s.names.lengths.items ≡ [] → Took [] old new s
+pub took_none : (old new : Option (List ℕ)) (s : FilesSoFar) → Appends old new (text_before_end []) → s.count ≡ 0 → s.size ≡ 18 → s.names.last.items ≡ [] → s.names.lengths.items ≡ [] → Took [] old new s
 took_none old new s h count size last lengths = record {
   rules = rules_none;
   size = (let digit = length-decimal-le 1 0 (omega arith) (omega arith) (omega arith) in omega (arith, digit, length-append (decimal 0) (line_feed ∷ [])));
@@ -36,7 +36,7 @@ file_parts f head is =
     ∙ (append_assoc (file_line f) (line_feed ∷ []) ((f.name ++ line_feed ∷ []) ++ (f.bytes ++ line_feed ∷ []))
     ∙ ap (λ v. file_line f ++ line_feed ∷ v) (append_assoc f.name (line_feed ∷ []) (f.bytes ++ line_feed ∷ []))))
 
-pub took_more : (files : List File) (f : File) (before old new : Option (List ℕ)) (s next : SoFar) (head : List ℕ) (n : ℕ) → Took files before old s → broken_rule files f ≡ None
+pub took_more : (files : List File) (f : File) (before old new : Option (List ℕ)) (s next : FilesSoFar) (head : List ℕ) (n : ℕ) → Took files before old s → broken_rule files f ≡ None
     → head ≡ (file_line f ++ line_feed ∷ []) ++ (f.name ++ line_feed ∷ []) → n ≡ more (length head) (length f.bytes + 1) → Appends old new (head ++ (f.bytes ++ line_feed ∷ [])) → Grown s f.name n next
     → Took (files ++ f ∷ []) before new next
 took_more files f before old new s next head n took none is sum h grows =
@@ -53,33 +53,33 @@ took_more files f before old new s next head n took none is sum h grows =
           (appends_then before old new (text_before_end files) (file_text f) took.text (subst (λ (w : List ℕ). Appends old new w) text h));
     }
 
-pub part_more : (files : List File) (f : File) (before old new : Option (List ℕ)) (s : SoFar) (head : List ℕ) → Took files before old s
+pub part_more : (files : List File) (f : File) (before old new : Option (List ℕ)) (s : FilesSoFar) (head : List ℕ) → Took files before old s
     → head ≡ (file_line f ++ line_feed ∷ []) ++ (f.name ++ line_feed ∷ []) → AppendsPrefix old new (head ++ (f.bytes ++ line_feed ∷ [])) → AppendsPrefix before new (text_before_end (files ++ f ∷ []))
 part_more files f before old new s head took is h =
     subst (λ (w : List ℕ). AppendsPrefix before new w) (sym (text_push files f))
     (prefix_then before old new (text_before_end files) (file_text f) took.text (subst (λ (w : List ℕ). AppendsPrefix old new w) (file_parts f head is) h))
 
 -- the last line
-pub last_is : (files : List File) (before old : Option (List ℕ)) (s : SoFar) → Took files before old s → (codes "end " ++ decimal s.count) ++ line_feed ∷ [] ≡ last_line files ++ line_feed ∷ []
+pub last_is : (files : List File) (before old : Option (List ℕ)) (s : FilesSoFar) → Took files before old s → (codes "end " ++ decimal s.count) ++ line_feed ∷ [] ≡ last_line files ++ line_feed ∷ []
 last_is files before old s took = ap (λ (n : ℕ). (codes "end " ++ decimal n) ++ line_feed ∷ []) took.kept.count
 
-pub all_ended : (files : List File) (before old new : Option (List ℕ)) (s : SoFar) (line : List ℕ) → Took files before old s
+pub all_ended : (files : List File) (before old new : Option (List ℕ)) (s : FilesSoFar) (line : List ℕ) → Took files before old s
     → line ≡ (codes "end " ++ decimal s.count) ++ line_feed ∷ [] → Appends old new line → Appends before new (snapshot_text files)
 all_ended files before old new s line took is h =
     appends_then before old new (text_before_end files) (last_line files ++ line_feed ∷ []) took.text
     (subst (λ (w : List ℕ). Appends old new w) (is ∙ last_is files before old s took) h)
 
-pub part_ended : (files : List File) (before old new : Option (List ℕ)) (s : SoFar) (line : List ℕ) → Took files before old s
+pub part_ended : (files : List File) (before old new : Option (List ℕ)) (s : FilesSoFar) (line : List ℕ) → Took files before old s
     → line ≡ (codes "end " ++ decimal s.count) ++ line_feed ∷ [] → AppendsPrefix old new line → AppendsPrefix before new (snapshot_text files)
 part_ended files before old new s line took is h =
     prefix_then before old new (text_before_end files) (last_line files ++ line_feed ∷ []) took.text
     (subst (λ (w : List ℕ). AppendsPrefix old new w) (is ∙ last_is files before old s took) h)
 
-pub none_ended : (files : List File) (before old : Option (List ℕ)) (s : SoFar) → Took files before old s → AppendsPrefix before old (snapshot_text files)
+pub none_ended : (files : List File) (before old : Option (List ℕ)) (s : FilesSoFar) → Took files before old s → AppendsPrefix before old (snapshot_text files)
 none_ended files before old s took =
     prefix_first before old (text_before_end files) (last_line files ++ line_feed ∷ []) (prefix_all before old (text_before_end files) took.text)
 
-pub whole : (files : List File) (before old : Option (List ℕ)) (s : SoFar) → Took files before old s → IsSnapshotText (snapshot_text files) files
+pub whole : (files : List File) (before old : Option (List ℕ)) (s : FilesSoFar) → Took files before old s → IsSnapshotText (snapshot_text files) files
 whole files before old s took = record { text = refl; rules = took.rules; size = took.size }
 
 -- what is read of a text that was written

@@ -9,7 +9,7 @@ use Rattle.paths.specs.Snapshots.{text_before_end}
 use Rattle.snapshots.specs.Rules.{is_good_name}
 use Rattle.snapshots.specs.declared.write_fault.WriteFault.{WriteFault}
 use Rattle.snapshots.specs.declared.write_fault.WriteFault.TheVariants.{Time, Size, Count, Name, Order, Conflict, Text}
-use Rattle.snapshots.specs.declared.so_far.SoFar.{SoFar}
+use Rattle.snapshots.specs.declared.so_far.FilesSoFar.{FilesSoFar}
 
 abbrev pub a_file : List ℕ → ℕ → List ℕ → File
 a_file name mtime bytes = record { name = name; mtime = mtime; bytes = bytes }
@@ -23,7 +23,7 @@ abbrev pub lengths_within : List File → List ℕ → List ℕ
 lengths_within files name = map (λ f. length f.name) (filter (λ f. starts_with nat_eq name f.name) files)
 
 -- what is kept of these files
-pub record IsSoFar (files : List File) (s : SoFar) : Type 0 where
+pub record IsSoFar (files : List File) (s : FilesSoFar) : Type 0 where
   pub count : s.count ≡ length files
   pub size : s.size ≡ length (text_before_end files)
   pub last : s.names.last.items ≡ last_name files
@@ -35,7 +35,7 @@ abbrev pub more : ℕ → ℕ → ℕ
 more size n = min (size + n) (2 ^ 64 - 1)
 
 -- the first rule that a file breaks, by what is kept of those before it
-unfoldable pub broken_by : SoFar → File → Option WriteFault
+unfoldable pub broken_by : FilesSoFar → File → Option WriteFault
 broken_by s f =
     if nat_lt max_time f.mtime then Some Time
     else if nat_lt max_file_bytes (length f.bytes) then Some Size
@@ -48,7 +48,7 @@ broken_by s f =
     else None
 
 -- what is kept with one more name, and n bytes of text more
-pub record Grown (s : SoFar) (name : List ℕ) (n : ℕ) (next : SoFar) : Type 0 where
+pub record Grown (s : FilesSoFar) (name : List ℕ) (n : ℕ) (next : FilesSoFar) : Type 0 where
   pub count : next.count ≡ more s.count 1
   pub size : next.size ≡ more s.size n
   pub last : next.names.last.items ≡ name

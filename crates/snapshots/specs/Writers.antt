@@ -6,12 +6,12 @@ use Rattle.paths.specs.declared.file.File.{File}
 use Rattle.paths.specs.Snapshots.{max_text_bytes, text_before_end, snapshot_text, IsSnapshot}
 use Rattle.snapshots.specs.declared.write_fault.WriteFault.{WriteFault}
 use Rattle.snapshots.specs.declared.write_fault.WriteFault.TheVariants.{Write as Unwritten, Memory}
-use Rattle.snapshots.specs.declared.so_far.SoFar.{SoFar}
+use Rattle.snapshots.specs.declared.so_far.FilesSoFar.{FilesSoFar}
 use Rattle.snapshots.specs.Keeping.{IsSoFar}
 
 -- A writer has taken these files, and no others: they keep the rules, and their text, up to the last line, was written
 -- after what stood before.
-pub record Took (files : List File) (before now : Option (List ℕ)) (s : SoFar) : Type 0 where
+pub record Took (files : List File) (before now : Option (List ℕ)) (s : FilesSoFar) : Type 0 where
   pub rules : IsSnapshot files
   pub size : length (snapshot_text files) ≤ max_text_bytes
   pub kept : IsSoFar files s

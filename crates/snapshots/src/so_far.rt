@@ -17,7 +17,7 @@ use std::io::Write;
 
 /// What the rules ask of the files so far.
 #[derive(Drop)]
-pub struct SoFar {
+pub struct FilesSoFar {
     /// How many there are.
     pub count: usize,
     /// How many bytes the text has before its last line.
@@ -51,12 +51,12 @@ fn is_good_name(name: &[u8]) -> bool
     !name.is_empty() && name.len() as u64 <= MAX_NAME_BYTES && is_name(name)
 }
 
-impl SoFar {
+impl FilesSoFar {
     /// Writes the first line.
     pub(crate) fn begin<W: Write>(
         alloc: Global,
         output: &mut Output<W>,
-    ) -> Result<SoFar, WriteFault>
+    ) -> Result<FilesSoFar, WriteFault>
         requires { CanFail output.old }
         ensures ok { IfOk result (λ so_far. Took [] output.old.bytes output.new.bytes so_far) }
         ensures prefix { IfErr result (λ _. AppendsPrefix output.old.bytes output.new.bytes (text_before_end [])) }
@@ -64,7 +64,7 @@ impl SoFar {
     {
         let line = b"haboob-snapshot 1\n";
         output.write_all(line)?;
-        Ok(SoFar {
+        Ok(FilesSoFar {
             count: 0,
             size: line.len(),
             names: Names::new(alloc),
@@ -110,11 +110,11 @@ impl SoFar {
         alloc: Global,
         name: &[u8],
         text_len: usize,
-    ) -> Result<SoFar, AllocError>
+    ) -> Result<FilesSoFar, AllocError>
         ensures { IfOk result (Grown self.now name.now text_len) }
     {
         let names = self.names.then(alloc, name)?;
-        Ok(SoFar {
+        Ok(FilesSoFar {
             count: self.count.saturating_add(1),
             size: self.size.saturating_add(text_len),
             names,

@@ -9,7 +9,7 @@ ghost use Rattle.snapshots.specs.Rules.{broken_rule};
 ghost use Rattle.snapshots.specs.Writers.{Took, refused_for, Counts};
 
 use crate::WriteFault;
-use crate::so_far::SoFar;
+use crate::so_far::FilesSoFar;
 use crate::texts::{file_head, last_line, write_file};
 use devices::Output;
 use std::alloc::Global;
@@ -24,13 +24,13 @@ use std::marker::Model;
 #[derive(Drop)]
 pub struct SnapshotWriter {
     alloc: Global,
-    so_far: SoFar,
+    so_far: FilesSoFar,
 }
 
 impl Model for SnapshotWriter {
-    ghost use Rattle.snapshots.specs.declared.so_far.SoFar.{SoFar};
+    ghost use Rattle.snapshots.specs.declared.so_far.FilesSoFar.{FilesSoFar};
 
-    ghost Value = { SoFar };
+    ghost Value = { FilesSoFar };
 
     ghost view = { λ w. w.so_far };
 }
@@ -50,7 +50,7 @@ impl SnapshotWriter {
         ensures part { IfErr result (λ _. AppendsPrefix output.old.bytes output.new.bytes (text_before_end [])) }
         ensures count { Counts output.old.failures output.new.failures result }
     {
-        let so_far = SoFar::begin(alloc, output)?;
+        let so_far = FilesSoFar::begin(alloc, output)?;
         Ok(SnapshotWriter { alloc, so_far })
     }
 

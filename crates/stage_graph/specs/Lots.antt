@@ -21,7 +21,8 @@ abbrev pub lot_value : {V : Type 0} → (ℕ → V → V) → (ℕ → V) → Li
 lot_value step input_at lots done lot = value_of (step_each step) done (inputs_in input_at lots lot)
 
 -- What a lot is seen as: what its items hold; one whose items were dropped, as what they would hold.
-abbrev pub lot_content : {X V : Type 0} → (X → V) → (ℕ → V → V) → (ℕ → V) → List (List ℕ) → Bool → List X → ℕ → ℕ → List V
+abbrev pub lot_content : {X V : Type 0} → (X → V) → (ℕ → V → V) → (ℕ → V) → List (List ℕ) → Bool → List X → ℕ → ℕ
+    → List V
 lot_content content step input_at lots true items done lot = map content items
 lot_content content step input_at lots false items done lot = lot_value step input_at lots done lot
 
@@ -55,7 +56,8 @@ of_marks : {V : Type 0} (step : ℕ → V → V) (input : ℕ → V) (d : ℕ) (
 of_marks step input d [] = refl
 of_marks step input d (n ∷ ns) = ap (λ vs. value_of step d (input n) ∷ vs) (of_marks step input d ns)
 
-pub lot_holds : {X V : Type 0} (content : X → V) (number done : X → ℕ) (step : ℕ → V → V) (input : ℕ → V) (lots : List (List ℕ))
+pub lot_holds : {X V : Type 0} (content : X → V) (number done : X → ℕ) (step : ℕ → V → V) (input : ℕ → V)
+    (lots : List (List ℕ))
     → ((x : X) → content x ≡ value_of step (done x) (input (number x))) → (whole : Bool) (xs : List X) (d n : ℕ)
     → (whole ≡ true → map {B = ℕ × ℕ} (λ x. (number x, done x)) xs ≡ map (with_steps d) (numbers_in lots n))
     → lot_content content step input lots whole xs d n ≡ lot_value step input lots d n

@@ -2,7 +2,7 @@ use Rattle.std.proofs.Common.{◌≡◌, ◌+◌, ◌≤◌, ◌<◌, ◌⊎◌,
 use Rattle.captures.specs.declared.version.Version.{Version}
 use Rattle.captures.specs.Readers.{ReaderAfter}
 use Rattle.captures.specs.declared.record.Record.{Record}
-use Rattle.captures.specs.declared.progress.Stage.TheVariants.{Reading}
+use Rattle.captures.specs.declared.progress.ReaderState.TheVariants.{Reading}
 use Rattle.arrivals.specs.Batches.{origins_of, tiers_of}
 use Rattle.arrivals.specs.Tiers.{AreTiers}
 use Rattle.captures.specs.Reference.{max_piece_bytes}

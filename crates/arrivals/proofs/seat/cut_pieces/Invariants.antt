@@ -1,6 +1,6 @@
 use Rattle.std.proofs.Common.{◌≡◌, ℕ, List, ◌++◌, length}
 use Rattle.arrivals.specs.Batches.{ReadsOn}
-use Rattle.arrivals.specs.Places.{CanRead}
+use Rattle.arrivals.specs.SeatStates.{CanRead}
 use Rattle.arrivals.proofs.seat.cut_pieces.Given as goal
 
 abbrev pub invariant-loop-piece : goal.invariant-loop-piece

@@ -1,9 +1,9 @@
 use Rattle.std.proofs.Common.{◌≡◌, ◌+◌, ◌-◌, ◌≤◌, ℕ, length}
-use Rattle.arrivals.specs.Places.{place_at}
+use Rattle.arrivals.specs.SeatStates.{seat_at}
 use Rattle.arrivals.proofs.seats.reach.Given as goal
 
 abbrev pub invariant-loop-list : goal.invariant-loop-list
-invariant-loop-list l = (length l.fn.list.items ≤ length l.list.items) × ((c : ℕ) → place_at l.list.items c ≡ place_at l.fn.list.items c)
+invariant-loop-list l = (length l.fn.list.items ≤ length l.list.items) × ((c : ℕ) → seat_at l.list.items c ≡ seat_at l.fn.list.items c)
 
 abbrev pub decreases-loop-list : goal.decreases-loop-list
 decreases-loop-list l = l.conn + 1 - length l.list.items

@@ -1,7 +1,7 @@
 use Rattle.std.proofs.Common.{◌∙◌, ◌++◌, ◌∷◌, [], ℕ, List, Option, refl, arith, rules}
 use Rattle.devices.proofs.Appending.{prefix_all}
 use Rattle.captures.specs.Upgrades.{Leaves, upgrade_fault}
-use Rattle.captures.proofs.UpgradeLemmas.{leaves_told, leaves_first, own_leaves, told_reads, told_writes, passed_on, fits_own, gave_more, first_written, first_prefix, more_written, more_prefix, stops_first, stops_after, short_among, all_read, moved, part_end, ok_end}
+use Rattle.captures.proofs.UpgradeLemmas.{leaves_reported, leaves_first, own_leaves, reported_reads, reported_writes, passed_on, fits_own, gave_more, first_written, first_prefix, more_written, more_prefix, stops_first, stops_after, short_among, all_read, moved, part_end, ok_end}
 use Rattle.std.proofs.lemmas.List.{length_push}
 use Rattle.captures.proofs.upgrading.upgrade.Goals as goal
 
@@ -13,10 +13,10 @@ returns-in-Err-clause-fault g c =
     (stops_first c.args.reader.now.bytes _ c.args.writer.now.bytes c.in-Err.fault c.in-Err.ensures.at c.in-Err.ensures.fault given.1) c.in-Err.ensures.memory)
 
 pub returns-in-Err-clause-reads : goal.returns-in-Err-clause-reads
-returns-in-Err-clause-reads g c = rw (c.from.ensures, told_reads c.in-Err.fault) (search rules)
+returns-in-Err-clause-reads g c = rw (c.from.ensures, reported_reads c.in-Err.fault) (search rules)
 
 pub returns-in-Err-clause-writes : goal.returns-in-Err-clause-writes
-returns-in-Err-clause-writes g c = rw (c.from.ensures, told_writes c.in-Err.fault) (omega arith)
+returns-in-Err-clause-writes g c = rw (c.from.ensures, reported_writes c.in-Err.fault) (omega arith)
 
 pub returns-in_err-write_first_line-clause-fault : goal.returns-in_err-write_first_line-clause-fault
 returns-in_err-write_first_line-clause-fault g c =
@@ -42,12 +42,12 @@ returns-in-Err-next_record-clause-fault g c =
     let inv = c.loop-next.invariant.0 in
     rw c.from-in-Err-next_record.ensures
     (moved (λ (w : Option (List ℕ)). Leaves c.args.reader.now.bytes w c.args.writer.now.bytes c.loop-next.writer.bytes (upgrade_fault c.in-Err-next_record.fault)) _ c.next_record.new.self.input.now.bytes
-    (leaves_told c.args.reader.now.bytes _ c.args.writer.now.bytes c.loop-next.writer.bytes c.in-Err-next_record.fault
+    (leaves_reported c.args.reader.now.bytes _ c.args.writer.now.bytes c.loop-next.writer.bytes c.in-Err-next_record.fault
     (stops_after _ _ _ _ _ _ _ inv.0 _ c.next_record.new.self.progress _ inv.1 inv.2 (c.in-Err-next_record.ensures.next _ _ _ _ inv.1) (c.in-Err-next_record.ensures.failed _ _ _ _ inv.1))
     (short_among _ _ _ _ _ _ inv.0 _ inv.1 (prefix_all _ _ _ inv.2))) (search rules))
 
 pub returns-in-Err-next_record-clause-writes : goal.returns-in-Err-next_record-clause-writes
-returns-in-Err-next_record-clause-writes g c = rw (c.from-in-Err-next_record.ensures, told_writes c.in-Err-next_record.fault) (omega (arith, c.loop-next.invariant.3))
+returns-in-Err-next_record-clause-writes g c = rw (c.from-in-Err-next_record.ensures, reported_writes c.in-Err-next_record.fault) (omega (arith, c.loop-next.invariant.3))
 
 pub returns-in_err-write_record-clause-fault : goal.returns-in_err-write_record-clause-fault
 returns-in_err-write_record-clause-fault g c =

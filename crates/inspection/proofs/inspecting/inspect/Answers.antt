@@ -1,7 +1,7 @@
 use Rattle.std.proofs.Common.{◌∙◌, [], ◌∷◌, ◌++◌, ℕ, List, Option, refl, rules}
 use Rattle.captures.proofs.UpgradeLemmas.{fits_own, gave_more, moved}
 use Rattle.inspection.specs.Inspections.{Stops, stop_of}
-use Rattle.inspection.proofs.Endings.{holds_none, no_earlier, holds_all, holds_before, told}
+use Rattle.inspection.proofs.Endings.{holds_none, no_earlier, holds_all, holds_before, reported}
 use Rattle.inspection.proofs.inspecting.inspect.Goals as goal
 
 pub loop-next-init : goal.loop-next-init
@@ -15,7 +15,7 @@ returns-in-Err-next_record-clause-stops g c =
     let stays = c.in-Err-next_record.ensures in
     rw c.stopped.ensures
     (moved (λ (w : Option (List ℕ)). Stops c.args.reader.now.bytes w (stop_of held fault)) _ c.next_record.new.self.input.now.bytes
-    (told c.args.reader.now.bytes c.next_record.new.self.input.now.bytes held fault
+    (reported c.args.reader.now.bytes c.next_record.new.self.input.now.bytes held fault
     (holds_before _ _ _ _ inv.0 inv.1 c.loop-next.connections c.loop-next.found _ c.next_record.new.self.progress _ fault held inv.2 (stays.next _ _ _ _ inv.2) (stays.failed _ _ _ _ inv.2) inv.3
     (c.inspection_of-held.ensures.version ∙ c.version.ensures ∙ stays.version) (c.inspection_of-held.ensures.start ∙ c.start.ensures ∙ stays.start) (c.inspection_of-held.ensures.figures inv.0 inv.1 inv.3.found)))
     (search rules))

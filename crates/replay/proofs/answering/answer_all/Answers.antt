@@ -5,16 +5,16 @@ use Rattle.devices.specs.Devices.{Device}
 use Rattle.reference.specs.Reference.{terms_of}
 use Rattle.arrivals.specs.Reference.{Arrival}
 use Rattle.arrivals.specs.Connections.{arrivals_with}
-use Rattle.reference.specs.Telling.{Told}
+use Rattle.reference.specs.Texts.{Wrote}
 use Rattle.replay.proofs.Writing.{arrivals_step}
-use Rattle.replay.proofs.Texts.{told_none, told_more, told_part}
+use Rattle.replay.proofs.Texts.{wrote_none, wrote_more, wrote_part}
 use Rattle.replay.proofs.Judging.{by_more, passed_on, on_many, on_cut}
 use Rattle.replay.proofs.answering.answer_all.Goals as goal
 
 pub loop-message-init : goal.loop-message-init
 loop-message-init g c = (
   λ arrivals place stands. rw (append-nil arrivals) stands,
-  λ arrivals place stands. told_none _ c.args.desk.now.start arrivals c.args.writer.now.bytes (c.requires.texts (terms_of g.F.Tree.files c.args.server.now)),
+  λ arrivals place stands. wrote_none _ c.args.desk.now.start arrivals c.args.writer.now.bytes (c.requires.texts (terms_of g.F.Tree.files c.args.server.now)),
   refl,
   omega arith,
   refl,
@@ -40,7 +40,7 @@ returns-in_err-answer_message-clause-many g c =
       lt,
       (let e = full.1 in omega (arith, at, e)),
       λ arrivals place stands.
-          subst (λ (w : Device). Told (g.T.Tells.telling (terms_of g.F.Tree.files c.args.server.now)) c.args.desk.now.start arrivals (arrivals_with place c.args.origin (take c.loop-message.message-index c.args.messages.now)) c.args.writer.now.bytes w.bytes) (sym full.2) (inv.1 arrivals place stands),
+          subst (λ (w : Device). Wrote (g.T.Format.texts (terms_of g.F.Tree.files c.args.server.now)) c.args.desk.now.start arrivals (arrivals_with place c.args.origin (take c.loop-message.message-index c.args.messages.now)) c.args.writer.now.bytes w.bytes) (sym full.2) (inv.1 arrivals place stands),
     ))
     c.in_err-answer_message.ensures.many))
     c.from_residual.ensures.1
@@ -62,7 +62,7 @@ returns-in_err-answer_message-clause-part g c =
       λ arrivals place stands.
           (let sofar = arrivals_with place c.args.origin (take i messages) in
           let part = short.1 (arrivals ++ sofar) (record { origin = c.args.origin; place = place; message = get_or messages i m }) (inv.0 arrivals place stands) refl (ap (λ x. x.what) (sym c.message-item.is)) in
-          rw (arrivals_step place c.args.origin messages i m lt) (told_part _ c.args.desk.now.start arrivals sofar _ _ _ _ (c.requires.texts (terms_of g.F.Tree.files c.args.server.now)) (inv.1 arrivals place stands) (rw inv.2 at part))),
+          rw (arrivals_step place c.args.origin messages i m lt) (wrote_part _ c.args.desk.now.start arrivals sofar _ _ _ _ (c.requires.texts (terms_of g.F.Tree.files c.args.server.now)) (inv.1 arrivals place stands) (rw inv.2 at part))),
     ))
     c.in_err-answer_message.ensures.part))
     c.from_residual.ensures.1
@@ -82,7 +82,7 @@ loop-message-preserved g c =
       λ arrivals place stands. rw (arrivals_step place c.args.origin messages i m lt)
           (rw (append_assoc arrivals (sofar place) (a place ∷ [])) at (one.stands (arrivals ++ sofar place) (a place) (inv.0 arrivals place stands) refl what)),
       λ arrivals place stands. rw (arrivals_step place c.args.origin messages i m lt)
-          (told_more _ c.args.desk.now.start arrivals (sofar place) (a place ∷ []) _ _ _ (c.requires.texts (terms_of g.F.Tree.files c.args.server.now)) (inv.1 arrivals place stands) (rw inv.2 at (one.written (arrivals ++ sofar place) (a place) (inv.0 arrivals place stands) refl what))),
+          (wrote_more _ c.args.desk.now.start arrivals (sofar place) (a place ∷ []) _ _ _ (c.requires.texts (terms_of g.F.Tree.files c.args.server.now)) (inv.1 arrivals place stands) (rw inv.2 at (one.written (arrivals ++ sofar place) (a place) (inv.0 arrivals place stands) refl what))),
       one.start ∙ inv.2,
       (let n = one.number in omega (arith, n, at)),
       one.failures ∙ inv.4,

@@ -3,7 +3,7 @@ use Rattle.reference.specs.Reference.{terms_of}
 use Rattle.arrivals.specs.Reference.{Arrival}
 use Rattle.arrivals.specs.Connections.{arrivals_with}
 use Rattle.replay.specs.Serving.{DeskAfter}
-use Rattle.reference.specs.Telling.{Told}
+use Rattle.reference.specs.Texts.{Wrote}
 use Rattle.replay.proofs.answering.answer_all.Given as goal
 
 -- the messages so far are answered
@@ -12,5 +12,5 @@ invariant-loop-message g l =
     ((arrivals : List Arrival) (place : ℕ) → DeskAfter (terms_of g.F.Tree.files l.server) arrivals l.fn.desk
     → DeskAfter (terms_of g.F.Tree.files l.server) (arrivals ++ arrivals_with place l.origin (take l.message-index l.messages)) l.desk)
     × ((arrivals : List Arrival) (place : ℕ) → DeskAfter (terms_of g.F.Tree.files l.server) arrivals l.fn.desk
-    → Told (g.T.Tells.telling (terms_of g.F.Tree.files l.server)) l.fn.desk.start arrivals (arrivals_with place l.origin (take l.message-index l.messages)) l.fn.writer.bytes l.writer.bytes)
+    → Wrote (g.T.Format.texts (terms_of g.F.Tree.files l.server)) l.fn.desk.start arrivals (arrivals_with place l.origin (take l.message-index l.messages)) l.fn.writer.bytes l.writer.bytes)
     × (l.desk.start ≡ l.fn.desk.start) × (l.desk.totals.answered ≡ l.fn.desk.totals.answered + l.message-index) × (l.writer.failures ≡ l.fn.writer.failures)

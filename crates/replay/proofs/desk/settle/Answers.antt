@@ -1,6 +1,6 @@
 use Rattle.std.proofs.Common.{arith}
 use Rattle.reference.specs.Reference.{terms_of, offers_of}
-use Rattle.replay.specs.Backs.{told}
+use Rattle.replay.specs.Backs.{given_by}
 use Rattle.reference.proofs.Offering.{offers_few}
 use Rattle.replay.proofs.OfferedBy.{last_by}
 use Rattle.replay.proofs.Judging.{answered_is, samples_are, counts_kept, stands_after}
@@ -19,13 +19,13 @@ pub note-requires-clause-counts : goal.note-requires-clause-counts
 note-requires-clause-counts g c =
     let terms = terms_of g.F.Tree.files c.args.server.now in
     let given = c.requires.stands in
-    let judged = c.in_ok-due.ensures.told (offers_of terms given.0) given.1.fits (samples_are terms given.0 c.args.desk.now given.1) in
+    let judged = c.in_ok-due.ensures.given_by (offers_of terms given.0) given.1.fits (samples_are terms given.0 c.args.desk.now given.1) in
     let few = given.1.few in
-    let kept = counts_kept _ terms given.0 c.args.origin c.args.what.now c.args.desk.now c.decide.new.self (told c.in_ok-due.due) 18446744073709551615 given.1 judged (omega (arith, few)) in
+    let kept = counts_kept _ terms given.0 c.args.origin c.args.what.now c.args.desk.now c.decide.new.self (given_by c.in_ok-due.due) 18446744073709551615 given.1 judged (omega (arith, few)) in
     kept.0
 
 pub returns-clause-stands : goal.returns-clause-stands
 returns-clause-stands g c = λ arrivals a stands from meaning.
     let terms = terms_of g.F.Tree.files c.args.server.now in
-    let judged = c.in_ok-due.ensures.told (offers_of terms arrivals) stands.fits (samples_are terms arrivals c.args.desk.now stands) in
-    stands_after _ terms arrivals a c.args.origin c.args.what.now c.args.desk.now c.decide.new.self c.note.new.self (told c.in_ok-due.due) stands from meaning c.requires.few judged c.note.ensures
+    let judged = c.in_ok-due.ensures.given_by (offers_of terms arrivals) stands.fits (samples_are terms arrivals c.args.desk.now stands) in
+    stands_after _ terms arrivals a c.args.origin c.args.what.now c.args.desk.now c.decide.new.self c.note.new.self (given_by c.in_ok-due.due) stands from meaning c.requires.few judged c.note.ensures

@@ -1,17 +1,17 @@
 use Rattle.std.proofs.Common.{ℕ, List, Option}
 use Rattle.reference.specs.Reference.{Terms, terms_of}
-use Rattle.replay.specs.Serving.{HasTold}
-use Rattle.reference.specs.Explaining.{Explains, rows_told}
+use Rattle.replay.specs.Serving.{WritesWhole}
+use Rattle.reference.specs.Explaining.{Explains, row_texts}
 use Rattle.reference.specs.declared.summary.Outcome.{Outcome}
 use Rattle.replay.proofs.Judging.{if_ok}
 use Rattle.replay.proofs.explain.explain_replay.Goals as goal
 
 -- what was told is the table
-explains_told : (terms : Terms) (input old new : Option (List ℕ)) (outcome : Outcome)
-    → HasTold (rows_told terms) terms input old new outcome → Explains terms input old new outcome
-explains_told terms input old new outcome h = record { read = h.read; written = h.written; outcome_is = h.outcome_is }
+explains_written : (terms : Terms) (input old new : Option (List ℕ)) (outcome : Outcome)
+    → WritesWhole (row_texts terms) terms input old new outcome → Explains terms input old new outcome
+explains_written terms input old new outcome h = record { read = h.read; written = h.written; outcome_is = h.outcome_is }
 
 pub returns-clause-ok : goal.returns-clause-ok
 returns-clause-ok g c =
-    if_ok c.replay_telling.result _ _ (explains_told (terms_of g.F.Tree.files c.args.settings.now) _ _ _)
-    c.replay_telling.ensures.ok
+    if_ok c.replay_writing.result _ _ (explains_written (terms_of g.F.Tree.files c.args.settings.now) _ _ _)
+    c.replay_writing.ensures.ok

@@ -1,8 +1,8 @@
 use Rattle.std.proofs.Common.{◌≡◌, length, ap, sym, ◌∙◌, rules}
 use Rattle.stage_graph.proofs.ByNumber.{by_number}
 use Rattle.stage_graph.specs.Steps.{value_of}
-use Rattle.replay.specs.Fronts.{floor_step, message_at, no_message, unseen, seen_as, each_sighted}
-use Rattle.replay.proofs.Sights.{flat_map-mapped, all_known, sights_alone, same_values, sighted}
+use Rattle.replay.specs.Fronts.{floor_step, message_at, no_message, unseen, seen_as, each_looked_up}
+use Rattle.replay.proofs.Lookups.{flat_map-mapped, all_known, lookups_alone, same_values, looked_up}
 use Rattle.replay.proofs.front.run_front_with.Goals as goal
 
 pub run_through-requires-clause-fresh : goal.run_through-requires-clause-fresh
@@ -21,12 +21,12 @@ returns-clause-seen g c =
     let costs = c.args.server.now.costs in
     let lots = c.in_ok-carried.carried.lots.items in
     let count : c.len-count.result ≡ length xs = search rules in
-    let values = sym (flat_map-mapped (λ x. sighted (message_at g.K.Fronts.messages x.number) (seen_as files x.sight)) (λ lot. lot.items) lots)
+    let values = sym (flat_map-mapped (λ x. looked_up (message_at g.K.Fronts.messages x.number) (seen_as files x.lookup)) (λ lot. lot.items) lots)
     ∙ (rw (c.in_ok-items.ensures.len, count) at c.in_ok-carried.ensures.values) in
     let found = values
     ∙ (rw (← c.requires.messages, ← c.requires.costs)
     (by_number (λ m. value_of (floor_step files costs) 3 (unseen m)) xs no_message ∙ same_values files costs xs)) in
-    let known = all_known files costs (λ x. message_at g.K.Fronts.messages x.number) (λ x. x.sight) _ xs found in
-    c.in_ok-with_sights.ensures
-    ∙ (ap (each_sighted xs) (c.in_ok-sights.ensures ∙ flat_map-mapped (λ x. x.sight) (λ lot. lot.items) lots)
-    ∙ sights_alone files costs (λ x. message_at g.K.Fronts.messages x.number) (λ x. x.sight) _ xs known)
+    let known = all_known files costs (λ x. message_at g.K.Fronts.messages x.number) (λ x. x.lookup) _ xs found in
+    c.in_ok-with_lookups.ensures
+    ∙ (ap (each_looked_up xs) (c.in_ok-lookups.ensures ∙ flat_map-mapped (λ x. x.lookup) (λ lot. lot.items) lots)
+    ∙ lookups_alone files costs (λ x. message_at g.K.Fronts.messages x.number) (λ x. x.lookup) _ xs known)

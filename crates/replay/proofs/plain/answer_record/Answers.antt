@@ -14,7 +14,7 @@ read_piece-requires-clause-room g c =
 
 pub returns-in-End-clause-serves : goal.returns-in-End-clause-serves
 returns-in-End-clause-serves g c = λ records arrivals tiers serves.
-    serves_end (g.T.Tells.telling (terms_of g.F.Tree.files c.args.server.now)) (terms_of g.F.Tree.files c.args.server.now) c.in-End.tick c.in-End.conn records arrivals c.args.next.now c.args.connections.now c.args.desk.now c.args.writer.now.bytes (c.requires.texts (terms_of g.F.Tree.files c.args.server.now)) c.in-End.is serves
+    serves_end (g.T.Format.texts (terms_of g.F.Tree.files c.args.server.now)) (terms_of g.F.Tree.files c.args.server.now) c.in-End.tick c.in-End.conn records arrivals c.args.next.now c.args.connections.now c.args.desk.now c.args.writer.now.bytes (c.requires.texts (terms_of g.F.Tree.files c.args.server.now)) c.in-End.is serves
 
 pub returns-in_ok-read_piece-in-Piece-clause-serves : goal.returns-in_ok-read_piece-in-Piece-clause-serves
 returns-in_ok-read_piece-in-Piece-clause-serves g c =
@@ -23,7 +23,7 @@ returns-in_ok-read_piece-in-Piece-clause-serves g c =
     (λ stands written start records arrivals tiers serves.
     (let brings = brought terms c.of.result c.in-Piece.tick c.in-Piece.conn c.from.result c.in-Piece.bytes c.as_slice.result.now c.deref.result.now c.read_piece.new.out.items records arrivals c.args.next.now c.args.connections.now c.read_piece.new.self c.args.desk.now
     (c.of.ensures.tier ∙ tiers c.in-Piece.conn) c.in-Piece.is c.from.ensures c.as_slice.ensures c.deref.ensures.value (record { own = c.in_ok-read_piece-in-Piece.ensures.own; others = c.in_ok-read_piece-in-Piece.ensures.others }) serves in
-    serves_piece (g.T.Tells.telling terms) terms c.of.result c.in-Piece.tick c.in-Piece.conn c.deref.result.now records arrivals c.args.next.now c.read_piece.new.self c.args.desk.now c.answer_all.new.desk c.args.writer.now.bytes c.answer_all.new.writer.bytes
+    serves_piece (g.T.Format.texts terms) terms c.of.result c.in-Piece.tick c.in-Piece.conn c.deref.result.now records arrivals c.args.next.now c.read_piece.new.self c.args.desk.now c.answer_all.new.desk c.args.writer.now.bytes c.answer_all.new.writer.bytes
     brings start (stands arrivals (length records) serves.stands) (written arrivals (length records) serves.stands)))
 
 pub returns-in_ok-read_piece-in-Piece-clause-many : goal.returns-in_ok-read_piece-in-Piece-clause-many
@@ -35,7 +35,7 @@ returns-in_ok-read_piece-in-Piece-clause-many g c =
       λ records arrivals tiers serves.
           (let brings = brought terms c.of.result c.in-Piece.tick c.in-Piece.conn c.from.result c.in-Piece.bytes c.as_slice.result.now c.deref.result.now c.read_piece.new.out.items records arrivals c.args.next.now c.args.connections.now c.read_piece.new.self c.args.desk.now
           (c.of.ensures.tier ∙ tiers c.in-Piece.conn) c.in-Piece.is c.from.ensures c.as_slice.ensures c.deref.ensures.value (record { own = c.in_ok-read_piece-in-Piece.ensures.own; others = c.in_ok-read_piece-in-Piece.ensures.others }) serves in
-          serves_full (g.T.Tells.telling terms) terms c.of.result c.in-Piece.tick c.in-Piece.conn full.1 c.deref.result.now records arrivals c.args.next.now c.read_piece.new.self c.args.connections.now c.args.desk.now c.args.writer.now.bytes c.answer_all.new.writer.bytes
+          serves_full (g.T.Format.texts terms) terms c.of.result c.in-Piece.tick c.in-Piece.conn full.1 c.deref.result.now records arrivals c.args.next.now c.read_piece.new.self c.args.connections.now c.args.desk.now c.args.writer.now.bytes c.answer_all.new.writer.bytes
           brings serves full.2 full.3 (full.4 arrivals (length records) serves.stands)),
     ))
     c.answer_all.ensures.many
@@ -47,13 +47,13 @@ returns-in_ok-read_piece-in-Piece-clause-part g c =
     (λ short. inr (λ records arrivals tiers serves.
     (let brings = brought terms c.of.result c.in-Piece.tick c.in-Piece.conn c.from.result c.in-Piece.bytes c.as_slice.result.now c.deref.result.now c.read_piece.new.out.items records arrivals c.args.next.now c.args.connections.now c.read_piece.new.self c.args.desk.now
     (c.of.ensures.tier ∙ tiers c.in-Piece.conn) c.in-Piece.is c.from.ensures c.as_slice.ensures c.deref.ensures.value (record { own = c.in_ok-read_piece-in-Piece.ensures.own; others = c.in_ok-read_piece-in-Piece.ensures.others }) serves in
-    serves_part (g.T.Tells.telling terms) terms c.of.result c.in-Piece.tick c.in-Piece.conn short.0 c.deref.result.now records arrivals c.args.next.now c.read_piece.new.self c.args.connections.now c.args.desk.now c.args.writer.now.bytes c.answer_all.new.writer.bytes
+    serves_part (g.T.Format.texts terms) terms c.of.result c.in-Piece.tick c.in-Piece.conn short.0 c.deref.result.now records arrivals c.args.next.now c.read_piece.new.self c.args.connections.now c.args.desk.now c.args.writer.now.bytes c.answer_all.new.writer.bytes
     brings serves short.2 (short.3 arrivals (length records) serves.stands))))
     c.answer_all.ensures.part
 
 pub returns-in_ok-give-in-Tier-clause-serves : goal.returns-in_ok-give-in-Tier-clause-serves
 returns-in_ok-give-in-Tier-clause-serves g c = λ records arrivals tiers serves.
-    serves_tier (g.T.Tells.telling (terms_of g.F.Tree.files c.args.server.now)) (terms_of g.F.Tree.files c.args.server.now) c.in-Tier.conn c.in-Tier.tier records arrivals c.args.next.now c.args.connections.now c.args.desk.now c.args.writer.now.bytes (c.requires.texts (terms_of g.F.Tree.files c.args.server.now)) c.in-Tier.is serves
+    serves_tier (g.T.Format.texts (terms_of g.F.Tree.files c.args.server.now)) (terms_of g.F.Tree.files c.args.server.now) c.in-Tier.conn c.in-Tier.tier records arrivals c.args.next.now c.args.connections.now c.args.desk.now c.args.writer.now.bytes (c.requires.texts (terms_of g.F.Tree.files c.args.server.now)) c.in-Tier.is serves
 
 pub returns-in_ok-read_piece-in-Piece-clause-tiers : goal.returns-in_ok-read_piece-in-Piece-clause-tiers
 returns-in_ok-read_piece-in-Piece-clause-tiers g c = ok_all c.answer_all.result _ (λ records are. tiers_after_piece _ _ _ _ records _ c.in-Piece.is are)

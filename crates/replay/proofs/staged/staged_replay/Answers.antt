@@ -3,9 +3,9 @@ use Rattle.std.specs.Io.KnownBytes.{Appends}
 use Rattle.devices.proofs.Appending.{prefix_all}
 use Rattle.reference.specs.Reference.{terms_of, handled, replies_of, text_before_stop}
 use Rattle.reference.specs.Outcomes.{capture_fault}
-use Rattle.reference.specs.Telling.{replies_told}
+use Rattle.reference.specs.Texts.{reply_texts}
 use Rattle.replay.proofs.Judging.{stands_none, passed_on, on_many, on_cut}
-use Rattle.replay.proofs.ByRecord.{serves_none, no_tiers, first_written, more_written, answers_all, ends_in_part, leaves_told, own_leaves, short_leaves, stops_first, stops_told, left_first, stops_full, short_among, short_part, blamed_told}
+use Rattle.replay.proofs.ByRecord.{serves_none, no_tiers, first_written, more_written, answers_all, ends_in_part, leaves_reported, own_leaves, short_leaves, stops_first, stops_reported, left_first, stops_full, short_among, short_part, blamed_reported}
 use Rattle.replay.specs.Waiting.{connections_of}
 use Rattle.replay.proofs.ByBatch.{come_next, waits_none}
 use Rattle.replay.proofs.staged.staged_replay.Goals as goal
@@ -13,12 +13,12 @@ use Rattle.replay.proofs.staged.staged_replay.Goals as goal
 pub returns-in_err-write_first_line-clause-fault : goal.returns-in_err-write_first_line-clause-fault
 returns-in_err-write_first_line-clause-fault g c =
     passed_on c.from_residual.result _ _
-    (λ f same. rw same (short_leaves (replies_told (terms_of g.F.Tree.files c.args.settings.now)) c.args.reader.now.bytes _ _ _ c.in_err-write_first_line.field-0.0 c.in_err-write_first_line.ensures.own (inl c.in_err-write_first_line.ensures.part)))
+    (λ f same. rw same (short_leaves (reply_texts (terms_of g.F.Tree.files c.args.settings.now)) c.args.reader.now.bytes _ _ _ c.in_err-write_first_line.field-0.0 c.in_err-write_first_line.ensures.own (inl c.in_err-write_first_line.ensures.part)))
     c.from_residual.ensures.1
 
 pub returns-in-Err-clause-fault : goal.returns-in-Err-clause-fault
 returns-in-Err-clause-fault g c = rw c.from.ensures
-    (leaves_told (replies_told (terms_of g.F.Tree.files c.args.settings.now)) c.args.reader.now.bytes _ c.args.writer.now.bytes c.write_first_line.new.writer.bytes c.in-Err.fault
+    (leaves_reported (reply_texts (terms_of g.F.Tree.files c.args.settings.now)) c.args.reader.now.bytes _ c.args.writer.now.bytes c.write_first_line.new.writer.bytes c.in-Err.fault
     (stops_first (terms_of g.F.Tree.files c.args.settings.now) c.args.reader.now.bytes _ c.args.writer.now.bytes c.write_first_line.new.writer.bytes _ c.in_ok-write_first_line.ensures.written c.in-Err.ensures.at c.in-Err.ensures.fault (rw c.in-Err.is at c.open.follows.holds-at-none).1)
     (inl (prefix_all c.args.writer.now.bytes c.write_first_line.new.writer.bytes _ c.in_ok-write_first_line.ensures.written)))
 
@@ -75,7 +75,7 @@ returns-in_err-seats-clause-fault g c =
     let fault = c.in_err-seats.field-0.0 in
     let says = c.in_err-seats.ensures in
     passed_on c.from_residual-in_err-seats.result _ _
-    (λ f same. rw same (own_leaves (replies_told terms) _ _ _ _ fault says.own
+    (λ f same. rw same (own_leaves (reply_texts terms) _ _ _ _ fault says.own
     (on_many fault _ _ (λ n full. stops_full terms inv.0.0 _ _ _ _ _ _ n inv.0.1 inv.0.2 b.0 _ on.fits inv.0.6 full.0 (full.1 inv.0.1 b.0 inv.0.2 next)) says.many)
     (on_cut fault _ _
     (λ short. elim short [
@@ -100,7 +100,7 @@ returns-in-Fault-clause-fault g c = left_first _ _ _ c.read_batch.new.capture.in
     let one = c.in_ok-seats.ensures in
     let more = one.serves inv.0.1 b.0 inv.0.2 next in
     let ends = rw c.in-Fault.is at on.ends in
-    stops_told terms inv.0.0 c.args.reader.now.bytes _ _ c.read_batch.new.capture.input.now.bytes _ _ _ (inv.0.1 ++ b.0) (inv.0.2 ++ more.more) _ _ _ c.in-Fault.fault c.from-in-Fault.result is on.fits more.serves
+    stops_reported terms inv.0.0 c.args.reader.now.bytes _ _ c.read_batch.new.capture.input.now.bytes _ _ _ (inv.0.1 ++ b.0) (inv.0.2 ++ more.more) _ _ _ c.in-Fault.fault c.from-in-Fault.result is on.fits more.serves
     (more_written terms c.loop-floors.desk.start inv.0.2 more.more _ _ _ inv.0.6 (rw one.start at more.written)) ends.0 ends.1 left)
 
 pub returns-in-Fault-clause-reads : goal.returns-in-Fault-clause-reads
@@ -110,7 +110,7 @@ returns-in-Fault-clause-reads g c =
     let gives = c.from-in-Fault.ensures in
     let same = c.in-Fault.fault-is in
     let is : c.from-in-Fault.result ≡ capture_fault c.in-Fault.fault = cc in
-    blamed_told _ _ c.in-Fault.fault _ is (search rules)
+    blamed_reported _ _ c.in-Fault.fault _ is (search rules)
 
 pub loop-floors-preserved : goal.loop-floors-preserved
 loop-floors-preserved g c =
@@ -163,7 +163,7 @@ returns-in_err-write_last_line-clause-fault g c =
     let one = c.in_ok-seats.ensures in
     let more = one.serves inv.0.1 b.0 inv.0.2 next in
     passed_on c.from_residual-in_err-write_last_line.result _ _
-    (λ f same. rw same (short_leaves (replies_told terms) _ _ _ _ c.in_err-write_last_line.field-0.0 c.in_err-write_last_line.ensures.own
+    (λ f same. rw same (short_leaves (reply_texts terms) _ _ _ _ c.in_err-write_last_line.field-0.0 c.in_err-write_last_line.ensures.own
     (ends_in_part terms inv.0.0 _ _ (inv.0.1 ++ b.0) (inv.0.2 ++ more.more) _ _ _ _ _ _ on.fits.rules
     (rw c.in-End.is at on.ends) more.serves (more_written terms c.loop-floors.desk.start inv.0.2 more.more _ _ _ inv.0.6 (rw one.start at more.written)) c.in_err-write_last_line.ensures.part refl)))
     c.from_residual-in_err-write_last_line.ensures.1

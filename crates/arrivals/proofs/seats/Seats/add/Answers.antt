@@ -1,14 +1,14 @@
 use Rattle.std.proofs.Common.{◌≡◌, ◌∙◌, ◌<◌, ℕ, List, length, arith}
 use Rattle.std.proofs.lemmas.List.{length_push, get_or_default}
-use Rattle.arrivals.specs.Places.{place_at, empty_place}
+use Rattle.arrivals.specs.SeatStates.{seat_at, empty_seat}
 use Rattle.arrivals.proofs.PickedSeats.{noted_longer, noted_piece}
 use Rattle.arrivals.proofs.seats.Seats.add.Goals as goal
 
 pub invariant_of-self-2 : goal.invariant_of-self-2
 invariant_of-self-2 c =
     let places = c.reach.new.list.items in
-    let own : c.index.result.now ≡ place_at places c.args.conn =
-    c.index.ensures ∙ get_or_default places c.args.conn c.index.result.now empty_place c.in_ok-reach.ensures.place in
+    let own : c.index.result.now ≡ seat_at places c.args.conn =
+    c.index.ensures ∙ get_or_default places c.args.conn c.index.result.now empty_seat c.in_ok-reach.ensures.place in
     let came : 0 < length c.add.new.self.pieces = rw c.in_ok-add.ensures.ok (omega (arith, length_push {X = List ℕ})) in
     rw (c.note.ensures, c.reserve.ensures.items) (noted_piece c.self.inside.noted.items places c.args.conn c.add.new.self c.waits-waited.result
     c.in_ok-reach.ensures.place came (rw own at c.waits-waited.ensures)

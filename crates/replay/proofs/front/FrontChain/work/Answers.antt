@@ -1,14 +1,14 @@
 use Rattle.std.proofs.Common.{ap}
-use Rattle.replay.specs.declared.sight.Sighted.{Sighted}
+use Rattle.replay.specs.declared.lookup.LookedUp.{LookedUp}
 use Rattle.replay.specs.Fronts.{floor_step, unseen_at}
-use Rattle.replay.proofs.Sights.{as_it_is, sight_is, value_more}
+use Rattle.replay.proofs.Lookups.{as_it_is, lookup_is, value_more}
 use Rattle.replay.proofs.front.FrontChain.work.Goals as goal
 
 pub look_at-requires : goal.look_at-requires
 look_at-requires g c =
     let item = c.args.item in
-    as_it_is g.F.Tree.files item.sight
-    (rw (ap (λ (v : Sighted). v.sight) item.own) (sight_is g.F.Tree.files g.K.Fronts.costs g.K.Fronts.messages item.number item.done))
+    as_it_is g.F.Tree.files item.lookup
+    (rw (ap (λ (v : LookedUp). v.lookup) item.own) (lookup_is g.F.Tree.files g.K.Fronts.costs g.K.Fronts.messages item.number item.done))
 
 pub invariant_of-result : goal.invariant_of-result
 invariant_of-result g c =

@@ -1,0 +1,276 @@
+-- What is known of the items of both floors.
+use Rattle.std.proofs.Common.{◌≡◌, ℕ, zero, suc, ◌+◌, List, [], ◌∷◌, ◌++◌, ◌≤◌, nat_le, length, drop, map, refl, sym, ap, ◌∙◌, arith, add-one}
+use Rattle.std.specs.Prelude.{flat_map, Bool, true, false, ◌&&◌, Option, nat_lt, if◌then◌else◌}
+use Rattle.std.specs.List.{range_with_len, list_all}
+use Rattle.replay.specs.declared.pending.PendingReply.{PendingReply}
+use Rattle.replay.specs.declared.back.BackState.{BackState}
+use Rattle.replay.specs.declared.back.BackState.TheVariants.{Due as Waits, Fetched, Rendered}
+use Rattle.responses.specs.declared.slip.Persistence.{Persistence}
+use Rattle.responses.specs.declared.slip.Slip.{Slip}
+use Rattle.responses.specs.declared.slip.Given.{Given}
+use Rattle.responses.specs.declared.slip.Given.TheVariants as givens
+use Rattle.responses.specs.Reference.{reply_text}
+use Rattle.responses.specs.Replies.{OnlyHead, HasLocation}
+use Rattle.replay.specs.declared.pending.Due.{Due}
+use Rattle.replay.specs.declared.pending.Due.TheVariants.{Page, Ready}
+use Rattle.replay.specs.Backs.{only_head, has_location, can_render, is_due, is_back, due_at, reply_in, reply_to, back_after, back_step, slip_of_pending, given_by, given_elsewhere, due_elsewhere, pending_elsewhere, slip_elsewhere, elsewhere}
+use Rattle.std.proofs.lemmas.Bool.{leb-true}
+use Rattle.std.proofs.lemmas.Grind.{flat_map-append}
+use Rattle.std.proofs.lemmas.List.{map-append}
+use Rattle.stage_graph.specs.Steps.{value_of}
+use Rattle.paths.specs.declared.file.File.{File}
+use Rattle.paths.proofs.Locations.{outcome_is}
+use Rattle.http_requests.specs.declared.messages.Meaning.{Meaning}
+use Rattle.http_requests.specs.declared.messages.Meaning.TheVariants.{Request, Bad}
+use Rattle.cost_model.specs.Reference.{CostTable, service}
+use Rattle.replay.specs.declared.lookup.Lookup.{Lookup}
+use Rattle.replay.specs.declared.lookup.Lookup.TheVariants.{Unseen, Asked, Found, Priced}
+use Rattle.arrivals.specs.declared.incoming.Incoming.{Incoming}
+use Rattle.replay.specs.declared.lookup.LookedUp.{LookedUp}
+use Rattle.paths.specs.Reference.{asked, outcome}
+use Rattle.paths.specs.declared.resolution.Outcome.{Outcome}
+use Rattle.http_requests.specs.declared.messages.HttpVersion.{HttpVersion}
+use Rattle.reference.specs.Reference.{is_head, answers_head, is_unmodified_file, length_given}
+use Rattle.replay.specs.Fronts.{each_looked_up, floor_lookup, floor_step, front_value, seen_as, lookup_of, unseen, unseen_at, IsLookup}
+
+abbrev pub looked_up : Incoming → Lookup → LookedUp
+looked_up message lookup = record { message = message; lookup = lookup }
+
+one_lookup : (files : List File) (costs : CostTable) (k : ℕ) (what : Meaning) (lookup : Lookup) → IsLookup files lookup → IsLookup files (floor_lookup files costs k what lookup)
+one_lookup files costs k (Bad fault) lookup h = h
+one_lookup files costs k (Request method target version closing since) Unseen h = outcome_is files (asked method target)
+one_lookup files costs k (Request method target version closing since) (Asked a) h = outcome_is files a
+one_lookup files costs k (Request method target version closing since) (Found o) h = priced_or_not (nat_lt k 2)
+  where
+    priced_or_not : (b : Bool) → IsLookup files (if b then Found o else Priced o (service costs o (is_head method) (is_unmodified_file files since o) (length_given files o)))
+    priced_or_not true = h
+    priced_or_not false = h
+one_lookup files costs k (Request method target version closing since) (Priced o cost) h = h
+
+-- an outcome that an item has found is one of the files'
+pub lookup_is : (files : List File) (costs : CostTable) (messages : List Incoming) (number k : ℕ) → IsLookup files (value_of (floor_step files costs) k (unseen_at messages number)).lookup
+lookup_is files costs messages number zero = tt
+lookup_is files costs messages number (suc k) =
+    let v = value_of (floor_step files costs) k (unseen_at messages number) in
+    one_lookup files costs k v.message.what v.lookup (lookup_is files costs messages number k)
+
+pub as_it_is : (files : List File) (s : Lookup) → IsLookup files (seen_as files s) → IsLookup files s
+as_it_is files Unseen h = tt
+as_it_is files (Asked a) h = tt
+as_it_is files (Found o) h = h
+as_it_is files (Priced o cost) h = h
+
+same_lookup : (files : List File) (costs : CostTable) (what : Meaning)
+    → floor_lookup files costs 2 what (floor_lookup files costs 1 what (floor_lookup files costs 0 what Unseen)) ≡ lookup_of files costs what
+same_lookup files costs (Bad fault) = refl
+same_lookup files costs (Request method target version closing since) = refl
+
+-- the floor finds of a message what is to be known of it
+pub same_value : (files : List File) (costs : CostTable) (message : Incoming) → value_of (floor_step files costs) 3 (unseen message) ≡ front_value files costs message
+same_value files costs message = ap (λ s. looked_up message s) (same_lookup files costs message.what)
+
+never_found : (files : List File) (costs : CostTable) (what : Meaning) (o : Outcome) → Found o ≡ lookup_of files costs what → ⊥
+never_found files costs (Bad fault) o e = let z : ⊥ = grind (arith, e) in z
+never_found files costs (Request method target version closing since) o e = let z : ⊥ = grind (arith, e) in z
+
+as_known : (files : List File) (costs : CostTable) (message m : Incoming) (s : Lookup) → looked_up message (seen_as files s) ≡ front_value files costs m → looked_up message s ≡ front_value files costs m
+as_known files costs message m Unseen h = h
+as_known files costs message m (Asked a) h = absurd (never_found files costs m.what (outcome files a) (ap (λ (v : LookedUp). v.lookup) h))
+as_known files costs message m (Found o) h = h
+as_known files costs message m (Priced o cost) h = h
+
+-- all that is known at the end is known in full
+pub all_known : {X : Type 0} (files : List File) (costs : CostTable) (message : X → Incoming) (lookup : X → Lookup) (xs : List X) (ms : List Incoming)
+    → map (λ x. looked_up (message x) (seen_as files (lookup x))) xs ≡ map (front_value files costs) ms → map (λ x. looked_up (message x) (lookup x)) xs ≡ map (front_value files costs) ms
+all_known files costs message lookup [] ms e = e
+all_known files costs message lookup (x ∷ xs) [] e = absurd (let z : ⊥ = grind (arith, e) in z)
+all_known files costs message lookup (x ∷ xs) (m ∷ ms) e =
+    let first : looked_up (message x) (seen_as files (lookup x)) ≡ front_value files costs m = cc in
+    let rest : map (λ y. looked_up (message y) (seen_as files (lookup y))) xs ≡ map (front_value files costs) ms = cc in
+    let one = as_known files costs (message x) m (lookup x) first in
+    let all = all_known files costs message lookup xs ms rest in
+    rw (one, all) refl
+
+-- the sights of what is known
+pub lookups_alone : {X : Type 0} (files : List File) (costs : CostTable) (message : X → Incoming) (lookup : X → Lookup) (xs : List X) (ms : List Incoming)
+    → map (λ x. looked_up (message x) (lookup x)) xs ≡ map (front_value files costs) ms → each_looked_up ms (map lookup xs) ≡ map (front_value files costs) ms
+lookups_alone files costs message lookup [] [] e = refl
+lookups_alone files costs message lookup [] (m ∷ ms) e = absurd (let z : ⊥ = grind (arith, e) in z)
+lookups_alone files costs message lookup (x ∷ xs) [] e = absurd (let z : ⊥ = grind (arith, e) in z)
+lookups_alone files costs message lookup (x ∷ xs) (m ∷ ms) e =
+    let first : looked_up (message x) (lookup x) ≡ front_value files costs m = cc in
+    let rest : map (λ y. looked_up (message y) (lookup y)) xs ≡ map (front_value files costs) ms = cc in
+    let own : looked_up m (lookup x) ≡ front_value files costs m = ap (λ (v : LookedUp). looked_up m v.lookup) first in
+    rw (own, lookups_alone files costs message lookup xs ms rest) refl
+
+pub same_values : (files : List File) (costs : CostTable) (ms : List Incoming) → map (λ m. value_of (floor_step files costs) 3 (unseen m)) ms ≡ map (front_value files costs) ms
+same_values files costs [] = refl
+same_values files costs (m ∷ ms) = rw (same_value files costs m, same_values files costs ms) refl
+
+-- one more step
+pub value_more : {V : Type 0} (step : ℕ → V → V) (k : ℕ) (x : V) → value_of step (k + 1) x ≡ step k (value_of step k x)
+value_more step k x =
+    let e : k + 1 ≡ suc k = omega arith in
+    rw e refl
+
+-- what follows the first of the rest of a list
+pub drop_next : {X : Type 0} (xs ys : List X) (k : ℕ) (x : X) → drop k xs ≡ x ∷ ys → drop (k + 1) xs ≡ ys
+drop_next xs ys k x e =
+    let n : k + 1 ≡ suc k = omega arith in
+    rw n (after xs ys k x e)
+  where
+    after : {X : Type 0} (xs ys : List X) (k : ℕ) (x : X) → drop k xs ≡ x ∷ ys → drop (suc k) xs ≡ ys
+    after [] ys zero x e = absurd (let z : ⊥ = grind (arith, e) in z)
+    after [] ys (suc k) x e = absurd (let z : ⊥ = grind (arith, e) in z)
+    after (z ∷ xs) ys zero x e = cc
+    after (z ∷ xs) ys (suc k) x e = after xs ys k x e
+
+pub length-more : {X : Type 0} (xs ys : List X) (x : X) → xs ≡ x ∷ ys → length xs ≡ length ys + 1
+length-more xs ys x e = rw e (omega arith)
+
+range_map : {V : Type 0} (f : ℕ → V) (a n : ℕ) → map f (range_with_len (a + 1) n) ≡ map (λ k. f (k + 1)) (range_with_len a n)
+range_map f a zero = refl
+range_map f a (suc n) = ap (λ vs. f (a + 1) ∷ vs) (range_map f (a + 1) n)
+
+-- the tickets by number
+pub by_pending : {X V : Type 0} (f : BackState X → V) (ts : List (PendingReply X)) → map (λ k. f (due_at ts k)) (range_with_len 0 (length ts)) ≡ map (λ t. f (Waits t)) ts
+by_pending f [] = refl
+by_pending f (t ∷ ts) =
+    let step : map (λ k. f (due_at (t ∷ ts) (k + 1))) (range_with_len 0 (length ts)) ≡ map (λ k. f (due_at ts k)) (range_with_len 0 (length ts)) = simp add-one in
+    ap (λ vs. f (Waits t) ∷ vs) (range_map (λ k. f (due_at (t ∷ ts) k)) 0 (length ts) ∙ (step ∙ by_pending f ts))
+
+-- what is made of each item of some lists, in lists or in all
+pub flat_map-mapped : {X V L : Type 0} (f : X → V) (items : L → List X) (lots : List L)
+    → flat_map (λ v. map f (items v)) lots ≡ map f (flat_map items lots)
+flat_map-mapped f items [] = refl
+flat_map-mapped f items (v ∷ lots) =
+    ap (λ vs. map f (items v) ++ vs) (flat_map-mapped f items lots) ∙ sym (map-append f (items v) (flat_map items lots))
+
+-- what each item of some lists gives, in lists or in all
+pub flat_map-flat : {X V L : Type 0} (f : X → List V) (items : L → List X) (lots : List L)
+    → flat_map (λ v. flat_map f (items v)) lots ≡ flat_map f (flat_map items lots)
+flat_map-flat f items [] = refl
+flat_map-flat f items (v ∷ lots) =
+    ap (λ vs. flat_map f (items v) ++ vs) (flat_map-flat f items lots) ∙ sym (flat_map-append f (items v) (flat_map items lots))
+
+pub flat_map-states : {A B C : Type 0} (f : B → List C) (g : A → B) (xs : List A) → flat_map (λ x. f (g x)) xs ≡ flat_map f (map g xs)
+flat_map-states f g [] = refl
+flat_map-states f g (x ∷ xs) = ap (λ l. f (g x) ++ l) (flat_map-states f g xs)
+
+-- ---- the same at another type of pages
+
+given_same : {X Y : Type 0} (d : Due X) → given_by {X = Y} (due_elsewhere d) ≡ given_elsewhere (given_by d)
+given_same (Page file mtime) = refl
+given_same (Ready what) = refl
+
+abbrev slip_with : {X : Type 0} → ℕ → ℕ → ℕ → Bool → Persistence → Given X → Slip X
+slip_with number conn date head link what = record { number = number; conn = conn; date = date; head = head; link = link; what = what }
+
+slip_same : {X Y : Type 0} (t : PendingReply X) → slip_of_pending {X = Y} (pending_elsewhere t) ≡ slip_elsewhere (slip_of_pending t)
+slip_same {X} {Y} t = ap (λ (w : Given Y). slip_with t.number t.conn t.date t.head t.link w) (given_same t.due)
+
+text_go : {X : Type 0} (Y : Type 0) (files : List File) (number conn date : ℕ) (head : Bool) (link : Persistence) (what : Given X)
+    → reply_text files (slip_with {X = Y} number conn date head link (given_elsewhere what)) ≡ reply_text files (slip_with number conn date head link what)
+text_go Y files number conn date head link (givens.Page file mtime) = refl
+text_go Y files number conn date head link (givens.Known media len mtime) = refl
+text_go Y files number conn date head link (givens.Unmodified mtime) = refl
+text_go Y files number conn date head link (givens.Moved location) = refl
+text_go Y files number conn date head link (givens.Plain status) = refl
+
+reply_same : {X : Type 0} (Y : Type 0) (files : List File) (s : Slip X) → reply_to files (slip_elsewhere {Y = Y} s) ≡ reply_to files s
+reply_same Y files s = ap (λ x. (s.number, s.conn, x)) (text_go Y files s.number s.conn s.date s.head s.link s.what)
+
+pub step_same : {X Y : Type 0} (files : List File) (s : BackState X) → elsewhere {Y = Y} (back_after files s) ≡ back_after files (elsewhere s)
+step_same {X} {Y} files (Waits t) = ap (λ (x : Slip Y). Fetched x) (sym (slip_same t))
+step_same {X} {Y} files (Fetched s) = ap (λ r. Rendered r) (sym (reply_same Y files s))
+step_same files (Rendered r) = refl
+
+pub reply_elsewhere : {X : Type 0} (Y : Type 0) (s : BackState X) → reply_in (elsewhere {Y = Y} s) ≡ reply_in s
+reply_elsewhere Y (Waits t) = refl
+reply_elsewhere Y (Fetched s) = refl
+reply_elsewhere Y (Rendered r) = refl
+
+-- all that is rendered are replies
+pub all_rendered : {X : Type 0} (Y : Type 0) (files : List File) (ts : List (PendingReply X))
+    → flat_map reply_in (map (λ (t : PendingReply Y). value_of (back_step files) 2 (Waits t)) (map pending_elsewhere ts)) ≡ map (λ t. reply_to files (slip_of_pending t)) ts
+all_rendered Y files [] = refl
+all_rendered Y files (t ∷ ts) =
+    let one : reply_to files (slip_of_pending {X = Y} (pending_elsewhere t)) ≡ reply_to files (slip_of_pending t) = ap (reply_to files) (slip_same t) ∙ reply_same Y files (slip_of_pending t) in
+    ap (λ r. r ∷ flat_map reply_in (map (λ (x : PendingReply Y). value_of (back_step files) 2 (Waits x)) (map pending_elsewhere ts))) one ∙ ap (λ rs. reply_to files (slip_of_pending t) ∷ rs) (all_rendered Y files ts)
+
+-- ---- reading a list to its end
+
+-- the ticket that comes next
+pub due_here : {X Y : Type 0} (ts rest : List (PendingReply X)) (k : ℕ) (t : PendingReply X) → drop k ts ≡ t ∷ rest → due_at {X = Y} (map pending_elsewhere ts) k ≡ Waits (pending_elsewhere t)
+due_here [] rest zero t e = absurd (let z : ⊥ = grind (arith, e) in z)
+due_here [] rest (suc k) t e = absurd (let z : ⊥ = grind (arith, e) in z)
+due_here {X} {Y} (x ∷ ts) rest zero t e = let same : x ≡ t = cc in ap (λ (y : PendingReply X). Waits (pending_elsewhere {Y = Y} y)) same
+due_here (x ∷ ts) rest (suc k) t e = due_here ts rest k t e
+
+and_right : (a b : Bool) → (a && b) ≡ true → b ≡ true
+and_right true b e = e
+and_right false b e = absurd (let z : ⊥ = grind (arith, e) in z)
+
+pub all_rest : {X : Type 0} (p : X → Bool) (xs ys : List X) (x : X) → xs ≡ x ∷ ys → list_all p xs ≡ true → list_all p ys ≡ true
+all_rest p xs ys x e h = and_right (p x) (list_all p ys) (rw e at h)
+
+pub replies_same : {A X : Type 0} (Y : Type 0) (g : A → BackState X) (xs : List A) → flat_map (λ x. reply_in (g x)) xs ≡ flat_map (λ x. reply_in (elsewhere {Y = Y} (g x))) xs
+replies_same Y g [] = refl
+replies_same Y g (x ∷ xs) = ap (λ l. l ++ flat_map (λ y. reply_in (g y)) xs) (sym (reply_elsewhere Y (g x))) ∙ ap (λ l. reply_in (elsewhere {Y = Y} (g x)) ++ l) (replies_same Y g xs)
+
+-- ---- a ticket that may be answered
+
+and_left : (a b : Bool) → (a && b) ≡ true → a ≡ true
+and_left true b e = refl
+and_left false b e = e
+
+-- its slip may be rendered
+pub may_render : {X : Type 0} (files : List File) (t : PendingReply X) → is_back files (Waits t) ≡ true
+    → (t.date ≤ 253402300799) × OnlyHead t.head (given_by t.due) × HasLocation (given_by t.due) × (is_due files t.due ≡ true)
+may_render files t ready =
+    let slip = slip_of_pending t in
+    let can = and_left (can_render slip) (is_due files t.due) ready in
+    let rest = and_right (nat_le t.date 253402300799) (only_head t.head (given_by t.due) && has_location (given_by t.due)) can in (
+      leb-true t.date 253402300799 (and_left (nat_le t.date 253402300799) (only_head t.head (given_by t.due) && has_location (given_by t.due)) can),
+      known t.head (given_by t.due) (and_left (only_head t.head (given_by t.due)) (has_location (given_by t.due)) rest),
+      placed (given_by t.due) (and_right (only_head t.head (given_by t.due)) (has_location (given_by t.due)) rest),
+      and_right (can_render slip) (is_due files t.due) ready,
+    )
+  where
+    known : {X : Type 0} (head : Bool) (what : Given X) → only_head head what ≡ true → OnlyHead head what
+    known head (givens.Page file mtime) e = tt
+    known head (givens.Known media len mtime) e = e
+    known head (givens.Unmodified mtime) e = tt
+    known head (givens.Moved location) e = tt
+    known head (givens.Plain status) e = tt
+
+    placed : {X : Type 0} (what : Given X) → has_location what ≡ true → HasLocation what
+    placed (givens.Page file mtime) e = tt
+    placed (givens.Known media len mtime) e = tt
+    placed (givens.Unmodified mtime) e = tt
+    placed (givens.Moved location) e = e
+    placed (givens.Plain status) e = tt
+
+-- ---- a request that was looked into
+
+-- its outcome and its service time
+pub priced : (files : List File) (costs : CostTable) (what : Meaning) (method target : List ℕ) (version : HttpVersion) (closing : Bool) (since : Option ℕ) (head : Bool) (lookup : Lookup) (o : Outcome) (cost : ℕ)
+    → what ≡ Request method target version closing since → head ≡ answers_head what → lookup ≡ lookup_of files costs what → lookup ≡ Priced o cost
+    → (o ≡ outcome files (asked method target)) × (cost ≡ service costs o head (is_unmodified_file files since o) (length_given files o))
+priced files costs what method target version closing since head lookup o cost is heads seen priced_is =
+    let own : head ≡ is_head method = heads ∙ ap answers_head is in
+    let all : Priced o cost ≡ Priced (outcome files (asked method target)) (service costs (outcome files (asked method target)) (is_head method) (is_unmodified_file files since (outcome files (asked method target))) (length_given files (outcome files (asked method target)))) =
+    sym priced_is ∙ rw is at seen in
+    let found : o ≡ outcome files (asked method target) = cc in
+    let costing : cost ≡ service costs (outcome files (asked method target)) (is_head method) (is_unmodified_file files since (outcome files (asked method target))) (length_given files (outcome files (asked method target))) = cc in
+    (found, rw (found, own) costing)
+
+abbrev is_priced : Lookup → Bool
+is_priced Unseen = false
+is_priced (Asked a) = false
+is_priced (Found o) = false
+is_priced (Priced o cost) = true
+
+pub is_priced_request : (files : List File) (costs : CostTable) (what : Meaning) (method target : List ℕ) (version : HttpVersion) (closing : Bool) (since : Option ℕ) (lookup : Lookup)
+    → what ≡ Request method target version closing since → lookup ≡ lookup_of files costs what → is_priced lookup ≡ true
+is_priced_request files costs what method target version closing since lookup is seen = rw (seen, is) refl

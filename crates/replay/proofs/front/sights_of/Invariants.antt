@@ -1,7 +1,0 @@
-use Rattle.std.proofs.Common.{◌≡◌, ◌++◌, map, flat_map}
-use Rattle.std.specs.Vec.Iter.{into_iter_items}
-use Rattle.replay.proofs.front.sights_of.Given as goal
-
-abbrev pub invariant-loop-lot : goal.invariant-loop-lot
-invariant-loop-lot g l = l.sights.items ++ flat_map (λ lot. map (λ x. x.sight) lot.items) (into_iter_items l.lot-iterator)
-    ≡ flat_map (λ lot. map (λ x. x.sight) lot.items) l.fn.lots.items

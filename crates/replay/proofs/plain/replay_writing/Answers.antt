@@ -1,0 +1,156 @@
+use Rattle.std.proofs.Common.{◌∙◌, [], ◌∷◌, ◌++◌, ℕ, List, Option, refl, sym, subst, inl, inr, rules}
+use Rattle.std.specs.Io.KnownBytes.{Appends}
+use Rattle.devices.proofs.Appending.{prefix_all}
+use Rattle.reference.specs.Reference.{terms_of}
+use Rattle.replay.proofs.Texts.{text_begun, text_wrote}
+use Rattle.replay.proofs.Judging.{stands_none, passed_on, on_many, on_cut}
+use Rattle.arrivals.proofs.Gathering.{gave_some}
+use Rattle.replay.proofs.ByRecord.{serves_none, no_tiers, sizes_left, is_later, gave_end, all_written, ends_short, leaves_reported, own_leaves, short_leaves, halts_first, halts_written, halts_full, cut_among, cut_part}
+use Rattle.replay.proofs.plain.replay_writing.Goals as goal
+
+pub returns-in_err-begin-clause-fault : goal.returns-in_err-begin-clause-fault
+returns-in_err-begin-clause-fault g c =
+    passed_on c.from_residual.result _ _
+    (λ f same. rw same (short_leaves (g.T.Format.texts (terms_of g.F.Tree.files c.args.settings.now)) c.args.reader.now.bytes _ _ _ c.in_err-begin.field-0.0 c.in_err-begin.ensures.own (inl (c.in_err-begin.ensures.part (terms_of g.F.Tree.files c.args.settings.now)))))
+    c.from_residual.ensures.1
+
+pub returns-in-Err-clause-fault : goal.returns-in-Err-clause-fault
+returns-in-Err-clause-fault g c =
+    let written = c.in_ok-begin.ensures.written (terms_of g.F.Tree.files c.args.settings.now) in
+    rw c.from.ensures
+    (leaves_reported (g.T.Format.texts (terms_of g.F.Tree.files c.args.settings.now)) c.args.reader.now.bytes _ c.args.writer.now.bytes c.begin.new.writer.bytes c.in-Err.fault
+    (halts_first (g.T.Format.texts (terms_of g.F.Tree.files c.args.settings.now)) c.args.reader.now.bytes _ c.args.writer.now.bytes c.begin.new.writer.bytes _ written c.in-Err.ensures.at c.in-Err.ensures.fault (rw c.in-Err.is at c.open.follows.holds-at-none).1)
+    (inl (prefix_all c.args.writer.now.bytes c.begin.new.writer.bytes _ written)))
+
+pub returns-in_err-new-clause-fault : goal.returns-in_err-new-clause-fault
+returns-in_err-new-clause-fault g c =
+    passed_on c.from_residual-in_err-new.result _ _
+    (λ f same. rw same (inl (prefix_all c.args.writer.now.bytes c.begin.new.writer.bytes _ (c.in_ok-begin.ensures.written (terms_of g.F.Tree.files c.args.settings.now)))))
+    c.from_residual-in_err-new.ensures.1
+
+pub loop-next-init : goal.loop-next-init
+loop-next-init g c =
+    let terms = terms_of g.F.Tree.files c.args.settings.now in (
+      (
+        c.in-Ok.capture.progress.version,
+        [],
+        [],
+        rw c.start.ensures c.in-Ok.ensures.ok,
+        serves_none terms c.new-connections.result _ c.new-connections.ensures (stands_none terms _ (c.in_ok-new.ensures.policies ∙ c.policies.ensures) c.in_ok-new.ensures.fits c.new-2.ensures),
+        no_tiers c.new-tiers.result c.new-tiers.ensures,
+        text_begun (g.T.Format.texts terms) c.start.result c.args.writer.now.bytes c.begin.new.writer.bytes (c.in_ok-begin.ensures.texts terms) (c.in_ok-begin.ensures.written terms),
+      ),
+      refl,
+      c.in-Ok.ensures.count,
+      c.in_ok-begin.ensures.failures,
+      rw c.start.ensures c.in-Ok.ensures.ok.rules.in_time,
+    )
+
+pub returns-in-Err-next_record-clause-fault : goal.returns-in-Err-next_record-clause-fault
+returns-in-Err-next_record-clause-fault g c =
+    let inv = c.loop-next.invariant.0 in
+    halts_written (g.T.Format.texts (terms_of g.F.Tree.files c.args.settings.now)) (terms_of g.F.Tree.files c.args.settings.now) inv.0 c.args.reader.now.bytes _ _ c.next_record.new.self.input.now.bytes _ _ _ inv.1 inv.2 _ _ _ c.in-Err-next_record.fault c.from-in-Err-next_record.result c.from-in-Err-next_record.ensures inv.3 inv.4 inv.6
+    (c.in-Err-next_record.ensures.next _ _ _ _ inv.3) (c.in-Err-next_record.ensures.failed _ _ _ _ inv.3) (search rules)
+
+pub answer_record-requires-clause-record : goal.answer_record-requires-clause-record
+answer_record-requires-clause-record g c = (c.loop-next.capture.progress.version, rw c.in-Ok-Some.field-0-is at c.in-Ok-Some.ensures.limits)
+
+pub answer_record-requires-clause-room : goal.answer_record-requires-clause-room
+answer_record-requires-clause-room g c =
+    let inv = c.loop-next.invariant.0 in
+    let fits = gave_some inv.0 _ _ _ inv.1 _ _ _ c.in-Ok-Some.field-0-is (c.in-Ok-Some.ensures.next _ _ _ _ inv.3) in (
+      inv.1,
+      inv.2,
+      inv.4,
+      sizes_left inv.0 _ _ _ _ inv.1 _ _ inv.3 (rw c.in-Ok-Some.field-0-is at c.in-Ok-Some.ensures.room),
+      is_later inv.0 _ inv.1 inv.2 c.in-Ok-Some.next fits.rules inv.4.arrived,
+    )
+
+pub returns-in_err-answer_record-clause-fault : goal.returns-in_err-answer_record-clause-fault
+returns-in_err-answer_record-clause-fault g c =
+    let inv = c.loop-next.invariant.0 in
+    let terms = terms_of g.F.Tree.files c.args.settings.now in
+    let t = g.T.Format.texts terms in
+    let laws = c.in_ok-begin.ensures.texts terms in
+    let fits = gave_some inv.0 _ _ _ inv.1 _ _ _ c.in-Ok-Some.field-0-is (c.in-Ok-Some.ensures.next _ _ _ _ inv.3) in
+    let fault = c.in_err-answer_record.field-0.0 in
+    let says = c.in_err-answer_record.ensures in
+    passed_on c.from_residual-in_err-answer_record.result _ _
+    (λ f same. rw same (own_leaves t _ _ _ _ fault says.own
+    (on_many fault _ _ (λ n full. halts_full t inv.0 _ _ _ _ _ _ n inv.1 inv.2 (c.in-Ok-Some.next ∷ []) _ laws fits inv.6 full.0 (full.1 inv.1 inv.2 inv.5 inv.4)) says.many)
+    (on_cut fault _ _
+    (λ short. elim short [
+      | inl none ↦ cut_among t terms _ _ _ _ _ _ _ _ _ _ _ inv.3 inv.4
+          (subst (λ (w : Option (List ℕ)). Appends c.args.writer.now.bytes w (t.so_far c.loop-next.desk.start inv.2)) (sym none) inv.6)
+      | inr part ↦ cut_part t inv.0 _ _ _ _ _ _ inv.1 inv.2 (c.in-Ok-Some.next ∷ []) _ laws fits inv.6 (part inv.1 inv.2 inv.5 inv.4)
+    ])
+    says.part)))
+    c.from_residual-in_err-answer_record.ensures.1
+
+pub loop-next-preserved-in_ok-answer_record : goal.loop-next-preserved-in_ok-answer_record
+loop-next-preserved-in_ok-answer_record g c =
+    let inv = c.loop-next.invariant in
+    let own = inv.0 in
+    let terms = terms_of g.F.Tree.files c.args.settings.now in
+    let one = c.in_ok-answer_record.ensures in
+    let more = one.serves own.1 own.2 own.5 own.4 in (
+      (
+        own.0,
+        own.1 ++ c.in-Ok-Some.next ∷ [],
+        own.2 ++ more.more,
+        rw one.start (gave_some own.0 _ _ _ own.1 _ _ _ c.in-Ok-Some.field-0-is (c.in-Ok-Some.ensures.next _ _ _ _ own.3)),
+        more.serves,
+        one.tiers own.1 own.5,
+        rw one.start (text_wrote (g.T.Format.texts terms) c.loop-next.desk.start own.2 more.more _ _ _ (c.in_ok-begin.ensures.texts terms) own.6 (rw one.start at more.written)),
+      ),
+      c.in-Ok-Some.ensures.same ∙ inv.1,
+      c.in-Ok-Some.ensures.count ∙ inv.2,
+      one.failures ∙ inv.3,
+      rw one.start inv.4,
+    )
+
+pub loop-next-preserved : goal.loop-next-preserved
+loop-next-preserved g c =
+    let inv = c.loop-next.invariant in
+    let own = inv.0 in
+    let terms = terms_of g.F.Tree.files c.args.settings.now in
+    let one = c.in_ok-answer_record.ensures in
+    let more = one.serves own.1 own.2 own.5 own.4 in (
+      (
+        own.0,
+        own.1 ++ c.in-Ok-Some.next ∷ [],
+        own.2 ++ more.more,
+        rw one.start (gave_some own.0 _ _ _ own.1 _ _ _ c.in-Ok-Some.field-0-is (c.in-Ok-Some.ensures.next _ _ _ _ own.3)),
+        more.serves,
+        one.tiers own.1 own.5,
+        rw one.start (text_wrote (g.T.Format.texts terms) c.loop-next.desk.start own.2 more.more _ _ _ (c.in_ok-begin.ensures.texts terms) own.6 (rw one.start at more.written)),
+      ),
+      c.in-Ok-Some.ensures.same ∙ inv.1,
+      c.in-Ok-Some.ensures.count ∙ inv.2,
+      one.failures ∙ inv.3,
+      rw one.start inv.4,
+    )
+
+pub returns-in_err-outcome-clause-fault : goal.returns-in_err-outcome-clause-fault
+returns-in_err-outcome-clause-fault g c =
+    let inv = c.loop-next.invariant.0 in
+    passed_on c.from_residual-in_err-outcome.result _ _
+    (λ f same. rw same (cut_among (g.T.Format.texts (terms_of g.F.Tree.files c.args.settings.now)) (terms_of g.F.Tree.files c.args.settings.now) _ _ _ _ _ _ _ _ _ _ _ inv.3 inv.4 inv.6))
+    c.from_residual-in_err-outcome.ensures.1
+
+pub returns-in_err-finish-clause-fault : goal.returns-in_err-finish-clause-fault
+returns-in_err-finish-clause-fault g c =
+    let inv = c.loop-next.invariant.0 in
+    passed_on c.from_residual-in_err-finish.result _ _
+    (λ f same. rw same (short_leaves (g.T.Format.texts (terms_of g.F.Tree.files c.args.settings.now)) _ _ _ _ c.in_err-finish.field-0.0 c.in_err-finish.ensures.own
+    (ends_short (g.T.Format.texts (terms_of g.F.Tree.files c.args.settings.now)) (terms_of g.F.Tree.files c.args.settings.now) inv.0 _ _ inv.1 inv.2 _ _ _ _ _ _ (c.in_ok-begin.ensures.texts (terms_of g.F.Tree.files c.args.settings.now)) inv.3.rules
+    (gave_end inv.0 _ _ _ inv.1 _ _ c.in-Ok-None.field-0-is (c.in-Ok-None.ensures.next _ _ _ _ inv.3)) inv.4 inv.6 (c.in_err-finish.ensures.part (terms_of g.F.Tree.files c.args.settings.now)) refl)))
+    c.from_residual-in_err-finish.ensures.1
+
+pub returns-clause-ok : goal.returns-clause-ok
+returns-clause-ok g c =
+    let inv = c.loop-next.invariant.0 in
+    let terms = terms_of g.F.Tree.files c.args.settings.now in
+    all_written (g.T.Format.texts terms) terms inv.0 _ c.loop-next.desk.totals.answered inv.1 inv.2 c.loop-next.connections c.loop-next.desk _ _ _ _ _ (c.in_ok-begin.ensures.texts terms) inv.3.rules
+    (gave_end inv.0 _ _ _ inv.1 _ _ c.in-Ok-None.field-0-is (c.in-Ok-None.ensures.next _ _ _ _ inv.3)) inv.4 inv.6 (c.in_ok-finish.ensures.written terms) refl
+    c.in_ok-outcome.ensures.rejected (c.in_ok-outcome.ensures.summary terms inv.2 inv.4.stands)

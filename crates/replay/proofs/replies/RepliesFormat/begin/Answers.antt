@@ -1,0 +1,5 @@
+use Rattle.replay.proofs.Writing.{replies_laws}
+use Rattle.replay.proofs.replies.RepliesFormat.begin.Goals as goal
+
+pub returns-clause-texts : goal.returns-clause-texts
+returns-clause-texts g c terms = replies_laws terms

@@ -1,5 +1,0 @@
-use Rattle.replay.proofs.Writing.{replies_laws}
-use Rattle.replay.proofs.replies.RepliesTells.begin.Goals as goal
-
-pub returns-clause-texts : goal.returns-clause-texts
-returns-clause-texts g c terms = replies_laws terms
