@@ -1,17 +1,18 @@
 -- A reader of a capture, which gives record after record.
-use Rattle.std.specs.Prelude.{◌≡◌, ℕ, ◌+◌, ◌-◌, ◌≤◌, ◌/◌, ◌%◌, Bool, true, ◌||◌, ◌==◌, List, [], ◌∷◌, ◌++◌, length}
+use Rattle.std.specs.Prelude.{◌≡◌, ◌≢◌, ℕ, ◌+◌, ◌-◌, ◌≤◌, ◌/◌, ◌%◌, Bool, true, ◌||◌, ◌==◌, List, [], ◌∷◌, ◌++◌, length}
 use Rattle.std.specs.Prelude.{Option, Some, None, Result, Ok, Err, IfErr, slice_index_or, is_some, unwrap_or}
 use Rattle.std.specs.Int.{bit_at}
-use Rattle.devices.specs.Devices.{CountsBy}
-use Rattle.captures.specs.Reference.{max_text_bytes, text_before_stop, IsCapture, IsCaptureText}
-use Rattle.captures.specs.Captures.{Past, past_of, sizes_of}
-use Rattle.captures.specs.CaptureFaults.{IsFaultAfter, IsForeseen, IsUnfinished, header_at, record_at, failures_of}
+use Rattle.devices.specs.Devices.{Device, CountsBy}
+use Rattle.captures.specs.Reference.{max_text_bytes, text_before_stop, IsCapture, IsCaptureText, IsRecord}
+use Rattle.captures.specs.Captures.{Past, past_of, size_of, sizes_of}
+use Rattle.captures.specs.CaptureFaults.{IsFaultAfter, IsForeseen, IsHeaderFault, IsUnfinished, header_at, record_at}
+use Rattle.captures.specs.CaptureFaults.{failures_of}
 use Rattle.captures.specs.declared.version.Version.{Version}
 use Rattle.captures.specs.declared.record.Record.{Record}
 use Rattle.captures.specs.declared.record.Record.TheVariants.{Piece, End, Tier}
 use Rattle.captures.specs.declared.capture_fault.CaptureFault.{CaptureFault}
 use Rattle.captures.specs.declared.capture_fault.CaptureFaultKind.{CaptureFaultKind}
-use Rattle.captures.specs.declared.capture_fault.CaptureFaultKind.TheVariants.{Cut, Read}
+use Rattle.captures.specs.declared.capture_fault.CaptureFaultKind.TheVariants.{Cut, Read, Memory}
 use Rattle.captures.specs.declared.connection_set.ConnectionSet.{ConnectionSet}
 use Rattle.captures.specs.declared.so_far.SoFar.{SoFar}
 use Rattle.captures.specs.declared.progress.ReaderState.{ReaderState}
@@ -80,13 +81,6 @@ failures_next (Failed f) k = 0
 abbrev pub CountsNext : ReaderState → ℕ → ℕ → Result (Option Record) CaptureFault → Type 0
 CountsNext stage old new r = CountsBy (λ f. failures_next stage f.kind) old new r
 
--- the same of a reader that names the kind of a fault alone
-abbrev pub GaveKind : Version → Option (List ℕ) → ℕ → List Record → Result (Option Record) CaptureFaultKind → Progress
-    → Option (List ℕ) → Type 0
-GaveKind v text start records (Ok next) p now = Gave v text start records (Ok next) p now
-GaveKind v text start records (Err kind) p now = Gave v text start records
-    (Err (record { at = length records + 1; kind = kind })) p now
-
 -- A read failed in the first line: of the text a part was taken, in which that line doesn't end.
 pub record FailsInFirstLine (text part rest : List ℕ) : Type 0 where
   pub taken : text ≡ part ++ rest
@@ -115,8 +109,32 @@ abbrev pub FailsNext : Version → Option (List ℕ) → ℕ → List Record →
 FailsNext v text start records r now = IfErr r (λ f. f.kind ≡ Read → is_some text ≡ true
     → (part : List ℕ) × FailsInRecord v (unwrap_or text []) start records part (unwrap_or now []))
 
--- the same of a reader that names the kind of a fault alone
-abbrev pub FailsNextKind : Version → Option (List ℕ) → ℕ → List Record → Result (Option Record) CaptureFaultKind
-    → Option (List ℕ) → Type 0
-FailsNextKind v text start records r now = IfErr r (λ kind. kind ≡ Read → is_some text ≡ true
-    → (part : List ℕ) × FailsInRecord v (unwrap_or text []) start records part (unwrap_or now []))
+-- What a call answers a reader that has given some records, and where a read failed in it, that no whole record after
+-- these had been taken.
+abbrev pub GivesNext : Progress → Option (List ℕ) → Result (Option Record) CaptureFault → Progress → Option (List ℕ)
+    → Type 0
+GivesNext old before r new now = (version : Version) (text : Option (List ℕ)) (start : ℕ) (records : List Record)
+    → ReaderAfter version text start records old before
+    → Gave version text start records r new now × FailsNext version text start records r now
+
+-- A record that a reader gives is within the limits and takes its room, whatever the bytes of the device are.
+pub record IsGiven (old new : Progress) (r : Record) : Type 0 where
+  pub limits : IsRecord old.version r
+  pub room : size_of r + 1 + new.room ≡ old.room
+
+-- A reader comes to this answer, and stays that of the same capture.
+pub record ComesTo (old new : Progress) (r : Result (Option Record) CaptureFault) : Type 0 where
+  pub version : new.version ≡ old.version
+  pub start : new.start ≡ old.start
+  pub stage : new.stage ≡ state_after r
+
+-- a reader was made on an input, and has read its first line
+pub record HasOpened (before : Device) (p : Progress) (now : Device) : Type 0 where
+  pub after : ReaderAfter p.version before.bytes p.start [] p now.bytes
+  pub count : now.failures ≡ before.failures
+
+-- the fault of a first line, which takes no memory
+pub record IsOpeningFault (text : Option (List ℕ)) (f : CaptureFault) : Type 0 where
+  pub at : f.at ≡ 0
+  pub memory : f.kind ≢ Memory
+  pub foreseen : IsForeseen IsHeaderFault text f

@@ -1,15 +1,10 @@
 //! How far a reader of a capture has come, apart from its device.
 
-ghost use Rattle.std.specs.Prelude.{◌≡◌, ◌+◌, ◌<◌, ◌≤◌, ◌-◌, ◌^◌, [], ℕ, List, Option, IfNone, IfOk, IfErr, IfSome};
-ghost use Rattle.std.specs.Prelude.{◌≢◌};
+ghost use Rattle.std.specs.Prelude.{◌≡◌, ◌+◌, ◌<◌, ◌≤◌, ◌-◌, ◌^◌, IfNone, IfOk, IfErr, IfSome};
 ghost use Rattle.devices.specs.Devices.{CanFail};
-ghost use Rattle.captures.specs.Reference.{IsRecord};
 ghost use Rattle.captures.specs.Captures.{size_of};
-ghost use Rattle.captures.specs.CaptureFaults.{IsForeseen, IsHeaderFault, IsFaultAfter, CountsFault, CountsKind};
-ghost use Rattle.captures.specs.Readers.{ReaderAfter, Gave, GaveKind, FailsNext, FailsNextKind, state_after, Repeats};
-ghost use Rattle.captures.specs.Readers.{CountsNext, FailsFirst};
-ghost use Rattle.captures.specs.declared.record.Record.{Record as ARecord};
-ghost use Rattle.captures.specs.declared.version.Version.{Version as AVersion};
+ghost use Rattle.captures.specs.CaptureFaults.{CountsFault};
+ghost use Rattle.captures.specs.Readers.{ComesTo, FailsFirst, GivesNext, HasOpened, IsGiven, IsOpeningFault};
 
 use crate::reading::{read_header, read_record};
 use crate::so_far::SoFar;
@@ -64,11 +59,8 @@ impl Progress {
     /// Reads the first line.
     pub(crate) fn open<R: Read>(input: &mut Input<R>) -> Result<Progress, CaptureFault>
         requires { CanFail input.old }
-        ensures ok { IfOk result (λ p. ReaderAfter p.version input.old.bytes p.start [] p input.new.bytes) }
-        ensures at { IfErr result (λ f. f.at ≡ 0) }
-        // It takes no memory.
-        ensures memory { IfErr result (λ f. f.kind ≢ CaptureFaultKind.Memory) }
-        ensures fault { IfErr result (IsForeseen IsHeaderFault input.old.bytes) }
+        ensures ok { IfOk result (λ p. HasOpened input.old p input.new) }
+        ensures fault { IfErr result (IsOpeningFault input.old.bytes) }
         // Where a read failed, no whole line had been taken.
         ensures failed { IfErr result (λ f. FailsFirst input.old.bytes f input.new.bytes) }
         ensures count { CountsFault input.old.failures input.new.failures result }
@@ -87,28 +79,30 @@ impl Progress {
         }
     }
 
+    /// The fault of this kind at record `at`, with which the reading ends.
+    fn fail(&mut self, at: usize, kind: CaptureFaultKind) -> CaptureFault
+        ensures fault { result ≡ record { at = at; kind = kind } }
+        ensures failed { self.new ≡ record self.old { stage = ReaderState.Failed result } }
+    {
+        let fault = CaptureFault { at, kind };
+        self.stage = ReaderState::Failed(fault);
+        fault
+    }
+
     /// Reads the next record, or `None` where the capture ends.
-    fn take_record<R: Read>(
+    pub(crate) fn take_record<R: Read>(
         &mut self,
         alloc: Global,
         input: &mut Input<R>,
-    ) -> Result<Option<Record>, CaptureFaultKind>
-        requires { CanFail input.old }
-        ensures next { (version : AVersion) (text : Option (List ℕ)) (start : ℕ) (records : List ARecord)
-            → ReaderAfter version text start records self.old input.old.bytes
-            → GaveKind version text start records result self.new input.new.bytes }
-        // Where a read failed, no whole record after these had been taken.
-        ensures failed { (version : AVersion) (text : Option (List ℕ)) (start : ℕ) (records : List ARecord)
-            → ReaderAfter version text start records self.old input.old.bytes
-            → FailsNextKind version text start records result input.new.bytes }
-        ensures room { IfOk result (λ next. IfSome next (λ r. size_of r + 1 + self.new.room ≡ self.old.room)) }
-        // Whatever the bytes of the device are.
-        ensures limits { IfOk result (λ next. IfSome next (IsRecord self.old.version)) }
-        ensures version { self.new.version ≡ self.old.version }
-        ensures start { self.new.start ≡ self.old.start }
-        ensures stage { self.new.stage ≡ self.old.stage }
-        ensures count { CountsKind input.old.failures input.new.failures result }
+    ) -> Result<Option<Record>, CaptureFault>
+        requires failures { CanFail input.old }
+        requires stage { self.old.stage ≡ ReaderState.Reading }
+        ensures next { GivesNext self.old input.old.bytes result self.new input.new.bytes }
+        ensures given { IfOk result (λ next. IfSome next (IsGiven self.old self.new)) }
+        ensures stands { ComesTo self.old self.new result }
+        ensures count { CountsFault input.old.failures input.new.failures result }
     {
+        let at = self.so_far.count.saturating_add(1);
         match read_record(alloc, input, &mut self.left, self.version, &self.so_far) {
             Ok(Some(record)) => match room_after(self.room, &record) {
                 Some(room) => {
@@ -116,53 +110,13 @@ impl Progress {
                     self.so_far.add(&record);
                     Ok(Some(record))
                 }
-                None => Err(CaptureFaultKind::TooLarge),
+                None => Err(self.fail(at, CaptureFaultKind::TooLarge)),
             },
-            Ok(None) => Ok(None),
-            Err(kind) => Err(kind),
-        }
-    }
-
-    /// Reads the next record, or `None` where the capture ends, or repeats the last answer.
-    pub(crate) fn next_record<R: Read>(
-        &mut self,
-        alloc: Global,
-        input: &mut Input<R>,
-    ) -> Result<Option<Record>, CaptureFault>
-        requires { CanFail input.old }
-        ensures next { (version : AVersion) (text : Option (List ℕ)) (start : ℕ) (records : List ARecord)
-            → ReaderAfter version text start records self.old input.old.bytes
-            → Gave version text start records result self.new input.new.bytes }
-        // Where a read failed, no whole record after these had been taken.
-        ensures failed { (version : AVersion) (text : Option (List ℕ)) (start : ℕ) (records : List ARecord)
-            → ReaderAfter version text start records self.old input.old.bytes
-            → FailsNext version text start records result input.new.bytes }
-        ensures room { IfOk result (λ next. IfSome next (λ r. size_of r + 1 + self.new.room ≡ self.old.room)) }
-        // Whatever the bytes of the device are.
-        ensures limits { IfOk result (λ next. IfSome next (IsRecord self.old.version)) }
-        ensures version { self.new.version ≡ self.old.version }
-        ensures start { self.new.start ≡ self.old.start }
-        ensures stage { self.new.stage ≡ state_after result }
-        ensures again { Repeats self.old.stage result ((self.new ≡ self.old) × (input.new ≡ input.old)) }
-        ensures count { CountsNext self.old.stage input.old.failures input.new.failures result }
-    {
-        match self.stage {
-            ReaderState::Reading => {}
-            ReaderState::Ended => return Ok(None),
-            ReaderState::Failed(fault) => return Err(fault),
-        }
-        let at = self.so_far.count.saturating_add(1);
-        match self.take_record(alloc, input) {
-            Ok(Some(record)) => Ok(Some(record)),
             Ok(None) => {
                 self.stage = ReaderState::Ended;
                 Ok(None)
             }
-            Err(kind) => {
-                let fault = CaptureFault { at, kind };
-                self.stage = ReaderState::Failed(fault);
-                Err(fault)
-            }
+            Err(kind) => Err(self.fail(at, kind)),
         }
     }
 }

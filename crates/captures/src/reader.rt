@@ -1,18 +1,15 @@
 //! The reader of a capture, which borrows its device.
 
-ghost use Rattle.std.specs.Prelude.{◌≡◌, ◌+◌, ◌<◌, ◌≤◌, ◌-◌, ◌^◌, [], ℕ, List, Option, IfOk, IfErr, IfSome, ◌≢◌};
+ghost use Rattle.std.specs.Prelude.{◌≡◌, ◌<◌, ◌-◌, ◌^◌, IfOk, IfErr, IfSome};
 ghost use Rattle.std.specs.Borrow.{sem, RestsIfErr};
 ghost use Rattle.devices.specs.Devices.{CanFail};
 ghost use Rattle.devices.specs.contracts.device.Input.{the_row};
-ghost use Rattle.captures.specs.Reference.{IsRecord};
-ghost use Rattle.captures.specs.Captures.{size_of};
-ghost use Rattle.captures.specs.CaptureFaults.{IsForeseen, IsHeaderFault, CountsFault};
-ghost use Rattle.captures.specs.Readers.{ReaderAfter, Gave, FailsFirst, FailsNext, state_after, Repeats, CountsNext};
-ghost use Rattle.captures.specs.declared.record.Record.{Record as ARecord};
-ghost use Rattle.captures.specs.declared.version.Version.{Version as AVersion};
+ghost use Rattle.captures.specs.CaptureFaults.{CountsFault};
+ghost use Rattle.captures.specs.Readers.{ComesTo, CountsNext, FailsFirst, GivesNext, HasOpened, IsGiven};
+ghost use Rattle.captures.specs.Readers.{IsOpeningFault, Repeats};
 
-use crate::progress::Progress;
-use crate::{CaptureFault, CaptureFaultKind, Record, Version};
+use crate::progress::{Progress, ReaderState};
+use crate::{CaptureFault, Record, Version};
 use devices::Input;
 use std::alloc::Global;
 use std::io::Read;
@@ -30,15 +27,9 @@ impl<'a, R: Read> CaptureReader<'a, R> {
     /// Reads the first line.
     pub fn open(input: &'a mut Input<R>) -> Result<CaptureReader<'a, R>, CaptureFault>
         requires { CanFail input.old }
-        ensures ok { IfOk result (λ reader.
-            ReaderAfter (progress_of reader).version input.old.bytes (progress_of reader).start []
-            (progress_of reader) (device_of reader).bytes) }
-        ensures at { IfErr result (λ f. f.at ≡ 0) }
-        // It takes no memory.
-        ensures memory { IfErr result (λ f. f.kind ≢ CaptureFaultKind.Memory) }
-        ensures fault { IfErr result (IsForeseen IsHeaderFault input.old.bytes) }
-        ensures count { IfOk result (λ reader. (device_of reader).failures ≡ input.old.failures) }
+        ensures ok { IfOk result (λ reader. HasOpened input.old (progress_of reader) (device_of reader)) }
         ensures same { IfOk result (λ reader. loan_of reader ≡ input.entry.ghost_name) }
+        ensures fault { IfErr result (IsOpeningFault input.old.bytes) }
         // At a fault the input is given back; where a read failed, no whole line had been taken from it.
         ensures* refused { sem 𝓛
             (RestsIfErr (the_row R.row R.Read) input.entry loan_of result
@@ -67,26 +58,20 @@ impl<'a, R: Read> CaptureReader<'a, R> {
     /// on, that fault is answered, and nothing is read.
     pub fn next_record(&mut self, alloc: Global) -> Result<Option<Record>, CaptureFault>
         requires { CanFail (device_of self.old) }
-        ensures next { (version : AVersion) (text : Option (List ℕ)) (start : ℕ) (records : List ARecord)
-            → ReaderAfter version text start records (progress_of self.old) (device_of self.old).bytes
-            → Gave version text start records result (progress_of self.new) (device_of self.new).bytes }
-        // Where a read failed, no whole record after these had been taken.
-        ensures failed { (version : AVersion) (text : Option (List ℕ)) (start : ℕ) (records : List ARecord)
-            → ReaderAfter version text start records (progress_of self.old) (device_of self.old).bytes
-            → FailsNext version text start records result (device_of self.new).bytes }
-        ensures room { IfOk result
-            (λ next. IfSome next (λ r. size_of r + 1 + (progress_of self.new).room ≡ (progress_of self.old).room)) }
-        // Whatever the bytes of the device are.
-        ensures limits { IfOk result (λ next. IfSome next (IsRecord (progress_of self.old).version)) }
-        ensures version { (progress_of self.new).version ≡ (progress_of self.old).version }
-        ensures start { (progress_of self.new).start ≡ (progress_of self.old).start }
-        ensures stage { (progress_of self.new).stage ≡ state_after result }
+        ensures next { GivesNext (progress_of self.old) (device_of self.old).bytes
+            result (progress_of self.new) (device_of self.new).bytes }
+        ensures given { IfOk result (λ next. IfSome next (IsGiven (progress_of self.old) (progress_of self.new))) }
+        ensures stands { ComesTo (progress_of self.old) (progress_of self.new) result
+            × (loan_of self.new ≡ loan_of self.old) }
         ensures again { Repeats (progress_of self.old).stage result
             ((progress_of self.new ≡ progress_of self.old) × (device_of self.new ≡ device_of self.old)) }
         ensures count { CountsNext (progress_of self.old).stage
             (device_of self.old).failures (device_of self.new).failures result }
-        ensures same { loan_of self.new ≡ loan_of self.old }
     {
-        self.progress.next_record(alloc, self.input)
+        match self.progress.stage {
+            ReaderState::Reading => self.progress.take_record(alloc, self.input),
+            ReaderState::Ended => Ok(None),
+            ReaderState::Failed(fault) => Err(fault),
+        }
     }
 }
