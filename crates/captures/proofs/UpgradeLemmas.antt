@@ -1,5 +1,5 @@
 -- What an upgrade has written where it stops.
-use Rattle.std.proofs.Common.{◌≡◌, ℕ, ◌≤◌, ◌⊎◌, inl, inr, List, [], ◌∷◌, ◌++◌, length, Option, Some, None, Result, Ok, Err, refl, sym, ap, ◌∙◌, subst, arith, codes, decimal, IfErr, OnOk, append-nil}
+use Rattle.std.proofs.Common.{◌≡◌, ℕ, false, ◌≤◌, ◌⊎◌, inl, inr, List, [], ◌∷◌, ◌++◌, length, Option, Some, None, Result, Ok, Err, refl, sym, ap, ◌∙◌, subst, arith, codes, decimal, IfErr, OnOk, append-nil}
 use Rattle.std.specs.Result.{IsErrAnd}
 use Rattle.std.specs.Io.KnownBytes.{Appends}
 use Rattle.std.proofs.lemmas.List.{flat_map_more}
@@ -13,72 +13,75 @@ use Rattle.captures.specs.declared.progress.Progress.{Progress}
 use Rattle.captures.specs.declared.capture_fault.CaptureFault.{CaptureFault}
 use Rattle.captures.specs.declared.capture_fault.CaptureFaultKind.{CaptureFaultKind}
 use Rattle.captures.specs.declared.capture_fault.CaptureFaultKind.TheVariants as kinds
-use Rattle.captures.specs.declared.upgrade_fault.UpgradeFault.{UpgradeFault}
-use Rattle.captures.specs.declared.upgrade_fault.UpgradeFault.TheVariants.{Capture, Memory, Write as Unwritten}
+use Rattle.captures.specs.declared.pass_fault.PassFault.{PassFault}
+use Rattle.captures.specs.declared.pass_fault.PassFault.TheVariants.{Capture, TooMany, Memory, Write as Unwritten}
 use Rattle.captures.specs.Reference.{first_line, last_line, record_text, text_before_stop, max_text_bytes, IsCapture, IsCaptureText}
 use Rattle.captures.specs.CaptureFaults.{IsForeseen, IsHeaderFault, failures_of}
 use Rattle.captures.specs.Readers.{ReaderAfter, Gave, FailsFirst, FailsNext}
 use Rattle.captures.proofs.PassLemmas.{reads_of, faults_next}
-use Rattle.captures.specs.Upgrades.{Upgrades, Stops, IsCutShort, Leaves, reported_as, upgrade_fault, IsWriteOrMemory, reader_failures, writer_failures}
+use Rattle.captures.specs.Upgrades.{Upgrades, Stops, IsCutShort, Leaves}
+use Rattle.captures.specs.Passes.{is_memory, reported_as, pass_fault, IsWriteOrMemory, reader_failures, writer_failures}
 
 -- ---- what is told of a capture's fault
 
-tells : (f : CaptureFault) → ((f.kind ≡ kinds.Memory) × (upgrade_fault f ≡ Memory)) ⊎ ((f.kind ≡ kinds.Memory → ⊥) × (upgrade_fault f ≡ Capture f))
+tells : (f : CaptureFault) → ((f.kind ≡ kinds.Memory) × (pass_fault f ≡ Memory)) ⊎ ((is_memory f.kind ≡ false) × (pass_fault f ≡ Capture f))
 tells f = go f.kind refl
   where
-    go : (k : CaptureFaultKind) → f.kind ≡ k → ((f.kind ≡ kinds.Memory) × (reported_as k f ≡ Memory)) ⊎ ((f.kind ≡ kinds.Memory → ⊥) × (reported_as k f ≡ Capture f))
-    go kinds.Cut e = inr ((λ m. let x : kinds.Cut ≡ kinds.Memory = sym e ∙ m in absurd cc), refl)
-    go kinds.Header e = inr ((λ m. let x : kinds.Header ≡ kinds.Memory = sym e ∙ m in absurd cc), refl)
-    go kinds.Kind e = inr ((λ m. let x : kinds.Kind ≡ kinds.Memory = sym e ∙ m in absurd cc), refl)
-    go kinds.Number e = inr ((λ m. let x : kinds.Number ≡ kinds.Memory = sym e ∙ m in absurd cc), refl)
-    go kinds.Tick e = inr ((λ m. let x : kinds.Tick ≡ kinds.Memory = sym e ∙ m in absurd cc), refl)
-    go kinds.Connection e = inr ((λ m. let x : kinds.Connection ≡ kinds.Memory = sym e ∙ m in absurd cc), refl)
-    go kinds.Ended e = inr ((λ m. let x : kinds.Ended ≡ kinds.Memory = sym e ∙ m in absurd cc), refl)
-    go kinds.Tier e = inr ((λ m. let x : kinds.Tier ≡ kinds.Memory = sym e ∙ m in absurd cc), refl)
-    go kinds.Length e = inr ((λ m. let x : kinds.Length ≡ kinds.Memory = sym e ∙ m in absurd cc), refl)
-    go kinds.Count e = inr ((λ m. let x : kinds.Count ≡ kinds.Memory = sym e ∙ m in absurd cc), refl)
-    go kinds.Trailing e = inr ((λ m. let x : kinds.Trailing ≡ kinds.Memory = sym e ∙ m in absurd cc), refl)
-    go kinds.TooLarge e = inr ((λ m. let x : kinds.TooLarge ≡ kinds.Memory = sym e ∙ m in absurd cc), refl)
-    go kinds.Read e = inr ((λ m. let x : kinds.Read ≡ kinds.Memory = sym e ∙ m in absurd cc), refl)
+    go : (k : CaptureFaultKind) → f.kind ≡ k → ((f.kind ≡ kinds.Memory) × (reported_as k f ≡ Memory)) ⊎ ((is_memory f.kind ≡ false) × (reported_as k f ≡ Capture f))
+    go kinds.Cut e = inr (ap is_memory e, refl)
+    go kinds.Header e = inr (ap is_memory e, refl)
+    go kinds.Kind e = inr (ap is_memory e, refl)
+    go kinds.Number e = inr (ap is_memory e, refl)
+    go kinds.Tick e = inr (ap is_memory e, refl)
+    go kinds.Connection e = inr (ap is_memory e, refl)
+    go kinds.Ended e = inr (ap is_memory e, refl)
+    go kinds.Tier e = inr (ap is_memory e, refl)
+    go kinds.Length e = inr (ap is_memory e, refl)
+    go kinds.Count e = inr (ap is_memory e, refl)
+    go kinds.Trailing e = inr (ap is_memory e, refl)
+    go kinds.TooLarge e = inr (ap is_memory e, refl)
+    go kinds.Read e = inr (ap is_memory e, refl)
     go kinds.Memory e = inl (e, refl)
 
 -- what stands where the capture has a fault: what is due there, or else a prefix of what is due
-pub leaves_reported : (input ahead old new : Option (List ℕ)) (f : CaptureFault) → Stops input ahead old new f → IsCutShort input old new → Leaves input ahead old new (upgrade_fault f)
+pub leaves_reported : (input ahead old new : Option (List ℕ)) (f : CaptureFault) → Stops input ahead old new f → IsCutShort input old new → Leaves input ahead old new (pass_fault f)
 leaves_reported input ahead old new f stops cut = elim (tells f) [
-  | inl m ↦ subst (λ (u : UpgradeFault). Leaves input ahead old new u) (sym m.1) cut
-  | inr c ↦ subst (λ (u : UpgradeFault). Leaves input ahead old new u) (sym c.1) (c.0, stops)
+  | inl m ↦ subst (λ (u : PassFault). Leaves input ahead old new u) (sym m.1) cut
+  | inr c ↦ subst (λ (u : PassFault). Leaves input ahead old new u) (sym c.1) (c.0, stops)
 ]
 
 -- where memory can't have run out
-pub leaves_first : (input ahead old new : Option (List ℕ)) (f : CaptureFault) → Stops input ahead old new f → (f.kind ≡ kinds.Memory → ⊥) → Leaves input ahead old new (upgrade_fault f)
+pub leaves_first : (input ahead old new : Option (List ℕ)) (f : CaptureFault) → Stops input ahead old new f → (f.kind ≡ kinds.Memory → ⊥) → Leaves input ahead old new (pass_fault f)
 leaves_first input ahead old new f stops other = elim (tells f) [
   | inl m ↦ absurd (other m.0)
-  | inr c ↦ subst (λ (u : UpgradeFault). Leaves input ahead old new u) (sym c.1) (c.0, stops)
+  | inr c ↦ subst (λ (u : PassFault). Leaves input ahead old new u) (sym c.1) (c.0, stops)
 ]
 
-pub reported_reads : (f : CaptureFault) → reader_failures (upgrade_fault f) ≡ failures_of f.kind
+pub reported_reads : (f : CaptureFault) → reader_failures (pass_fault f) ≡ failures_of f.kind
 reported_reads f = elim (tells f) [
   | inl m ↦ ap reader_failures m.1 ∙ sym (ap failures_of m.0)
   | inr c ↦ ap reader_failures c.1
 ]
 
-pub reported_writes : (f : CaptureFault) → writer_failures (upgrade_fault f) ≡ 0
+pub reported_writes : (f : CaptureFault) → writer_failures (pass_fault f) ≡ 0
 reported_writes f = elim (tells f) [ inl m ↦ ap writer_failures m.1 | inr c ↦ ap writer_failures c.1 ]
 
 -- ---- what is said of the call's own faults
 
-pub own_leaves : (input ahead old new : Option (List ℕ)) (f : UpgradeFault) → IsWriteOrMemory f → IsCutShort input old new → Leaves input ahead old new f
+pub own_leaves : (input ahead old new : Option (List ℕ)) (f : PassFault) → IsWriteOrMemory f → IsCutShort input old new → Leaves input ahead old new f
 own_leaves input ahead old new (Capture f) h cut = absurd h
+own_leaves input ahead old new (TooMany n) h cut = absurd h
 own_leaves input ahead old new Unwritten h cut = cut
 own_leaves input ahead old new Memory h cut = cut
 
-pub own_reads : (f : UpgradeFault) → IsWriteOrMemory f → reader_failures f ≡ 0
+pub own_reads : (f : PassFault) → IsWriteOrMemory f → reader_failures f ≡ 0
 own_reads (Capture f) h = absurd h
+own_reads (TooMany n) h = absurd h
 own_reads Unwritten h = refl
 own_reads Memory h = refl
 
 -- a fault that `?` has passed on
-pub passed_on : {T : Type 0} (r : Result T UpgradeFault) (Q P : UpgradeFault → Type 0) → ((f : UpgradeFault) → Q f → P f) → IsErrAnd r Q → IfErr r P
+pub passed_on : {T : Type 0} (r : Result T PassFault) (Q P : PassFault → Type 0) → ((f : PassFault) → Q f → P f) → IsErrAnd r Q → IfErr r P
 passed_on (Ok x) Q P more h = tt
 passed_on (Err f) Q P more h = more f h
 
@@ -162,13 +165,13 @@ pub moved : (X : Option (List ℕ) → Type 0) (a b : Option (List ℕ)) → X b
 moved X a b h e = subst X (sym e) h
 
 -- the last line was written, or a prefix of it
-pub part_end : (r : Result Unit UpgradeFault) (v : Version) (text ahead old mid new : Option (List ℕ)) (start n : ℕ) (records : List Record) → n ≡ length records → IsCapture v start records
+pub part_end : (r : Result Unit PassFault) (v : Version) (text ahead old mid new : Option (List ℕ)) (start n : ℕ) (records : List Record) → n ≡ length records → IsCapture v start records
     → Appends old mid (text_before_stop Two start records) → WhereKnown text (λ bytes. IsCaptureText v bytes start records) → WritesPrefix mid new r ((codes "stop " ++ decimal n) ++ line_feed ∷ [])
     → IfErr r IsWriteOrMemory → IfErr r (Leaves text ahead old new)
 part_end (Ok x) v text ahead old mid new start n records is rules before c h own = tt
 part_end (Err f) v text ahead old mid new start n records is rules before c h own = own_leaves text ahead old new f own (short_end v text old mid new start n records is rules c before h)
 
-pub ok_end : (r : Result Unit UpgradeFault) (v : Version) (text old mid new : Option (List ℕ)) (start n : ℕ) (records : List Record) → n ≡ length records → IsCapture v start records
+pub ok_end : (r : Result Unit PassFault) (v : Version) (text old mid new : Option (List ℕ)) (start n : ℕ) (records : List Record) → n ≡ length records → IsCapture v start records
     → Appends old mid (text_before_stop Two start records) → WhereKnown text (λ bytes. IsCaptureText v bytes start records) → WritesPrefix mid new r ((codes "stop " ++ decimal n) ++ line_feed ∷ [])
     → OnOk r (Upgrades text old new)
 ok_end (Ok x) v text old mid new start n records is rules before c h = whole v text old mid new start n records is rules c before h

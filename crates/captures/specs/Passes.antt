@@ -1,11 +1,15 @@
 -- A pass over a capture: it reads record by record, and writes as it reads. Where it stopped at the capture's fault.
-use Rattle.std.specs.Prelude.{◌≡◌, ℕ, ◌+◌, ◌≤◌, ◌⊎◌, false, List, ◌++◌, length, Option, Err}
+use Rattle.std.specs.Prelude.{◌≡◌, ℕ, ◌+◌, ◌≤◌, ◌⊎◌, Bool, true, false, List, ◌++◌, length, Option, Err}
 use Rattle.devices.specs.Reference.{WhereKnown}
 use Rattle.captures.specs.declared.record.Record.{Record}
 use Rattle.captures.specs.declared.version.Version.{Version}
 use Rattle.captures.specs.declared.capture_fault.CaptureFault.{CaptureFault}
+use Rattle.captures.specs.declared.capture_fault.CaptureFaultKind.{CaptureFaultKind}
+use Rattle.captures.specs.declared.capture_fault.CaptureFaultKind.TheVariants as kinds
+use Rattle.captures.specs.declared.pass_fault.PassFault.{PassFault}
+use Rattle.captures.specs.declared.pass_fault.PassFault.TheVariants.{Capture, TooMany, Memory, Write as Unwritten}
 use Rattle.captures.specs.Reference.{IsCapture, max_text_bytes, text_before_stop}
-use Rattle.captures.specs.CaptureFaults.{is_unforeseen_kind, IsHeaderFault, IsFaultAfter}
+use Rattle.captures.specs.CaptureFaults.{failures_of, is_unforeseen_kind, IsHeaderFault, IsFaultAfter}
 use Rattle.captures.specs.Readers.{FailsFirst, FailsNext}
 
 -- Records that were read: they keep the rules, and their texts are a prefix of the input, within the limit.
@@ -38,3 +42,40 @@ pub record FaultsNext (input ahead : Option (List ℕ)) (read : RecordsRead inpu
 abbrev pub StopsAt : (input ahead : Option (List ℕ)) → Type 0 → (RecordsRead input → Type 0) → CaptureFault → Type 0
 StopsAt input ahead First After f = (FaultsAtOnce input ahead f × First)
     ⊎ ((read : RecordsRead input) × FaultsNext input ahead read f × After read)
+
+-- where the reader is out of memory, the pass is
+abbrev pub reported_as : CaptureFaultKind → CaptureFault → PassFault
+reported_as kinds.Memory f = Memory
+reported_as other f = Capture f
+
+abbrev pub pass_fault : CaptureFault → PassFault
+pass_fault f = reported_as f.kind f
+
+abbrev pub is_memory : CaptureFaultKind → Bool
+is_memory kinds.Memory = true
+is_memory other = false
+
+-- a failed write, or out of memory
+abbrev pub IsWriteOrMemory : PassFault → Type 0
+IsWriteOrMemory Unwritten = Unit {0}
+IsWriteOrMemory Memory = Unit {0}
+IsWriteOrMemory other = ⊥
+
+-- What stands where a pass stopped, by its fault: at the capture's, which is never that of a reader out of memory, as
+-- `StopsAt` says; at a message too many, Beyond, by its number; at a failed write and out of memory, Part.
+abbrev pub LeavesBy : (input ahead : Option (List ℕ)) → Type 0 → (RecordsRead input → Type 0) → (ℕ → Type 0) → Type 0
+    → PassFault → Type 0
+LeavesBy input ahead First After Beyond Part (Capture f) =
+    (is_memory f.kind ≡ false) × StopsAt input ahead First After f
+LeavesBy input ahead First After Beyond Part (TooMany number) = Beyond number
+LeavesBy input ahead First After Beyond Part Unwritten = Part
+LeavesBy input ahead First After Beyond Part Memory = Part
+
+-- how often the reader and the writer failed in a call that answered this fault
+abbrev pub reader_failures : PassFault → ℕ
+reader_failures (Capture f) = failures_of f.kind
+reader_failures other = 0
+
+abbrev pub writer_failures : PassFault → ℕ
+writer_failures Unwritten = 1
+writer_failures other = 0

@@ -8,11 +8,11 @@ use Rattle.captures.specs.declared.record.Record.{Record}
 use Rattle.captures.specs.declared.capture_fault.CaptureFault.{CaptureFault}
 use Rattle.captures.specs.declared.capture_fault.CaptureFaultKind.{CaptureFaultKind}
 use Rattle.captures.specs.declared.capture_fault.CaptureFaultKind.TheVariants as kinds
-use Rattle.captures.specs.declared.upgrade_fault.UpgradeFault.{UpgradeFault}
-use Rattle.captures.specs.declared.upgrade_fault.UpgradeFault.TheVariants.{Capture, Memory, Write as Unwritten}
+use Rattle.captures.specs.declared.pass_fault.PassFault.{PassFault}
+use Rattle.captures.specs.declared.pass_fault.PassFault.TheVariants.{Capture, Memory, Write as Unwritten}
 use Rattle.captures.specs.Reference.{text_before_stop, capture_text, IsCaptureText, WholeCapture}
 use Rattle.captures.specs.CaptureFaults.{failures_of}
-use Rattle.captures.specs.Passes.{RecordsRead, StopsAt}
+use Rattle.captures.specs.Passes.{LeavesBy, RecordsRead, StopsAt}
 
 -- The upgraded text of a capture is that of version 2 with the same start and the same records.
 abbrev pub upgraded : ℕ → List Record → List ℕ
@@ -44,31 +44,8 @@ IsCutShort input old new =
     ((read : RecordsRead input) × AppendsPrefix old new (text_before_stop Two read.start read.records))
     ⊎ ((whole : WholeCapture input) × AppendsPrefix old new (upgraded whole.start whole.records))
 
--- where the reader is out of memory, the call is
-abbrev pub reported_as : CaptureFaultKind → CaptureFault → UpgradeFault
-reported_as kinds.Memory f = Memory
-reported_as other f = Capture f
-
-abbrev pub upgrade_fault : CaptureFault → UpgradeFault
-upgrade_fault f = reported_as f.kind f
-
--- What stands where an upgrade stopped, by its fault. Out of memory has a name of its own.
-abbrev pub Leaves : Option (List ℕ) → Option (List ℕ) → Option (List ℕ) → Option (List ℕ) → UpgradeFault → Type 0
-Leaves input ahead old new (Capture f) = (f.kind ≢ kinds.Memory) × Stops input ahead old new f
-Leaves input ahead old new Unwritten = IsCutShort input old new
-Leaves input ahead old new Memory = IsCutShort input old new
-
--- a failed write, or out of memory
-abbrev pub IsWriteOrMemory : UpgradeFault → Type 0
-IsWriteOrMemory Unwritten = Unit {0}
-IsWriteOrMemory Memory = Unit {0}
-IsWriteOrMemory other = ⊥
-
--- how often the reader and the writer failed in a call that answered this fault
-abbrev pub reader_failures : UpgradeFault → ℕ
-reader_failures (Capture f) = failures_of f.kind
-reader_failures other = 0
-
-abbrev pub writer_failures : UpgradeFault → ℕ
-writer_failures Unwritten = 1
-writer_failures other = 0
+-- What stands where an upgrade stopped, by its fault. It looks at no message, so none is too many.
+abbrev pub Leaves : Option (List ℕ) → Option (List ℕ) → Option (List ℕ) → Option (List ℕ) → PassFault → Type 0
+Leaves input ahead old new f = LeavesBy input ahead (new ≡ old)
+    (λ read. Appends old new (text_before_stop Two read.start read.records))
+    (λ number. ⊥) (IsCutShort input old new) f

@@ -6,13 +6,13 @@ mod connection_set;
 mod heading;
 mod headings;
 mod laws;
+mod pass_fault;
 mod progress;
 mod reader;
 mod reading;
 mod record;
 mod record_writer;
 mod so_far;
-mod upgrade_fault;
 mod upgrading;
 mod version;
 
@@ -21,8 +21,8 @@ pub use laws::{
     capture_or_fault, no_fault_of_a_capture, one_capture, one_first_fault, records_of_version_one,
     upgrade_again, upgrade_of_a_capture,
 };
+pub use pass_fault::{PassFault, PassFault as UpgradeFault};
 pub use reader::CaptureReader;
 pub use record::Record;
-pub use upgrade_fault::UpgradeFault;
 pub use upgrading::upgrade;
 pub use version::Version;

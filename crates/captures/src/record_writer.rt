@@ -4,11 +4,11 @@ ghost use Rattle.std.specs.Prelude.{◌≡◌, ◌<◌, ◌-◌, ◌^◌, ◌++�
 ghost use Rattle.std.specs.String.{string_bytes};
 ghost use Rattle.devices.specs.Devices.{CanFail, CountsBy, WritesPrefix};
 ghost use Rattle.captures.specs.Reference.{first_line, piece_line, record_text};
-ghost use Rattle.captures.specs.Upgrades.{writer_failures, IsWriteOrMemory};
+ghost use Rattle.captures.specs.Passes.{writer_failures, IsWriteOrMemory};
 ghost use Rattle.captures.specs.Writing.{line_of, rest_of};
 ghost use Rattle.captures.specs.declared.version.Version.TheVariants.{Two};
 
-use crate::{Record, UpgradeFault};
+use crate::{Record, PassFault};
 use devices::Output;
 use std::alloc::{AllocError, Global};
 use std::io::Write;
@@ -18,7 +18,7 @@ pub(crate) fn write_first_line<W: Write>(
     alloc: Global,
     output: &mut Output<W>,
     start: u64,
-) -> Result<(), UpgradeFault>
+) -> Result<(), PassFault>
     requires { CanFail output.old }
     ensures prefix { WritesPrefix output.old.bytes output.new.bytes result (first_line Two start ++ 10 ∷ []) }
     ensures count { CountsBy writer_failures output.old.failures output.new.failures result }
@@ -54,7 +54,7 @@ fn write_line<W: Write>(
     alloc: Global,
     output: &mut Output<W>,
     next: &Record,
-) -> Result<(), UpgradeFault>
+) -> Result<(), PassFault>
     requires { CanFail output.old }
     ensures prefix { WritesPrefix output.old.bytes output.new.bytes result (line_of next.now) }
     ensures count { CountsBy writer_failures output.old.failures output.new.failures result }
@@ -66,7 +66,7 @@ fn write_line<W: Write>(
 }
 
 /// Writes what comes after the line of a record: the bytes of a piece, with a line feed.
-fn write_rest<W: Write>(output: &mut Output<W>, next: &Record) -> Result<(), UpgradeFault>
+fn write_rest<W: Write>(output: &mut Output<W>, next: &Record) -> Result<(), PassFault>
     requires { CanFail output.old }
     ensures prefix { WritesPrefix output.old.bytes output.new.bytes result (rest_of next.now) }
     ensures count { CountsBy writer_failures output.old.failures output.new.failures result }
@@ -83,7 +83,7 @@ pub(crate) fn write_record<W: Write>(
     alloc: Global,
     output: &mut Output<W>,
     next: &Record,
-) -> Result<(), UpgradeFault>
+) -> Result<(), PassFault>
     requires { CanFail output.old }
     ensures prefix { WritesPrefix output.old.bytes output.new.bytes result (record_text next.now) }
     ensures count { CountsBy writer_failures output.old.failures output.new.failures result }
@@ -100,7 +100,7 @@ pub(crate) fn write_last_line<W: Write>(
     alloc: Global,
     output: &mut Output<W>,
     count: usize,
-) -> Result<(), UpgradeFault>
+) -> Result<(), PassFault>
     requires { CanFail output.old }
     ensures prefix { WritesPrefix output.old.bytes output.new.bytes result
         ((codes "stop " ++ decimal count) ++ 10 ∷ []) }

@@ -2,10 +2,11 @@
 
 ghost use Rattle.std.specs.Prelude.{◌<◌, ◌-◌, ◌^◌, OnOk, IfErr};
 ghost use Rattle.devices.specs.Devices.{CanFail, CountsBy};
-ghost use Rattle.captures.specs.Upgrades.{Upgrades, Leaves, reader_failures, writer_failures};
+ghost use Rattle.captures.specs.Upgrades.{Upgrades, Leaves};
+ghost use Rattle.captures.specs.Passes.{reader_failures, writer_failures};
 
 use crate::record_writer::{write_first_line, write_last_line, write_record};
-use crate::{CaptureFaultKind, CaptureReader, UpgradeFault};
+use crate::{CaptureFaultKind, CaptureReader, PassFault};
 use devices::{Input, Output};
 use std::alloc::Global;
 use std::io::{Read, Write};
@@ -22,7 +23,7 @@ pub fn upgrade<R: Read, W: Write>(
     alloc: Global,
     reader: &mut Input<R>,
     writer: &mut Output<W>,
-) -> Result<(), UpgradeFault>
+) -> Result<(), PassFault>
     requires reading { CanFail reader.old }
     requires writing { CanFail writer.old }
     ensures ok { OnOk result (Upgrades reader.old.bytes writer.old.bytes writer.new.bytes) }
@@ -34,7 +35,7 @@ pub fn upgrade<R: Read, W: Write>(
 {
     let mut capture = match CaptureReader::open(reader) {
         Ok(capture) => capture,
-        Err(fault) => return Err(UpgradeFault::from(fault)),
+        Err(fault) => return Err(PassFault::from(fault)),
     };
     write_first_line(alloc, writer, capture.start())?;
     let mut count = 0;
@@ -42,7 +43,7 @@ pub fn upgrade<R: Read, W: Write>(
         let next = match capture.next_record(alloc) {
             Ok(Some(next)) => next,
             Ok(None) => break,
-            Err(fault) => return Err(UpgradeFault::from(fault)),
+            Err(fault) => return Err(PassFault::from(fault)),
         };
         write_record(alloc, writer, &next)?;
         count += 1;

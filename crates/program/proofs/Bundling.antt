@@ -3,7 +3,7 @@ use Rattle.std.proofs.Common.{◌≡◌, ℕ, List, Option, subst}
 use Rattle.paths.specs.declared.file.File.{File}
 use Rattle.paths.specs.Snapshots.{IsSnapshot}
 use Rattle.paths.specs.SnapshotFaults.{ReadsFront}
-use Rattle.reference.specs.declared.replay_fault.ReplayFault.{ReplayFault}
+use Rattle.captures.specs.declared.pass_fault.PassFault.{PassFault}
 use Rattle.reference.specs.declared.summary.Outcome.{Outcome}
 use Rattle.reference.specs.Reference.{Choice, terms_of, Answers}
 use Rattle.reference.specs.Outcomes.{Leaves}
@@ -32,7 +32,7 @@ answers_after files choice input rest old new outcome is reads rules answers =
     (outcome, subst (λ (c : Choice). Answers (terms_of files c) rest old new outcome) is answers)
 
 -- or it came to no end
-pub stops_after_snapshot : (files : List File) (choice : Choice) (input rest ahead old new : Option (List ℕ)) (f : ReplayFault) → choice ≡ default_choice
+pub stops_after_snapshot : (files : List File) (choice : Choice) (input rest ahead old new : Option (List ℕ)) (f : PassFault) → choice ≡ default_choice
     → ReadsFront input rest files → IsSnapshot files
     → Leaves (reply_texts (terms_of files choice)) rest ahead old new f
     → AfterSnapshot input (λ its capture. Leaves (reply_texts (default_terms its)) capture ahead old new f)

@@ -5,7 +5,7 @@ use Rattle.captures.specs.declared.capture_fault.CaptureFault.{CaptureFault}
 use Rattle.captures.specs.CaptureFaults.{is_unforeseen_kind, IsFirstFault}
 use Rattle.inspection.specs.declared.inspection.Inspection.{Inspection}
 use Rattle.inspection.specs.Texts.{inspection_text}
-use Rattle.reference.specs.declared.replay_fault.ReplayFault.TheVariants as replays
+use Rattle.captures.specs.declared.pass_fault.PassFault.TheVariants as replays
 use Rattle.devices.specs.Reference.{WhereKnown}
 use Rattle.program.specs.declared.fault.Fault.{Fault}
 use Rattle.program.specs.declared.fault.Fault.TheVariants.{Replay, Write, Memory}

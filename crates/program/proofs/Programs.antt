@@ -4,8 +4,8 @@ use Rattle.std.proofs.Common.{◌≡◌, ◌⊎◌, inl, inr, ℕ, List, Option,
 use Rattle.paths.specs.declared.file.File.{File}
 use Rattle.captures.specs.declared.capture_fault.CaptureFault.{CaptureFault}
 use Rattle.captures.specs.CaptureFaults.{is_unforeseen_kind, IsFirstFault}
-use Rattle.reference.specs.declared.replay_fault.ReplayFault.{ReplayFault}
-use Rattle.reference.specs.declared.replay_fault.ReplayFault.TheVariants as replays
+use Rattle.captures.specs.declared.pass_fault.PassFault.{PassFault}
+use Rattle.captures.specs.declared.pass_fault.PassFault.TheVariants as replays
 use Rattle.devices.specs.Reference.{WhereKnown}
 use Rattle.reference.specs.Outcomes.{IfCapture, Leaves}
 use Rattle.captures.proofs.PassLemmas.{first_of_stop}
@@ -16,7 +16,7 @@ use Rattle.program.specs.declared.place.Place.TheVariants.{Replies}
 use Rattle.program.specs.Bundles.{AfterSnapshot, IsBundleFault, IsProgramFault, default_terms}
 
 -- where a replay stops, the capture's fault is the first of its text
-pub first_of_replay : (t : Texts) (input ahead old new : Option (List ℕ)) (f : ReplayFault) → Leaves t input ahead old new f
+pub first_of_replay : (t : Texts) (input ahead old new : Option (List ℕ)) (f : PassFault) → Leaves t input ahead old new f
     → IfCapture f (λ g. is_unforeseen_kind g.kind ≡ false → WhereKnown input (λ bytes. IsFirstFault bytes g))
 first_of_replay t input ahead old new (replays.Capture f) leaves = (leaves.0, first_of_stop input ahead _ _ f leaves.1)
 first_of_replay t input ahead old new (replays.TooMany number) leaves = tt

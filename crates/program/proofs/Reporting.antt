@@ -5,7 +5,7 @@ use Rattle.paths.specs.declared.file.File.{File}
 use Rattle.paths.specs.SnapshotFaults.{ReadsWhole}
 use Rattle.paths.specs.Snapshots.{IsSnapshot}
 use Rattle.reference.specs.declared.summary.Outcome.{Outcome}
-use Rattle.reference.specs.declared.replay_fault.ReplayFault.{ReplayFault}
+use Rattle.captures.specs.declared.pass_fault.PassFault.{PassFault}
 use Rattle.reference.specs.Reference.{Choice, Terms, terms_of}
 use Rattle.reference.specs.Outcomes.{Leaves}
 use Rattle.program.specs.declared.fault.Fault.{Fault}
@@ -20,7 +20,7 @@ use Rattle.program.specs.Replays.{OfSnapshot, AnswersAnd, IsReplayFault, IsFiles
 use Rattle.program.proofs.Programs.{first_of_replay}
 
 -- a replay after a whole snapshot came to no end
-pub stops_after : (wanted : Wanted) (choice : Choice) (snapshot read capture ahead : Option (List ℕ)) (files : List File) (old new : Option (List ℕ)) (f : ReplayFault) → ReadsWhole snapshot read files → IsSnapshot files
+pub stops_after : (wanted : Wanted) (choice : Choice) (snapshot read capture ahead : Option (List ℕ)) (files : List File) (old new : Option (List ℕ)) (f : PassFault) → ReadsWhole snapshot read files → IsSnapshot files
     → Leaves (wanted_of wanted (terms_of files choice)) capture ahead old new f
     → OfSnapshot snapshot (λ its. Leaves (wanted_of wanted (terms_of its choice)) capture ahead old new f)
 stops_after wanted choice snapshot read capture ahead files old new f whole rules leaves = record {

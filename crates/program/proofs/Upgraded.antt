@@ -1,8 +1,8 @@
 -- From what an upgrade says to what the program says.
 use Rattle.std.proofs.Common.{◌≡◌, ◌⊎◌, inl, inr, ℕ, List, Option, false, Result, Ok, Err, OnOk, IfErr}
 use Rattle.captures.specs.declared.capture_fault.CaptureFault.{CaptureFault}
-use Rattle.captures.specs.declared.upgrade_fault.UpgradeFault.{UpgradeFault}
-use Rattle.captures.specs.declared.upgrade_fault.UpgradeFault.TheVariants as upgrades
+use Rattle.captures.specs.declared.pass_fault.PassFault.{PassFault}
+use Rattle.captures.specs.declared.pass_fault.PassFault.TheVariants as upgrades
 use Rattle.captures.specs.CaptureFaults.{is_unforeseen_kind, IsFirstFault}
 use Rattle.captures.specs.Upgrades.{Upgrades}
 use Rattle.captures.proofs.PassLemmas.{first_of_stop}

@@ -1,8 +1,8 @@
 -- What a run over buffers leaves at its devices.
 use Rattle.std.specs.Prelude.{◌≡◌, ◌⊎◌, ℕ, Bool, true, false, List, Option, Result, Ok, Err}
 use Rattle.std.specs.Io.KnownBytes.{Keeps}
-use Rattle.captures.specs.declared.upgrade_fault.UpgradeFault.TheVariants as upgrades
-use Rattle.reference.specs.declared.replay_fault.ReplayFault.TheVariants as replays
+use Rattle.captures.specs.declared.pass_fault.PassFault.TheVariants as upgrades
+use Rattle.captures.specs.declared.pass_fault.PassFault.TheVariants as replays
 use Rattle.program.specs.declared.fault.Fault.{Fault}
 use Rattle.program.specs.declared.fault.Fault.TheVariants.{Replay, Upgrade, Write, Memory}
 use Rattle.program.specs.declared.place.Place.{Place}

@@ -11,10 +11,10 @@ use Rattle.captures.specs.CaptureFaults.{kind_name as record_kind}
 use Rattle.captures.specs.declared.capture_fault.CaptureFault.{CaptureFault}
 use Rattle.captures.specs.declared.capture_fault.CaptureFaultKind.{CaptureFaultKind}
 use Rattle.captures.specs.declared.capture_fault.CaptureFaultKind.TheVariants as records
-use Rattle.captures.specs.declared.upgrade_fault.UpgradeFault.{UpgradeFault}
-use Rattle.captures.specs.declared.upgrade_fault.UpgradeFault.TheVariants as upgrades
-use Rattle.reference.specs.declared.replay_fault.ReplayFault.{ReplayFault}
-use Rattle.reference.specs.declared.replay_fault.ReplayFault.TheVariants as replays
+use Rattle.captures.specs.declared.pass_fault.PassFault.{PassFault}
+use Rattle.captures.specs.declared.pass_fault.PassFault.TheVariants as upgrades
+use Rattle.captures.specs.declared.pass_fault.PassFault.{PassFault}
+use Rattle.captures.specs.declared.pass_fault.PassFault.TheVariants as replays
 use Rattle.command_line.specs.declared.words.WordFault.{WordFault}
 use Rattle.command_line.specs.declared.words.WordFault.TheVariants as words
 use Rattle.settings.specs.declared.config_fault.ConfigFault.{ConfigFault}
@@ -44,13 +44,13 @@ reported_record records.Read f = Read places.Capture
 reported_record records.Memory f = Memory
 reported_record other f = Record f
 
-abbrev pub reported_replay : ReplayFault → Reported
+abbrev pub reported_replay : PassFault → Reported
 reported_replay (replays.Capture f) = reported_record f.kind f
 reported_replay (replays.TooMany number) = TooMany number
 reported_replay replays.Write = Write places.Replies
 reported_replay replays.Memory = Memory
 
-abbrev pub reported_upgrade : UpgradeFault → Reported
+abbrev pub reported_upgrade : PassFault → Reported
 reported_upgrade (upgrades.Capture f) = reported_record f.kind f
 reported_upgrade upgrades.Write = Write places.Output
 reported_upgrade upgrades.Memory = Memory

@@ -8,7 +8,7 @@ use Rattle.inspection.specs.declared.inspection.Inspection.{Inspection}
 use Rattle.captures.specs.Passes.{FaultsAtOnce}
 use Rattle.inspection.specs.Inspections.{HoldsAll, HoldsBefore}
 use Rattle.inspection.specs.Texts.{inspection_text}
-use Rattle.reference.specs.declared.replay_fault.ReplayFault.TheVariants.{Capture}
+use Rattle.captures.specs.declared.pass_fault.PassFault.TheVariants.{Capture}
 use Rattle.devices.specs.Reference.{WhereKnown}
 use Rattle.program.specs.declared.fault.Fault.{Fault}
 use Rattle.program.specs.declared.fault.Fault.TheVariants.{Replay, Write, Memory}

@@ -1,7 +1,7 @@
 -- The run that writes a capture of either version as one of version 2.
 use Rattle.std.specs.Prelude.{◌≡◌, ◌≢◌, ℕ, false, List, Option, Result, MatchResult}
 use Rattle.captures.specs.declared.record.Record.{Record}
-use Rattle.captures.specs.declared.upgrade_fault.UpgradeFault.TheVariants.{Capture}
+use Rattle.captures.specs.declared.pass_fault.PassFault.TheVariants.{Capture}
 use Rattle.captures.specs.declared.version.Version.{Version}
 use Rattle.captures.specs.Reference.{IsCaptureText}
 use Rattle.captures.specs.CaptureFaults.{is_unforeseen_kind, IsFirstFault}

@@ -27,7 +27,7 @@ pub enum ReplayFault {
 }
 
 impl From<AllocError> for ReplayFault {
-    ghost use Rattle.reference.specs.declared.replay_fault.ReplayFault.TheVariants.{Memory};
+    ghost use Rattle.captures.specs.declared.pass_fault.PassFault.TheVariants.{Memory};
 
     ghost from_gives = { λ refused fault. fault ≡ Memory };
 
@@ -37,7 +37,7 @@ impl From<AllocError> for ReplayFault {
 }
 
 impl From<Unrun> for ReplayFault {
-    ghost use Rattle.reference.specs.declared.replay_fault.ReplayFault.TheVariants.{Memory};
+    ghost use Rattle.captures.specs.declared.pass_fault.PassFault.TheVariants.{Memory};
 
     ghost from_gives = { λ unrun fault. fault ≡ Memory };
 
@@ -47,7 +47,7 @@ impl From<Unrun> for ReplayFault {
 }
 
 impl From<Write> for ReplayFault {
-    ghost use Rattle.reference.specs.declared.replay_fault.ReplayFault.TheVariants.{Write as Unwritten};
+    ghost use Rattle.captures.specs.declared.pass_fault.PassFault.TheVariants.{Write as Unwritten};
 
     ghost from_gives = { λ failed fault. fault ≡ Unwritten };
 
@@ -57,7 +57,7 @@ impl From<Write> for ReplayFault {
 }
 
 impl From<Failed> for ReplayFault {
-    ghost use Rattle.reference.specs.declared.replay_fault.ReplayFault.TheVariants.{Write as Unwritten};
+    ghost use Rattle.captures.specs.declared.pass_fault.PassFault.TheVariants.{Write as Unwritten};
 
     ghost from_gives = { λ failed fault. fault ≡ Unwritten };
 
@@ -67,9 +67,9 @@ impl From<Failed> for ReplayFault {
 }
 
 impl From<CaptureFault> for ReplayFault {
-    ghost use Rattle.reference.specs.Outcomes.{capture_fault};
+    ghost use Rattle.captures.specs.Passes.{pass_fault};
 
-    ghost from_gives = { λ fault reported. reported ≡ capture_fault fault };
+    ghost from_gives = { λ fault reported. reported ≡ pass_fault fault };
 
     fn from(fault: CaptureFault) -> ReplayFault {
         match fault.kind {

@@ -32,15 +32,16 @@ use Rattle.replay.specs.declared.desk.Desk.{Desk}
 use Rattle.reference.specs.declared.summary.Outcome.{Outcome}
 use Rattle.arrivals.specs.declared.connections.Connection.{Connection}
 use Rattle.arrivals.specs.declared.connections.Connection.TheVariants.{Silent, Open, Closed}
-use Rattle.reference.specs.declared.replay_fault.ReplayFault.{ReplayFault}
-use Rattle.reference.specs.declared.replay_fault.ReplayFault.TheVariants as faults
+use Rattle.captures.specs.declared.pass_fault.PassFault.{PassFault}
+use Rattle.captures.specs.declared.pass_fault.PassFault.TheVariants as faults
 use Rattle.reference.specs.Reference.{Terms, handled, replies_of, first_line, last_line, text_before_stop, summary_of, outcome_of, Answers}
 use Rattle.arrivals.specs.Reference.{Arrival, AreArrivals, bytes_to, text_of, messages_of}
 use Rattle.arrivals.specs.Connections.{HasRead, HasRoom, ReadMore, HaveRead, connection_at, arrivals_with}
 use Rattle.replay.specs.Serving.{DeskAfter, AreBy, IsLater, Serves, Written, ServesFull, ServesInPart, WritesMore, WritesFull, WritesInPart, WritesWhole}
 use Rattle.reference.specs.Texts.{Texts, AreTexts, Wrote, WroteInPart, reply_texts}
 use Rattle.devices.specs.Reference.{WhereKnown}
-use Rattle.reference.specs.Outcomes.{reported_as, capture_fault, IfTooMany, IfCutShort, IsOwn, IsWriteOrMemory, IsCutOff, StopsBeyond, StopsFull, StopsWriting, Stops, Taken, Leaves, reader_failures, writer_failures}
+use Rattle.reference.specs.Outcomes.{IfTooMany, IfCutShort, IsOwn, IsCutOff, StopsBeyond, StopsFull, StopsWriting, Stops, Taken, Leaves}
+use Rattle.captures.specs.Passes.{reported_as, pass_fault, IsWriteOrMemory, reader_failures, writer_failures}
 use Rattle.arrivals.proofs.Arriving.{from_piece, reads_none, arrives_none, reads_piece, reads_end, reads_tier, arrives_piece, arrives_end, arrives_tier}
 use Rattle.replay.proofs.Writing.{replies_laws}
 use Rattle.replay.proofs.Texts.{wrote_none, text_begun, text_wrote, text_part, text_ended, text_ended_part}
@@ -255,14 +256,14 @@ on_ok (Ok x) A B C D a b c f = f a b c
 on_ok (Err e) A B C D a b c f = tt
 
 -- a fault's clause is carried over
-pub err_many : {T : Type 0} (r : Result T ReplayFault) (P Q : ℕ → Type 0) → ((n : ℕ) → P n → Q n) → IfErr r (λ f. IfTooMany f P) → IfErr r (λ f. IfTooMany f Q)
+pub err_many : {T : Type 0} (r : Result T PassFault) (P Q : ℕ → Type 0) → ((n : ℕ) → P n → Q n) → IfErr r (λ f. IfTooMany f P) → IfErr r (λ f. IfTooMany f Q)
 err_many (Ok x) P Q more h = tt
 err_many (Err (faults.Capture f)) P Q more h = tt
 err_many (Err (faults.TooMany n)) P Q more h = more n h
 err_many (Err faults.Write) P Q more h = tt
 err_many (Err faults.Memory) P Q more h = tt
 
-pub err_cut : {T : Type 0} (r : Result T ReplayFault) (P Q : Type 0) → (P → Q) → IfErr r (λ f. IfCutShort f P) → IfErr r (λ f. IfCutShort f Q)
+pub err_cut : {T : Type 0} (r : Result T PassFault) (P Q : Type 0) → (P → Q) → IfErr r (λ f. IfCutShort f P) → IfErr r (λ f. IfCutShort f Q)
 err_cut (Ok x) P Q more h = tt
 err_cut (Err (faults.Capture f)) P Q more h = tt
 err_cut (Err (faults.TooMany n)) P Q more h = tt
@@ -326,7 +327,7 @@ ends_short t terms v start count records arrivals connections desk input old mid
 
 -- what stands where the capture has a fault: what is due there, or else a prefix of what is due
 pub leaves_reported : (t : Texts) (input ahead old new : Option (List ℕ)) (f : CaptureFault) → StopsWriting t input ahead old new f → IsCutOff t input old new
-    → Leaves t input ahead old new (capture_fault f)
+    → Leaves t input ahead old new (pass_fault f)
 leaves_reported t input ahead old new f stops cut = go f.kind refl
   where
     go : (k : CaptureFaultKind) → f.kind ≡ k → Leaves t input ahead old new (reported_as k f)
@@ -346,20 +347,20 @@ leaves_reported t input ahead old new f stops cut = go f.kind refl
     go kinds.Memory e = cut
 
 -- the same of the call's own faults
-pub own_leaves : (t : Texts) (input ahead old new : Option (List ℕ)) (f : ReplayFault) → IsOwn f → IfTooMany f (StopsBeyond t input old new) → IfCutShort f (IsCutOff t input old new)
+pub own_leaves : (t : Texts) (input ahead old new : Option (List ℕ)) (f : PassFault) → IsOwn f → IfTooMany f (StopsBeyond t input old new) → IfCutShort f (IsCutOff t input old new)
     → Leaves t input ahead old new f
 own_leaves t input ahead old new (faults.Capture f) own many cut = absurd own
 own_leaves t input ahead old new (faults.TooMany n) own many cut = many
 own_leaves t input ahead old new faults.Write own many cut = cut
 own_leaves t input ahead old new faults.Memory own many cut = cut
 
-pub short_leaves : (t : Texts) (input ahead old new : Option (List ℕ)) (f : ReplayFault) → IsWriteOrMemory f → IsCutOff t input old new → Leaves t input ahead old new f
+pub short_leaves : (t : Texts) (input ahead old new : Option (List ℕ)) (f : PassFault) → IsWriteOrMemory f → IsCutOff t input old new → Leaves t input ahead old new f
 short_leaves t input ahead old new (faults.Capture f) own cut = absurd own
 short_leaves t input ahead old new (faults.TooMany n) own cut = absurd own
 short_leaves t input ahead old new faults.Write own cut = cut
 short_leaves t input ahead old new faults.Memory own cut = cut
 
-pub reported_reads : (f : CaptureFault) → reader_failures (capture_fault f) ≡ failures_of f.kind
+pub reported_reads : (f : CaptureFault) → reader_failures (pass_fault f) ≡ failures_of f.kind
 reported_reads f = go f.kind refl
   where
     go : (k : CaptureFaultKind) → f.kind ≡ k → reader_failures (reported_as k f) ≡ failures_of f.kind
@@ -378,7 +379,7 @@ reported_reads f = go f.kind refl
     go kinds.Read e = refl
     go kinds.Memory e = rw e refl
 
-pub reported_writes : (f : CaptureFault) → writer_failures (capture_fault f) ≡ 0
+pub reported_writes : (f : CaptureFault) → writer_failures (pass_fault f) ≡ 0
 reported_writes f = go f.kind
   where
     go : (k : CaptureFaultKind) → writer_failures (reported_as k f) ≡ 0
@@ -440,7 +441,7 @@ cut_among t terms v input now old new start records arrivals p connections desk 
 
 -- a fault of the reader that was reported
 pub halts_written : (t : Texts) (terms : Terms) (v : Version) (input now ahead left old new : Option (List ℕ)) (start : ℕ) (records : List Record) (arrivals : List Arrival) (p : Progress) (connections : List Connection) (desk : Desk)
-    (f : CaptureFault) (r : ReplayFault) → r ≡ capture_fault f
+    (f : CaptureFault) (r : PassFault) → r ≡ pass_fault f
     → ReaderAfter v input start records p now → Serves terms records arrivals connections desk → Appends old new (t.so_far start arrivals)
     → (f.at ≡ length records + 1) × IsForeseen (λ bytes. IsFaultAfter v bytes start records) input f → FailsNext v input start records (Err f) left
     → ahead ≡ left → Leaves t input ahead old new r
@@ -475,7 +476,7 @@ cut_part t v input now old mid new start records arrivals rs p laws fits written
     }))
 
 -- a reader that failed is reported, and at most once
-pub blamed_reported : (old new : ℕ) (f : CaptureFault) (r : ReplayFault) → r ≡ capture_fault f → new ≡ old + failures_of f.kind → (old + reader_failures r ≤ new) × (new ≤ old + 1)
+pub blamed_reported : (old new : ℕ) (f : CaptureFault) (r : PassFault) → r ≡ pass_fault f → new ≡ old + failures_of f.kind → (old + reader_failures r ≤ new) × (new ≤ old + 1)
 blamed_reported old new f r is count =
     let same : reader_failures r ≡ failures_of f.kind = ap reader_failures is ∙ reported_reads f in
     let most = once f.kind in
@@ -532,7 +533,7 @@ pub stops_first : (terms : Terms) (input ahead old new : Option (List ℕ)) (f :
 stops_first terms input ahead old new f written at fault failed = halts_first (reply_texts terms) input ahead old new f written at fault failed
 
 pub stops_reported : (terms : Terms) (v : Version) (input now ahead left old new : Option (List ℕ)) (start : ℕ) (records : List Record) (arrivals : List Arrival) (p : Progress) (connections : List Connection) (desk : Desk)
-    (f : CaptureFault) (r : ReplayFault) → r ≡ capture_fault f
+    (f : CaptureFault) (r : PassFault) → r ≡ pass_fault f
     → ReaderAfter v input start records p now → Serves terms records arrivals connections desk → Appends old new (text_before_stop (replies_of terms start (handled terms arrivals)))
     → (f.at ≡ length records + 1) × IsForeseen (λ bytes. IsFaultAfter v bytes start records) input f → FailsNext v input start records (Err f) left
     → ahead ≡ left → Leaves (reply_texts terms) input ahead old new r
@@ -540,7 +541,7 @@ stops_reported terms v input now ahead left old new start records arrivals p con
     halts_written (reply_texts terms) terms v input now ahead left old new start records arrivals p connections desk f r is fits serves written fault failed same
 
 -- what is left of the input, found before the rest is in sight
-pub left_first : (terms : Terms) (input ahead left old new : Option (List ℕ)) (r : ReplayFault) → ahead ≡ left
+pub left_first : (terms : Terms) (input ahead left old new : Option (List ℕ)) (r : PassFault) → ahead ≡ left
     → (ahead ≡ left → Leaves (reply_texts terms) input ahead old new r) → Leaves (reply_texts terms) input ahead old new r
 left_first terms input ahead left old new r same rest = rest same
 

@@ -25,8 +25,8 @@ use Rattle.responses.specs.declared.slip.Given.TheVariants.{Plain}
 use Rattle.responses.specs.declared.slip.Status.TheVariants.{ServiceUnavailable}
 use Rattle.reference.specs.Outcomes.{IfCutShort, IfTooMany}
 use Rattle.arrivals.specs.declared.incoming.Origin.{Origin}
-use Rattle.reference.specs.declared.replay_fault.ReplayFault.{ReplayFault}
-use Rattle.reference.specs.declared.replay_fault.ReplayFault.TheVariants.{Capture, TooMany, Memory, Write as Unwritten}
+use Rattle.captures.specs.declared.pass_fault.PassFault.{PassFault}
+use Rattle.captures.specs.declared.pass_fault.PassFault.TheVariants.{Capture, TooMany, Memory, Write as Unwritten}
 use Rattle.replay.specs.Counting.{AreBelow}
 use Rattle.replay.specs.Totals.{no_counts, totals_of, noted}
 use Rattle.replay.specs.Deciding.{decided_totals, Decides}
@@ -237,7 +237,7 @@ reply_written X terms start arrivals a slip r slips given_by = ap record_text (r
 -- ---- faults
 
 -- what holds after a failed write or out of memory
-pub cut_short : {T : Type 0} (r : Result T ReplayFault) (P : Type 0) → P → IfErr r (λ f. IfCutShort f P)
+pub cut_short : {T : Type 0} (r : Result T PassFault) (P : Type 0) → P → IfErr r (λ f. IfCutShort f P)
 cut_short (Ok x) P h = tt
 cut_short (Err (Capture f)) P h = tt
 cut_short (Err (TooMany n)) P h = tt
@@ -245,17 +245,17 @@ cut_short (Err Unwritten) P h = h
 cut_short (Err Memory) P h = h
 
 -- a fault that `?` has passed on
-pub passed_on : {T : Type 0} (r : Result T ReplayFault) (Q P : ReplayFault → Type 0) → ((f : ReplayFault) → Q f → P f) → IsErrAnd r Q → IfErr r P
+pub passed_on : {T : Type 0} (r : Result T PassFault) (Q P : PassFault → Type 0) → ((f : PassFault) → Q f → P f) → IsErrAnd r Q → IfErr r P
 passed_on (Ok x) Q P more h = tt
 passed_on (Err f) Q P more h = more f h
 
-pub on_many : (f : ReplayFault) (P Q : ℕ → Type 0) → ((n : ℕ) → P n → Q n) → IfTooMany f P → IfTooMany f Q
+pub on_many : (f : PassFault) (P Q : ℕ → Type 0) → ((n : ℕ) → P n → Q n) → IfTooMany f P → IfTooMany f Q
 on_many (Capture f) P Q more h = tt
 on_many (TooMany n) P Q more h = more n h
 on_many Unwritten P Q more h = tt
 on_many Memory P Q more h = tt
 
-pub on_cut : (f : ReplayFault) (P Q : Type 0) → (P → Q) → IfCutShort f P → IfCutShort f Q
+pub on_cut : (f : PassFault) (P Q : Type 0) → (P → Q) → IfCutShort f P → IfCutShort f Q
 on_cut (Capture f) P Q more h = tt
 on_cut (TooMany n) P Q more h = tt
 on_cut Unwritten P Q more h = more h
@@ -271,6 +271,6 @@ pub by_more : (place : ℕ) (origin : Origin) (ms : List Message) (arrivals : Li
 by_more place origin ms arrivals by = All-append (λ a. a.origin.tick ≤ origin.tick) arrivals (arrivals_with place origin ms) by (by_with place origin ms)
 
 -- what holds at any fault
-pub on_err : {T : Type 0} (r : Result T ReplayFault) (P : Type 0) → P → OnErr r P
+pub on_err : {T : Type 0} (r : Result T PassFault) (P : Type 0) → P → OnErr r P
 on_err (Ok x) P h = tt
 on_err (Err f) P h = h

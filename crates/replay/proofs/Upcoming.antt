@@ -17,14 +17,15 @@ use Rattle.replay.specs.Fronts.{front_value}
 use Rattle.replay.specs.Backs.{slip_of_pending, reply_to}
 use Rattle.arrivals.specs.Batches.{joined}
 use Rattle.replay.specs.Pending.{incoming_of, AreOf, AreLookedUp, InTime}
-use Rattle.reference.specs.Outcomes.{IsWriteOrMemory, IfTooMany, IfCutShort}
+use Rattle.reference.specs.Outcomes.{IfTooMany, IfCutShort}
+use Rattle.captures.specs.Passes.{IsWriteOrMemory}
 use Rattle.replay.specs.Waiting.{Upcoming}
 use Rattle.arrivals.specs.declared.incoming.Incoming.{Incoming}
 use Rattle.replay.specs.declared.lookup.LookedUp.{LookedUp}
 use Rattle.replay.specs.declared.pending.PendingReply.{PendingReply}
 use Rattle.replay.specs.declared.desk.Desk.{Desk}
-use Rattle.reference.specs.declared.replay_fault.ReplayFault.{ReplayFault}
-use Rattle.reference.specs.declared.replay_fault.ReplayFault.TheVariants as faults
+use Rattle.captures.specs.declared.pass_fault.PassFault.{PassFault}
+use Rattle.captures.specs.declared.pass_fault.PassFault.TheVariants as faults
 use Rattle.reference.proofs.SameAnswer.{reply_is}
 use Rattle.replay.proofs.Judging.{answered_is}
 use Rattle.replay.proofs.Writing.{written_none, written_more}
@@ -155,14 +156,14 @@ reply_more old mid new replies i r lt is before one =
 
 -- ---- faults
 
-pub short_many : {T : Type 0} (r : Result T ReplayFault) (P : ℕ → Type 0) → IfErr r IsWriteOrMemory → IfErr r (λ f. IfTooMany f P)
+pub short_many : {T : Type 0} (r : Result T PassFault) (P : ℕ → Type 0) → IfErr r IsWriteOrMemory → IfErr r (λ f. IfTooMany f P)
 short_many (Ok x) P h = tt
 short_many (Err (faults.Capture f)) P h = absurd h
 short_many (Err (faults.TooMany n)) P h = absurd h
 short_many (Err faults.Write) P h = tt
 short_many (Err faults.Memory) P h = tt
 
-pub short_cut : {T : Type 0} (r : Result T ReplayFault) (P Q : Type 0) → (P → Q) → OnErr r P → IfErr r (λ f. IfCutShort f Q)
+pub short_cut : {T : Type 0} (r : Result T PassFault) (P Q : Type 0) → (P → Q) → OnErr r P → IfErr r (λ f. IfCutShort f Q)
 short_cut (Ok x) P Q more h = tt
 short_cut (Err (faults.Capture f)) P Q more h = tt
 short_cut (Err (faults.TooMany n)) P Q more h = tt
@@ -170,20 +171,20 @@ short_cut (Err faults.Write) P Q more h = more h
 short_cut (Err faults.Memory) P Q more h = more h
 
 -- what holds where a call answers so
-pub ok_more : {T : Type 0} (r : Result T ReplayFault) (P Q : Type 0) → (P → Q) → OnOk r P → OnOk r Q
+pub ok_more : {T : Type 0} (r : Result T PassFault) (P Q : Type 0) → (P → Q) → OnOk r P → OnOk r Q
 ok_more (Ok x) P Q more h = more h
 ok_more (Err f) P Q more h = tt
 
-pub ok_all : {T : Type 0} (r : Result T ReplayFault) (P : Type 0) → P → OnOk r P
+pub ok_all : {T : Type 0} (r : Result T PassFault) (P : Type 0) → P → OnOk r P
 ok_all (Ok x) P h = h
 ok_all (Err f) P h = tt
 
-pub err_more : {T : Type 0} (r : Result T ReplayFault) (P Q : Type 0) → (P → Q) → OnErr r P → OnErr r Q
+pub err_more : {T : Type 0} (r : Result T PassFault) (P Q : Type 0) → (P → Q) → OnErr r P → OnErr r Q
 err_more (Ok x) P Q more h = tt
 err_more (Err f) P Q more h = more h
 
 -- nothing is written yet
-pub unwritten : {T : Type 0} (r : Result T ReplayFault) (terms : Terms) (messages : List Incoming) (desk : Desk) (old : Option (List ℕ))
+pub unwritten : {T : Type 0} (r : Result T PassFault) (terms : Terms) (messages : List Incoming) (desk : Desk) (old : Option (List ℕ))
     → OnErr r ((arrivals more : List Arrival) → Upcoming terms arrivals more messages desk → WrittenInPart terms desk.start arrivals more old old)
 unwritten (Ok x) terms messages desk old = tt
 unwritten (Err f) terms messages desk old = λ arrivals more up. prefix_none old (records_after terms desk.start arrivals more)

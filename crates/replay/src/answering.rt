@@ -12,7 +12,8 @@ ghost use Rattle.reference.specs.Reference.{terms_of, Terms, fault_status, is_un
 ghost use Rattle.reference.specs.Reference.{persistence_of};
 ghost use Rattle.reference.specs.Reference.{is_unmodified_file, length_given};
 ghost use Rattle.arrivals.specs.Reference.{Arrival};
-ghost use Rattle.reference.specs.Outcomes.{writer_failures, IsOwn, IfTooMany, IfCutShort, IsWriteOrMemory};
+ghost use Rattle.reference.specs.Outcomes.{IsOwn, IfTooMany, IfCutShort};
+ghost use Rattle.captures.specs.Passes.{writer_failures, IsWriteOrMemory};
 ghost use Rattle.replay.specs.Serving.{DeskAfter, AreBy};
 ghost use Rattle.reference.specs.Texts.{AreTexts};
 ghost use Rattle.replay.specs.Steps.{DecidesNext, WritesNext, WritesNextInPart, DecidesPiece, WritesPiece};

@@ -2,7 +2,8 @@
 
 ghost use Rattle.std.specs.Prelude.{◌≡◌, ◌-◌, ◌<◌, ◌^◌, IfOk, IfErr};
 ghost use Rattle.devices.specs.Devices.{CanFail, CountsBy};
-ghost use Rattle.reference.specs.Outcomes.{Leaves, reader_failures, writer_failures};
+ghost use Rattle.reference.specs.Outcomes.{Leaves};
+ghost use Rattle.captures.specs.Passes.{reader_failures, writer_failures};
 ghost use Rattle.reference.specs.Reference.{terms_of};
 ghost use Rattle.reference.specs.Explaining.{Explains, row_texts};
 

@@ -6,7 +6,7 @@ ghost use Rattle.devices.specs.Devices.{CanFail, CountsBy, AppendsPrefix};
 ghost use Rattle.captures.specs.Reference.{max_start, max_tick};
 ghost use Rattle.arrivals.specs.Reference.{Arrival};
 ghost use Rattle.reference.specs.Reference.{terms_of, Terms};
-ghost use Rattle.reference.specs.Outcomes.{writer_failures, IsWriteOrMemory};
+ghost use Rattle.captures.specs.Passes.{writer_failures, IsWriteOrMemory};
 ghost use Rattle.replay.specs.Serving.{DeskAfter, AreBy};
 ghost use Rattle.reference.specs.Texts.{Texts, AreTexts};
 ghost use Rattle.replay.specs.Steps.{DecidesNext, WritesNext, WritesNextInPart};

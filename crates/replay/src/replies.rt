@@ -4,7 +4,7 @@ ghost use Rattle.std.specs.Prelude.{OnOk, OnErr, IfErr};
 ghost use Rattle.std.specs.Io.KnownBytes.{Appends};
 ghost use Rattle.devices.specs.Devices.{CanFail, CountsBy, AppendsPrefix};
 ghost use Rattle.reference.specs.Reference.{first_line, last_line};
-ghost use Rattle.reference.specs.Outcomes.{IsWriteOrMemory, writer_failures};
+ghost use Rattle.captures.specs.Passes.{IsWriteOrMemory, writer_failures};
 
 use crate::ReplayFault;
 use crate::answering::{answer_pending, look_up};

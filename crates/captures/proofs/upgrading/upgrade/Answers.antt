@@ -1,6 +1,7 @@
 use Rattle.std.proofs.Common.{◌∙◌, ◌++◌, ◌∷◌, [], ℕ, List, Option, refl, arith, rules}
 use Rattle.devices.proofs.Appending.{prefix_all}
-use Rattle.captures.specs.Upgrades.{Leaves, upgrade_fault}
+use Rattle.captures.specs.Upgrades.{Leaves}
+use Rattle.captures.specs.Passes.{pass_fault}
 use Rattle.captures.proofs.UpgradeLemmas.{leaves_reported, leaves_first, own_leaves, reported_reads, reported_writes, passed_on, fits_own, gave_more, first_written, first_prefix, more_written, more_prefix, stops_first, stops_after, short_among, all_read, moved, part_end, ok_end}
 use Rattle.std.proofs.lemmas.List.{length_push}
 use Rattle.captures.proofs.upgrading.upgrade.Goals as goal
@@ -41,7 +42,7 @@ pub returns-in-Err-next_record-clause-fault : goal.returns-in-Err-next_record-cl
 returns-in-Err-next_record-clause-fault g c =
     let inv = c.loop-next.invariant.0 in
     rw c.from-in-Err-next_record.ensures
-    (moved (λ (w : Option (List ℕ)). Leaves c.args.reader.now.bytes w c.args.writer.now.bytes c.loop-next.writer.bytes (upgrade_fault c.in-Err-next_record.fault)) _ c.next_record.new.self.input.now.bytes
+    (moved (λ (w : Option (List ℕ)). Leaves c.args.reader.now.bytes w c.args.writer.now.bytes c.loop-next.writer.bytes (pass_fault c.in-Err-next_record.fault)) _ c.next_record.new.self.input.now.bytes
     (leaves_reported c.args.reader.now.bytes _ c.args.writer.now.bytes c.loop-next.writer.bytes c.in-Err-next_record.fault
     (stops_after _ _ _ _ _ _ _ inv.0 _ c.next_record.new.self.progress _ inv.1 inv.2 (c.in-Err-next_record.ensures.next _ _ _ _ inv.1).0 (c.in-Err-next_record.ensures.next _ _ _ _ inv.1).1)
     (short_among _ _ _ _ _ _ inv.0 _ inv.1 (prefix_all _ _ _ inv.2))) (search rules))

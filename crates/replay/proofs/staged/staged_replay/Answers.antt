@@ -2,7 +2,7 @@ use Rattle.std.proofs.Common.{◌≡◌, ◌∙◌, [], ◌++◌, ℕ, List, Opt
 use Rattle.std.specs.Io.KnownBytes.{Appends}
 use Rattle.devices.proofs.Appending.{prefix_all}
 use Rattle.reference.specs.Reference.{terms_of, handled, replies_of, text_before_stop}
-use Rattle.reference.specs.Outcomes.{capture_fault}
+use Rattle.captures.specs.Passes.{pass_fault}
 use Rattle.reference.specs.Texts.{reply_texts}
 use Rattle.replay.proofs.Judging.{stands_none, passed_on, on_many, on_cut}
 use Rattle.replay.proofs.ByRecord.{serves_none, no_tiers, first_written, more_written, answers_all, ends_in_part, leaves_reported, own_leaves, short_leaves, stops_first, stops_reported, left_first, stops_full, short_among, short_part, blamed_reported}
@@ -90,7 +90,7 @@ pub returns-in-Fault-clause-fault : goal.returns-in-Fault-clause-fault
 returns-in-Fault-clause-fault g c = left_first _ _ _ c.read_batch.new.capture.input.now.bytes _ _ _ (search rules) (λ left.
     let gives = c.from-in-Fault.ensures in
     let same = c.in-Fault.fault-is in
-    let is : c.from-in-Fault.result ≡ capture_fault c.in-Fault.fault = cc in
+    let is : c.from-in-Fault.result ≡ pass_fault c.in-Fault.fault = cc in
     let inv = c.loop-floors.invariant in
     let terms = terms_of g.F.Tree.files c.args.settings.now in
     let b = c.in_ok-batch.ensures.batch in
@@ -109,7 +109,7 @@ returns-in-Fault-clause-reads g c =
     let before = c.loop-floors.invariant.2 in
     let gives = c.from-in-Fault.ensures in
     let same = c.in-Fault.fault-is in
-    let is : c.from-in-Fault.result ≡ capture_fault c.in-Fault.fault = cc in
+    let is : c.from-in-Fault.result ≡ pass_fault c.in-Fault.fault = cc in
     blamed_reported _ _ c.in-Fault.fault _ is (search rules)
 
 pub loop-floors-preserved : goal.loop-floors-preserved
