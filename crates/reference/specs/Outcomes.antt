@@ -1,30 +1,15 @@
 -- What a replay comes to: its outcome, or a fault, and what it has written.
-use Rattle.std.specs.Prelude.{◌≡◌, ℕ, ◌<◌, ◌≤◌, ◌⊎◌, Bool, true, false, List, length, take, Option}
+use Rattle.std.specs.Prelude.{◌≡◌, ℕ, ◌<◌, ◌≤◌, ◌⊎◌, false, List, length, take, Option}
 use Rattle.std.specs.Io.KnownBytes.{Appends}
 use Rattle.devices.specs.Devices.{AppendsPrefix}
 use Rattle.captures.specs.declared.record.Record.{Record}
 use Rattle.captures.specs.declared.capture_fault.CaptureFault.{CaptureFault}
-use Rattle.captures.specs.declared.capture_fault.CaptureFaultKind.{CaptureFaultKind}
-use Rattle.captures.specs.declared.capture_fault.CaptureFaultKind.TheVariants as kinds
-use Rattle.captures.specs.CaptureFaults.{failures_of}
-use Rattle.captures.specs.Passes.{RecordsRead, StopsAt}
+use Rattle.captures.specs.Passes.{is_memory, LeavesBy, RecordsRead, StopsAt}
 use Rattle.captures.specs.declared.pass_fault.PassFault.{PassFault}
 use Rattle.captures.specs.declared.pass_fault.PassFault.TheVariants.{Capture, TooMany, Memory, Write as Unwritten}
 use Rattle.arrivals.specs.Reference.{Arrival, AreArrivals}
 use Rattle.reference.specs.Reference.{Terms, max_messages, ArrivedCapture}
 use Rattle.reference.specs.Texts.{Texts, reply_texts}
-
--- where the reader is out of memory, the call is
-abbrev pub reported_as : CaptureFaultKind → CaptureFault → PassFault
-reported_as kinds.Memory f = Memory
-reported_as other f = Capture f
-
-abbrev pub capture_fault : CaptureFault → PassFault
-capture_fault f = reported_as f.kind f
-
-abbrev pub is_memory : CaptureFaultKind → Bool
-is_memory kinds.Memory = true
-is_memory other = false
 
 -- what a capture's fault has to say; it is never that of a reader which is out of memory, and the other faults say it
 -- of none
@@ -42,12 +27,6 @@ abbrev pub IfCutShort : PassFault → Type 0 → Type 0
 IfCutShort Unwritten P = P
 IfCutShort Memory P = P
 IfCutShort other P = Unit {0}
-
--- a failed write, or out of memory
-abbrev pub IsWriteOrMemory : PassFault → Type 0
-IsWriteOrMemory Unwritten = Unit {0}
-IsWriteOrMemory Memory = Unit {0}
-IsWriteOrMemory other = ⊥
 
 -- a fault that isn't the capture's
 abbrev pub IsOwn : PassFault → Type 0
@@ -106,19 +85,8 @@ StopsAtEnd t input old new =
 abbrev pub IsCutOff : Texts → Option (List ℕ) → Option (List ℕ) → Option (List ℕ) → Type 0
 IsCutOff t input old new = AppendsPrefix old new t.first ⊎ (StopsAmong t input old new ⊎ StopsAtEnd t input old new)
 
--- What stands where a replay stopped, by its fault. A reader's being out of memory is the call's.
-abbrev pub Leaves : Texts → Option (List ℕ) → Option (List ℕ) → Option (List ℕ) → Option (List ℕ) → PassFault
-    → Type 0
-Leaves t input ahead old new (Capture f) = (is_memory f.kind ≡ false) × StopsWriting t input ahead old new f
-Leaves t input ahead old new (TooMany number) = StopsBeyond t input old new number
-Leaves t input ahead old new Unwritten = IsCutOff t input old new
-Leaves t input ahead old new Memory = IsCutOff t input old new
-
--- how often the reader and the writer failed in a call that answered this fault
-abbrev pub reader_failures : PassFault → ℕ
-reader_failures (Capture f) = failures_of f.kind
-reader_failures other = 0
-
-abbrev pub writer_failures : PassFault → ℕ
-writer_failures Unwritten = 1
-writer_failures other = 0
+-- What stands where a replay stopped, by its fault.
+abbrev pub Leaves : Texts → Option (List ℕ) → Option (List ℕ) → Option (List ℕ) → Option (List ℕ) → PassFault → Type 0
+Leaves t input ahead old new f = LeavesBy input ahead
+    (Appends old new t.first) (λ read. WritesAll t read.start read.records old new)
+    (StopsBeyond t input old new) (IsCutOff t input old new) f

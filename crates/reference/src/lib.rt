@@ -3,10 +3,9 @@
 #![tactic(auto)]
 
 pub mod laws;
-mod replay_fault;
 mod settings;
 mod summary;
 
-pub use replay_fault::ReplayFault;
+pub use captures::PassFault as ReplayFault;
 pub use settings::{BACK_STEPS, FRONT_STEPS, Settings, SettingsFault};
 pub use summary::{Counts, Outcome, Summary, Tally};

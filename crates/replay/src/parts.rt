@@ -30,7 +30,7 @@ use devices::Output;
 use http_requests::Meaning;
 use paths::Tree;
 use responses::{Reply, write_reply};
-use stage_graph::Gate;
+use stage_graph::{Gate, Unrun};
 use std::io::Write;
 use std::sync::Wait;
 use std::thread::Threads;
@@ -65,6 +65,13 @@ fn looking_of(messages: &[Incoming]) -> usize {
         work = work.saturating_add(MESSAGE).saturating_add(target);
     }
     work
+}
+
+/// The fault of a replay whose floor has no run: for want of memory or of a thread.
+fn of_unrun(_unrun: Unrun) -> ReplayFault
+    ensures { result ≡ ReplayFault.Memory }
+{
+    ReplayFault::Memory
 }
 
 /// Writes replies, in their order.
@@ -118,7 +125,8 @@ fn answer_group<F: Tree + Send + Sync, G: Gate + Sync, T: Threads + Wait + Sync,
         cache,
         group,
         &following,
-    )?;
+    )
+    .map_err(of_unrun)?;
     write_replies(&replies, writer)
 }
 
@@ -187,7 +195,8 @@ fn serve_few<F: Tree + Send + Sync, G: Gate + Sync, T: Threads + Wait + Sync, W:
         floors.threads.min(worth),
         messages,
         &before,
-    )?;
+    )
+    .map_err(of_unrun)?;
     let pending_replies = decide_all(server, lookups, desk)?;
     answer_all_pending(server, floors, pending_replies, writer)
 }

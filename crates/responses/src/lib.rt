@@ -10,7 +10,8 @@ mod reply;
 mod shared_page;
 mod slip;
 
-pub use record::{Write, write_record, write_reply};
+pub use devices::Failed as Write;
+pub use record::{write_record, write_reply};
 pub use rendering::HeadRenderer;
 pub use reply::{Reply, render, try_render};
 pub use shared_page::SharedPage;

@@ -11,18 +11,6 @@ use devices::{Failed, Output};
 use itoa::Buffer;
 use paths::Tree;
 use std::io;
-use thiserror::Error;
-
-/// A writer failed. A prefix of what was to be written stands there.
-#[derive(Clone, Copy, Debug, PartialEq, Eq, Error)]
-#[error("a write failed")]
-pub struct Write;
-
-impl From<Failed> for Write {
-    fn from(_failed: Failed) -> Write {
-        Write
-    }
-}
 
 /// Room for `reply ` and three numbers of 64 bits, each with a byte after it.
 type Line = ArrayVec<u8, 69>;
@@ -60,7 +48,7 @@ pub fn write_record<W: io::Write>(
     conn: usize,
     front: &[u8],
     body: &[u8],
-) -> Result<(), Write>
+) -> Result<(), Failed>
     requires { CanFail output.old }
     ensures record { WritesProperPrefix output.old.bytes output.new.bytes result
         (record_text (number, conn, front.now ++ body.now)) }
@@ -78,7 +66,7 @@ pub fn write_record<W: io::Write>(
 pub fn write_reply<F: Tree, W: io::Write>(
     output: &mut Output<W>,
     reply: &Reply<F>,
-) -> Result<(), Write>
+) -> Result<(), Failed>
     requires { CanFail output.old }
     ensures record { WritesProperPrefix output.old.bytes output.new.bytes result (record_text reply.now) }
     ensures count { CountsFailed output.old.failures output.new.failures result }

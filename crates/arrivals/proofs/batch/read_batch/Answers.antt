@@ -37,7 +37,7 @@ returns-in-Ok-None-clause-batch g c =
         progress = _;
         ahead = _;
         fits = inv.3 v text start records fits;
-        ends = rw c.in-Ok-None.field-0-is at (c.in-Ok-None.ensures.next v text start (records ++ inv.0) (inv.3 v text start records fits));
+        ends = rw c.in-Ok-None.field-0-is at (c.in-Ok-None.ensures.next v text start (records ++ inv.0) (inv.3 v text start records fits)).0;
       },
       record { most = inv.6; bytes = inv.7; full = record {} },
     )
@@ -52,16 +52,13 @@ returns-in-Err-clause-batch g c =
         progress = _;
         ahead = _;
         fits = inv.3 v text start records fits;
-        ends = (
-          c.in-Err.ensures.next v text start (records ++ inv.0) (inv.3 v text start records fits),
-          c.in-Err.ensures.failed v text start (records ++ inv.0) (inv.3 v text start records fits),
-        );
+        ends = c.in-Err.ensures.next v text start (records ++ inv.0) (inv.3 v text start records fits);
       },
       record { most = inv.6; bytes = inv.7; full = record {} },
     )
 
 pub take_record-requires : goal.take_record-requires
-take_record-requires g c = record { limits = (c.loop-alloc.capture.progress.version, rw c.in-Ok-Some.field-0-is at c.in-Ok-Some.ensures.limits) }
+take_record-requires g c = record { limits = (c.loop-alloc.capture.progress.version, (rw c.in-Ok-Some.field-0-is at c.in-Ok-Some.ensures.given).limits) }
 
 pub loop-alloc-preserved : goal.loop-alloc-preserved
 loop-alloc-preserved g c =
@@ -69,8 +66,9 @@ loop-alloc-preserved g c =
     let r = c.in-Ok-Some.next in
     let took = c.in_ok-take_record.ensures in
     let read = c.in-Ok-Some.ensures in
-    let room = rw c.in-Ok-Some.field-0-is at read.room in
-    let small = one_size c.loop-alloc.capture.progress.version r (rw c.in-Ok-Some.field-0-is at read.limits) in
+    let given = rw c.in-Ok-Some.field-0-is at read.given in
+    let room = given.room in
+    let small = one_size c.loop-alloc.capture.progress.version r given.limits in
     let bytes = sizes_push inv.0.0 r in
     let few = c.if-bytes-lt-ENOUGH_BYTES.true in
     let before = inv.2 in (
@@ -83,16 +81,16 @@ loop-alloc-preserved g c =
               rw (append_assoc records inv.0.0 (r ∷ [])) at (took.tiers (records ++ inv.0.0) own.1),
             )),
         λ v text start records fits.
-            rw (append_assoc records inv.0.0 (r ∷ [])) at (gave_some v text _ start (records ++ inv.0.0) _ _ r c.in-Ok-Some.field-0-is (read.next v text start (records ++ inv.0.0) (inv.0.3 v text start records fits))),
+            rw (append_assoc records inv.0.0 (r ∷ [])) at (gave_some v text _ start (records ++ inv.0.0) _ _ r c.in-Ok-Some.field-0-is (read.next v text start (records ++ inv.0.0) (inv.0.3 v text start records fits)).0),
         omega (arith, took.len, count_push inv.0.0 r, inv.0.4),
         omega (arith, c.saturating_add-bytes.ensures, c.bytes_of.ensures, bytes, inv.0.5, few, small),
         omega (arith, c.loop-alloc-test.true, c.len.ensures, count_push inv.0.0 r, one_piece r, inv.0.4),
         omega (arith, bytes, inv.0.5, few, small),
       ),
-      rw c.in-Ok-Some.field-0-is at read.stage,
+      rw c.in-Ok-Some.field-0-is at read.stands.0.stage,
       omega (arith, room, before, took.len, one_piece r),
       read.count ∙ inv.3,
-      read.same ∙ inv.4,
+      read.stands.1 ∙ inv.4,
       inr (omega (arith, room, before)),
     )
 
