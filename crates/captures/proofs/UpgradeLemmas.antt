@@ -18,67 +18,25 @@ use Rattle.captures.specs.declared.pass_fault.PassFault.TheVariants.{Capture, To
 use Rattle.captures.specs.Reference.{first_line, last_line, record_text, text_before_stop, max_text_bytes, IsCapture, IsCaptureText}
 use Rattle.captures.specs.CaptureFaults.{IsForeseen, IsHeaderFault, failures_of}
 use Rattle.captures.specs.Readers.{ReaderAfter, Gave, FailsFirst, FailsNext}
-use Rattle.captures.proofs.PassLemmas.{reads_of, faults_next}
+use Rattle.captures.proofs.PassLemmas.{reads_of, faults_next, leaves_by, leaves_part, reports}
 use Rattle.captures.specs.Upgrades.{Upgrades, Stops, IsCutShort, Leaves}
-use Rattle.captures.specs.Passes.{is_memory, reported_as, pass_fault, IsWriteOrMemory, reader_failures, writer_failures}
+use Rattle.captures.specs.Passes.{pass_fault, IsWriteOrMemory}
 
--- ---- what is told of a capture's fault
-
-tells : (f : CaptureFault) → ((f.kind ≡ kinds.Memory) × (pass_fault f ≡ Memory)) ⊎ ((is_memory f.kind ≡ false) × (pass_fault f ≡ Capture f))
-tells f = go f.kind refl
-  where
-    go : (k : CaptureFaultKind) → f.kind ≡ k → ((f.kind ≡ kinds.Memory) × (reported_as k f ≡ Memory)) ⊎ ((is_memory f.kind ≡ false) × (reported_as k f ≡ Capture f))
-    go kinds.Cut e = inr (ap is_memory e, refl)
-    go kinds.Header e = inr (ap is_memory e, refl)
-    go kinds.Kind e = inr (ap is_memory e, refl)
-    go kinds.Number e = inr (ap is_memory e, refl)
-    go kinds.Tick e = inr (ap is_memory e, refl)
-    go kinds.Connection e = inr (ap is_memory e, refl)
-    go kinds.Ended e = inr (ap is_memory e, refl)
-    go kinds.Tier e = inr (ap is_memory e, refl)
-    go kinds.Length e = inr (ap is_memory e, refl)
-    go kinds.Count e = inr (ap is_memory e, refl)
-    go kinds.Trailing e = inr (ap is_memory e, refl)
-    go kinds.TooLarge e = inr (ap is_memory e, refl)
-    go kinds.Read e = inr (ap is_memory e, refl)
-    go kinds.Memory e = inl (e, refl)
+-- ---- faults
 
 -- what stands where the capture has a fault: what is due there, or else a prefix of what is due
 pub leaves_reported : (input ahead old new : Option (List ℕ)) (f : CaptureFault) → Stops input ahead old new f → IsCutShort input old new → Leaves input ahead old new (pass_fault f)
-leaves_reported input ahead old new f stops cut = elim (tells f) [
-  | inl m ↦ subst (λ (u : PassFault). Leaves input ahead old new u) (sym m.1) cut
-  | inr c ↦ subst (λ (u : PassFault). Leaves input ahead old new u) (sym c.1) (c.0, stops)
-]
+leaves_reported input ahead old new f stops cut = leaves_by input ahead _ _ _ _ f stops cut
 
 -- where memory can't have run out
 pub leaves_first : (input ahead old new : Option (List ℕ)) (f : CaptureFault) → Stops input ahead old new f → (f.kind ≡ kinds.Memory → ⊥) → Leaves input ahead old new (pass_fault f)
-leaves_first input ahead old new f stops other = elim (tells f) [
+leaves_first input ahead old new f stops other = elim (reports f) [
   | inl m ↦ absurd (other m.0)
   | inr c ↦ subst (λ (u : PassFault). Leaves input ahead old new u) (sym c.1) (c.0, stops)
 ]
 
-pub reported_reads : (f : CaptureFault) → reader_failures (pass_fault f) ≡ failures_of f.kind
-reported_reads f = elim (tells f) [
-  | inl m ↦ ap reader_failures m.1 ∙ sym (ap failures_of m.0)
-  | inr c ↦ ap reader_failures c.1
-]
-
-pub reported_writes : (f : CaptureFault) → writer_failures (pass_fault f) ≡ 0
-reported_writes f = elim (tells f) [ inl m ↦ ap writer_failures m.1 | inr c ↦ ap writer_failures c.1 ]
-
--- ---- what is said of the call's own faults
-
 pub own_leaves : (input ahead old new : Option (List ℕ)) (f : PassFault) → IsWriteOrMemory f → IsCutShort input old new → Leaves input ahead old new f
-own_leaves input ahead old new (Capture f) h cut = absurd h
-own_leaves input ahead old new (TooMany n) h cut = absurd h
-own_leaves input ahead old new Unwritten h cut = cut
-own_leaves input ahead old new Memory h cut = cut
-
-pub own_reads : (f : PassFault) → IsWriteOrMemory f → reader_failures f ≡ 0
-own_reads (Capture f) h = absurd h
-own_reads (TooMany n) h = absurd h
-own_reads Unwritten h = refl
-own_reads Memory h = refl
+own_leaves input ahead old new f own cut = leaves_part input ahead _ _ _ _ f own cut
 
 -- a fault that `?` has passed on
 pub passed_on : {T : Type 0} (r : Result T PassFault) (Q P : PassFault → Type 0) → ((f : PassFault) → Q f → P f) → IsErrAnd r Q → IfErr r P

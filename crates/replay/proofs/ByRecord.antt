@@ -41,7 +41,8 @@ use Rattle.replay.specs.Serving.{DeskAfter, AreBy, IsLater, Serves, Written, Ser
 use Rattle.reference.specs.Texts.{Texts, AreTexts, Wrote, WroteInPart, reply_texts}
 use Rattle.devices.specs.Reference.{WhereKnown}
 use Rattle.reference.specs.Outcomes.{IfTooMany, IfCutShort, IsOwn, IsCutOff, StopsBeyond, StopsFull, StopsWriting, Stops, Taken, Leaves}
-use Rattle.captures.specs.Passes.{reported_as, pass_fault, IsWriteOrMemory, reader_failures, writer_failures}
+use Rattle.captures.specs.Passes.{pass_fault, IsWriteOrMemory, reader_failures, writer_failures}
+use Rattle.captures.proofs.PassLemmas.{leaves_by, leaves_part, reported_reads, reported_writes}
 use Rattle.arrivals.proofs.Arriving.{from_piece, reads_none, arrives_none, reads_piece, reads_end, reads_tier, arrives_piece, arrives_end, arrives_tier}
 use Rattle.replay.proofs.Writing.{replies_laws}
 use Rattle.replay.proofs.Texts.{wrote_none, text_begun, text_wrote, text_part, text_ended, text_ended_part}
@@ -328,23 +329,7 @@ ends_short t terms v start count records arrivals connections desk input old mid
 -- what stands where the capture has a fault: what is due there, or else a prefix of what is due
 pub leaves_reported : (t : Texts) (input ahead old new : Option (List ℕ)) (f : CaptureFault) → StopsWriting t input ahead old new f → IsCutOff t input old new
     → Leaves t input ahead old new (pass_fault f)
-leaves_reported t input ahead old new f stops cut = go f.kind refl
-  where
-    go : (k : CaptureFaultKind) → f.kind ≡ k → Leaves t input ahead old new (reported_as k f)
-    go kinds.Cut e = (rw e refl, stops)
-    go kinds.Header e = (rw e refl, stops)
-    go kinds.Kind e = (rw e refl, stops)
-    go kinds.Number e = (rw e refl, stops)
-    go kinds.Tick e = (rw e refl, stops)
-    go kinds.Connection e = (rw e refl, stops)
-    go kinds.Ended e = (rw e refl, stops)
-    go kinds.Tier e = (rw e refl, stops)
-    go kinds.Length e = (rw e refl, stops)
-    go kinds.Count e = (rw e refl, stops)
-    go kinds.Trailing e = (rw e refl, stops)
-    go kinds.TooLarge e = (rw e refl, stops)
-    go kinds.Read e = (rw e refl, stops)
-    go kinds.Memory e = cut
+leaves_reported t input ahead old new f stops cut = leaves_by input ahead _ _ _ _ f stops cut
 
 -- the same of the call's own faults
 pub own_leaves : (t : Texts) (input ahead old new : Option (List ℕ)) (f : PassFault) → IsOwn f → IfTooMany f (StopsBeyond t input old new) → IfCutShort f (IsCutOff t input old new)
@@ -355,48 +340,7 @@ own_leaves t input ahead old new faults.Write own many cut = cut
 own_leaves t input ahead old new faults.Memory own many cut = cut
 
 pub short_leaves : (t : Texts) (input ahead old new : Option (List ℕ)) (f : PassFault) → IsWriteOrMemory f → IsCutOff t input old new → Leaves t input ahead old new f
-short_leaves t input ahead old new (faults.Capture f) own cut = absurd own
-short_leaves t input ahead old new (faults.TooMany n) own cut = absurd own
-short_leaves t input ahead old new faults.Write own cut = cut
-short_leaves t input ahead old new faults.Memory own cut = cut
-
-pub reported_reads : (f : CaptureFault) → reader_failures (pass_fault f) ≡ failures_of f.kind
-reported_reads f = go f.kind refl
-  where
-    go : (k : CaptureFaultKind) → f.kind ≡ k → reader_failures (reported_as k f) ≡ failures_of f.kind
-    go kinds.Cut e = refl
-    go kinds.Header e = refl
-    go kinds.Kind e = refl
-    go kinds.Number e = refl
-    go kinds.Tick e = refl
-    go kinds.Connection e = refl
-    go kinds.Ended e = refl
-    go kinds.Tier e = refl
-    go kinds.Length e = refl
-    go kinds.Count e = refl
-    go kinds.Trailing e = refl
-    go kinds.TooLarge e = refl
-    go kinds.Read e = refl
-    go kinds.Memory e = rw e refl
-
-pub reported_writes : (f : CaptureFault) → writer_failures (pass_fault f) ≡ 0
-reported_writes f = go f.kind
-  where
-    go : (k : CaptureFaultKind) → writer_failures (reported_as k f) ≡ 0
-    go kinds.Cut = refl
-    go kinds.Header = refl
-    go kinds.Kind = refl
-    go kinds.Number = refl
-    go kinds.Tick = refl
-    go kinds.Connection = refl
-    go kinds.Ended = refl
-    go kinds.Tier = refl
-    go kinds.Length = refl
-    go kinds.Count = refl
-    go kinds.Trailing = refl
-    go kinds.TooLarge = refl
-    go kinds.Read = refl
-    go kinds.Memory = refl
+short_leaves t input ahead old new f own cut = leaves_part input ahead _ _ _ _ f own cut
 
 pub halts_first : (t : Texts) (input ahead old new : Option (List ℕ)) (f : CaptureFault) → Appends old new t.first → f.at ≡ 0 → IsForeseen IsHeaderFault input f
     → FailsFirst input f ahead → StopsWriting t input ahead old new f

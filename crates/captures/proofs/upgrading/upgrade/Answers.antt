@@ -2,7 +2,8 @@ use Rattle.std.proofs.Common.{◌∙◌, ◌++◌, ◌∷◌, [], ℕ, List, Opt
 use Rattle.devices.proofs.Appending.{prefix_all}
 use Rattle.captures.specs.Upgrades.{Leaves}
 use Rattle.captures.specs.Passes.{pass_fault}
-use Rattle.captures.proofs.UpgradeLemmas.{leaves_reported, leaves_first, own_leaves, reported_reads, reported_writes, passed_on, fits_own, gave_more, first_written, first_prefix, more_written, more_prefix, stops_first, stops_after, short_among, all_read, moved, part_end, ok_end}
+use Rattle.captures.proofs.PassLemmas.{reported_reads, reported_writes}
+use Rattle.captures.proofs.UpgradeLemmas.{leaves_reported, leaves_first, own_leaves, passed_on, fits_own, gave_more, first_written, first_prefix, more_written, more_prefix, stops_first, stops_after, short_among, all_read, moved, part_end, ok_end}
 use Rattle.std.proofs.lemmas.List.{length_push}
 use Rattle.captures.proofs.upgrading.upgrade.Goals as goal
 

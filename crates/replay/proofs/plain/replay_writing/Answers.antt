@@ -19,7 +19,7 @@ returns-in-Err-clause-fault g c =
     let written = c.in_ok-begin.ensures.written (terms_of g.F.Tree.files c.args.settings.now) in
     rw c.from.ensures
     (leaves_reported (g.T.Format.texts (terms_of g.F.Tree.files c.args.settings.now)) c.args.reader.now.bytes _ c.args.writer.now.bytes c.begin.new.writer.bytes c.in-Err.fault
-    (halts_first (g.T.Format.texts (terms_of g.F.Tree.files c.args.settings.now)) c.args.reader.now.bytes _ c.args.writer.now.bytes c.begin.new.writer.bytes _ written c.in-Err.ensures.at c.in-Err.ensures.fault (rw c.in-Err.is at c.open.follows.holds-at-none).1)
+    (halts_first (g.T.Format.texts (terms_of g.F.Tree.files c.args.settings.now)) c.args.reader.now.bytes _ c.args.writer.now.bytes c.begin.new.writer.bytes _ written c.in-Err.ensures.fault.at c.in-Err.ensures.fault.foreseen (rw c.in-Err.is at c.open.follows.holds-at-none).1)
     (inl (prefix_all c.args.writer.now.bytes c.begin.new.writer.bytes _ written)))
 
 pub returns-in_err-new-clause-fault : goal.returns-in_err-new-clause-fault
@@ -35,34 +35,34 @@ loop-next-init g c =
         c.in-Ok.capture.progress.version,
         [],
         [],
-        rw c.start.ensures c.in-Ok.ensures.ok,
+        rw c.start.ensures c.in-Ok.ensures.ok.after,
         serves_none terms c.new-connections.result _ c.new-connections.ensures (stands_none terms _ (c.in_ok-new.ensures.policies ∙ c.policies.ensures) c.in_ok-new.ensures.fits c.new-2.ensures),
         no_tiers c.new-tiers.result c.new-tiers.ensures,
         text_begun (g.T.Format.texts terms) c.start.result c.args.writer.now.bytes c.begin.new.writer.bytes (c.in_ok-begin.ensures.texts terms) (c.in_ok-begin.ensures.written terms),
       ),
       refl,
-      c.in-Ok.ensures.count,
+      c.in-Ok.ensures.ok.count,
       c.in_ok-begin.ensures.failures,
-      rw c.start.ensures c.in-Ok.ensures.ok.rules.in_time,
+      rw c.start.ensures c.in-Ok.ensures.ok.after.rules.in_time,
     )
 
 pub returns-in-Err-next_record-clause-fault : goal.returns-in-Err-next_record-clause-fault
 returns-in-Err-next_record-clause-fault g c =
     let inv = c.loop-next.invariant.0 in
     halts_written (g.T.Format.texts (terms_of g.F.Tree.files c.args.settings.now)) (terms_of g.F.Tree.files c.args.settings.now) inv.0 c.args.reader.now.bytes _ _ c.next_record.new.self.input.now.bytes _ _ _ inv.1 inv.2 _ _ _ c.in-Err-next_record.fault c.from-in-Err-next_record.result c.from-in-Err-next_record.ensures inv.3 inv.4 inv.6
-    (c.in-Err-next_record.ensures.next _ _ _ _ inv.3) (c.in-Err-next_record.ensures.failed _ _ _ _ inv.3) (search rules)
+    (c.in-Err-next_record.ensures.next _ _ _ _ inv.3).0 (c.in-Err-next_record.ensures.next _ _ _ _ inv.3).1 (search rules)
 
 pub answer_record-requires-clause-record : goal.answer_record-requires-clause-record
-answer_record-requires-clause-record g c = (c.loop-next.capture.progress.version, rw c.in-Ok-Some.field-0-is at c.in-Ok-Some.ensures.limits)
+answer_record-requires-clause-record g c = (c.loop-next.capture.progress.version, (rw c.in-Ok-Some.field-0-is at c.in-Ok-Some.ensures.given).limits)
 
 pub answer_record-requires-clause-room : goal.answer_record-requires-clause-room
 answer_record-requires-clause-room g c =
     let inv = c.loop-next.invariant.0 in
-    let fits = gave_some inv.0 _ _ _ inv.1 _ _ _ c.in-Ok-Some.field-0-is (c.in-Ok-Some.ensures.next _ _ _ _ inv.3) in (
+    let fits = gave_some inv.0 _ _ _ inv.1 _ _ _ c.in-Ok-Some.field-0-is (c.in-Ok-Some.ensures.next _ _ _ _ inv.3).0 in (
       inv.1,
       inv.2,
       inv.4,
-      sizes_left inv.0 _ _ _ _ inv.1 _ _ inv.3 (rw c.in-Ok-Some.field-0-is at c.in-Ok-Some.ensures.room),
+      sizes_left inv.0 _ _ _ _ inv.1 _ _ inv.3 (rw c.in-Ok-Some.field-0-is at c.in-Ok-Some.ensures.given).room,
       is_later inv.0 _ inv.1 inv.2 c.in-Ok-Some.next fits.rules inv.4.arrived,
     )
 
@@ -72,7 +72,7 @@ returns-in_err-answer_record-clause-fault g c =
     let terms = terms_of g.F.Tree.files c.args.settings.now in
     let t = g.T.Format.texts terms in
     let laws = c.in_ok-begin.ensures.texts terms in
-    let fits = gave_some inv.0 _ _ _ inv.1 _ _ _ c.in-Ok-Some.field-0-is (c.in-Ok-Some.ensures.next _ _ _ _ inv.3) in
+    let fits = gave_some inv.0 _ _ _ inv.1 _ _ _ c.in-Ok-Some.field-0-is (c.in-Ok-Some.ensures.next _ _ _ _ inv.3).0 in
     let fault = c.in_err-answer_record.field-0.0 in
     let says = c.in_err-answer_record.ensures in
     passed_on c.from_residual-in_err-answer_record.result _ _
@@ -98,12 +98,12 @@ loop-next-preserved-in_ok-answer_record g c =
         own.0,
         own.1 ++ c.in-Ok-Some.next ∷ [],
         own.2 ++ more.more,
-        rw one.start (gave_some own.0 _ _ _ own.1 _ _ _ c.in-Ok-Some.field-0-is (c.in-Ok-Some.ensures.next _ _ _ _ own.3)),
+        rw one.start (gave_some own.0 _ _ _ own.1 _ _ _ c.in-Ok-Some.field-0-is (c.in-Ok-Some.ensures.next _ _ _ _ own.3).0),
         more.serves,
         one.tiers own.1 own.5,
         rw one.start (text_wrote (g.T.Format.texts terms) c.loop-next.desk.start own.2 more.more _ _ _ (c.in_ok-begin.ensures.texts terms) own.6 (rw one.start at more.written)),
       ),
-      c.in-Ok-Some.ensures.same ∙ inv.1,
+      c.in-Ok-Some.ensures.stands.1 ∙ inv.1,
       c.in-Ok-Some.ensures.count ∙ inv.2,
       one.failures ∙ inv.3,
       rw one.start inv.4,
@@ -120,12 +120,12 @@ loop-next-preserved g c =
         own.0,
         own.1 ++ c.in-Ok-Some.next ∷ [],
         own.2 ++ more.more,
-        rw one.start (gave_some own.0 _ _ _ own.1 _ _ _ c.in-Ok-Some.field-0-is (c.in-Ok-Some.ensures.next _ _ _ _ own.3)),
+        rw one.start (gave_some own.0 _ _ _ own.1 _ _ _ c.in-Ok-Some.field-0-is (c.in-Ok-Some.ensures.next _ _ _ _ own.3).0),
         more.serves,
         one.tiers own.1 own.5,
         rw one.start (text_wrote (g.T.Format.texts terms) c.loop-next.desk.start own.2 more.more _ _ _ (c.in_ok-begin.ensures.texts terms) own.6 (rw one.start at more.written)),
       ),
-      c.in-Ok-Some.ensures.same ∙ inv.1,
+      c.in-Ok-Some.ensures.stands.1 ∙ inv.1,
       c.in-Ok-Some.ensures.count ∙ inv.2,
       one.failures ∙ inv.3,
       rw one.start inv.4,
@@ -144,7 +144,7 @@ returns-in_err-finish-clause-fault g c =
     passed_on c.from_residual-in_err-finish.result _ _
     (λ f same. rw same (short_leaves (g.T.Format.texts (terms_of g.F.Tree.files c.args.settings.now)) _ _ _ _ c.in_err-finish.field-0.0 c.in_err-finish.ensures.own
     (ends_short (g.T.Format.texts (terms_of g.F.Tree.files c.args.settings.now)) (terms_of g.F.Tree.files c.args.settings.now) inv.0 _ _ inv.1 inv.2 _ _ _ _ _ _ (c.in_ok-begin.ensures.texts (terms_of g.F.Tree.files c.args.settings.now)) inv.3.rules
-    (gave_end inv.0 _ _ _ inv.1 _ _ c.in-Ok-None.field-0-is (c.in-Ok-None.ensures.next _ _ _ _ inv.3)) inv.4 inv.6 (c.in_err-finish.ensures.part (terms_of g.F.Tree.files c.args.settings.now)) refl)))
+    (gave_end inv.0 _ _ _ inv.1 _ _ c.in-Ok-None.field-0-is (c.in-Ok-None.ensures.next _ _ _ _ inv.3).0) inv.4 inv.6 (c.in_err-finish.ensures.part (terms_of g.F.Tree.files c.args.settings.now)) refl)))
     c.from_residual-in_err-finish.ensures.1
 
 pub returns-clause-ok : goal.returns-clause-ok
@@ -152,5 +152,5 @@ returns-clause-ok g c =
     let inv = c.loop-next.invariant.0 in
     let terms = terms_of g.F.Tree.files c.args.settings.now in
     all_written (g.T.Format.texts terms) terms inv.0 _ c.loop-next.desk.totals.answered inv.1 inv.2 c.loop-next.connections c.loop-next.desk _ _ _ _ _ (c.in_ok-begin.ensures.texts terms) inv.3.rules
-    (gave_end inv.0 _ _ _ inv.1 _ _ c.in-Ok-None.field-0-is (c.in-Ok-None.ensures.next _ _ _ _ inv.3)) inv.4 inv.6 (c.in_ok-finish.ensures.written terms) refl
+    (gave_end inv.0 _ _ _ inv.1 _ _ c.in-Ok-None.field-0-is (c.in-Ok-None.ensures.next _ _ _ _ inv.3).0) inv.4 inv.6 (c.in_ok-finish.ensures.written terms) refl
     c.in_ok-outcome.ensures.rejected (c.in_ok-outcome.ensures.summary terms inv.2 inv.4.stands)

@@ -19,7 +19,7 @@ returns-in_err-write_first_line-clause-fault g c =
 pub returns-in-Err-clause-fault : goal.returns-in-Err-clause-fault
 returns-in-Err-clause-fault g c = rw c.from.ensures
     (leaves_reported (reply_texts (terms_of g.F.Tree.files c.args.settings.now)) c.args.reader.now.bytes _ c.args.writer.now.bytes c.write_first_line.new.writer.bytes c.in-Err.fault
-    (stops_first (terms_of g.F.Tree.files c.args.settings.now) c.args.reader.now.bytes _ c.args.writer.now.bytes c.write_first_line.new.writer.bytes _ c.in_ok-write_first_line.ensures.written c.in-Err.ensures.at c.in-Err.ensures.fault (rw c.in-Err.is at c.open.follows.holds-at-none).1)
+    (stops_first (terms_of g.F.Tree.files c.args.settings.now) c.args.reader.now.bytes _ c.args.writer.now.bytes c.write_first_line.new.writer.bytes _ c.in_ok-write_first_line.ensures.written c.in-Err.ensures.fault.at c.in-Err.ensures.fault.foreseen (rw c.in-Err.is at c.open.follows.holds-at-none).1)
     (inl (prefix_all c.args.writer.now.bytes c.write_first_line.new.writer.bytes _ c.in_ok-write_first_line.ensures.written)))
 
 pub returns-in_err-new-clause-fault : goal.returns-in_err-new-clause-fault
@@ -35,15 +35,15 @@ loop-floors-init g c =
         c.in-Ok.capture.progress.version,
         [],
         [],
-        rw c.start.ensures c.in-Ok.ensures.ok,
+        rw c.start.ensures c.in-Ok.ensures.ok.after,
         serves_none terms _ _ (ap connections_of c.new-seats.ensures) (stands_none terms _ (c.in_ok-new.ensures.policies ∙ c.policies.ensures) c.in_ok-new.ensures.fits c.new-2.ensures),
         no_tiers c.new-tiers.result c.new-tiers.ensures,
         first_written terms c.start.result c.args.writer.now.bytes c.write_first_line.new.writer.bytes c.in_ok-write_first_line.ensures.written,
       ),
       refl,
-      c.in-Ok.ensures.count,
+      c.in-Ok.ensures.ok.count,
       c.in_ok-write_first_line.ensures.failures,
-      rw c.start.ensures c.in-Ok.ensures.ok.rules.in_time,
+      rw c.start.ensures c.in-Ok.ensures.ok.after.rules.in_time,
       waits_none _ c.new-seats.ensures,
     )
 
