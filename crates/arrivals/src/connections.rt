@@ -33,9 +33,11 @@ pub enum Connection {
 impl Connection {
     /// The cutter that reads on; none where the connection is closed.
     fn into_cutter(self, alloc: Global) -> Option<Cutter>
-        ensures reads { IfSome result (λ cutter. (text : List ℕ) (ms : List AMessage) → HasRead self text ms
+        ensures reads { IfSome result
+            (λ cutter. (text : List ℕ) (ms : List AMessage) → HasRead self text ms
             → CutterAfter text ms cutter) }
-        ensures room { IfSome result (λ cutter. (n : ℕ) → HasRoom self n → cutter.read + n ≤ max_text_bytes) }
+        ensures room { IfSome result
+            (λ cutter. (n : ℕ) → HasRoom self n → cutter.read + n ≤ max_text_bytes) }
         ensures closed { IfNone result (self ≡ Closed) }
     {
         match self {
@@ -119,7 +121,8 @@ impl Connections {
         ensures own { OnOk result ((text : List ℕ) (ms : List AMessage)
             → HasRead (connection_at self.old conn) text ms
             → ReadMore text ms (connection_at self.new conn) piece.now out.new.items) }
-        ensures others { OnOk result ((c : ℕ) → c ≢ conn → connection_at self.new c ≡ connection_at self.old c) }
+        ensures others { OnOk result
+            ((c : ℕ) → c ≢ conn → connection_at self.new c ≡ connection_at self.old c) }
     {
         self.reach(conn)?;
         let before = mem::replace(&mut self.list[conn], Connection::Closed);

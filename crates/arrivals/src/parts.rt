@@ -48,7 +48,8 @@ fn laid_by(
     part: Vec<Incoming>,
     left: usize,
 ) -> Result<Vec<Incoming>, AllocError>
-    ensures { IfOk result (λ rest. joined parts.new.items ++ rest.items ≡ joined parts.old.items ++ part.items) }
+    ensures { IfOk result
+        (λ rest. joined parts.new.items ++ rest.items ≡ joined parts.old.items ++ part.items) }
 {
     if part.len() < ENOUGH {
         return Ok(part);

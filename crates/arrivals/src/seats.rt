@@ -85,8 +85,10 @@ impl Seats {
 
     /// A piece came on a connection. It is noted once the piece waits there.
     pub fn add(&mut self, alloc: Global, conn: usize, piece: Bytes) -> Result<(), AllocError>
-        ensures own { OnOk result (seat_at self.new conn ≡ with_piece piece (seat_at self.old conn)) }
-        ensures others { OnOk result ((c : ℕ) → c ≢ conn → seat_at self.new c ≡ seat_at self.old c) }
+        ensures own { OnOk result
+            (seat_at self.new conn ≡ with_piece piece (seat_at self.old conn)) }
+        ensures others { OnOk result
+            ((c : ℕ) → c ≢ conn → seat_at self.new c ≡ seat_at self.old c) }
         ensures err { OnErr result ((c : ℕ) → seat_at self.new c ≡ seat_at self.old c) }
     {
         reach(&mut self.list, conn)?;
@@ -145,7 +147,8 @@ impl Seats {
         ensures origins { IfOk result (λ found. map (λ p. p.origin) found.items ≡ origins.now) }
         ensures found { IfOk result (λ found. (c : ℕ)
             → (seat_at self.old c).lists ≡ lists_to c origins.now (map (λ p. p.messages) found.items)) }
-        ensures seats { OnOk result ((c : ℕ) → seat_at self.new c ≡ with_lists [] (seat_at self.old c)) }
+        ensures seats { OnOk result
+            ((c : ℕ) → seat_at self.new c ≡ with_lists [] (seat_at self.old c)) }
     {
         let mut found = Vec::with_capacity(alloc, origins.len())?;
         for origin in origins {

@@ -58,7 +58,8 @@ impl Tiers {
     /// Gives a connection its tier.
     pub fn give(&mut self, conn: u16, tier: u8) -> Result<(), AllocError>
         requires { tier < 4 }
-        ensures { OnOk result ((c : ℕ) → tier_at self.new c ≡ with_tier conn tier (tier_at self.old) c) }
+        ensures { OnOk result
+            ((c : ℕ) → tier_at self.new c ≡ with_tier conn tier (tier_at self.old) c) }
     {
         let place = usize::from(conn);
         self.reach(place)?;

@@ -22,7 +22,8 @@ pub fn no_fault_of_a_capture()
 
 /// A text has one first fault at most.
 pub fn one_first_fault()
-    ensures { (bytes : List ℕ) (f g : AFault) → IsFirstFault bytes f → IsFirstFault bytes g → f ≡ g }
+    ensures { (bytes : List ℕ) (f g : AFault) → IsFirstFault bytes f → IsFirstFault bytes g
+        → f ≡ g }
 {}
 
 /// Each text is a capture's, or has a first fault.
@@ -34,7 +35,8 @@ pub fn capture_or_fault()
 
 /// What keeps the rules of version 1 keeps those of version 2.
 pub fn records_of_version_one()
-    ensures { (start : ℕ) (records : List ARecord) → IsCapture One start records → IsCapture Two start records }
+    ensures { (start : ℕ) (records : List ARecord) → IsCapture One start records
+        → IsCapture Two start records }
 {}
 
 /// The upgraded text of a capture is one of version 2, with the same start and the same records.

@@ -27,7 +27,8 @@ impl<'a, R: Read> CaptureReader<'a, R> {
     /// Reads the first line.
     pub fn open(input: &'a mut Input<R>) -> Result<CaptureReader<'a, R>, CaptureFault>
         requires { CanFail input.old }
-        ensures ok { IfOk result (λ reader. HasOpened input.old (progress_of reader) (device_of reader)) }
+        ensures ok { IfOk result
+            (λ reader. HasOpened input.old (progress_of reader) (device_of reader)) }
         ensures same { IfOk result (λ reader. loan_of reader ≡ input.entry.ghost_name) }
         ensures fault { IfErr result (IsOpeningFault input.old.bytes) }
         // At a fault the input is given back; where a read failed, no whole line had been taken from it.
@@ -60,7 +61,8 @@ impl<'a, R: Read> CaptureReader<'a, R> {
         requires { CanFail (device_of self.old) }
         ensures next { GivesNext (progress_of self.old) (device_of self.old).bytes
             result (progress_of self.new) (device_of self.new).bytes }
-        ensures given { IfOk result (λ next. IfSome next (IsGiven (progress_of self.old) (progress_of self.new))) }
+        ensures given { IfOk result
+            (λ next. IfSome next (IsGiven (progress_of self.old) (progress_of self.new))) }
         ensures stands { ComesTo (progress_of self.old) (progress_of self.new) result
             × (loan_of self.new ≡ loan_of self.old) }
         ensures again { Repeats (progress_of self.old).stage result

@@ -32,7 +32,8 @@ pub(crate) fn read_header<R: Read>(
     left: &mut usize,
 ) -> Result<(Version, u64), CaptureFaultKind>
     requires { CanFail input.old }
-    ensures line { Gives is_unforeseen_kind header_at input.old.bytes left.old input.new.bytes left.new result }
+    ensures line { Gives is_unforeseen_kind header_at
+        input.old.bytes left.old input.new.bytes left.new result }
     // Where a read failed, no whole line had been taken.
     ensures part { FailsWithin CaptureFaultKind.Read CaptureFaultKind.Cut header_at
         input.old.bytes left.old input.new.bytes left.new result }
@@ -56,7 +57,8 @@ fn read_body<R: Read>(
     len: usize,
 ) -> Result<Bytes, CaptureFaultKind>
     requires { CanFail input.old }
-    ensures bytes { Gives is_unforeseen_kind (body_at len) input.old.bytes left.old input.new.bytes left.new result }
+    ensures bytes { Gives is_unforeseen_kind (body_at len)
+        input.old.bytes left.old input.new.bytes left.new result }
     // Where a read failed, no whole run had been taken.
     ensures part { FailsWithin CaptureFaultKind.Read CaptureFaultKind.Cut (body_at len)
         input.old.bytes left.old input.new.bytes left.new result }
@@ -84,7 +86,8 @@ fn read_piece<R: Read>(
     ensures piece { Gives is_unforeseen_kind
         (piece_at version (seen so_far.now) line) input.old.bytes left.old input.new.bytes left.new result }
     // Where a read failed, no whole piece had been taken.
-    ensures part { FailsWithin CaptureFaultKind.Read CaptureFaultKind.Cut (piece_at version (seen so_far.now) line)
+    ensures part { FailsWithin CaptureFaultKind.Read CaptureFaultKind.Cut
+        (piece_at version (seen so_far.now) line)
         input.old.bytes left.old input.new.bytes left.new result }
     ensures fits { IfOk result (Follows version (seen so_far.now)) }
     ensures count { CountsKind input.old.failures input.new.failures result }
@@ -104,9 +107,11 @@ fn read_piece<R: Read>(
 /// Looks for the end of the input.
 fn read_close<R: Read>(input: &mut Input<R>, left: usize) -> Result<(), CaptureFaultKind>
     requires { CanFail input.old }
-    ensures close { Gives is_unforeseen_kind close_at input.old.bytes left input.new.bytes left result }
+    ensures close { Gives is_unforeseen_kind close_at
+        input.old.bytes left input.new.bytes left result }
     // A read that failed took nothing.
-    ensures part { FailsAtOnce CaptureFaultKind.Read input.old.bytes left input.new.bytes left result }
+    ensures part { FailsAtOnce CaptureFaultKind.Read
+        input.old.bytes left input.new.bytes left result }
     ensures count { CountsKind input.old.failures input.new.failures result }
     // It takes no memory.
     ensures memory { IfErr result (λ kind. kind ≢ CaptureFaultKind.Memory) }
@@ -176,7 +181,8 @@ fn read_record_line<R: Read>(
     requires { CanFail input.old }
     ensures line { GivesLine _version input.old.bytes left.old input.new.bytes left.new result }
     // Where a read failed, no whole line had been taken.
-    ensures part { FailsWithin Stop.Read Stop.Cut line_at input.old.bytes left.old input.new.bytes left.new result }
+    ensures part { FailsWithin Stop.Read Stop.Cut line_at
+        input.old.bytes left.old input.new.bytes left.new result }
     ensures count { Counts input.old.failures input.new.failures result }
     // It takes no memory.
     ensures memory { IfErr result (λ e. e ≢ Stop.Memory) }

@@ -8,7 +8,7 @@ ghost use Rattle.captures.specs.Passes.{writer_failures, IsWriteOrMemory};
 ghost use Rattle.captures.specs.Writing.{line_of, rest_of};
 ghost use Rattle.captures.specs.declared.version.Version.TheVariants.{Two};
 
-use crate::{Record, PassFault};
+use crate::{PassFault, Record};
 use devices::Output;
 use std::alloc::{AllocError, Global};
 use std::io::Write;
@@ -20,7 +20,8 @@ pub(crate) fn write_first_line<W: Write>(
     start: u64,
 ) -> Result<(), PassFault>
     requires { CanFail output.old }
-    ensures prefix { WritesPrefix output.old.bytes output.new.bytes result (first_line Two start ++ 10 ∷ []) }
+    ensures prefix { WritesPrefix
+        output.old.bytes output.new.bytes result (first_line Two start ++ 10 ∷ []) }
     ensures count { CountsBy writer_failures output.old.failures output.new.failures result }
     ensures own { IfErr result IsWriteOrMemory }
 {

@@ -28,7 +28,8 @@ pub fn upgrade<R: Read, W: Write>(
     requires writing { CanFail writer.old }
     ensures ok { OnOk result (Upgrades reader.old.bytes writer.old.bytes writer.new.bytes) }
     // After a capture's fault, the first line and the whole records before it stand; else a prefix of what was due.
-    ensures fault { IfErr result (Leaves reader.old.bytes reader.new.bytes writer.old.bytes writer.new.bytes) }
+    ensures fault { IfErr result
+        (Leaves reader.old.bytes reader.new.bytes writer.old.bytes writer.new.bytes) }
     // A device is blamed only where it failed in this call.
     ensures reads { CountsBy reader_failures reader.old.failures reader.new.failures result }
     ensures writes { CountsBy writer_failures writer.old.failures writer.new.failures result }

@@ -28,7 +28,8 @@ fn push_number(line: &mut Line, number: u64)
 /// Adds what became of a request, and the numbers that it found.
 fn push_found(line: &mut Line, offered: Offered)
     requires { array_vec_len line.old ≤ 105 }
-    ensures text { line.new.items ≡ line.old.items ++ (decision_field offered.decision ++ found_fields offered) }
+    ensures text { line.new.items
+        ≡ line.old.items ++ (decision_field offered.decision ++ found_fields offered) }
     ensures len { array_vec_len line.new ≤ array_vec_len line.old + 72 }
 {
     let word = match offered.decision {
@@ -44,7 +45,8 @@ fn push_found(line: &mut Line, offered: Offered)
 /// Adds when the service of a request begins and ends.
 fn push_service(line: &mut Line, offered: Offered)
     requires { array_vec_len line.old ≤ 177 }
-    ensures text { line.new.items ≡ line.old.items ++ service_fields offered.service offered.decision }
+    ensures text { line.new.items
+        ≡ line.old.items ++ service_fields offered.service offered.decision }
     ensures len { array_vec_len line.new ≤ array_vec_len line.old + 42 }
 {
     match offered.decision {

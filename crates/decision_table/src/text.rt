@@ -21,7 +21,8 @@ fn begins_formula(byte: u8) -> bool
 /// Writes bytes as they stand within a field.
 fn write_bytes<W: Write>(output: &mut Output<W>, bytes: &[u8]) -> Result<(), Failed>
     requires { CanFail output.old }
-    ensures prefix { WritesProperPrefix output.old.bytes output.new.bytes result (text_bytes bytes.now) }
+    ensures prefix { WritesProperPrefix
+        output.old.bytes output.new.bytes result (text_bytes bytes.now) }
     ensures count { CountsFailed output.old.failures output.new.failures result }
 {
     for piece in percent_encode(bytes, ESCAPED) {
@@ -33,7 +34,8 @@ fn write_bytes<W: Write>(output: &mut Output<W>, bytes: &[u8]) -> Result<(), Fai
 /// Writes bytes as a field. It takes no memory.
 pub(crate) fn write_text<W: Write>(output: &mut Output<W>, bytes: &[u8]) -> Result<(), Failed>
     requires { CanFail output.old }
-    ensures prefix { WritesProperPrefix output.old.bytes output.new.bytes result (text_field bytes.now) }
+    ensures prefix { WritesProperPrefix
+        output.old.bytes output.new.bytes result (text_field bytes.now) }
     ensures count { CountsFailed output.old.failures output.new.failures result }
 {
     let Some((first, others)) = bytes.split_first() else {

@@ -43,9 +43,11 @@ fn read_owed_line<R: Read>(
     requires healthy { CanFail input.old }
     requires least { (1 ≤ least) × (least ≤ 8) }
     requires longer { (least < longer) × (longer ≤ least + 8) }
-    ensures line { GivesLongLine least kind.now longer input.old.bytes left.old input.new.bytes left.new result }
+    ensures line { GivesLongLine least kind.now longer
+        input.old.bytes left.old input.new.bytes left.new result }
     // Where a read failed, no whole line had been taken.
-    ensures part { FailsWithin Stop.Read Stop.Cut line_at input.old.bytes left.old input.new.bytes left.new result }
+    ensures part { FailsWithin Stop.Read Stop.Cut line_at
+        input.old.bytes left.old input.new.bytes left.new result }
     ensures count { Counts input.old.failures input.new.failures result }
     // It takes no memory.
     ensures memory { IfErr result (λ e. e ≢ Stop.Memory) }
@@ -80,9 +82,11 @@ pub fn read_long_line<R: Read>(
     requires healthy { CanFail input.old }
     requires least { (1 ≤ least) × (least ≤ 8) }
     requires longer { (least < longer) × (longer ≤ least + 8) }
-    ensures line { GivesLongLine least kind.now longer input.old.bytes left.old input.new.bytes left.new result }
+    ensures line { GivesLongLine least kind.now longer
+        input.old.bytes left.old input.new.bytes left.new result }
     // Where a read failed, no whole line had been taken.
-    ensures part { FailsWithin Stop.Read Stop.Cut line_at input.old.bytes left.old input.new.bytes left.new result }
+    ensures part { FailsWithin Stop.Read Stop.Cut line_at
+        input.old.bytes left.old input.new.bytes left.new result }
     ensures count { Counts input.old.failures input.new.failures result }
     // It takes no memory.
     ensures memory { IfErr result (λ e. e ≢ Stop.Memory) }

@@ -82,7 +82,8 @@ impl<W: Write> Output<W> {
     /// Writes one text and then another.
     pub fn write_both(&mut self, first: &[u8], second: &[u8]) -> Result<(), Failed>
         requires { CanFail self.old }
-        ensures prefix { WritesProperPrefix self.old.bytes self.new.bytes result (first.now ++ second.now) }
+        ensures prefix { WritesProperPrefix self.old.bytes self.new.bytes result
+            (first.now ++ second.now) }
         ensures count { CountsFailed self.old.failures self.new.failures result }
     {
         match self.write_all(first) {

@@ -81,7 +81,8 @@ impl Line {
     pub(crate) fn push_to_feed(&mut self, bytes: &[u8]) -> bool
         requires { length self.old + length bytes.now ≤ 65 }
         ensures line { self.new ≡ self.old ++ before_first (λ b. b == line_feed) bytes.now }
-        ensures feed { result ≡ nat_lt (length (before_first (λ b. b == line_feed) bytes.now)) (length bytes.now) }
+        ensures feed { result
+            ≡ nat_lt (length (before_first (λ b. b == line_feed) bytes.now)) (length bytes.now) }
     {
         for byte in bytes {
             if *byte == b'\n' {
@@ -199,7 +200,8 @@ fn read_next_of<R: Read>(
 /// Reads the next byte of a text that may take `left` more bytes.
 pub fn read_byte_of<R: Read>(input: &mut Input<R>, left: &mut usize) -> Result<u8, Stop>
     requires { CanFail input.old }
-    ensures byte { Gives is_unforeseen byte_at input.old.bytes left.old input.new.bytes left.new result }
+    ensures byte { Gives is_unforeseen byte_at
+        input.old.bytes left.old input.new.bytes left.new result }
     // A read that failed took nothing.
     ensures part { FailsAtOnce Stop.Read input.old.bytes left.old input.new.bytes left.new result }
     ensures count { Counts input.old.failures input.new.failures result }
@@ -216,9 +218,11 @@ pub fn read_byte_of<R: Read>(input: &mut Input<R>, left: &mut usize) -> Result<u
 /// Reads the next line of a text that may take `left` more bytes, byte by byte, and leaves what follows its line feed.
 pub fn read_line<R: Read>(input: &mut Input<R>, left: &mut usize) -> Result<Line, Stop>
     requires { CanFail input.old }
-    ensures line { Gives is_unforeseen line_at input.old.bytes left.old input.new.bytes left.new result }
+    ensures line { Gives is_unforeseen line_at
+        input.old.bytes left.old input.new.bytes left.new result }
     // Where a read failed, no whole line had been taken.
-    ensures part { FailsWithin Stop.Read Stop.Cut line_at input.old.bytes left.old input.new.bytes left.new result }
+    ensures part { FailsWithin Stop.Read Stop.Cut line_at
+        input.old.bytes left.old input.new.bytes left.new result }
     ensures count { Counts input.old.failures input.new.failures result }
     // It takes no memory.
     ensures memory { IfErr result (λ e. e ≢ Stop.Memory) }
@@ -237,9 +241,11 @@ pub fn read_line<R: Read>(input: &mut Input<R>, left: &mut usize) -> Result<Line
 /// The same by as few reads as the device allows, of an input that reads ahead.
 pub(crate) fn read_line_ahead<R: Read>(input: &mut Input<R>, left: &mut usize) -> Result<Line, Stop>
     requires { CanFail input.old }
-    ensures line { Gives is_unforeseen line_at input.old.bytes left.old input.new.bytes left.new result }
+    ensures line { Gives is_unforeseen line_at
+        input.old.bytes left.old input.new.bytes left.new result }
     // Where a read failed, no whole line had been taken.
-    ensures part { FailsWithin Stop.Read Stop.Cut line_at input.old.bytes left.old input.new.bytes left.new result }
+    ensures part { FailsWithin Stop.Read Stop.Cut line_at
+        input.old.bytes left.old input.new.bytes left.new result }
     ensures count { Counts input.old.failures input.new.failures result }
     // It takes no memory.
     ensures memory { IfErr result (λ e. e ≢ Stop.Memory) }
@@ -292,12 +298,14 @@ pub fn read_run<R: Read>(
     count: usize,
 ) -> Result<Bytes, Stop>
     requires { CanFail input.old }
-    ensures run { Gives is_unforeseen (run_at count) input.old.bytes left.old input.new.bytes left.new result }
+    ensures run { Gives is_unforeseen (run_at count)
+        input.old.bytes left.old input.new.bytes left.new result }
     // Where a read failed, no whole run had been taken.
     ensures part { FailsWithin Stop.Read Stop.Cut (run_at count)
         input.old.bytes left.old input.new.bytes left.new result }
     // Where there was no memory, nothing had been taken.
-    ensures lacks { FailsAtOnce Stop.Memory input.old.bytes left.old input.new.bytes left.new result }
+    ensures lacks { FailsAtOnce Stop.Memory
+        input.old.bytes left.old input.new.bytes left.new result }
     ensures length { IfOk result (λ run. length run ≡ count) }
     ensures count { Counts input.old.failures input.new.failures result }
 {

@@ -99,7 +99,8 @@ impl Found {
     /// An end came at this tick.
     pub(crate) fn take_end(&mut self, tick: u64)
         requires { FewRecords (2 ^ 64 - 1) self.old.records }
-        ensures { self.new ≡ record (with_tick self.old tick) { records = with_end self.old.records } }
+        ensures { self.new
+            ≡ record (with_tick self.old tick) { records = with_end self.old.records } }
     {
         self.note_tick(tick);
         self.records.note_end();
@@ -141,11 +142,13 @@ impl Found {
 
 /// The figures of what was found.
 pub(crate) fn inspection_of(version: Version, start: u64, found: &Found) -> Inspection
-    requires { (records : List ARecord) × (arrivals : List Arrival) × IsFound records arrivals found.now
+    requires { (records : List ARecord) × (arrivals : List Arrival)
+        × IsFound records arrivals found.now
         × (sizes_of records ≤ max_text_bytes) }
     ensures version { result.version ≡ version }
     ensures start { result.start ≡ start }
-    ensures figures { (records : List ARecord) (arrivals : List Arrival) → IsFound records arrivals found.now
+    ensures figures { (records : List ARecord) (arrivals : List Arrival)
+        → IsFound records arrivals found.now
         → AreFigures records arrivals result }
 {
     let shares = shares_of(found.tails.as_slice());

@@ -11,18 +11,21 @@ ghost use Rattle.inspection.specs.declared.inspection.Inspection.{Inspection as 
 
 /// Two inspections of a capture text are the same.
 pub fn one_inspection()
-    ensures { (bytes : List ℕ) (i j : AnInspection) → HoldsAll (Some bytes) i → HoldsAll (Some bytes) j → i ≡ j }
+    ensures { (bytes : List ℕ) (i j : AnInspection) → HoldsAll (Some bytes) i
+        → HoldsAll (Some bytes) j → i ≡ j }
 {}
 
 /// The bytes that came on the connections are those of all pieces.
 pub fn bytes_of_all_pieces()
-    ensures { (version : AVersion) (start : ℕ) (records : List ARecord) → IsCapture version start records
+    ensures { (version : AVersion) (start : ℕ) (records : List ARecord)
+        → IsCapture version start records
         → (received records).bytes ≡ sizes_of records }
 {}
 
 /// Each request has one method and one version.
 pub fn requests_by_kind()
-    ensures methods { (whats : List AMeaning) → (messages_by_kind whats).requests ≡ (messages_by_kind whats).methods.get
+    ensures methods { (whats : List AMeaning)
+        → (messages_by_kind whats).requests ≡ (messages_by_kind whats).methods.get
         + (messages_by_kind whats).methods.head + (messages_by_kind whats).methods.other }
     ensures versions { (whats : List AMeaning) → (messages_by_kind whats).requests
         ≡ (messages_by_kind whats).versions.http10 + (messages_by_kind whats).versions.http11 }
@@ -30,7 +33,8 @@ pub fn requests_by_kind()
 
 /// Each message is a request, or has one fault.
 pub fn messages_of_one_kind()
-    ensures { (whats : List AMeaning) → (messages_by_kind whats).all ≡ (messages_by_kind whats).requests
+    ensures { (whats : List AMeaning)
+        → (messages_by_kind whats).all ≡ (messages_by_kind whats).requests
         + (messages_by_kind whats).faults.too_long + (messages_by_kind whats).faults.block
         + (messages_by_kind whats).faults.host + (messages_by_kind whats).faults.coding
         + (messages_by_kind whats).faults.length + (messages_by_kind whats).faults.body_size }

@@ -36,7 +36,8 @@ impl Tail {
     /// n bytes more came, and these messages ended in them.
     fn after(self, bytes: usize, messages: &[Message]) -> Tail
         requires { self.bytes + bytes < 2 ^ 64 }
-        ensures { (text piece : List ℕ) (ms : List AMessage) → self ≡ tail_of text ms → length piece ≡ bytes
+        ensures { (text piece : List ℕ) (ms : List AMessage) → self ≡ tail_of text ms
+            → length piece ≡ bytes
             → result ≡ tail_of (text ++ piece) (ms ++ messages.now) }
     {
         Tail {
@@ -131,7 +132,8 @@ impl Tails {
         ensures own { OnOk result ((text piece : List ℕ) (ms : List AMessage)
             → tail_at self.old conn ≡ tail_of text ms → length piece ≡ bytes
             → tail_at self.new conn ≡ tail_of (text ++ piece) (ms ++ messages.now)) }
-        ensures others { OnOk result ((c : ℕ) → c ≢ conn → tail_at self.new c ≡ tail_at self.old c) }
+        ensures others { OnOk result
+            ((c : ℕ) → c ≢ conn → tail_at self.new c ≡ tail_at self.old c) }
     {
         let place = usize::from(conn);
         self.reach(place)?;

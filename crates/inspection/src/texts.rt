@@ -33,14 +33,16 @@ fn write_line_of_two(
     first: u64,
     second: u64,
 ) -> Result<(), AllocError>
-    ensures { OnOk result (string_bytes text.new ≡ string_bytes text.old ++ line_of_two name.now first second) }
+    ensures { OnOk result
+        (string_bytes text.new ≡ string_bytes text.old ++ line_of_two name.now first second) }
 {
     writeln!(text, "{name} {first} {second}")
 }
 
 /// Writes the version and the start.
 fn write_capture(text: &mut String, version: Version, start: u64) -> Result<(), AllocError>
-    ensures { OnOk result (string_bytes text.new ≡ string_bytes text.old ++ capture_lines version start) }
+    ensures { OnOk result
+        (string_bytes text.new ≡ string_bytes text.old ++ capture_lines version start) }
 {
     let number = version_number(version);
     writeln!(text, "version {number}")?;
@@ -49,7 +51,8 @@ fn write_capture(text: &mut String, version: Version, start: u64) -> Result<(), 
 
 /// Writes how many records there are.
 fn write_records(text: &mut String, counts: &RecordCounts) -> Result<(), AllocError>
-    ensures { OnOk result (string_bytes text.new ≡ string_bytes text.old ++ record_lines counts.now) }
+    ensures { OnOk result
+        (string_bytes text.new ≡ string_bytes text.old ++ record_lines counts.now) }
 {
     writeln!(text, "records {}", counts.all)?;
     writeln!(text, "pieces {}", counts.pieces)?;
@@ -59,7 +62,8 @@ fn write_records(text: &mut String, counts: &RecordCounts) -> Result<(), AllocEr
 
 /// Writes a tick, or a hyphen where there is none.
 fn write_tick(text: &mut String, name: &str, tick: Option<u64>) -> Result<(), AllocError>
-    ensures { OnOk result (string_bytes text.new ≡ string_bytes text.old ++ tick_line name.now tick) }
+    ensures { OnOk result
+        (string_bytes text.new ≡ string_bytes text.old ++ tick_line name.now tick) }
 {
     match tick {
         Some(tick) => writeln!(text, "{name} {tick}"),

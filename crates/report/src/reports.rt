@@ -21,7 +21,8 @@ fn messages(admitted: usize, rejected: usize, bypassed: u64) -> u128
 
 /// Writes how many messages there were, and what became of them.
 fn write_totals(text: &mut String, outcome: &Outcome) -> Result<(), AllocError>
-    ensures { OnOk result (string_bytes text.new ≡ string_bytes text.old ++ total_lines outcome.now) }
+    ensures { OnOk result
+        (string_bytes text.new ≡ string_bytes text.old ++ total_lines outcome.now) }
 {
     let admitted = outcome.summary.samples.as_slice().len();
     let rejected = outcome.rejected.as_slice().len();
@@ -35,7 +36,8 @@ fn write_totals(text: &mut String, outcome: &Outcome) -> Result<(), AllocError>
 
 /// Writes how many messages were answered with a status.
 fn write_status(text: &mut String, status: u16, count: u64) -> Result<(), AllocError>
-    ensures { OnOk result (string_bytes text.new ≡ string_bytes text.old ++ status_line status count) }
+    ensures { OnOk result
+        (string_bytes text.new ≡ string_bytes text.old ++ status_line status count) }
 {
     writeln!(text, "status {status} {count}")
 }
@@ -53,7 +55,8 @@ fn write_statuses(text: &mut String, counts: Counts) -> Result<(), AllocError>
 /// Writes a percentile of samples that are sorted.
 fn write_percentile(text: &mut String, percent: u8, ordered: &[u64]) -> Result<(), AllocError>
     requires { percent ≤ 100 }
-    ensures { OnOk result (string_bytes text.new ≡ string_bytes text.old ++ percentile_line percent ordered.now) }
+    ensures { OnOk result
+        (string_bytes text.new ≡ string_bytes text.old ++ percentile_line percent ordered.now) }
 {
     match percentile(ordered, percent) {
         Some(ticks) => writeln!(text, "p{percent} {ticks}"),
@@ -63,7 +66,8 @@ fn write_percentile(text: &mut String, percent: u8, ordered: &[u64]) -> Result<(
 
 /// Writes the percentiles of the samples.
 fn write_percentiles(alloc: Global, text: &mut String, samples: &[u64]) -> Result<(), AllocError>
-    ensures { OnOk result (string_bytes text.new ≡ string_bytes text.old ++ percentile_lines samples.now) }
+    ensures { OnOk result
+        (string_bytes text.new ≡ string_bytes text.old ++ percentile_lines samples.now) }
 {
     let ordered = sorted(alloc, samples)?;
     write_percentile(text, 50, &ordered)?;
@@ -73,7 +77,8 @@ fn write_percentiles(alloc: Global, text: &mut String, samples: &[u64]) -> Resul
 
 /// Writes the line of a control, by its number.
 fn write_control(text: &mut String, number: usize, control: Control) -> Result<(), AllocError>
-    ensures { OnOk result (string_bytes text.new ≡ string_bytes text.old ++ control_line number control) }
+    ensures { OnOk result
+        (string_bytes text.new ≡ string_bytes text.old ++ control_line number control) }
 {
     writeln!(
         text,
@@ -84,7 +89,8 @@ fn write_control(text: &mut String, number: usize, control: Control) -> Result<(
 
 /// Writes the lines of a tier's controls, numbered from 1.
 fn write_controls(text: &mut String, controls: &[Control]) -> Result<(), AllocError>
-    ensures { OnOk result (string_bytes text.new ≡ string_bytes text.old ++ control_lines controls.now) }
+    ensures { OnOk result
+        (string_bytes text.new ≡ string_bytes text.old ++ control_lines controls.now) }
 {
     for (index, control) in controls.iter().enumerate() {
         write_control(text, index + 1, *control)?;
@@ -94,7 +100,8 @@ fn write_controls(text: &mut String, controls: &[Control]) -> Result<(), AllocEr
 
 /// Writes the lines of a tier above 0, if a request of it was offered.
 fn write_tier(text: &mut String, tier: usize, tally: &Tally) -> Result<(), AllocError>
-    ensures { OnOk result (string_bytes text.new ≡ string_bytes text.old ++ tier_lines tier tally.now) }
+    ensures { OnOk result
+        (string_bytes text.new ≡ string_bytes text.old ++ tier_lines tier tally.now) }
 {
     if tally.admitted == 0 && tally.rejected == 0 {
         return Ok(());
@@ -105,7 +112,8 @@ fn write_tier(text: &mut String, tier: usize, tally: &Tally) -> Result<(), Alloc
 
 /// Writes what became of a tier's requests.
 fn write_tier_line(text: &mut String, tier: usize, tally: &Tally) -> Result<(), AllocError>
-    ensures { OnOk result (string_bytes text.new ≡ string_bytes text.old ++ tier_line tier tally.now) }
+    ensures { OnOk result
+        (string_bytes text.new ≡ string_bytes text.old ++ tier_line tier tally.now) }
 {
     let controls = tally.controls.as_slice().len();
     writeln!(
@@ -117,7 +125,8 @@ fn write_tier_line(text: &mut String, tier: usize, tally: &Tally) -> Result<(), 
 
 /// Writes the lines of tiers, of which the first is tier 1.
 fn write_tiers_above(text: &mut String, tallies: &[Tally]) -> Result<(), AllocError>
-    ensures { OnOk result (string_bytes text.new ≡ string_bytes text.old ++ numbered_from 1 tier_lines tallies.now) }
+    ensures { OnOk result
+        (string_bytes text.new ≡ string_bytes text.old ++ numbered_from 1 tier_lines tallies.now) }
 {
     for (index, tally) in tallies.iter().enumerate() {
         write_tier(text, index + 1, tally)?;
@@ -127,7 +136,8 @@ fn write_tiers_above(text: &mut String, tallies: &[Tally]) -> Result<(), AllocEr
 
 /// Writes the controls of tier 0, and what became of the requests of the tiers above it.
 fn write_tiers(text: &mut String, tiers: &[Tally; 4]) -> Result<(), AllocError>
-    ensures { OnOk result (string_bytes text.new ≡ string_bytes text.old ++ all_tier_lines tiers.now) }
+    ensures { OnOk result
+        (string_bytes text.new ≡ string_bytes text.old ++ all_tier_lines tiers.now) }
 {
     let tiers = tiers.as_slice();
     let controls = tiers[0].controls.as_slice();
@@ -138,7 +148,8 @@ fn write_tiers(text: &mut String, tiers: &[Tally; 4]) -> Result<(), AllocError>
 
 /// Writes the numbers of the requests that were turned away.
 fn write_rejects(text: &mut String, rejected: &[usize]) -> Result<(), AllocError>
-    ensures { OnOk result (string_bytes text.new ≡ string_bytes text.old ++ reject_lines rejected.now) }
+    ensures { OnOk result
+        (string_bytes text.new ≡ string_bytes text.old ++ reject_lines rejected.now) }
 {
     for number in rejected {
         writeln!(text, "reject {number}")?;

@@ -14,14 +14,16 @@ pub fn rules_kept()
 
 /// Where the files with it keep the rules, a file breaks none.
 pub fn none_broken()
-    ensures { (files : List AFile) (f : AFile) → IsSnapshotText (snapshot_text (files ++ f ∷ [])) (files ++ f ∷ [])
+    ensures { (files : List AFile) (f : AFile)
+        → IsSnapshotText (snapshot_text (files ++ f ∷ [])) (files ++ f ∷ [])
         → broken_rule files f ≡ None }
 {}
 
 /// What was written is read back: whoever reads the text of files gets these files, unless a read fails or memory runs
 /// out.
 pub fn read_back()
-    ensures files { (files others : List AFile) (new : Option (List ℕ)) → IsSnapshotText (snapshot_text files) files
+    ensures files { (files others : List AFile) (new : Option (List ℕ))
+        → IsSnapshotText (snapshot_text files) files
         → ReadsWhole (Some (snapshot_text files)) new others → others ≡ files }
     ensures fault { (files : List AFile) (f : AFault) → IsSnapshotText (snapshot_text files) files
         → IsForeseen IsFirstFault (Some (snapshot_text files)) f → is_unforeseen_kind f.kind ≡ true }

@@ -25,7 +25,8 @@ fn lies_in(folder: &[u8], name: &[u8]) -> bool
 
 /// Adds a number if that is asked for.
 fn push_if(numbers: &mut Vec<usize>, number: usize, wanted: bool) -> Result<(), AllocError>
-    ensures { IfOk result (λ _. numbers.new.items ≡ numbers.old.items ++ (if wanted then number ∷ [] else [])) }
+    ensures { IfOk result
+        (λ _. numbers.new.items ≡ numbers.old.items ++ (if wanted then number ∷ [] else [])) }
 {
     if wanted {
         numbers.push(number)?;
@@ -61,7 +62,8 @@ impl Names {
 
     /// Whether this name lies in a folder of which a name with which the last one begins is the name.
     pub(crate) fn has_file_above(&self, name: &[u8]) -> bool
-        ensures { result ≡ list_any (λ len. lies_in (take len self.now.last.items) name.now) self.now.lengths.items }
+        ensures { result
+            ≡ list_any (λ len. lies_in (take len self.now.last.items) name.now) self.now.lengths.items }
     {
         for len in &self.lengths {
             if lies_in(self.prefix(*len), name) {

@@ -59,7 +59,8 @@ impl FilesSoFar {
     ) -> Result<FilesSoFar, WriteFault>
         requires { CanFail output.old }
         ensures ok { IfOk result (λ so_far. Took [] output.old.bytes output.new.bytes so_far) }
-        ensures prefix { IfErr result (λ _. AppendsPrefix output.old.bytes output.new.bytes (text_before_end [])) }
+        ensures prefix { IfErr result
+            (λ _. AppendsPrefix output.old.bytes output.new.bytes (text_before_end [])) }
         ensures count { Counts output.old.failures output.new.failures result }
     {
         let line = b"haboob-snapshot 1\n";

@@ -47,7 +47,8 @@ pub(crate) fn write_file<W: Write>(
 
 /// The last line, with its line feed.
 pub(crate) fn last_line(alloc: Global, count: usize) -> Result<String, AllocError>
-    ensures { IfOk result (λ line. string_bytes line ≡ (codes "end " ++ decimal count) ++ line_feed ∷ []) }
+    ensures { IfOk result
+        (λ line. string_bytes line ≡ (codes "end " ++ decimal count) ++ line_feed ∷ []) }
 {
     format!(in alloc; "end {count}\n")
 }

@@ -47,7 +47,8 @@ impl SnapshotWriter {
     ) -> Result<SnapshotWriter, WriteFault>
         requires { CanFail output.old }
         ensures ok { IfOk result (λ writer. Took [] output.old.bytes output.new.bytes writer) }
-        ensures part { IfErr result (λ _. AppendsPrefix output.old.bytes output.new.bytes (text_before_end [])) }
+        ensures part { IfErr result
+            (λ _. AppendsPrefix output.old.bytes output.new.bytes (text_before_end [])) }
         ensures count { Counts output.old.failures output.new.failures result }
     {
         let so_far = FilesSoFar::begin(alloc, output)?;
@@ -69,17 +70,20 @@ impl SnapshotWriter {
         bytes: &[u8],
     ) -> Result<(), WriteFault>
         requires { CanFail output.old }
-        ensures taken { (files : List AFile) (before : Option (List ℕ)) → Took files before output.old.bytes self.old
+        ensures taken { (files : List AFile) (before : Option (List ℕ))
+            → Took files before output.old.bytes self.old
             → OnOk result (Took (files ++ a_file name.now mtime bytes.now ∷ []) before output.new.bytes self.new) }
         // After a failed write a prefix of the text stands.
-        ensures part { (files : List AFile) (before : Option (List ℕ)) → Took files before output.old.bytes self.old
+        ensures part { (files : List AFile) (before : Option (List ℕ))
+            → Took files before output.old.bytes self.old
             → IfErr result (λ f. f ≡ WriteFault.Write
             → AppendsPrefix before output.new.bytes (text_before_end (files ++ a_file name.now mtime bytes.now ∷ []))) }
         // Every other fault writes nothing, and leaves the writer as it was.
         ensures unchanged { IfErr result (λ f. f ≢ WriteFault.Write
             → (self.new ≡ self.old) × (output.new ≡ output.old)) }
         // A rule is named exactly where the files so far with this one keep the rules no longer, and it is the first.
-        ensures rule { (files : List AFile) (before : Option (List ℕ)) → Took files before output.old.bytes self.old
+        ensures rule { (files : List AFile) (before : Option (List ℕ))
+            → Took files before output.old.bytes self.old
             → refused_for result ≡ broken_rule files (a_file name.now mtime bytes.now) }
         ensures count { Counts output.old.failures output.new.failures result }
     {
@@ -102,10 +106,12 @@ impl SnapshotWriter {
     /// `Memory`: the text stands without its last line. `Write`: a prefix of it stands.
     pub fn finish<W: Write>(self, output: &mut Output<W>) -> Result<(), WriteFault>
         requires { CanFail output.old }
-        ensures text { (files : List AFile) (before : Option (List ℕ)) → Took files before output.old.bytes self
+        ensures text { (files : List AFile) (before : Option (List ℕ))
+            → Took files before output.old.bytes self
             → WritesPrefix before output.new.bytes result (snapshot_text files) }
         // The files that were taken keep the rules.
-        ensures rules { (files : List AFile) (before : Option (List ℕ)) → Took files before output.old.bytes self
+        ensures rules { (files : List AFile) (before : Option (List ℕ))
+            → Took files before output.old.bytes self
             → IsSnapshotText (snapshot_text files) files }
         ensures count { Counts output.old.failures output.new.failures result }
     {

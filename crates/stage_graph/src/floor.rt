@@ -133,7 +133,8 @@ impl<C: Chain, N: RunName> Floor<C, N> {
     pub fn history(&self) -> &[Event]
         ensures history { result.now ≡ self.now }
         ensures legal { is_legal_from_opening N.plan N.count self.now ≡ true }
-        ensures places { (x : ℕ) → x < N.count → places_of (standing N.plan N.count self.now) x ≡ 1 }
+        ensures places { (x : ℕ) → x < N.count
+            → places_of (standing N.plan N.count self.now) x ≡ 1 }
         ensures stopped { (standing N.plan N.count self.now).stopped ≡ has_stop self.now }
         ensures bounds { KeepsBounds N.plan N.count self.now }
     {
@@ -143,7 +144,8 @@ impl<C: Chain, N: RunName> Floor<C, N> {
     /// Ends a floor that all workers have left: a run exactly where every item is done, and else `Stopped`.
     pub fn close(self) -> Result<Run<C, N>, Unrun>
         requires { all_left (standing N.plan N.count self) ≡ true }
-        ensures run { IfOk result (λ r. (r ≡ self) × (all_done (standing N.plan N.count self) ≡ true)) }
+        ensures run { IfOk result
+            (λ r. (r ≡ self) × (all_done (standing N.plan N.count self) ≡ true)) }
         ensures stopped { IfErr result
             (λ u. (u ≡ Unrun.Stopped self) × (all_done (standing N.plan N.count self) ≡ false)
             × (has_stop self ≡ true)) }
@@ -233,9 +235,11 @@ impl<C: Chain, N: RunName> Run<C, N> {
         ensures legal { is_legal_from_opening N.plan N.count self.now ≡ true }
         ensures left { all_left (standing N.plan N.count self.now) ≡ true }
         ensures done { all_done (standing N.plan N.count self.now) ≡ true }
-        ensures once { (k x : ℕ) → k < stages N.plan → x < N.count → takes_of N.plan k x self.now ≡ 1 }
+        ensures once { (k x : ℕ) → k < stages N.plan → x < N.count
+            → takes_of N.plan k x self.now ≡ 1 }
         ensures fed { (x : ℕ) → x < N.count → feeds_of x self.now ≡ 1 }
-        ensures given { (k x : ℕ) → k < stages N.plan → x < N.count → gives_of N.plan k x self.now ≡ 1 }
+        ensures given { (k x : ℕ) → k < stages N.plan → x < N.count
+            → gives_of N.plan k x self.now ≡ 1 }
         ensures bounds { KeepsBounds N.plan N.count self.now }
     {
         self.history.as_slice()

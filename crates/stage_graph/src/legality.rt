@@ -105,7 +105,8 @@ impl<N: RunName> Floor<Marking, N> {
 }
 
 fn marks(alloc: Global, count: usize) -> Result<Vec<Mark>, AllocError>
-    ensures { IfOk result (λ v. map (λ m. (m.number, m.done)) v.items ≡ map (with_steps 0) (range_with_len 0 count)) }
+    ensures { IfOk result
+        (λ v. map (λ m. (m.number, m.done)) v.items ≡ map (with_steps 0) (range_with_len 0 count)) }
 {
     let mut all = Vec::with_capacity(alloc, count)?;
     for number in 0..count {

@@ -85,7 +85,8 @@ fn step_all<C: Chain>(
     done: usize,
     items: Vec<C::Item>,
 ) -> Option<Vec<C::Item>>
-    requires marks { (numbers : List ℕ) × (map (λ x. (C.Item.number_of x, C.Item.done_of x)) items.items
+    requires marks { (numbers : List ℕ)
+        × (map (λ x. (C.Item.number_of x, C.Item.done_of x)) items.items
         ≡ map (with_steps done) numbers) }
     requires more { done < C.steps }
     ensures { IfSome result (λ v. map (λ x. (C.Item.number_of x, C.Item.done_of x)) v.items
@@ -300,7 +301,8 @@ fn run_each<C: Chain + Sync, N: RunName + Send + Sync, G: Gate + Sync, R: Thread
 where
     C::Item: Send,
     requires plan { plan ≡ N.plan }
-    requires fresh { map (λ x. (C.Item.number_of x, C.Item.done_of x)) (flat_map (λ v. v.items) lots.items)
+    requires fresh { map (λ x. (C.Item.number_of x, C.Item.done_of x))
+        (flat_map (λ v. v.items) lots.items)
         ≡ map (with_steps 0) (range_with_len 0 N.count) }
     requires cut { last_cut plan ≡ C.steps }
     ensures values { IfOk result (λ r. map C.content (flat_map (λ own. own.items) r.lots.items)

@@ -117,7 +117,8 @@ fn end_last<T: Drop>(
 ) -> Result<(), AllocError>
     ensures full { OnOk result (full.new.items ≡ full.old.items ++ last.old ∷ []) }
     ensures last { OnOk result (last.new.items ≡ []) }
-    ensures err { OnErr result ((full.new.items ≡ full.old.items) × (last.new.items ≡ last.old.items)) }
+    ensures err { OnErr result
+        ((full.new.items ≡ full.old.items) × (last.new.items ≡ last.old.items)) }
 {
     let empty = Vec::with_capacity(alloc, size)?;
     full.reserve(1)?;

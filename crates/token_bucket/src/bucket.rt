@@ -58,7 +58,8 @@ impl Bucket {
     pub fn advance(&mut self, to: u64)
         requires forward { self.old.tick ≤ to }
         requires within { to ≤ MAX_TICK }
-        ensures fits { (past : Past) → BucketAfter past self.old → BucketAfter (and_then past (Advance to)) self.new }
+        ensures fits { (past : Past) → BucketAfter past self.old
+            → BucketAfter (and_then past (Advance to)) self.new }
         ensures tick { self.new.tick ≡ to }
     {
         let full = self.depth * TOKEN;
@@ -70,7 +71,8 @@ impl Bucket {
     /// Changes the rate from the current tick on.
     pub fn set_rate(&mut self, rate: u64)
         requires { (1 ≤ rate) × (rate ≤ MAX_RATE) }
-        ensures fits { (past : Past) → BucketAfter past self.old → BucketAfter (and_then past (SetRate rate)) self.new }
+        ensures fits { (past : Past) → BucketAfter past self.old
+            → BucketAfter (and_then past (SetRate rate)) self.new }
         ensures tick { self.new.tick ≡ self.old.tick }
     {
         self.rate = rate;
@@ -78,7 +80,8 @@ impl Bucket {
 
     /// Takes a token where a whole one is there, and says whether it did.
     pub fn try_take(&mut self) -> bool
-        ensures taken { (past : Past) → BucketAfter past self.old → (IsTrue result ↔ HasToken past) }
+        ensures taken { (past : Past) → BucketAfter past self.old
+            → (IsTrue result ↔ HasToken past) }
         ensures fits { (past : Past) → BucketAfter past self.old
             → BucketAfter (and_then past (TryTake result)) self.new }
         ensures tick { self.new.tick ≡ self.old.tick }

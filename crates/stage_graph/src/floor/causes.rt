@@ -110,7 +110,8 @@ impl<C: Chain, N: RunName> Floor<C, N> {
 
     pub(super) fn give_cause(&self, worker: usize, number: usize, steps: usize) -> Option<Cause>
         requires { worker < workers N.plan }
-        ensures { result ≡ give_cause N.plan (standing N.plan N.count self.now) worker number steps }
+        ensures { result
+            ≡ give_cause N.plan (standing N.plan N.count self.now) worker number steps }
     {
         let stage = self.plan.stage(worker);
         if !self.holds(worker, number) || steps != self.plan.cut(stage) {
@@ -148,7 +149,8 @@ impl<C: Chain, N: RunName> Floor<C, N> {
 
     pub(super) fn are_queues_empty(&self, stage: usize) -> bool
         requires { stage < stages N.plan }
-        ensures { result ≡ list_all is_nil (take (stage + 1) (standing N.plan N.count self.now).queues) }
+        ensures { result
+            ≡ list_all is_nil (take (stage + 1) (standing N.plan N.count self.now).queues) }
     {
         let _stages = self.plan.stages();
         for k in 0..stage + 1 {
@@ -189,7 +191,8 @@ impl<C: Chain, N: RunName> Floor<C, N> {
     // Whether the first item of a queue has this number.
     pub(super) fn is_first(&self, stage: usize, number: usize) -> bool
         requires { stage < stages N.plan }
-        ensures { result ≡ is_at (first (queue_at (standing N.plan N.count self.now) stage)) number }
+        ensures { result
+            ≡ is_at (first (queue_at (standing N.plan N.count self.now) stage)) number }
     {
         let queue = &self.queues[stage];
         match queue.front() {

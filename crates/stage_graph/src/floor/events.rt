@@ -44,7 +44,8 @@ impl<C: Chain, N: RunName> Floor<C, N> {
         ensures ok { IfOk result
             (λ x. (is_allowed N.plan (standing N.plan N.count self.old) (Event.Take worker (C.Item.number_of x)) ≡ true)
             × (self.new ≡ self.old ++ Event.Take worker (C.Item.number_of x) ∷ [])) }
-        ensures steps { IfOk result (λ x. C.Item.done_of x ≡ cut_before N.plan (stage_at N.plan worker)) }
+        ensures steps { IfOk result
+            (λ x. C.Item.done_of x ≡ cut_before N.plan (stage_at N.plan worker)) }
         ensures content { IfOk result
             (λ x. C.content x ≡ value_of C.step (cut_before N.plan (stage_at N.plan worker))
             (C.input_at (C.Item.number_of x))) }
@@ -91,7 +92,8 @@ impl<C: Chain, N: RunName> Floor<C, N> {
     fn finish(&mut self, worker: usize, item: C::Item)
         requires worker { worker < workers N.plan }
         requires last { is_last N.plan (stage_at N.plan worker) ≡ true }
-        requires cause { give_cause N.plan (standing N.plan N.count self.old) worker (C.Item.number_of item)
+        requires cause { give_cause N.plan (standing N.plan N.count self.old) worker
+            (C.Item.number_of item)
             (C.Item.done_of item) ≡ None }
         ensures { self.new ≡ self.old ++ Event.Give worker (C.Item.number_of item) ∷ [] }
     {
@@ -105,7 +107,8 @@ impl<C: Chain, N: RunName> Floor<C, N> {
     fn pass_on(&mut self, worker: usize, item: C::Item)
         requires worker { worker < workers N.plan }
         requires more { is_last N.plan (stage_at N.plan worker) ≡ false }
-        requires cause { give_cause N.plan (standing N.plan N.count self.old) worker (C.Item.number_of item)
+        requires cause { give_cause N.plan (standing N.plan N.count self.old) worker
+            (C.Item.number_of item)
             (C.Item.done_of item) ≡ None }
         ensures { self.new ≡ self.old ++ Event.Give worker (C.Item.number_of item) ∷ [] }
     {

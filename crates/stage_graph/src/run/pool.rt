@@ -125,7 +125,8 @@ where
         thread::scope_env(),
         rt,
         move |scope| -> bool
-            requires { (last_cut N.plan ≡ C.steps) × (vec_len handles ≡ 0) × (threads ≤ vec_capacity handles) }
+            requires { (last_cut N.plan ≡ C.steps) × (vec_len handles ≡ 0)
+                × (threads ≤ vec_capacity handles) }
         {
             let mut handles = handles;
             let mut started = true;

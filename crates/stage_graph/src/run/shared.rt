@@ -169,7 +169,8 @@ impl<C: Chain, N: RunName, L: Ledger> Shared<C, N, L> {
         requires worker { worker < workers N.plan }
         requires stage { stage < stages N.plan }
         requires part { 0 < seat.old.parts }
-        ensures steps { IfSome result (λ x. C.Item.done_of x ≡ cut_before N.plan (stage_at N.plan worker)) }
+        ensures steps { IfSome result
+            (λ x. C.Item.done_of x ≡ cut_before N.plan (stage_at N.plan worker)) }
         ensures parts { seat.new.parts ≡ seat.old.parts }
         ensures some { OnSome result (seat.new.amount ≡ seat.old.amount) }
         ensures none { IfNone result (seat.new.amount ≡ seat.old.amount + 1) }
