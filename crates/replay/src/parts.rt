@@ -118,16 +118,17 @@ fn answer_group<F: Tree + Send + Sync, G: Gate + Sync, T: Threads + Wait + Sync,
     };
     let cache = &floors.pages.cache;
     let work = work_of(floors.rt, server.snapshot, cache, &group);
-    let replies = run_back::<F, Shifted<G>, T>(
+    match run_back::<F, Shifted<G>, T>(
         server,
         floors.rt,
         floors.threads.min(work / WORTH_ANSWERING),
         cache,
         group,
         &following,
-    )
-    .map_err(of_unrun)?;
-    write_replies(&replies, writer)
+    ) {
+        Ok(replies) => write_replies(&replies, writer),
+        Err(unrun) => Err(of_unrun(unrun)),
+    }
 }
 
 /// Answers messages that were decided on, a group of them at a time, so that memory holds the pages of one.
@@ -189,14 +190,16 @@ fn serve_few<F: Tree + Send + Sync, G: Gate + Sync, T: Threads + Wait + Sync, W:
         first,
     };
     let worth = looking_of(&messages) / WORTH_LOOKING;
-    let lookups = run_front::<F, Shifted<G>, T>(
+    let lookups = match run_front::<F, Shifted<G>, T>(
         server,
         floors.rt,
         floors.threads.min(worth),
         messages,
         &before,
-    )
-    .map_err(of_unrun)?;
+    ) {
+        Ok(lookups) => lookups,
+        Err(unrun) => return Err(of_unrun(unrun)),
+    };
     let pending_replies = decide_all(server, lookups, desk)?;
     answer_all_pending(server, floors, pending_replies, writer)
 }
