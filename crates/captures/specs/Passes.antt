@@ -1,5 +1,5 @@
 -- A pass over a capture: it reads record by record, and writes as it reads. Where it stopped at the capture's fault.
-use Rattle.std.specs.Prelude.{◌≡◌, ℕ, ◌+◌, ◌≤◌, ◌⊎◌, Bool, true, false, List, ◌++◌, length, Option, Err}
+use Rattle.std.specs.Prelude.{◌≡◌, ℕ, ◌+◌, ◌≤◌, ◌⊎◌, Bool, true, false, List, ◌++◌, length, Option, Result, Err, MatchResult}
 use Rattle.devices.specs.Reference.{WhereKnown}
 use Rattle.captures.specs.declared.record.Record.{Record}
 use Rattle.captures.specs.declared.version.Version.{Version}
@@ -79,3 +79,14 @@ reader_failures other = 0
 abbrev pub writer_failures : PassFault → ℕ
 writer_failures Unwritten = 1
 writer_failures other = 0
+
+-- where the fault isn't the capture's, a read that failed before it may go untold
+abbrev pub leaves_reads_untold : PassFault → Bool
+leaves_reads_untold (Capture f) = false
+leaves_reads_untold other = true
+
+-- the count of a reader rose by what the answer blames on it; or the answer is one that may leave a failed read untold,
+-- and the reader failed once
+abbrev pub BlamesReader : {X E : Type 0} → (E → ℕ) → (E → Bool) → ℕ → ℕ → Result X E → Type 0
+BlamesReader blamed untold old new r = MatchResult r (λ _. new ≡ old)
+    (λ e. (new ≡ old + blamed e) ⊎ ((untold e ≡ true) × (new ≡ old + 1)))

@@ -1,5 +1,5 @@
 -- How the plain engine goes on by one more record, and how it ends.
-use Rattle.std.proofs.Common.{◌≡◌, ◌≢◌, ℕ, suc, zero, ◌+◌, ◌<◌, ◌≤◌, ◌==◌, inl, inr, List, [], ◌∷◌, ◌++◌, length, take, map, get_or, Option, Some, None, Result, Ok, Err, refl, sym, ap, ◌∙◌, subst, arith, append-nil, unwrap_or}
+use Rattle.std.proofs.Common.{true, ◌⊎◌, ◌≡◌, ◌≢◌, ℕ, suc, zero, ◌+◌, ◌<◌, ◌≤◌, ◌==◌, inl, inr, List, [], ◌∷◌, ◌++◌, length, take, map, get_or, Option, Some, None, Result, Ok, Err, refl, sym, ap, ◌∙◌, subst, arith, append-nil, unwrap_or}
 use Rattle.std.specs.Prelude.{OnOk, IfErr, slice_get, option_map, if◌then◌else◌}
 use Rattle.std.specs.List.{AllPairs}
 use Rattle.std.proofs.lemmas.Option.{slice_get_within, get_or_from_slice_get, same_Some}
@@ -41,7 +41,11 @@ use Rattle.replay.specs.Serving.{DeskAfter, AreBy, IsLater, Serves, Written, Ser
 use Rattle.reference.specs.Texts.{Texts, AreTexts, Wrote, WroteInPart, reply_texts}
 use Rattle.devices.specs.Reference.{WhereKnown}
 use Rattle.reference.specs.Outcomes.{IfTooMany, IfCutShort, IsOwn, IsCutOff, StopsBeyond, StopsFull, StopsWriting, Stops, Taken, Leaves}
-use Rattle.captures.specs.Passes.{pass_fault, IsWriteOrMemory, reader_failures, writer_failures}
+use Rattle.arrivals.specs.declared.batch.Ending.{Ending}
+use Rattle.arrivals.specs.declared.batch.Ending.TheVariants as endings
+use Rattle.arrivals.specs.Gathering.{CountsEnding}
+use Rattle.std.proofs.Math.Nat.{eq-or-lt_of_le}
+use Rattle.captures.specs.Passes.{pass_fault, IsWriteOrMemory, leaves_reads_untold, reader_failures}
 use Rattle.captures.proofs.PassLemmas.{leaves_by, leaves_part, reported_reads, reported_writes}
 use Rattle.arrivals.proofs.Arriving.{from_piece, reads_none, arrives_none, reads_piece, reads_end, reads_tier, arrives_piece, arrives_end, arrives_tier}
 use Rattle.replay.proofs.Writing.{replies_laws}
@@ -419,28 +423,57 @@ cut_part t v input now old mid new start records arrivals rs p laws fits written
       written = rw here (text_part t start arrivals (take part.within part.more) old mid new laws written part.written);
     }))
 
--- a reader that failed is reported, and at most once
-pub blamed_reported : (old new : ℕ) (f : CaptureFault) (r : PassFault) → r ≡ pass_fault f → new ≡ old + failures_of f.kind → (old + reader_failures r ≤ new) × (new ≤ old + 1)
+-- a reader that failed is reported
+pub blamed_reported : (old new : ℕ) (f : CaptureFault) (r : PassFault) → r ≡ pass_fault f → new ≡ old + failures_of f.kind
+    → (new ≡ old + reader_failures r) ⊎ ((leaves_reads_untold r ≡ true) × (new ≡ old + 1))
 blamed_reported old new f r is count =
     let same : reader_failures r ≡ failures_of f.kind = ap reader_failures is ∙ reported_reads f in
-    let most = once f.kind in
-    (omega (arith, same, count), omega (arith, most, count))
-  where
-    once : (k : CaptureFaultKind) → failures_of k ≤ 1
-    once kinds.Read = omega arith
-    once kinds.Cut = omega arith
-    once kinds.Header = omega arith
-    once kinds.Kind = omega arith
-    once kinds.Number = omega arith
-    once kinds.Tick = omega arith
-    once kinds.Connection = omega arith
-    once kinds.Ended = omega arith
-    once kinds.Tier = omega arith
-    once kinds.Length = omega arith
-    once kinds.Count = omega arith
-    once kinds.Trailing = omega arith
-    once kinds.TooLarge = omega arith
-    once kinds.Memory = omega arith
+    inl (omega (arith, same, count))
+
+-- it fails at most once
+pub fails_once : (k : CaptureFaultKind) → failures_of k ≤ 1
+fails_once kinds.Read = omega arith
+fails_once kinds.Cut = omega arith
+fails_once kinds.Header = omega arith
+fails_once kinds.Kind = omega arith
+fails_once kinds.Number = omega arith
+fails_once kinds.Tick = omega arith
+fails_once kinds.Connection = omega arith
+fails_once kinds.Ended = omega arith
+fails_once kinds.Tier = omega arith
+fails_once kinds.Length = omega arith
+fails_once kinds.Count = omega arith
+fails_once kinds.Trailing = omega arith
+fails_once kinds.TooLarge = omega arith
+fails_once kinds.Memory = omega arith
+
+ending_once : (old new : ℕ) (ending : Ending) → CountsEnding old new ending → new ≤ old + 1
+ending_once old new endings.More count = omega (arith, count)
+ending_once old new endings.End count = omega (arith, count)
+ending_once old new (endings.Fault f) count = let most = fails_once f.kind in omega (arith, count, most)
+
+ending_least : (old new : ℕ) (ending : Ending) → CountsEnding old new ending → old ≤ new
+ending_least old new endings.More count = omega (arith, count)
+ending_least old new endings.End count = omega (arith, count)
+ending_least old new (endings.Fault f) count = omega (arith, count)
+
+own_untold : (old new : ℕ) (e : PassFault) → IsOwn e → (reader_failures e ≡ 0) × (leaves_reads_untold e ≡ true)
+own_untold old new (faults.Capture f) own = absurd own
+own_untold old new (faults.TooMany n) own = (refl, refl)
+own_untold old new faults.Write own = (refl, refl)
+own_untold old new faults.Memory own = (refl, refl)
+
+-- a read that failed while a batch was read, and goes untold
+pub untold_own : (old new : ℕ) (e : PassFault) (ending : Ending) → IsOwn e → CountsEnding old new ending
+    → (new ≡ old + reader_failures e) ⊎ ((leaves_reads_untold e ≡ true) × (new ≡ old + 1))
+untold_own old new e ending own count =
+    let most = ending_once old new ending count in
+    let least = ending_least old new ending count in
+    let by = own_untold old new e own in
+    elim (eq-or-lt_of_le least) [
+      | inl same ↦ inl (let none = by.0 in omega (arith, same, none))
+      | inr more ↦ inr (by.1, omega (arith, more, most))
+    ]
 
 -- ---- where the replies are reported
 

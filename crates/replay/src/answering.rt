@@ -296,11 +296,14 @@ fn answer_message<T: Format, F: Tree, W: Write>(
     requires start { desk.old.start ≤ max_start }
     requires tick { origin.tick ≤ max_tick }
     requires tier { origin.tier < 4 }
-    requires stands { (arrivals : List Arrival) × DeskAfter (terms_of F.files server.now) arrivals desk.old
+    requires stands { (arrivals : List Arrival)
+        × DeskAfter (terms_of F.files server.now) arrivals desk.old
         × AreBy origin.tick arrivals }
     requires failures { CanFail writer.old }
-    ensures stands { OnOk result (DecidesNext (terms_of F.files server.now) origin what.now desk.old desk.new) }
-    ensures written { OnOk result (WritesNext (T.texts (terms_of F.files server.now)) (terms_of F.files server.now)
+    ensures stands { OnOk result
+        (DecidesNext (terms_of F.files server.now) origin what.now desk.old desk.new) }
+    ensures written { OnOk result
+        (WritesNext (T.texts (terms_of F.files server.now)) (terms_of F.files server.now)
         origin what.now desk.old writer.old.bytes writer.new.bytes) }
     ensures start { OnOk result (desk.new.start ≡ desk.old.start) }
     ensures number { OnOk result (desk.new.totals.answered ≡ desk.old.totals.answered + 1) }
@@ -332,14 +335,18 @@ pub(crate) fn answer_all<T: Format, F: Tree, W: Write>(
     requires start { desk.old.start ≤ max_start }
     requires tick { origin.tick ≤ max_tick }
     requires tier { origin.tier < 4 }
-    requires stands { (arrivals : List Arrival) × DeskAfter (terms_of F.files server.now) arrivals desk.old
+    requires stands { (arrivals : List Arrival)
+        × DeskAfter (terms_of F.files server.now) arrivals desk.old
         × AreBy origin.tick arrivals }
     requires failures { CanFail writer.old }
-    ensures stands { OnOk result (DecidesPiece (terms_of F.files server.now) origin messages.now desk.old desk.new) }
-    ensures written { OnOk result (WritesPiece (T.texts (terms_of F.files server.now)) (terms_of F.files server.now)
+    ensures stands { OnOk result
+        (DecidesPiece (terms_of F.files server.now) origin messages.now desk.old desk.new) }
+    ensures written { OnOk result
+        (WritesPiece (T.texts (terms_of F.files server.now)) (terms_of F.files server.now)
         origin messages.now desk.old writer.old.bytes writer.new.bytes) }
     ensures start { OnOk result (desk.new.start ≡ desk.old.start) }
-    ensures many { IfErr result (λ f. IfTooMany f (λ n. (n ≡ MAX_MESSAGES) × (i : ℕ) × (i < length messages.now)
+    ensures many { IfErr result
+        (λ f. IfTooMany f (λ n. (n ≡ MAX_MESSAGES) × (i : ℕ) × (i < length messages.now)
         × (desk.old.totals.answered + i ≡ MAX_MESSAGES)
         × WritesPiece (T.texts (terms_of F.files server.now)) (terms_of F.files server.now)
         origin (take i messages.now) desk.old writer.old.bytes writer.new.bytes)) }

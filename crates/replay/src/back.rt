@@ -277,7 +277,8 @@ fn add_replies<F: Tree, K: Backs>(
     replies: &mut Vec<Reply<F>>,
     lot: Vec<BackItem<F, K>>,
 ) -> Result<(), AllocError>
-    ensures { OnOk result (replies.new.items ≡ replies.old.items ++ flat_map (λ x. reply_in x.state) lot.items) }
+    ensures { OnOk result
+        (replies.new.items ≡ replies.old.items ++ flat_map (λ x. reply_in x.state) lot.items) }
 {
     for item in lot {
         let BackItem { state, .. } = item;
@@ -294,7 +295,8 @@ fn replies_of<F: Tree, K: Backs>(
     count: usize,
     lots: Vec<Vec<BackItem<F, K>>>,
 ) -> Result<Vec<Reply<F>>, AllocError>
-    ensures { IfOk result (λ v. v.items ≡ flat_map (λ lot. flat_map (λ x. reply_in x.state) lot.items) lots.items) }
+    ensures { IfOk result
+        (λ v. v.items ≡ flat_map (λ lot. flat_map (λ x. reply_in x.state) lot.items) lots.items) }
 {
     let mut replies = Vec::with_capacity(alloc, count)?;
     for lot in lots {
@@ -322,7 +324,8 @@ fn run_back_with<
     requires cut { last_cut plan ≡ 2 }
     ensures replies { IfOk result
         (λ v. v.items ≡ map (λ t. reply_to F.files (slip_of_pending t)) pending_replies.items) }
-    ensures ran { IfOk result (λ _. (h : List Event) × HasGoneThrough plan (length pending_replies.items) h) }
+    ensures ran { IfOk result
+        (λ _. (h : List Event) × HasGoneThrough plan (length pending_replies.items) h) }
 {
     let alloc = server.alloc;
     let count = pending_replies.len();

@@ -49,7 +49,8 @@ impl Desk {
         requires tier { tier < 4 }
         requires tick { tick ≤ MAX_TICK }
         requires service { (1 ≤ service) × (service ≤ MAX_SERVICE) }
-        ensures { IfOk result (λ away. (offers : List Offer) → ControllerAfter offers self.old.controller
+        ensures { IfOk result
+            (λ away. (offers : List Offer) → ControllerAfter offers self.old.controller
             → self.old.totals.samples ≡ samples_of (policies_of self.old.controller) offers
             → Decides offers (record { tier = tier; tick = tick; service = service } ∷ []) self.old self.new away) }
     {
@@ -79,7 +80,8 @@ impl Desk {
         requires tier { origin.tier < 4 }
         requires tick { origin.tick ≤ MAX_TICK }
         requires lookup { lookup ≡ lookup_of F.files server.now.costs what.now }
-        ensures given_by { IfOk result (λ due. (offers : List Offer) → ControllerAfter offers self.old.controller
+        ensures given_by { IfOk result
+            (λ due. (offers : List Offer) → ControllerAfter offers self.old.controller
             → self.old.totals.samples ≡ samples_of (policies_of self.old.controller) offers
             → (away : Bool) × Decides offers
             (offer_at (terms_of F.files server.now) origin what.now) self.old self.new away
@@ -123,10 +125,12 @@ pub(crate) fn settle<F: Tree>(
     requires tick { origin.tick ≤ max_tick }
     requires tier { origin.tier < 4 }
     requires few { desk.old.totals.answered < MAX_MESSAGES }
-    requires stands { (arrivals : List Arrival) × DeskAfter (terms_of F.files server.now) arrivals desk.old
+    requires stands { (arrivals : List Arrival)
+        × DeskAfter (terms_of F.files server.now) arrivals desk.old
         × AreBy origin.tick arrivals }
     requires lookup { lookup ≡ lookup_of F.files server.now.costs what.now }
-    ensures stands { OnOk result (DecidesNext (terms_of F.files server.now) origin what.now desk.old desk.new) }
+    ensures stands { OnOk result
+        (DecidesNext (terms_of F.files server.now) origin what.now desk.old desk.new) }
     ensures slip { IfOk result (λ t. (arrivals : List Arrival) (a : Arrival)
         → DeskAfter (terms_of F.files server.now) arrivals desk.old → a.origin ≡ origin → a.message.what ≡ what.now
         → slip_of_pending t ≡ slip_of (terms_of F.files server.now) desk.old.start

@@ -33,8 +33,7 @@ pub fn explain_replay<F: Tree, R: Read, W: Write>(
     writer: &mut Output<W>,
 ) -> Result<Outcome, ReplayFault>
     requires snapshot { snapshot.now ≡ F.files }
-    requires reading { CanFail reader.old }
-    requires writing { CanFail writer.old }
+    requires devices { CanFail reader.old × CanFail writer.old }
     // After a fault of the capture, the rows of the messages of the whole records before it stand; after too many
     // messages, those of the messages within the limit; else a prefix of what was due.
     ensures fault { IfErr result (Leaves (row_texts (terms_of F.files settings.now))

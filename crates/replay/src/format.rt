@@ -55,12 +55,14 @@ pub(crate) trait Format {
         requires tick { origin.tick ≤ max_tick }
         requires tier { origin.tier < 4 }
         requires few { desk.old.totals.answered < MAX_MESSAGES }
-        requires stands { (arrivals : List Arrival) × DeskAfter (terms_of F.files server.now) arrivals desk.old
+        requires stands { (arrivals : List Arrival)
+            × DeskAfter (terms_of F.files server.now) arrivals desk.old
             × AreBy origin.tick arrivals }
         requires failures { CanFail writer.old }
         ensures stands { OnOk result
             (DecidesNext (terms_of F.files server.now) origin what.now desk.old desk.new) }
-        ensures written { OnOk result (WritesNext (texts (terms_of F.files server.now)) (terms_of F.files server.now)
+        ensures written { OnOk result
+            (WritesNext (texts (terms_of F.files server.now)) (terms_of F.files server.now)
             origin what.now desk.old writer.old.bytes writer.new.bytes) }
         ensures start { OnOk result (desk.new.start ≡ desk.old.start) }
         ensures number { OnOk result (desk.new.totals.answered ≡ desk.old.totals.answered + 1) }

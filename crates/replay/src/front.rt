@@ -91,7 +91,8 @@ pub struct Front<'a, F: Tree, K: Fronts> {
 impl<'a, F: Tree, K: Fronts> Front<'a, F, K> {
     /// Reads what a request asks for. A file that its target names as it stands is found at once, without memory.
     fn read(&self, method: &[u8], target: &[u8]) -> Result<Lookup, Lookup>
-        ensures ok { IfOk result (λ s. seen_as F.files s ≡ Found (outcome F.files (asked method.now target.now))) }
+        ensures ok { IfOk result
+            (λ s. seen_as F.files s ≡ Found (outcome F.files (asked method.now target.now))) }
         ensures is { IfOk result (IsLookup F.files) }
         ensures err { IfErr result (λ s. s ≡ Unseen) }
     {
@@ -107,7 +108,8 @@ impl<'a, F: Tree, K: Fronts> Front<'a, F, K> {
     /// What is known of a message after this step where this is what it asks for: the last step prices it.
     fn found(&self, done: usize, what: &Meaning, outcome: Outcome) -> Lookup
         requires { IsOutcome F.files outcome }
-        ensures lookup { seen_as F.files result ≡ floor_lookup F.files K.costs done what.now (Found outcome) }
+        ensures lookup { seen_as F.files result
+            ≡ floor_lookup F.files K.costs done what.now (Found outcome) }
         ensures is { IsLookup F.files result }
     {
         let Meaning::Request { modified_since, .. } = what else {
@@ -253,7 +255,8 @@ fn lookups_of<F: Tree, K: Fronts>(
     count: usize,
     lots: Vec<Vec<FrontItem<F, K>>>,
 ) -> Result<Vec<Lookup>, AllocError>
-    ensures { IfOk result (λ v. v.items ≡ flat_map (λ lot. map (λ x. x.lookup) lot.items) lots.items) }
+    ensures { IfOk result
+        (λ v. v.items ≡ flat_map (λ lot. map (λ x. x.lookup) lot.items) lots.items) }
 {
     let mut lookups = Vec::with_capacity(alloc, count)?;
     for lot in lots {
@@ -297,8 +300,10 @@ fn run_front_with<
     requires costs { server.now.costs ≡ K.costs }
     requires messages { messages.items ≡ K.messages }
     requires cut { last_cut plan ≡ 3 }
-    ensures seen { IfOk result (λ v. v.items ≡ map (front_value F.files server.now.costs) messages.items) }
-    ensures ran { IfOk result (λ _. (h : List Event) × HasGoneThrough plan (length messages.items) h) }
+    ensures seen { IfOk result
+        (λ v. v.items ≡ map (front_value F.files server.now.costs) messages.items) }
+    ensures ran { IfOk result
+        (λ _. (h : List Event) × HasGoneThrough plan (length messages.items) h) }
 {
     let alloc = server.alloc;
     let settings = server.settings;
@@ -325,7 +330,8 @@ pub(crate) fn run_front<F: Tree + Send + Sync, G: Gate + Sync, T: Threads + Wait
     messages: Vec<Incoming>,
     gate: &G,
 ) -> Result<Vec<LookedUp>, Unrun>
-    ensures seen { IfOk result (λ v. v.items ≡ map (front_value F.files server.now.costs) messages.items) }
+    ensures seen { IfOk result
+        (λ v. v.items ≡ map (front_value F.files server.now.costs) messages.items) }
     ensures ran { IfOk result
         (λ _. (h : List Event) × HasGoneThrough server.now.front (length messages.items) h) }
 {

@@ -53,7 +53,8 @@ fn laid_by<F: Tree>(
     group: Vec<PendingReply<F>>,
     is_full: bool,
 ) -> Result<Vec<PendingReply<F>>, AllocError>
-    ensures { IfOk result (λ rest. all_of groups.new.items ++ rest.items ≡ all_of groups.old.items ++ group.items) }
+    ensures { IfOk result
+        (λ rest. all_of groups.new.items ++ rest.items ≡ all_of groups.old.items ++ group.items) }
 {
     if !is_full {
         return Ok(group);

@@ -80,8 +80,10 @@ fn write_replies<F: Tree, W: Write>(
     writer: &mut Output<W>,
 ) -> Result<(), ReplayFault>
     requires { CanFail writer.old }
-    ensures written { OnOk result (Appends writer.old.bytes writer.new.bytes (flat_map record_text replies.now)) }
-    ensures part { OnErr result (AppendsPrefix writer.old.bytes writer.new.bytes (flat_map record_text replies.now)) }
+    ensures written { OnOk result
+        (Appends writer.old.bytes writer.new.bytes (flat_map record_text replies.now)) }
+    ensures part { OnErr result
+        (AppendsPrefix writer.old.bytes writer.new.bytes (flat_map record_text replies.now)) }
     ensures failures { CountsBy writer_failures writer.old.failures writer.new.failures result }
     ensures own { IfErr result IsWriteOrMemory }
 {
@@ -101,8 +103,10 @@ fn answer_group<F: Tree + Send + Sync, G: Gate + Sync, T: Threads + Wait + Sync,
 ) -> Result<(), ReplayFault>
     requires ready { list_all (λ t. is_back F.files (Waits t)) group.items ≡ true }
     requires failures { CanFail writer.old }
-    ensures written { OnOk result (Appends writer.old.bytes writer.new.bytes (records_of F.files group.items)) }
-    ensures part { OnErr result (AppendsPrefix writer.old.bytes writer.new.bytes (records_of F.files group.items)) }
+    ensures written { OnOk result
+        (Appends writer.old.bytes writer.new.bytes (records_of F.files group.items)) }
+    ensures part { OnErr result
+        (AppendsPrefix writer.old.bytes writer.new.bytes (records_of F.files group.items)) }
     ensures failures { CountsBy writer_failures writer.old.failures writer.new.failures result }
     ensures own { IfErr result IsWriteOrMemory }
 {
@@ -171,7 +175,8 @@ fn serve_few<F: Tree + Send + Sync, G: Gate + Sync, T: Threads + Wait + Sync, W:
         × Upcoming (terms_of F.files server.now) arrivals more messages.items desk.old
         × (length arrivals + length more ≤ max_messages) }
     requires failures { CanFail writer.old }
-    ensures stands { OnOk result (DecidesComing (terms_of F.files server.now) messages.items desk.old desk.new) }
+    ensures stands { OnOk result
+        (DecidesComing (terms_of F.files server.now) messages.items desk.old desk.new) }
     ensures written { OnOk result
         (WritesComing (terms_of F.files server.now) messages.items desk.old writer.old.bytes writer.new.bytes) }
     ensures part { OnErr result
@@ -216,10 +221,12 @@ fn serve_part<F: Tree + Send + Sync, G: Gate + Sync, T: Threads + Wait + Sync, W
     requires next { (arrivals : List Arrival) × (more : List Arrival)
         × Upcoming (terms_of F.files server.now) arrivals more messages.items desk.old }
     requires failures { CanFail writer.old }
-    ensures stands { OnOk result (DecidesComing (terms_of F.files server.now) messages.items desk.old desk.new) }
+    ensures stands { OnOk result
+        (DecidesComing (terms_of F.files server.now) messages.items desk.old desk.new) }
     ensures written { OnOk result
         (WritesComing (terms_of F.files server.now) messages.items desk.old writer.old.bytes writer.new.bytes) }
-    ensures many { IfErr result (λ f. IfTooMany f (λ n. (n ≡ MAX_MESSAGES) × (i : ℕ) × (i < length messages.items)
+    ensures many { IfErr result
+        (λ f. IfTooMany f (λ n. (n ≡ MAX_MESSAGES) × (i : ℕ) × (i < length messages.items)
         × (desk.old.totals.answered + i ≡ MAX_MESSAGES)
         × WritesFirst i (terms_of F.files server.now) messages.items desk.old writer.old.bytes writer.new.bytes)) }
     ensures part { IfErr result (λ f. IfCutShort f ((i : ℕ) × (i ≤ length messages.items)
@@ -257,7 +264,8 @@ pub(crate) fn serve_parts<
     requires next { (arrivals : List Arrival) × (more : List Arrival)
         × Upcoming (terms_of F.files server.now) arrivals more (joined parts.items) desk.old }
     requires failures { CanFail writer.old }
-    ensures stands { OnOk result (DecidesComing (terms_of F.files server.now) (joined parts.items) desk.old desk.new) }
+    ensures stands { OnOk result
+        (DecidesComing (terms_of F.files server.now) (joined parts.items) desk.old desk.new) }
     ensures written { OnOk result
         (WritesComing (terms_of F.files server.now) (joined parts.items) desk.old writer.old.bytes writer.new.bytes) }
     ensures many { IfErr result (λ f. IfTooMany f (λ n. (n ≡ MAX_MESSAGES) × (i : ℕ)

@@ -96,7 +96,8 @@ fn answer_record<T: Format, F: Tree, W: Write>(
     requires failures { CanFail writer.old }
     ensures tiers { OnOk result ((records : List ARecord) → AreTiers records tiers.old
         → AreTiers (records ++ next.now ∷ []) tiers.new) }
-    ensures serves { OnOk result (AnswersRecord (T.texts (terms_of F.files server.now)) (terms_of F.files server.now)
+    ensures serves { OnOk result
+        (AnswersRecord (T.texts (terms_of F.files server.now)) (terms_of F.files server.now)
         next.now tiers.old connections.old desk.old connections.new desk.new writer.old.bytes writer.new.bytes) }
     ensures start { OnOk result (desk.new.start ≡ desk.old.start) }
     ensures many { IfErr result (λ f. IfTooMany f (λ n. (n ≡ MAX_MESSAGES)
@@ -137,13 +138,13 @@ pub(crate) fn replay_writing<T: Format, F: Tree, R: Read, W: Write>(
     writer: &mut Output<W>,
 ) -> Result<Outcome, ReplayFault>
     requires snapshot { snapshot.now ≡ F.files }
-    requires reading { CanFail reader.old }
-    requires writing { CanFail writer.old }
+    requires devices { CanFail reader.old × CanFail writer.old }
     ensures fault { IfErr result (Leaves (T.texts (terms_of F.files settings.now))
         reader.old.bytes reader.new.bytes writer.old.bytes writer.new.bytes) }
     ensures reads { CountsBy reader_failures reader.old.failures reader.new.failures result }
     ensures writes { CountsBy writer_failures writer.old.failures writer.new.failures result }
-    ensures ok { IfOk result (WritesWhole (T.texts (terms_of F.files settings.now)) (terms_of F.files settings.now)
+    ensures ok { IfOk result
+        (WritesWhole (T.texts (terms_of F.files settings.now)) (terms_of F.files settings.now)
         reader.old.bytes writer.old.bytes writer.new.bytes) }
 {
     T::begin(writer)?;
@@ -204,8 +205,7 @@ pub fn plain_replay<F: Tree, R: Read, W: Write>(
     writer: &mut Output<W>,
 ) -> Result<Outcome, ReplayFault>
     requires snapshot { snapshot.now ≡ F.files }
-    requires reading { CanFail reader.old }
-    requires writing { CanFail writer.old }
+    requires devices { CanFail reader.old × CanFail writer.old }
     // After a fault of the capture, the replies of the messages of the whole records before it stand; after too many
     // messages, those of the messages within the limit; else a prefix of what was due.
     ensures fault { IfErr result (Leaves (reply_texts (terms_of F.files settings.now))

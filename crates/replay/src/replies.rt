@@ -39,7 +39,8 @@ pub(crate) fn write_last_line<W: Write>(
 ) -> Result<(), ReplayFault>
     requires { CanFail writer.old }
     ensures written { OnOk result (Appends writer.old.bytes writer.new.bytes (last_line count)) }
-    ensures part { OnErr result (AppendsPrefix writer.old.bytes writer.new.bytes (last_line count)) }
+    ensures part { OnErr result
+        (AppendsPrefix writer.old.bytes writer.new.bytes (last_line count)) }
     ensures failures { CountsBy writer_failures writer.old.failures writer.new.failures result }
     ensures own { IfErr result IsWriteOrMemory }
 {

@@ -108,7 +108,8 @@ fn row_of<F: Tree>(
     requires free { found.free ≤ MAX_TICK + MAX_SERVICE * MAX_OFFERS }
     requires tick { origin.tick ≤ MAX_TICK }
     requires service { IfSome service (λ service. service ≤ MAX_SERVICE) }
-    ensures { (terms : Terms) (start : ℕ) (arrivals : List Arrival) (a : Arrival) → a.origin ≡ origin
+    ensures { (terms : Terms) (start : ℕ) (arrivals : List Arrival) (a : Arrival)
+        → a.origin ≡ origin
         → service ≡ service_in (lookup_of terms.files terms.costs a.message.what)
         → found ≡ outlook terms.policies (decided terms.policies (offers_of terms arrivals)) origin.tier origin.tick
         → slip_of_pending pending.now ≡ slip_of terms start (handled_next terms arrivals a)

@@ -1,13 +1,13 @@
 //! The staged engine: batch by batch, each over floors of threads.
 
 ghost use Rattle.std.specs.Prelude.{◌≡◌, ◌<◌, ◌≤◌, ◌-◌, ◌+◌, ◌^◌, ◌⊎◌, [], List, IfOk, IfErr, OnOk};
-ghost use Rattle.devices.specs.Devices.{CanFail, BlamedOnce, CountsBy};
+ghost use Rattle.devices.specs.Devices.{CanFail, CountsBy};
 ghost use Rattle.captures.specs.Reference.{max_start};
 ghost use Rattle.captures.specs.declared.record.Record.{Record as ARecord};
 ghost use Rattle.arrivals.specs.Reference.{Arrival};
 ghost use Rattle.reference.specs.Reference.{terms_of, Answers};
 ghost use Rattle.reference.specs.Outcomes.{IfTooMany, IfCutShort, IsOwn, Leaves};
-ghost use Rattle.captures.specs.Passes.{reader_failures, writer_failures};
+ghost use Rattle.captures.specs.Passes.{BlamesReader, leaves_reads_untold, reader_failures, writer_failures};
 ghost use Rattle.reference.specs.Texts.{reply_texts};
 ghost use Rattle.replay.specs.Steps.{AnswersBatch, FillsWithBatch, AnswersBatchInPart};
 ghost use Rattle.replay.specs.Waiting.{ComeNext, Waiting};
@@ -48,7 +48,8 @@ fn serve_batch<F: Tree + Send + Sync, G: Gate + Sync, T: Threads + Wait + Sync, 
     requires next { (records : List ARecord) × (rs : List ARecord) × (arrivals : List Arrival)
         × ComeNext (terms_of F.files server.now) records rs arrivals seats origins.now desk.old }
     requires failures { CanFail writer.old }
-    ensures serves { IfOk result (λ after. AnswersBatch (terms_of F.files server.now) seats origins.now desk.old
+    ensures serves { IfOk result
+        (λ after. AnswersBatch (terms_of F.files server.now) seats origins.now desk.old
         after desk.new writer.old.bytes writer.new.bytes) }
     ensures idle { IfOk result (Waiting []) }
     ensures start { OnOk result (desk.new.start ≡ desk.old.start) }
@@ -102,15 +103,15 @@ pub fn staged_replay<
     writer: &mut Output<W>,
 ) -> Result<Outcome, ReplayFault>
     requires snapshot { snapshot.now ≡ F.files }
-    requires reading { CanFail reader.old }
-    requires writing { CanFail writer.old }
+    requires devices { CanFail reader.old × CanFail writer.old }
     // After a fault of the capture, the replies of the messages of the whole records before it stand; after too many
     // messages, those of the messages within the limit; else a prefix of what was due.
     ensures fault { IfErr result (Leaves (reply_texts (terms_of F.files settings.now))
         reader.old.bytes reader.new.bytes writer.old.bytes writer.new.bytes) }
-    // A device is blamed only where it failed in this call. A read that failed may not be reported: where the messages
-    // before it are too many, where they can't be written, and where memory runs out.
-    ensures reads { BlamedOnce reader_failures reader.old.failures reader.new.failures result }
+    // A device is blamed exactly where it failed in this call; but one read that failed may go untold where the
+    // messages before it are too many, where they can't be written, and where memory runs out.
+    ensures reads { BlamesReader reader_failures leaves_reads_untold
+        reader.old.failures reader.new.failures result }
     ensures writes { CountsBy writer_failures writer.old.failures writer.new.failures result }
     ensures ok { IfOk result
         (Answers (terms_of F.files settings.now) reader.old.bytes writer.old.bytes writer.new.bytes) }

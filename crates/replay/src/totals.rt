@@ -34,7 +34,8 @@ pub struct Totals {
 impl Totals {
     /// Nothing was answered yet.
     pub(crate) fn new(alloc: Global) -> Totals
-        ensures { result ≡ record { answered = 0; counts = no_counts; bypassed = 0; rejected = []; samples = [] } }
+        ensures { result
+            ≡ record { answered = 0; counts = no_counts; bypassed = 0; rejected = []; samples = [] } }
     {
         Totals {
             answered: 0,
@@ -50,7 +51,8 @@ impl Totals {
         requires number { self.old.answered < 2 ^ 64 - 1 }
         requires counts { AreBelow (2 ^ 64 - 1) self.old.counts }
         requires bypassed { self.old.bypassed < 2 ^ 64 - 1 }
-        ensures { self.new ≡ noted self.old (status_of (given_by due.now)) (breaks_a_rule what.now) }
+        ensures { self.new
+            ≡ noted self.old (status_of (given_by due.now)) (breaks_a_rule what.now) }
     {
         self.answered += 1;
         count_status(&mut self.counts, due);
