@@ -41,10 +41,6 @@ use Rattle.replay.specs.Serving.{DeskAfter, AreBy, IsLater, Serves, Written, Ser
 use Rattle.reference.specs.Texts.{Texts, AreTexts, Wrote, WroteInPart, reply_texts}
 use Rattle.devices.specs.Reference.{WhereKnown}
 use Rattle.reference.specs.Outcomes.{IfTooMany, IfCutShort, IsOwn, IsCutOff, StopsBeyond, StopsFull, StopsWriting, Stops, Taken, Leaves}
-use Rattle.arrivals.specs.declared.batch.Ending.{Ending}
-use Rattle.arrivals.specs.declared.batch.Ending.TheVariants as endings
-use Rattle.arrivals.specs.Gathering.{CountsEnding}
-use Rattle.std.proofs.Math.Nat.{eq-or-lt_of_le}
 use Rattle.captures.specs.Passes.{pass_fault, IsWriteOrMemory, leaves_reads_untold, reader_failures}
 use Rattle.captures.proofs.PassLemmas.{leaves_by, leaves_part, reported_reads, reported_writes}
 use Rattle.arrivals.proofs.Arriving.{from_piece, reads_none, arrives_none, reads_piece, reads_end, reads_tier, arrives_piece, arrives_end, arrives_tier}
@@ -429,51 +425,6 @@ pub blamed_reported : (old new : ℕ) (f : CaptureFault) (r : PassFault) → r �
 blamed_reported old new f r is count =
     let same : reader_failures r ≡ failures_of f.kind = ap reader_failures is ∙ reported_reads f in
     inl (omega (arith, same, count))
-
--- it fails at most once
-pub fails_once : (k : CaptureFaultKind) → failures_of k ≤ 1
-fails_once kinds.Read = omega arith
-fails_once kinds.Cut = omega arith
-fails_once kinds.Header = omega arith
-fails_once kinds.Kind = omega arith
-fails_once kinds.Number = omega arith
-fails_once kinds.Tick = omega arith
-fails_once kinds.Connection = omega arith
-fails_once kinds.Ended = omega arith
-fails_once kinds.Tier = omega arith
-fails_once kinds.Length = omega arith
-fails_once kinds.Count = omega arith
-fails_once kinds.Trailing = omega arith
-fails_once kinds.TooLarge = omega arith
-fails_once kinds.Memory = omega arith
-
-ending_once : (old new : ℕ) (ending : Ending) → CountsEnding old new ending → new ≤ old + 1
-ending_once old new endings.More count = omega (arith, count)
-ending_once old new endings.End count = omega (arith, count)
-ending_once old new (endings.Fault f) count = let most = fails_once f.kind in omega (arith, count, most)
-
-ending_least : (old new : ℕ) (ending : Ending) → CountsEnding old new ending → old ≤ new
-ending_least old new endings.More count = omega (arith, count)
-ending_least old new endings.End count = omega (arith, count)
-ending_least old new (endings.Fault f) count = omega (arith, count)
-
-own_untold : (old new : ℕ) (e : PassFault) → IsOwn e → (reader_failures e ≡ 0) × (leaves_reads_untold e ≡ true)
-own_untold old new (faults.Capture f) own = absurd own
-own_untold old new (faults.TooMany n) own = (refl, refl)
-own_untold old new faults.Write own = (refl, refl)
-own_untold old new faults.Memory own = (refl, refl)
-
--- a read that failed while a batch was read, and goes untold
-pub untold_own : (old new : ℕ) (e : PassFault) (ending : Ending) → IsOwn e → CountsEnding old new ending
-    → (new ≡ old + reader_failures e) ⊎ ((leaves_reads_untold e ≡ true) × (new ≡ old + 1))
-untold_own old new e ending own count =
-    let most = ending_once old new ending count in
-    let least = ending_least old new ending count in
-    let by = own_untold old new e own in
-    elim (eq-or-lt_of_le least) [
-      | inl same ↦ inl (let none = by.0 in omega (arith, same, none))
-      | inr more ↦ inr (by.1, omega (arith, more, most))
-    ]
 
 -- ---- where the replies are reported
 

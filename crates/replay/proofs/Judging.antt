@@ -23,6 +23,7 @@ use Rattle.cost_model.specs.Reference.{CostTable, service}
 use Rattle.responses.specs.declared.slip.Given.{Given}
 use Rattle.responses.specs.declared.slip.Given.TheVariants.{Plain}
 use Rattle.responses.specs.declared.slip.Status.TheVariants.{ServiceUnavailable}
+use Rattle.captures.specs.Passes.{IsWriteOrMemory}
 use Rattle.reference.specs.Outcomes.{IfCutShort, IfTooMany}
 use Rattle.arrivals.specs.declared.incoming.Origin.{Origin}
 use Rattle.captures.specs.declared.pass_fault.PassFault.{PassFault}
@@ -260,6 +261,19 @@ on_cut (Capture f) P Q more h = tt
 on_cut (TooMany n) P Q more h = tt
 on_cut Unwritten P Q more h = more h
 on_cut Memory P Q more h = more h
+
+-- a failed write, and out of memory, say nothing of a message too many, and what they say of a part
+pub own_many : (f : PassFault) (P : ℕ → Type 0) → IsWriteOrMemory f → IfTooMany f P
+own_many (Capture f) P own = absurd own
+own_many (TooMany n) P own = absurd own
+own_many Unwritten P own = tt
+own_many Memory P own = tt
+
+pub own_cut : (f : PassFault) (P : Type 0) → IsWriteOrMemory f → P → IfCutShort f P
+own_cut (Capture f) P own h = absurd own
+own_cut (TooMany n) P own h = absurd own
+own_cut Unwritten P own h = h
+own_cut Memory P own h = h
 
 -- ---- the messages of a piece
 

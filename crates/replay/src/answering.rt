@@ -284,44 +284,6 @@ pub(crate) fn answer_pending<F: Tree, W: Write>(
     }
 }
 
-/// Answers the next message.
-fn answer_message<T: Format, F: Tree, W: Write>(
-    server: &Server<'_, F>,
-    heads: &mut HeadRenderer,
-    origin: Origin,
-    what: &Meaning,
-    desk: &mut Desk,
-    writer: &mut Output<W>,
-) -> Result<(), ReplayFault>
-    requires start { desk.old.start ≤ max_start }
-    requires tick { origin.tick ≤ max_tick }
-    requires tier { origin.tier < 4 }
-    requires stands { (arrivals : List Arrival)
-        × DeskAfter (terms_of F.files server.now) arrivals desk.old
-        × AreBy origin.tick arrivals }
-    requires failures { CanFail writer.old }
-    ensures stands { OnOk result
-        (DecidesNext (terms_of F.files server.now) origin what.now desk.old desk.new) }
-    ensures written { OnOk result
-        (WritesNext (T.texts (terms_of F.files server.now)) (terms_of F.files server.now)
-        origin what.now desk.old writer.old.bytes writer.new.bytes) }
-    ensures start { OnOk result (desk.new.start ≡ desk.old.start) }
-    ensures number { OnOk result (desk.new.totals.answered ≡ desk.old.totals.answered + 1) }
-    ensures many { IfErr result (λ f. IfTooMany f (λ n. (n ≡ MAX_MESSAGES)
-        × (desk.old.totals.answered ≡ MAX_MESSAGES) × (writer.new ≡ writer.old))) }
-    ensures part { IfErr result (λ f. IfCutShort f ((desk.old.totals.answered < MAX_MESSAGES)
-        × WritesNextInPart (T.texts (terms_of F.files server.now)) (terms_of F.files server.now)
-        origin what.now desk.old writer.old.bytes writer.new.bytes)) }
-    ensures failures { CountsBy writer_failures writer.old.failures writer.new.failures result }
-    ensures own { IfErr result IsOwn }
-{
-    let number = desk.totals.answered;
-    if number == MAX_MESSAGES {
-        return Err(ReplayFault::TooMany(MAX_MESSAGES));
-    }
-    T::write_message::<F, W>(server, heads, origin, what, desk, writer)
-}
-
 /// Answers the messages that ended in a piece, in their order.
 pub(crate) fn answer_all<T: Format, F: Tree, W: Write>(
     server: &Server<'_, F>,
@@ -358,7 +320,10 @@ pub(crate) fn answer_all<T: Format, F: Tree, W: Write>(
     ensures own { IfErr result IsOwn }
 {
     for message in messages {
-        answer_message::<T, F, W>(server, heads, origin, &message.what, desk, writer)?;
+        if desk.totals.answered == MAX_MESSAGES {
+            return Err(ReplayFault::TooMany(MAX_MESSAGES));
+        }
+        T::write_message::<F, W>(server, heads, origin, &message.what, desk, writer)?;
     }
     Ok(())
 }

@@ -8,7 +8,7 @@ use Rattle.arrivals.specs.Connections.{arrivals_with}
 use Rattle.reference.specs.Texts.{Wrote}
 use Rattle.replay.proofs.Writing.{arrivals_step}
 use Rattle.replay.proofs.Texts.{wrote_none, wrote_more, wrote_part}
-use Rattle.replay.proofs.Judging.{by_more, passed_on, on_many, on_cut}
+use Rattle.replay.proofs.Judging.{by_more, passed_on, own_many, own_cut, answered_is}
 use Rattle.replay.proofs.answering.answer_all.Goals as goal
 
 pub loop-message-init : goal.loop-message-init
@@ -20,33 +20,28 @@ loop-message-init g c = (
   refl,
 )
 
-pub answer_message-requires-clause-stands : goal.answer_message-requires-clause-stands
-answer_message-requires-clause-stands g c =
+pub write_message-requires-clause-stands : goal.write_message-requires-clause-stands
+write_message-requires-clause-stands g c =
     let given = c.requires.stands in
     let sofar = take c.loop-message.message-index c.args.messages.now in
     (given.0 ++ arrivals_with 0 c.args.origin sofar, c.loop-message.invariant.0 given.0 0 given.1, by_more 0 c.args.origin sofar given.0 given.2)
 
 -- the message that the loop is at
-pub returns-in_err-answer_message-clause-many : goal.returns-in_err-answer_message-clause-many
-returns-in_err-answer_message-clause-many g c =
-    let inv = c.loop-message.invariant in
-    let lt = c.loop-message-test.true in
-    let at = inv.3 in
-    passed_on c.from_residual.result _ _
-    (λ f same. rw same (on_many c.in_err-answer_message.field-0.0 _ _
-    (λ n full. (
-      full.0,
-      c.loop-message.message-index,
-      lt,
-      (let e = full.1 in omega (arith, at, e)),
-      λ arrivals place stands.
-          subst (λ (w : Device). Wrote (g.T.Format.texts (terms_of g.F.Tree.files c.args.server.now)) c.args.desk.now.start arrivals (arrivals_with place c.args.origin (take c.loop-message.message-index c.args.messages.now)) c.args.writer.now.bytes w.bytes) (sym full.2) (inv.1 arrivals place stands),
-    ))
-    c.in_err-answer_message.ensures.many))
-    c.from_residual.ensures.1
+pub write_message-requires-clause-few : goal.write_message-requires-clause-few
+write_message-requires-clause-few g c =
+    let given = c.requires.stands in
+    let stands = c.loop-message.invariant.0 given.0 0 given.1 in
+    let count = answered_is _ _ _ stands in
+    let few = stands.few in
+    let other = c.if-desk-eq-MAX_MESSAGES.false in
+    omega (arith, count, few, other)
 
-pub returns-in_err-answer_message-clause-part : goal.returns-in_err-answer_message-clause-part
-returns-in_err-answer_message-clause-part g c =
+pub returns-in_err-write_message-clause-many : goal.returns-in_err-write_message-clause-many
+returns-in_err-write_message-clause-many g c =
+    passed_on c.from_residual.result _ _ (λ f same. rw same (own_many c.in_err-write_message.field-0.0 _ c.in_err-write_message.ensures.own)) c.from_residual.ensures.1
+
+pub returns-in_err-write_message-clause-part : goal.returns-in_err-write_message-clause-part
+returns-in_err-write_message-clause-part g c =
     let inv = c.loop-message.invariant in
     let messages = c.args.messages.now in
     let i = c.loop-message.message-index in
@@ -54,17 +49,20 @@ returns-in_err-answer_message-clause-part g c =
     let lt = c.loop-message-test.true in
     let at = inv.3 in
     passed_on c.from_residual.result _ _
-    (λ f same. rw same (on_cut c.in_err-answer_message.field-0.0 _ _
-    (λ short. (
+    (λ f same. rw same (own_cut c.in_err-write_message.field-0.0 _ c.in_err-write_message.ensures.own (
       i + 1,
       omega (arith, lt),
-      (let e = short.0 in omega (arith, at, e)),
+      (let given = c.requires.stands in
+      let stands = inv.0 given.0 0 given.1 in
+      let count = answered_is _ _ _ stands in
+      let few = stands.few in
+      let other = c.if-desk-eq-MAX_MESSAGES.false in
+      omega (arith, at, count, few, other)),
       λ arrivals place stands.
           (let sofar = arrivals_with place c.args.origin (take i messages) in
-          let part = short.1 (arrivals ++ sofar) (record { origin = c.args.origin; place = place; message = get_or messages i m }) (inv.0 arrivals place stands) refl (ap (λ x. x.what) (sym c.message-item.is)) in
+          let part = c.in_err-write_message.ensures.part (arrivals ++ sofar) (record { origin = c.args.origin; place = place; message = get_or messages i m }) (inv.0 arrivals place stands) refl (ap (λ x. x.what) (sym c.message-item.is)) in
           rw (arrivals_step place c.args.origin messages i m lt) (wrote_part _ c.args.desk.now.start arrivals sofar _ _ _ _ (c.requires.texts (terms_of g.F.Tree.files c.args.server.now)) (inv.1 arrivals place stands) (rw inv.2 at part))),
-    ))
-    c.in_err-answer_message.ensures.part))
+    )))
     c.from_residual.ensures.1
 
 pub loop-message-preserved : goal.loop-message-preserved
@@ -74,7 +72,7 @@ loop-message-preserved g c =
     let i = c.loop-message.message-index in
     let m = c.message-item.result in
     let lt = c.loop-message-test.true in
-    let one = c.in_ok-answer_message.ensures in
+    let one = c.in_ok-write_message.ensures in
     let at = inv.3 in
     let what : (get_or messages i m).what ≡ m.what = ap (λ x. x.what) (sym c.message-item.is) in
     let a : ℕ → Arrival = λ place. record { origin = c.args.origin; place = place; message = get_or messages i m } in
