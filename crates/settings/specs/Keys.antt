@@ -2,6 +2,8 @@
 -- there, and what is said of it.
 use Rattle.std.specs.Prelude.{ℕ, ◌≤◌, ◌≡◌, Bool, true, false, ◌++◌, if◌then◌else◌, List, [], ◌∷◌, map, flat_map}
 use Rattle.std.specs.Prelude.{Option, Some, None, codes, bytes_eq, find}
+use Rattle.cost_model.specs.Reference.{CostTable}
+use Rattle.admission.specs.declared.policy.PolicyNumbers.{PolicyNumbers}
 use Rattle.settings.specs.declared.keys.Key.{Key}
 use Rattle.settings.specs.declared.keys.Key.TheVariants as keys
 use Rattle.settings.specs.declared.keys.PolicyTable.{PolicyTable}
@@ -176,6 +178,32 @@ defaults_of key = default_numbers (row_of key).kind
 abbrev pub IsWithin : KeyKind → ℕ → Type 0
 IsWithin (Number default least greatest) n = (least ≤ n) × (n ≤ greatest)
 IsWithin other n = Unit
+
+-- its default is
+abbrev pub HasDefault : KeyKind → Type 0
+HasDefault kind = IsWithin kind (default_number kind)
+
+-- ---- what the integers of the keys make
+
+-- the service times
+abbrev pub costs_with : (Key → ℕ) → CostTable
+costs_with at = record { file = at keys.File; kib = at keys.Kib; error = at keys.Error }
+
+-- the policy of these
+abbrev pub policy_with : (PolicyKey → ℕ) → PolicyNumbers
+policy_with at = record {
+  window = at policy.Window;
+  every = at policy.Every;
+  smoothing = at policy.Smoothing;
+  rate = at policy.Rate;
+  rate_min = at policy.RateMin;
+  rate_max = at policy.RateMax;
+  up = at policy.Up;
+  down = at policy.Down;
+  target = at policy.Target;
+  low = at policy.Low;
+  depth = at policy.Depth;
+}
 
 -- ---- the rows of the code
 

@@ -8,38 +8,16 @@ use Rattle.toml.specs.Parse.{parse_document}
 use Rattle.stage_graph.specs.Layouts.{Layout, layout_of}
 use Rattle.stage_graph.specs.PlanFaults.{plan_fault}
 use Rattle.stage_graph.specs.After.{last_cut}
-use Rattle.cost_model.specs.Reference.{CostTable}
 use Rattle.reference.specs.Reference.{Choice}
 use Rattle.settings.specs.declared.keys.Key.{Key}
 use Rattle.settings.specs.declared.keys.Key.TheVariants as keys
 use Rattle.settings.specs.declared.keys.PolicyTable.{PolicyTable}
 use Rattle.settings.specs.declared.keys.PolicyTable.TheVariants as tables
-use Rattle.settings.specs.declared.keys.PolicyKey.{PolicyKey}
 use Rattle.settings.specs.declared.keys.PolicyKey.TheVariants as policy
 use Rattle.settings.specs.declared.config_fault.ConfigFault.{ConfigFault}
 use Rattle.settings.specs.ConfigFaults.{no_text, not_known, range}
-use Rattle.settings.specs.Keys.{KeyKind, Lists, row_of, all_keys, default_of, defaults_of}
+use Rattle.settings.specs.Keys.{KeyKind, Lists, row_of, all_keys, default_of, defaults_of, costs_with, policy_with}
 use Rattle.settings.specs.Documents.{◌>>=◌, misplaced_in, values_fit, number_in, numbers_in}
-
--- the service times of these integers of the keys
-abbrev pub costs_with : (Key → ℕ) → CostTable
-costs_with at = record { file = at keys.File; kib = at keys.Kib; error = at keys.Error }
-
--- the policy of these
-abbrev pub policy_with : (PolicyKey → ℕ) → PolicyNumbers
-policy_with at = record {
-  window = at policy.Window;
-  every = at policy.Every;
-  smoothing = at policy.Smoothing;
-  rate = at policy.Rate;
-  rate_min = at policy.RateMin;
-  rate_max = at policy.RateMax;
-  up = at policy.Up;
-  down = at policy.Down;
-  target = at policy.Target;
-  low = at policy.Low;
-  depth = at policy.Depth;
-}
 
 -- the lists as the plan of a floor, whose last stage ends with this step
 abbrev pub plan_with : Key → ℕ → List ℕ → List ℕ → List ℕ → Result Layout ConfigFault

@@ -6,8 +6,9 @@ ghost use Rattle.toml.specs.View.{table_view};
 ghost use Rattle.stage_graph.specs.After.{last_cut};
 ghost use Rattle.settings.specs.ConfigFaults.{IsAnswer, is_memory, no_text};
 ghost use Rattle.settings.specs.Documents.{number_in};
-ghost use Rattle.settings.specs.SettingsTable.{chosen, costs_with, default_choice, document_of, plan_of, plan_with};
-ghost use Rattle.settings.specs.SettingsTable.{policy_of, settings_of, settings_read};
+ghost use Rattle.settings.specs.Keys.{costs_with};
+ghost use Rattle.settings.specs.SettingsTable.{chosen, default_choice, document_of, plan_of, plan_with, policy_of};
+ghost use Rattle.settings.specs.SettingsTable.{settings_of, settings_read};
 
 use crate::document::{misplaced_in, number_in, numbers_in, values_fit};
 use crate::keys::Kind;

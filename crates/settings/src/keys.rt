@@ -2,9 +2,9 @@
 //! it.
 
 ghost use Rattle.std.specs.Prelude.{◌≡◌, ◌≤◌, IfOk, length};
-ghost use Rattle.settings.specs.Keys.{IsRow, IsWithin, all_keys, default_of, defaults_of, is_table, keys_in};
-ghost use Rattle.settings.specs.Keys.{name_of, policy_row, row_of, table_of};
-ghost use Rattle.settings.specs.declared.keys.Key.TheVariants.{InPolicy, Policy};
+ghost use Rattle.settings.specs.Keys.{HasDefault, IsRow, IsWithin, all_keys, default_of, defaults_of, is_table};
+ghost use Rattle.settings.specs.Keys.{keys_in, name_of, policy_row, row_of, table_of};
+ghost use Rattle.settings.specs.declared.keys.Key.TheVariants.{Policy};
 
 use std::alloc::{AllocError, Global};
 use std::fmt;
@@ -107,7 +107,7 @@ impl PolicyKey {
     fn row(self, table: PolicyTable) -> Row
         ensures row { IsRow result (policy_row (Policy table) self) }
         ensures name { length result.name.now ≤ 16 }
-        ensures default { IsWithin (row_of (InPolicy table self)).kind (default_of (InPolicy table self)) }
+        ensures default { HasDefault (policy_row (Policy table) self).kind }
     {
         match self {
             PolicyKey::Window => Row {
@@ -197,7 +197,7 @@ impl Key {
     pub(crate) fn row(self) -> Row
         ensures row { IsRow result (row_of self) }
         ensures name { length result.name.now ≤ 16 }
-        ensures default { IsWithin (row_of self).kind (default_of self) }
+        ensures default { HasDefault (row_of self).kind }
     {
         match self {
             Key::Floor => Row {
