@@ -6,7 +6,6 @@ use Rattle.cost_model.specs.Reference.{CostTable}
 use Rattle.admission.specs.declared.policy.PolicyNumbers.{PolicyNumbers}
 use Rattle.settings.specs.declared.keys.Key.{Key}
 use Rattle.settings.specs.declared.keys.Key.TheVariants as keys
-use Rattle.settings.specs.declared.keys.PolicyTable.{PolicyTable}
 use Rattle.settings.specs.declared.keys.PolicyTable.TheVariants as tables
 use Rattle.settings.specs.declared.keys.PolicyKey.{PolicyKey}
 use Rattle.settings.specs.declared.keys.PolicyKey.TheVariants as policy
