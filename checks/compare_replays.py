@@ -657,12 +657,22 @@ def random_values(chance):
     }
     page = {"retry_after": chance.choice((0, 1, 86_400))}
     tiers = {table: random_tier(chance, policy) for table in reference.POLICY_TABLES[1:] if chance.random() < 0.5}
-    return {"floor": random_floor(chance), "costs": costs, "policy": policy, "page": page, **tiers}
+    tables = {"floor": random_floor(chance), "costs": costs, "policy": policy, "page": page}
+    for table, values in tables.items():
+        add_others(chance, table, values)
+    return {**tables, **tiers}
+
+
+def add_others(chance, table, values):
+    """A value near the least one for each key of the table that has none yet."""
+    for key, _, default, *bounds in reference.SETTINGS[table]:
+        if key not in values:
+            values[key] = chance.choice((default, min(bounds[0] + chance.randint(0, 9), bounds[1])))
 
 
 def bounds_of(table, key):
     """The least and greatest value of a key; nothing where it is a list."""
-    return next(bounds for name, _, *bounds in reference.SETTINGS[table] if name == key)
+    return next(bounds for name, _, _, *bounds in reference.SETTINGS[table] if name == key)
 
 
 def random_settings(chance, faulty):

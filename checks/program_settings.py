@@ -1,6 +1,6 @@
 #!/usr/bin/env python3
-"""Runs `haboob settings`, and compares status, line and text with a table; and settings that were written out are read
-back the same.
+"""Runs `haboob settings`, and compares status, line and text with a table, and the text with that of reference.py; and
+settings that were written out are read back the same.
 """
 import subprocess
 import sys
@@ -9,97 +9,28 @@ import tomllib
 
 # The folder stays as it is.
 sys.dont_write_bytecode = True
+import reference
 from program_parts import OLD, SECONDS, Report, is_told, program_of, run_over_files
 
-# Settings that are written out: the keys of a policy, and the whole with the policies of the four tiers.
-WRITTEN_POLICY = b"""# response times, 1 to 4096: of how many of the last ones the 90th percentile is taken
-window = %d
-# admitted requests, 1 to 4096: after how many the controller looks again
-every = %d
-# thousandths, 0 to 999: how much of the former value stays (700 is a weight of 0.7 for the past)
-smoothing = %d
-# thousandths of a token a second, rate_min to rate_max: how fast tokens come back at first
-rate = %d
-# thousandths of a token a second, 1 to rate_max: the rate never falls below it
-rate_min = %d
-# thousandths of a token a second, rate_min to 1000000000: the rate never rises above it
-rate_max = %d
-# thousandths of a token a second, 0 to 1000000000: by how much the rate rises at once
-up = %d
-# hundredths, 101 to 10000: what the rate is divided by where it falls (120 divides it by 1.2)
-down = %d
-# microseconds, 1 to 1000000000000: above this response time the rate falls
-target = %d
-# percent of the target, 0 to 100: below this part of it the rate rises
-low = %d
-# tokens, 1 to 1000000: how many the bucket holds; it starts full
-depth = %d
-"""
-WRITTEN = b"""# Each key with the value that is in force, below its unit, its range and its meaning.
+# Settings that are written out, by reference.py: the default ones, and those of a bucket of one token.
+DEFAULTS = reference.settings_text(b"")[2]
+TIGHT_SETTINGS = reference.settings_text(b"[policy]\ndepth = 1\nrate = 1000\nrate_min = 1000\nrate_max = 1000\n")[2]
 
-[floor]
-# steps, rising from at least 1, the last 3: how many of the front's are done where each stage ends
-front_cuts = [1, 2, 3]
-# threads, 1 to 16 for each stage: how many work at it
-front_workers = [2, 2, 2]
-# requests, 1 to 4096 for each stage: how many its queue holds
-front_capacities = [64, 64, 64]
-# steps, rising from at least 1, the last 2: how many of the back's are done where each stage ends
-back_cuts = [1, 2]
-# threads, 1 to 16 for each stage: how many work at it
-back_workers = [2, 2]
-# requests, 1 to 4096 for each stage: how many its queue holds
-back_capacities = [64, 64]
-# pieces, 1 to 65536: how many are read at a time
-batch = 1024
-# bytes, 0 to 1073741824: how much the cache of pages holds
-cache = 67108864
 
-[costs]
-# microseconds, 1 to 1000000: how long the server works on a file
-file = 200
-# microseconds, 0 to 1000000: how long it works besides on each 1024 bytes that are given
-kib = 10
-# microseconds, 1 to 1000000: how long it works on any other answer
-error = 50
+def limits(table, end):
+    """The integers of a table at one end of their ranges."""
+    return "".join("%s = %d\n" % (key, bounds[end]) for key, _, _, *bounds in reference.SETTINGS[table] if bounds)
 
-[policy]
-%s
-[page]
-# seconds, 0 to 86400: after how long a rejected request may be tried again (Retry-After)
-retry_after = 1
-
-[tier1]
-%s
-[tier2]
-%s
-[tier3]
-%s"""
-DEFAULT_POLICY = WRITTEN_POLICY % (100, 100, 700, 1000000, 50000, 5000000, 2000, 120, 100000, 90, 100)
-TIGHT_POLICY = WRITTEN_POLICY % (100, 100, 700, 1000, 1000, 1000, 2000, 120, 100000, 90, 1)
-DEFAULTS = WRITTEN % (DEFAULT_POLICY, DEFAULT_POLICY, DEFAULT_POLICY, DEFAULT_POLICY)
-TIGHT_SETTINGS = WRITTEN % (TIGHT_POLICY, TIGHT_POLICY, TIGHT_POLICY, TIGHT_POLICY)
 
 # Documents whose settings are read back: each key at its limits, and partial tables of tiers.
-LEAST = (
-    "window = 1\nevery = 1\nsmoothing = 0\nrate = 1\nrate_min = 1\nrate_max = 1\n"
-    "up = 0\ndown = 101\ntarget = 1\nlow = 0\ndepth = 1\n"
-)
-MOST = (
-    "window = 4096\nevery = 4096\nsmoothing = 999\nrate = 1000000000\nrate_min = 1000000000\nrate_max = 1000000000\n"
-    "up = 1000000000\ndown = 10000\ntarget = 1000000000000\nlow = 100\ndepth = 1000000\n"
-)
-READ_BACK = [
-    "[%s]\n%s" % (table, numbers) for table in ("policy", "tier1", "tier2", "tier3") for numbers in (LEAST, MOST)
-] + [
+LEAST, MOST = 0, 1
+READ_BACK = ["[%s]\n%s" % (table, limits(table, end)) for table in reference.SETTINGS for end in (LEAST, MOST)] + [
     "",
-    "[policy]\n%s[tier2]\nwindow = 7\n" % LEAST,
-    "[policy]\n%s[tier1]\ndepth = 2\n[tier3]\nrate_min = 1\nrate = 5\n" % MOST,
+    "[policy]\n%s[tier2]\nwindow = 7\n" % limits("policy", LEAST),
+    "[policy]\n%s[tier1]\ndepth = 2\n[tier3]\nrate_min = 1\nrate = 5\n" % limits("policy", MOST),
     "[floor]\nfront_cuts = [3]\nfront_workers = [1]\nfront_capacities = [1]\n"
     "back_cuts = [2]\nback_workers = [16]\nback_capacities = [4096]\n",
     "[floor]\nfront_cuts = [2, 3]\nfront_workers = [16, 1]\nfront_capacities = [4096, 1]\nbatch = 1\ncache = 0\n",
-    "[floor]\nbatch = 65536\ncache = 1073741824\n[costs]\nfile = 1\nkib = 0\nerror = 1\n[page]\nretry_after = 0\n",
-    "[costs]\nfile = 1000000\nkib = 1000000\nerror = 1000000\n[page]\nretry_after = 86400\n",
 ]
 
 # What is said in words after a fault's line.

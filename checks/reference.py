@@ -74,58 +74,93 @@ MEDIA_TYPES = {
     b"gif": b"image/gif",
 }
 
-# Each key with its default, and its least and greatest value where it is a single integer.
+THREADS = "threads, 1 to 16 for each stage: how many work at it"
+QUEUES = "requests, 1 to 4096 for each stage: how many its queue holds"
+
+# Each key with what is said of it, its default, and its least and greatest value where it is a single integer.
 SETTINGS = {
     "floor": [
-        ("front_cuts", [1, 2, 3]),
-        ("front_workers", [2, 2, 2]),
-        ("front_capacities", [64, 64, 64]),
-        ("back_cuts", [1, 2]),
-        ("back_workers", [2, 2]),
-        ("back_capacities", [64, 64]),
-        ("batch", 1024, 1, 65_536),
-        ("cache", 67_108_864, 0, 1_073_741_824),
+        (
+            "front_cuts",
+            "steps, rising from at least 1, the last 3: how many of the front's are done where each stage ends",
+            [1, 2, 3],
+        ),
+        ("front_workers", THREADS, [2, 2, 2]),
+        ("front_capacities", QUEUES, [64, 64, 64]),
+        (
+            "back_cuts",
+            "steps, rising from at least 1, the last 2: how many of the back's are done where each stage ends",
+            [1, 2],
+        ),
+        ("back_workers", THREADS, [2, 2]),
+        ("back_capacities", QUEUES, [64, 64]),
+        ("batch", "pieces, 1 to 65536: how many are read at a time", 1024, 1, 65_536),
+        ("cache", "bytes, 0 to 1073741824: how much the cache of pages holds", 67_108_864, 0, 1_073_741_824),
     ],
-    "costs": [("file", 200, 1, 10**6), ("kib", 10, 0, 10**6), ("error", 50, 1, 10**6)],
+    "costs": [
+        ("file", "microseconds, 1 to 1000000: how long the server works on a file", 200, 1, 10**6),
+        (
+            "kib",
+            "microseconds, 0 to 1000000: how long it works besides on each 1024 bytes that are given",
+            10,
+            0,
+            10**6,
+        ),
+        ("error", "microseconds, 1 to 1000000: how long it works on any other answer", 50, 1, 10**6),
+    ],
     "policy": [
-        ("window", 100, 1, 4096),
-        ("every", 100, 1, 4096),
-        ("smoothing", 700, 0, 999),
-        ("rate", 1_000_000, 1, 10**9),
-        ("rate_min", 50_000, 1, 10**9),
-        ("rate_max", 5_000_000, 1, 10**9),
-        ("up", 2000, 0, 10**9),
-        ("down", 120, 101, 10_000),
-        ("target", 100_000, 1, 10**12),
-        ("low", 90, 0, 100),
-        ("depth", 100, 1, 10**6),
+        (
+            "window",
+            "response times, 1 to 4096: of how many of the last ones the 90th percentile is taken",
+            100,
+            1,
+            4096,
+        ),
+        ("every", "admitted requests, 1 to 4096: after how many the controller looks again", 100, 1, 4096),
+        (
+            "smoothing",
+            "thousandths, 0 to 999: how much of the former value stays (700 is a weight of 0.7 for the past)",
+            700,
+            0,
+            999,
+        ),
+        (
+            "rate",
+            "thousandths of a token a second, rate_min to rate_max: how fast tokens come back at first",
+            10**6,
+            1,
+            10**9,
+        ),
+        ("rate_min", "thousandths of a token a second, 1 to rate_max: the rate never falls below it", 50_000, 1, 10**9),
+        (
+            "rate_max",
+            "thousandths of a token a second, rate_min to 1000000000: the rate never rises above it",
+            5_000_000,
+            1,
+            10**9,
+        ),
+        ("up", "thousandths of a token a second, 0 to 1000000000: by how much the rate rises at once", 2000, 0, 10**9),
+        (
+            "down",
+            "hundredths, 101 to 10000: what the rate is divided by where it falls (120 divides it by 1.2)",
+            120,
+            101,
+            10_000,
+        ),
+        ("target", "microseconds, 1 to 1000000000000: above this response time the rate falls", 100_000, 1, 10**12),
+        ("low", "percent of the target, 0 to 100: below this part of it the rate rises", 90, 0, 100),
+        ("depth", "tokens, 1 to 1000000: how many the bucket holds; it starts full", 100, 1, 10**6),
     ],
-    "page": [("retry_after", 1, 0, 86_400)],
+    "page": [
+        (
+            "retry_after",
+            "seconds, 0 to 86400: after how long a rejected request may be tried again (Retry-After)",
+            1,
+            0,
+            86_400,
+        ),
+    ],
 }
-COMMENTS = {
-    "front_cuts": "steps, rising from at least 1, the last 3: how many of the front's are done where each stage ends",
-    "back_cuts": "steps, rising from at least 1, the last 2: how many of the back's are done where each stage ends",
-    "batch": "pieces, 1 to 65536: how many are read at a time",
-    "cache": "bytes, 0 to 1073741824: how much the cache of pages holds",
-    "file": "microseconds, 1 to 1000000: how long the server works on a file",
-    "kib": "microseconds, 0 to 1000000: how long it works besides on each 1024 bytes that are given",
-    "error": "microseconds, 1 to 1000000: how long it works on any other answer",
-    "window": "response times, 1 to 4096: of how many of the last ones the 90th percentile is taken",
-    "every": "admitted requests, 1 to 4096: after how many the controller looks again",
-    "smoothing": "thousandths, 0 to 999: how much of the former value stays (700 is a weight of 0.7 for the past)",
-    "rate": "thousandths of a token a second, rate_min to rate_max: how fast tokens come back at first",
-    "rate_min": "thousandths of a token a second, 1 to rate_max: the rate never falls below it",
-    "rate_max": "thousandths of a token a second, rate_min to 1000000000: the rate never rises above it",
-    "up": "thousandths of a token a second, 0 to 1000000000: by how much the rate rises at once",
-    "down": "hundredths, 101 to 10000: what the rate is divided by where it falls (120 divides it by 1.2)",
-    "target": "microseconds, 1 to 1000000000000: above this response time the rate falls",
-    "low": "percent of the target, 0 to 100: below this part of it the rate rises",
-    "depth": "tokens, 1 to 1000000: how many the bucket holds; it starts full",
-    "retry_after": "seconds, 0 to 86400: after how long a rejected request may be tried again (Retry-After)",
-}
-for side in ("front", "back"):
-    COMMENTS[side + "_workers"] = "threads, 1 to 16 for each stage: how many work at it"
-    COMMENTS[side + "_capacities"] = "requests, 1 to 4096 for each stage: how many its queue holds"
 
 # The table of each tier's policy; those after the first take what they leave out from it.
 POLICY_TABLES = ["policy", "tier1", "tier2", "tier3"]
@@ -850,7 +885,7 @@ def read_values(document):
     for table, keys in SETTINGS.items():
         given = document.get(table, {})
         refuse_unless(isinstance(given, dict), "Shape " + table)
-        for key, default, *bounds in keys:
+        for key, _, default, *bounds in keys:
             name = table + "." + key
             default = settings["policy." + key] if table in POLICY_TABLES[1:] else default
             settings[name] = checked_value(name, given.get(key, default), default, bounds)
@@ -881,8 +916,8 @@ def settings_text(data):
     lines = ["# Each key with the value that is in force, below its unit, its range and its meaning."]
     for table in SETTINGS:
         lines += ["", "[%s]" % table]
-        for key, *_ in SETTINGS[table]:
-            lines += ["# " + COMMENTS[key], "%s = %s" % (key, settings[table + "." + key])]
+        for key, comment, *_ in SETTINGS[table]:
+            lines += ["# " + comment, "%s = %s" % (key, settings[table + "." + key])]
     return 0, b"", "".join(line + "\n" for line in lines).encode()
 
 

@@ -2,7 +2,7 @@
 
 ghost use Rattle.std.specs.Prelude.{◌≡◌, Some, None, IfOk, IfErr, MatchResult};
 ghost use Rattle.admission.specs.declared.policy.PolicyNumbers.{PolicyNumbers};
-ghost use Rattle.admission.specs.Rules.{is_within, policy_fault};
+ghost use Rattle.admission.specs.Rules.{IsInRange, is_within, policy_fault};
 
 use crate::{MAX_DEPTH, MAX_DOWN, MAX_EVERY, MAX_RATE, MAX_TARGET, MAX_UP, MAX_WINDOW, MIN_DOWN};
 use std::marker::Model;
@@ -78,6 +78,14 @@ fn is_within(least: u64, most: u64, x: u64) -> bool
 }
 
 impl Policy {
+    /// The policy of numbers that are in their ranges.
+    pub fn in_range(numbers: PolicyNumbers) -> Self
+        requires { IsInRange numbers }
+        ensures { result ≡ numbers }
+    {
+        Policy { numbers }
+    }
+
     /// A policy of these numbers, or the first that is outside its range.
     ///
     /// # Errors

@@ -40,6 +40,15 @@ impl Model for Costs {
 }
 
 impl Costs {
+    /// The costs of numbers that are in their ranges: of a file, of each 1,024 bytes of it that are given, and of every
+    /// other answer.
+    pub fn in_range(file: u64, kib: u64, error: u64) -> Costs
+        requires { is_in_range (record { file = file; kib = kib; error = error }) ≡ true }
+        ensures { result ≡ record { file = file; kib = kib; error = error } }
+    {
+        Costs { file, kib, error }
+    }
+
     /// The costs of a file (1 to 1,000,000 ticks), of each 1,024 bytes of it that are given (0 to 1,000,000), and of
     /// every other answer (1 to 1,000,000).
     ///

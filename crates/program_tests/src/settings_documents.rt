@@ -1,4 +1,5 @@
 //! Documents and what is read of them.
+use crate::written_settings::PARTIAL;
 use settings::{
     ConfigFault, ConfigFaultKind, Key, PolicyKey, PolicyTable, default_settings, read_settings,
 };
@@ -126,46 +127,7 @@ fn tiers(rt: HostRuntime) -> Result<(), Fail> {
 
 static TABLES: [&str; 4] = ["policy", "tier1", "tier2", "tier3"];
 
-/// The least number of each key of a policy.
-static LEAST: &str = "window = 1
-every = 1
-smoothing = 0
-rate = 1
-rate_min = 1
-rate_max = 1
-up = 0
-down = 101
-target = 1
-low = 0
-depth = 1
-";
-
-/// The greatest.
-static MOST: &str = "window = 4096
-every = 4096
-smoothing = 999
-rate = 1000000000
-rate_min = 1000000000
-rate_max = 1000000000
-up = 1000000000
-down = 10000
-target = 1000000000000
-low = 100
-depth = 1000000
-";
-
-#[test]
-fn limits_of_a_policy(rt: HostRuntime) -> Result<(), Fail> {
-    for table in TABLES.iter() {
-        for numbers in [LEAST, MOST] {
-            let text = format!(in rt.alloc(); "[{table}]\n{numbers}")?;
-            assert_eq!(rt; reported(rt.alloc(), text.as_str())?.as_str(), "ok");
-        }
-    }
-    Ok(())
-}
-
-/// Numbers beside their limits.
+/// The numbers beside the limits of each key of a policy.
 static BEYOND: [(&str, i64, i64); 11] = [
     ("window", 0, 4097),
     ("every", 0, 4097),
@@ -179,6 +141,27 @@ static BEYOND: [(&str, i64, i64); 11] = [
     ("low", -1, 101),
     ("depth", 0, 1_000_001),
 ];
+
+/// A table with the least or the greatest number of each key of a policy.
+fn at_limits(alloc: Global, table: &str, greatest: bool) -> Result<String, Fail> {
+    let mut text = format!(in alloc; "[{table}]\n")?;
+    for (key, below, above) in BEYOND.iter() {
+        let number = if greatest { *above - 1 } else { *below + 1 };
+        writeln!(&mut text, "{key} = {number}")?;
+    }
+    Ok(text)
+}
+
+#[test]
+fn limits_of_a_policy(rt: HostRuntime) -> Result<(), Fail> {
+    for table in TABLES.iter() {
+        for greatest in [false, true] {
+            let text = at_limits(rt.alloc(), table, greatest)?;
+            assert_eq!(rt; reported(rt.alloc(), text.as_str())?.as_str(), "ok");
+        }
+    }
+    Ok(())
+}
 
 #[test]
 fn beyond_the_limits_of_a_policy(rt: HostRuntime) -> Result<(), Fail> {
@@ -197,39 +180,9 @@ fn beyond_the_limits_of_a_policy(rt: HostRuntime) -> Result<(), Fail> {
     Ok(())
 }
 
-/// Every key with another value than its default.
-static ALL: &str = "[floor]
-front_cuts = [1, 3]
-front_workers = [1, 16]
-front_capacities = [1, 4096]
-back_cuts = [2]
-back_workers = [3]
-back_capacities = [5]
-batch = 65536
-cache = 0
-[costs]
-file = 1000000
-kib = 0
-error = 1
-[policy]
-window = 4096
-every = 1
-smoothing = 999
-rate = 1000000000
-rate_min = 1
-rate_max = 1000000000
-up = 0
-down = 10000
-target = 1000000000000
-low = 100
-depth = 1000000
-[page]
-retry_after = 86400
-";
-
 #[test]
 fn every_key(rt: HostRuntime) {
-    assert!(rt; read_settings(rt.alloc(), ALL.as_bytes()).is_ok());
+    assert!(rt; read_settings(rt.alloc(), PARTIAL.as_bytes()).is_ok());
     assert!(rt; default_settings(rt.alloc()).is_ok());
 }
 
@@ -278,7 +231,7 @@ fn keys_shown(rt: HostRuntime) -> Result<(), Fail> {
 /// `checks/refuse_growths.py` refuses each growth in turn: the answer is `Memory` then.
 #[test]
 fn each_growth_refused(rt: HostRuntime) {
-    for text in [ALL, TIGHT_TIERS] {
+    for text in [PARTIAL, TIGHT_TIERS] {
         match read_settings(rt.alloc(), text.as_bytes()) {
             Ok(_) => {}
             Err(fault) => assert_eq!(rt;

@@ -168,8 +168,9 @@ static TIER3_VALUES: [&str; 11] = [
 
 static PAGE_VALUES: [&str; 1] = ["86400"];
 
-/// A document that says the same with partial tables, in another order and by other forms of TOML.
-static PARTIAL: &str = "tier1.depth = 13
+/// A document that says the same with partial tables, in another order and by other forms of TOML: every key, with
+/// another value than its default.
+pub static PARTIAL: &str = "tier1.depth = 13
 tier3 = {window = 51, every = 52, smoothing = 53, rate = 540, rate_min = 54, rate_max = 5_400, \
 up = 1_000_000_000, down = 102, target = 56, low = 57, depth = 58}
 [page]

@@ -3,8 +3,8 @@
 ghost use Rattle.std.specs.Prelude.{◌≡◌, ◌≤◌, Some, None, IfOk, IfErr};
 ghost use Rattle.stage_graph.specs.After.{last_cut};
 ghost use Rattle.reference.specs.Reference.{Choice};
-ghost use Rattle.reference.specs.Choices.{settings_fault, front_steps, back_steps, max_batch, max_cache};
-ghost use Rattle.reference.specs.Choices.{max_retry_after};
+ghost use Rattle.reference.specs.Choices.{IsChoice, settings_fault, front_steps, back_steps, max_batch};
+ghost use Rattle.reference.specs.Choices.{max_cache, max_retry_after};
 
 use admission::Policy;
 use cost_model::Costs;
@@ -83,6 +83,47 @@ impl Model for Settings {
 }
 
 impl Settings {
+    /// The settings of values that are in their ranges, as [`Settings::new`] has them.
+    pub fn in_range(
+        front: Plan,
+        back: Plan,
+        batch: usize,
+        cache: usize,
+        costs: Costs,
+        policies: [Policy; 4],
+        retry_after: u64,
+    ) -> Settings
+        requires { IsChoice (record {
+          front = front;
+          back = back;
+          batch = batch;
+          cache = cache;
+          costs = costs;
+          policies = policies;
+          retry_after = retry_after;
+        }) }
+        ensures { result
+            ≡ record {
+              front = front;
+              back = back;
+              batch = batch;
+              cache = cache;
+              costs = costs;
+              policies = policies;
+              retry_after = retry_after;
+            } }
+    {
+        Settings {
+            front,
+            back,
+            batch,
+            cache,
+            costs,
+            policies,
+            retry_after,
+        }
+    }
+
     /// Settings of these values, or the first that is outside its range. `front` and `back` are the floors of the
     /// staged engine: how a request's steps are cut into stages, with their workers and queues; `batch` is how many
     /// pieces it reads at a time (1 to 65,536), `cache` the most bytes of pages that it keeps (up to 1,073,741,824).
@@ -138,16 +179,9 @@ impl Settings {
         if retry_after > MAX_RETRY_AFTER {
             return Err(SettingsFault::Retry);
         }
-        Ok(Settings {
-            front,
-            back,
-            batch,
-            cache,
-            costs,
-            policies,
-            retry_after,
-        })
+        Ok(Settings::in_range(front, back, batch, cache, costs, policies, retry_after))
     }
+
     /// The stages of the front floor.
     pub fn front(&self) -> &Plan
         ensures value { result.now ≡ self.now.front }

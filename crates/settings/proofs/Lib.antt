@@ -1,3 +1,3 @@
-mod Choosing
 mod Rows
+mod Texts
 mod WrittenOut

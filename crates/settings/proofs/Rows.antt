@@ -2,34 +2,36 @@
 use Rattle.admission.specs.declared.policy.PolicyNumbers.{PolicyNumbers}
 use Rattle.std.proofs.Common.{◌≡◌, [], ◌∷◌, codes, pos, Ok, Err, refl}
 use Rattle.toml.specs.Data.{Members, no_members, member, integer, table, array, no_items, item}
-use Rattle.settings.specs.declared.config_fault.Key.TheVariants as keys
-use Rattle.settings.specs.declared.policy_key.PolicyTable.TheVariants as tables
-use Rattle.settings.specs.declared.policy_key.PolicyKey.TheVariants as policy
+use Rattle.settings.specs.declared.keys.Key.TheVariants as keys
+use Rattle.settings.specs.declared.keys.PolicyTable.TheVariants as tables
+use Rattle.settings.specs.declared.keys.PolicyKey.TheVariants as policy
 use Rattle.settings.specs.ConfigFaults.{shape, range, not_known}
-use Rattle.settings.specs.SettingsTable.{settings_of, default_choice, default_policy, policy_in}
+use Rattle.settings.specs.Keys.{all_keys}
+use Rattle.settings.specs.Documents.{fits, number_in, numbers_in}
+use Rattle.settings.specs.SettingsTable.{settings_of, default_choice, default_policy, policy_of}
 
 depth : settings_of (member (codes "policy") (table (member (codes "depth") (integer (pos 0)) no_members)) no_members) ≡ Err (range (keys.InPolicy tables.Policy policy.Depth))
-unfolding policy_in
+unfolding all_keys fits number_in numbers_in policy_of
 depth = refl
 
 unknown : settings_of (member (codes "colour") (integer (pos 0)) no_members) ≡ Err not_known
-unfolding policy_in
+unfolding all_keys fits number_in numbers_in policy_of
 unknown = refl
 
 deep : settings_of (member (codes "policy") (table (member (codes "depth") (table (member (codes "x") (integer (pos 1)) no_members)) no_members)) no_members) ≡ Err not_known
-unfolding policy_in
+unfolding all_keys fits number_in numbers_in policy_of
 deep = refl
 
 empty_table : settings_of (member (codes "policy") (table (member (codes "depth") (table no_members) no_members)) no_members) ≡ Err (shape (keys.InPolicy tables.Policy policy.Depth))
-unfolding policy_in
+unfolding all_keys fits number_in numbers_in policy_of
 empty_table = refl
 
 tables_in_list : settings_of (member (codes "policy") (array (item (table (member (codes "depth") (integer (pos 1)) no_members)) no_items)) no_members) ≡ Err (shape (keys.Policy tables.Policy))
-unfolding policy_in
+unfolding all_keys fits number_in numbers_in policy_of
 tables_in_list = refl
 
-defaults : settings_of no_members ≡ Ok default_choice
-unfolding policy_in
+pub defaults : settings_of no_members ≡ Ok default_choice
+unfolding all_keys fits number_in numbers_in policy_of
 defaults = refl
 
 -- a tight bucket in all tiers, and in tier 1 with room for one more
@@ -43,5 +45,5 @@ tight_document =
     (member (codes "tier1") (table (member (codes "depth") (integer (pos 2)) no_members)) no_members)
 
 tiers : settings_of tight_document ≡ Ok (record default_choice { policies = tight ∷ record tight { depth = 2 } ∷ tight ∷ tight ∷ [] })
-unfolding policy_in
+unfolding all_keys fits number_in numbers_in policy_of
 tiers = refl

@@ -5,21 +5,16 @@ use Rattle.reference.specs.Reference.{Choice}
 use Rattle.settings.specs.declared.config_fault.ConfigFault.{ConfigFault}
 use Rattle.settings.specs.ConfigFaults.{is_memory}
 use Rattle.settings.specs.Documents.{◌>>=◌}
-use Rattle.settings.specs.Numbers.{Choices}
-use Rattle.settings.specs.SettingsTable.{choices_of, chosen, document_of, settings_of}
+use Rattle.settings.specs.SettingsTable.{document_of, settings_of}
 use Rattle.settings.specs.WrittenOut.{AreSettings, document_text, text_of}
 
 fits : (r : Result Choice ConfigFault) (whole text : List ℕ) → (r >>= (λ c. Ok whole)) ≡ Ok text → (c : Choice) × (r ≡ Ok c)
 fits (Ok c) whole text same = (c, refl)
 fits (Err f) whole text same = let none : ⊥ = cc in absurd none
 
-says_all : (r : Result Choices ConfigFault) (text : List ℕ) → (r >>= (λ w. chosen w >>= (λ c. Ok (document_text w)))) ≡ Ok text → (c : Choice) × ((r >>= chosen) ≡ Ok c)
-says_all (Ok w) text same = fits (chosen w) (document_text w) text same
-says_all (Err f) text same = let none : ⊥ = cc in absurd none
-
 pub settings_if_ok : {X : Type 0} (bytes_of : X → List ℕ) (bytes : List ℕ) (document : Members) (r : Result X ConfigFault) → document_of bytes ≡ Some document
     → MatchResult r (λ x. text_of document ≡ Ok (bytes_of x)) (λ f. is_memory f ≡ false → settings_of document ≡ Err f) → IfOk r (λ x. AreSettings bytes)
 settings_if_ok bytes_of bytes document (Ok x) read says =
-    let there = says_all (choices_of document) (bytes_of x) says in
+    let there = fits (settings_of document) (document_text document) (bytes_of x) says in
     (there.0, rw read there.1)
 settings_if_ok bytes_of bytes document (Err f) read says = tt

@@ -2,7 +2,7 @@
 use Rattle.std.specs.Prelude.{◌≡◌, ℕ, ◌++◌, List, [], codes, ◌&&◌, not, Bool, true, false, Option, Some, None, Result}
 use Rattle.std.specs.Prelude.{Ok, Err, MatchResult, is_some}
 use Rattle.settings.specs.Keys.{path_of}
-use Rattle.settings.specs.declared.config_fault.Key.{Key}
+use Rattle.settings.specs.declared.keys.Key.{Key}
 use Rattle.settings.specs.declared.config_fault.ConfigFault.{ConfigFault}
 use Rattle.settings.specs.declared.config_fault.ConfigFaultKind.{ConfigFaultKind}
 use Rattle.settings.specs.declared.config_fault.ConfigFaultKind.TheVariants.{Text, Unknown, Shape, Range, Memory}
@@ -44,6 +44,11 @@ key_text (Some key) = codes " " ++ path_of key
 abbrev pub fault_text : ConfigFault → List ℕ
 fault_text fault = kind_name fault.kind ++ key_text fault.key
 
--- The call answers what is reported. Out of memory comes where it happens: no definition foresees it.
+-- The call answers what is reported, in what it shows. Out of memory comes where it happens: no definition foresees it.
+abbrev pub Shows : {X Y : Type 0} → (X → Y) → Result Y ConfigFault → Result X ConfigFault → Type 0
+Shows shown reported r =
+    MatchResult r (λ x. reported ≡ Ok (shown x)) (λ fault. is_memory fault ≡ false → reported ≡ Err fault)
+
+-- It answers what is reported.
 abbrev pub IsAnswer : {X : Type 0} → Result X ConfigFault → Result X ConfigFault → Type 0
-IsAnswer reported r = MatchResult r (λ x. reported ≡ Ok x) (λ fault. is_memory fault ≡ false → reported ≡ Err fault)
+IsAnswer reported r = Shows (λ x. x) reported r

@@ -1,13 +1,15 @@
 -- What a settings document has at a key.
-use Rattle.std.specs.Prelude.{ℕ, List, [], ◌∷◌, Option, Some, None, Result, Ok, Err, ℤ, pos}
+use Rattle.std.specs.Prelude.{ℕ, ◌&&◌, nat_le, List, [], ◌∷◌, Option, Some, None, Result, Ok, Err, ℤ, pos}
 use Rattle.std.specs.Prelude.{negsuc, if◌then◌else◌}
 use Rattle.std.specs.Option.{option_map_or, option_or}
+use Rattle.std.specs.Result.{result_unwrap_or}
 use Rattle.toml.specs.Data.{Data, integer, array, table, Items, no_items, item, Members, no_members, member, get_member}
 use Rattle.toml.specs.Data.{as_table}
-use Rattle.settings.specs.declared.config_fault.Key.{Key}
+use Rattle.settings.specs.declared.keys.Key.{Key}
+use Rattle.settings.specs.declared.keys.Key.TheVariants as keys
+use Rattle.settings.specs.declared.keys.PolicyTable.TheVariants as tables
 use Rattle.settings.specs.declared.config_fault.ConfigFault.{ConfigFault}
-use Rattle.settings.specs.Bounds.{bounds_of, is_within}
-use Rattle.settings.specs.Keys.{name_of, table_of, key_at}
+use Rattle.settings.specs.Keys.{KeyKind, Number, Numbers, row_of, name_of, table_of, key_at, default_of, defaults_of}
 use Rattle.settings.specs.ConfigFaults.{shape, range}
 
 infixl 10 ◌>>=◌
@@ -51,15 +53,34 @@ value_in holder (Some d) name = table_at holder (as_table d) >>= (λ ms. Ok (get
 abbrev pub value_at : Members → Key → Result (Option Data) ConfigFault
 value_at document key = value_in (table_of key) (get_member (name_of (table_of key)) document) (name_of key)
 
--- an integer within its range, or the default
-abbrev pub number_or : Key → ℕ → Option Data → Result ℕ ConfigFault
-number_or key default None = Ok default
-number_or key default (Some (integer (pos n))) = if is_within (bounds_of key) n then Ok n else Err (range key)
-number_or key default (Some (integer (negsuc n))) = Err (range key)
-number_or key default (Some _) = Err (shape key)
+-- the key of `policy` that holds where a tier leaves this one out
+abbrev pub in_policy : Key → Key
+in_policy (keys.InPolicy _ key) = keys.InPolicy tables.Policy key
+in_policy key = key
 
-abbrev pub number : Members → Key → ℕ → Result ℕ ConfigFault
-number document key default = value_at document key >>= number_or key default
+-- what holds at a key, if the document says it
+abbrev pub given_or : Members → Key → Option Data → Result (Option Data) ConfigFault
+given_or document key None = value_at document (in_policy key)
+given_or document key (Some d) = Ok (Some d)
+
+abbrev pub given : Members → Key → Result (Option Data) ConfigFault
+given document key = value_at document key >>= given_or document key
+
+-- an integer within its range, or the default
+abbrev pub number_or : Key → ℕ → ℕ → ℕ → Option Data → Result ℕ ConfigFault
+number_or key default least greatest None = Ok default
+number_or key default least greatest (Some (integer (pos n))) =
+    if nat_le least n && nat_le n greatest then Ok n else Err (range key)
+number_or key default least greatest (Some (integer (negsuc n))) = Err (range key)
+number_or key default least greatest (Some _) = Err (shape key)
+
+abbrev pub number_as : Members → Key → KeyKind → Result ℕ ConfigFault
+number_as document key (Number default least greatest) =
+    given document key >>= number_or key default least greatest
+number_as document key other = Err (shape key)
+
+abbrev pub number : Members → Key → Result ℕ ConfigFault
+number document key = number_as document key (row_of key).kind
 
 -- An integer below 0 is taken for 0, which no list of a floor may have either.
 abbrev pub natural : ℤ → ℕ
@@ -78,5 +99,33 @@ numbers_or key default None = Ok default
 numbers_or key default (Some (array ds)) = naturals key ds
 numbers_or key default (Some _) = Err (shape key)
 
-abbrev pub numbers : Members → Key → List ℕ → Result (List ℕ) ConfigFault
-numbers document key default = value_at document key >>= numbers_or key default
+abbrev pub numbers_as : Members → Key → KeyKind → Result (List ℕ) ConfigFault
+numbers_as document key (Numbers default) = given document key >>= numbers_or key default
+numbers_as document key other = Err (shape key)
+
+abbrev pub numbers : Members → Key → Result (List ℕ) ConfigFault
+numbers document key = numbers_as document key (row_of key).kind
+
+-- ---- a document as a function of the key
+
+-- whether a value fits its key
+abbrev pub fits_as : Members → Key → KeyKind → Result Unit ConfigFault
+fits_as document key (Number default least greatest) = number document key >>= (λ n. Ok tt)
+fits_as document key (Numbers default) = numbers document key >>= (λ ns. Ok tt)
+fits_as document key other = Ok tt
+
+unfoldable pub fits : Members → Key → Result Unit ConfigFault
+fits document key = fits_as document key (row_of key).kind
+
+-- whether the value of each of these keys does, or the first fault
+abbrev pub values_fit : Members → List Key → Result Unit ConfigFault
+values_fit document [] = Ok tt
+values_fit document (key ∷ more) = fits document key >>= (λ _. values_fit document more)
+
+-- the integer of a key: as it stands in the document, and its default where there is none that fits
+unfoldable pub number_in : Members → Key → ℕ
+number_in document key = result_unwrap_or (number document key) (default_of key)
+
+-- the same of a list of integers
+unfoldable pub numbers_in : Members → Key → List ℕ
+numbers_in document key = result_unwrap_or (numbers document key) (defaults_of key)

@@ -1,31 +1,19 @@
 -- What is said in words of a fault of the settings.
-use Rattle.std.specs.Prelude.{ℕ, ◌==◌, ◌&&◌, Bool, true, false, not, List, [], ◌∷◌, ◌++◌, length, map, flat_map}
+use Rattle.std.specs.Prelude.{ℕ, ◌==◌, ◌&&◌, Bool, true, false, not, List, [], ◌∷◌, ◌++◌, length}
 use Rattle.std.specs.Prelude.{Option, Some, None, codes, bytes_eq, nat_eq, nat_le, nat_lt, if◌then◌else◌}
 use Rattle.std.specs.Str.{chars}
 use Rattle.strsim.specs.Edits.{levenshtein_row}
 use Rattle.toml.specs.Data.{Members}
-use Rattle.settings.specs.declared.config_fault.Key.{Key}
-use Rattle.settings.specs.declared.config_fault.Key.TheVariants as keys
+use Rattle.settings.specs.declared.keys.Key.{Key}
+use Rattle.settings.specs.declared.keys.Key.TheVariants as keys
 use Rattle.settings.specs.declared.config_fault.ConfigFault.{ConfigFault}
 use Rattle.settings.specs.declared.config_fault.ConfigFaultKind.{ConfigFaultKind}
 use Rattle.settings.specs.declared.config_fault.ConfigFaultKind.TheVariants.{Text, Unknown, Shape, Range}
-use Rattle.settings.specs.declared.policy_key.PolicyKey.{PolicyKey}
-use Rattle.settings.specs.declared.policy_key.PolicyKey.TheVariants as policy
-use Rattle.settings.specs.Keys.{is_table, keys_in, name_of, path_of, policy_keys, table_of}
-use Rattle.settings.specs.Comments.{comment_of}
+use Rattle.settings.specs.Keys.{KeyKind, Table, Numbers, Lists, row_of, all_keys, is_table, name_of, path_of, table_of}
 use Rattle.settings.specs.Documents.{Misplaced, misplaced_in}
 use Rattle.settings.specs.SettingsTable.{document_of}
 
 -- ---- the key that a wrong one is nearest to
-
--- a table and the keys that it may have
-abbrev pub with_keys : Key → List Key
-with_keys (keys.Policy table) = keys.Policy table ∷ map (keys.InPolicy table) policy_keys
-with_keys table = table ∷ keys_in (Some table)
-
--- all tables and keys that a document may have
-unfoldable pub all_keys : List Key
-all_keys = flat_map with_keys (keys_in None)
 
 -- how many characters have to be put in, taken out or changed for the name of this key
 abbrev pub edits : List ℕ → Key → ℕ
@@ -78,34 +66,16 @@ misplaced_words (Some m) = misplaced_text m
 
 -- ---- what is to stand at a key
 
-abbrev pub is_list : Key → Bool
-is_list keys.FrontCuts = true
-is_list keys.FrontWorkers = true
-is_list keys.FrontCapacities = true
-is_list keys.BackCuts = true
-is_list keys.BackWorkers = true
-is_list keys.BackCapacities = true
-is_list other = false
-
--- what a number of a rate is, in requests
-abbrev pub policy_scale : PolicyKey → List ℕ
-policy_scale policy.Rate =
-    codes "; 1000 is one request a second, and rate_min and rate_max count where they are left out too"
-policy_scale policy.RateMin = codes "; 1000 is one request a second"
-policy_scale policy.RateMax = codes "; 1000 is one request a second"
-policy_scale policy.Up = codes "; 1000 is one request a second"
-policy_scale other = []
-
-abbrev pub scale_of : Key → List ℕ
-scale_of (keys.InPolicy table key) = policy_scale key
-scale_of other = []
+abbrev pub value_words_as : Key → KeyKind → List ℕ
+value_words_as key Table = path_of key ++ codes " is to be a table"
+value_words_as key (Numbers default) =
+    path_of key ++ codes " is to be a list of integers: " ++ (row_of key).comment
+value_words_as key other =
+    path_of key ++ codes " is to be an integer: " ++ (row_of key).comment ++ (row_of key).scale
 
 -- what is to stand at one key
 unfoldable pub value_words : Key → List ℕ
-value_words key =
-    if is_table key then path_of key ++ codes " is to be a table"
-    else if is_list key then path_of key ++ codes " is to be a list of integers: " ++ comment_of key
-    else path_of key ++ codes " is to be an integer: " ++ comment_of key ++ scale_of key
+value_words key = value_words_as key (row_of key).kind
 
 -- the three lists of a floor, which don't fit together
 unfoldable pub lists_words : Key → Key → Key → List ℕ
@@ -113,11 +83,13 @@ lists_words cuts workers capacities =
     value_words cuts ++ codes "; " ++ value_words workers ++ codes "; " ++ value_words capacities
     ++ codes "; and the three of one length"
 
+abbrev pub key_words_as : Key → KeyKind → List ℕ
+key_words_as key (Lists cuts workers capacities) = lists_words cuts workers capacities
+key_words_as key other = value_words key
+
 -- what is said of a key at which something else stands
 abbrev pub key_words : Key → List ℕ
-key_words keys.Front = lists_words keys.FrontCuts keys.FrontWorkers keys.FrontCapacities
-key_words keys.Back = lists_words keys.BackCuts keys.BackWorkers keys.BackCapacities
-key_words key = value_words key
+key_words key = key_words_as key (row_of key).kind
 
 -- ---- what is said of a fault
 

@@ -1,9 +1,6 @@
-pub mod Bounds
 pub mod ConfigFaults
 pub mod Keys
-pub mod Comments
 pub mod Documents
-pub mod Numbers
 pub mod SettingsTable
 pub mod WrittenOut
 pub mod FaultWords

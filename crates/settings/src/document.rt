@@ -1,16 +1,14 @@
 //! The keys that a document may have, and the numbers that stand there.
 
-ghost use Rattle.std.specs.Prelude.{◌≡◌, ◌≤◌, false, Ok, Err, IfOk, MatchResult, bytes_eq, find, option_map};
+ghost use Rattle.std.specs.Prelude.{◌≡◌, Ok, Err, IfOk, MatchResult, option_map};
 ghost use Rattle.toml.specs.View.{view, array_view, table_view};
-ghost use Rattle.settings.specs.Bounds.{IsWithin, bounds_of};
-ghost use Rattle.settings.specs.Keys.{key_at, keys_in, name_of, policy_key_name, policy_keys};
-ghost use Rattle.settings.specs.Documents.{misplaced_of, misplaced_among, misplaced_in, value_at, number, numbers};
-ghost use Rattle.settings.specs.Documents.{naturals};
-ghost use Rattle.settings.specs.ConfigFaults.{is_memory};
+ghost use Rattle.settings.specs.Keys.{IsWithin, all_keys, key_at, row_of};
+ghost use Rattle.settings.specs.Documents.{fits, given, in_policy, misplaced_of, misplaced_among, misplaced_in};
+ghost use Rattle.settings.specs.Documents.{naturals, number, number_in, numbers, numbers_in, value_at, values_fit};
+ghost use Rattle.settings.specs.ConfigFaults.{IsAnswer, Shows};
 
-use crate::config_fault::keys_in;
-use crate::policy_key::policy_keys;
-use crate::{ConfigFault, Key, PolicyKey};
+use crate::keys::{Kind, all_keys, keys_in};
+use crate::{ConfigFault, ConfigFaultKind, Key, PolicyTable};
 use std::alloc::{AllocError, Global};
 use toml::value::Array;
 use toml::{Table, Value};
@@ -18,21 +16,6 @@ use toml::{Table, Value};
 /// The key of this name in a table, if it may stand there.
 fn key_at(table: Option<Key>, name: &str) -> Option<Key>
     ensures { result ≡ key_at table name.now }
-{
-    match table {
-        Some(Key::Policy(policy)) => { policy_key_at(name).map(|key| Key::InPolicy(policy, key)) }
-        _ => plain_key_at(table, name),
-    }
-}
-
-fn policy_key_at(name: &str) -> Option<PolicyKey>
-    ensures { result ≡ find (λ key. bytes_eq (policy_key_name key) name.now) policy_keys }
-{
-    policy_keys().iter().copied().find(|key| key.name() == name)
-}
-
-fn plain_key_at(table: Option<Key>, name: &str) -> Option<Key>
-    ensures { result ≡ find (λ key. bytes_eq (name_of key) name.now) (keys_in table) }
 {
     keys_in(table)
         .iter()
@@ -46,7 +29,8 @@ pub(crate) type Misplaced<'a> = (Option<Key>, &'a str);
 /// The first key of the tables in a value that may not stand there. The value stands at the key `within`.
 #[cycle(misplaced)]
 fn misplaced_of(value: &Value, within: Option<Key>) -> Option<Misplaced<'_>>
-    ensures { option_map (λ m. (m.0, m.1.now)) result ≡ misplaced_of (view value.now) within }
+    ensures { option_map (λ m. (m.0, m.1.now)) result
+        ≡ misplaced_of (view value.now) within }
 {
     match value {
         Value::Array(items) => misplaced_among(items, within),
@@ -57,7 +41,8 @@ fn misplaced_of(value: &Value, within: Option<Key>) -> Option<Misplaced<'_>>
 
 #[cycle(misplaced)]
 fn misplaced_among(items: &Array, within: Option<Key>) -> Option<Misplaced<'_>>
-    ensures { option_map (λ m. (m.0, m.1.now)) result ≡ misplaced_among (array_view items.now) within }
+    ensures { option_map (λ m. (m.0, m.1.now)) result
+        ≡ misplaced_among (array_view items.now) within }
 {
     'items: for item in items {
         if let Some(misplaced) = misplaced_of(item, within) {
@@ -70,7 +55,8 @@ fn misplaced_among(items: &Array, within: Option<Key>) -> Option<Misplaced<'_>>
 /// The same of a table; without a key, of a whole document.
 #[cycle(misplaced)]
 pub(crate) fn misplaced_in(members: &Table, within: Option<Key>) -> Option<Misplaced<'_>>
-    ensures { option_map (λ m. (m.0, m.1.now)) result ≡ misplaced_in (table_view members.now) within }
+    ensures { option_map (λ m. (m.0, m.1.now)) result
+        ≡ misplaced_in (table_view members.now) within }
 {
     'members: for (name, value) in members.iter() {
         let Some(key) = key_at(within, name.as_str()) else {
@@ -103,44 +89,69 @@ fn value_at<'a>(document: &'a Table, key: Key) -> Result<Option<&'a Value>, Conf
     }
 }
 
-/// The integer at a key, or what it is where the document doesn't have the key.
+/// The key of `policy` that holds where a tier leaves this one out.
+fn in_policy(key: Key) -> Key
+    ensures { result ≡ in_policy key }
+{
+    match key {
+        Key::InPolicy(_, key) => Key::InPolicy(PolicyTable::Policy, key),
+        _ => key,
+    }
+}
+
+/// What holds at a key, if the document says it: what a tier leaves out is as `policy` has it.
 ///
 /// # Errors
 ///
-/// `Shape` where the value isn't an integer, `Range` where it is out of the key's bounds.
-pub(crate) fn number(document: &Table, key: Key, default: u64) -> Result<u64, ConfigFault>
-    requires { IsWithin (bounds_of key) default }
-    ensures value { result ≡ number (table_view document.now) key default }
-    ensures within { IfOk result (λ n. IsWithin (bounds_of key) n) }
+/// `Shape` of the key's table, where something else stands in its place.
+fn given<'a>(document: &'a Table, key: Key) -> Result<Option<&'a Value>, ConfigFault>
+    ensures { MatchResult result
+        (λ found. given (table_view document.now) key ≡ Ok (option_map (λ v. view v.now) found))
+        (λ fault. given (table_view document.now) key ≡ Err fault) }
 {
-    let Some(value) = value_at(document, key)? else {
+    match value_at(document, key)? {
+        Some(value) => Ok(Some(value)),
+        None => value_at(document, in_policy(key)),
+    }
+}
+
+/// The integer at a key, or its default where the document doesn't say it.
+///
+/// # Errors
+///
+/// `Shape` where the value isn't an integer, `Range` where it is outside the key's range.
+fn number(document: &Table, key: Key) -> Result<u64, ConfigFault>
+    ensures value { result ≡ number (table_view document.now) key }
+    ensures within { IfOk result (λ n. IsWithin (row_of key).kind n) }
+{
+    let Kind::Number(default, least, greatest) = key.row().kind else {
+        return Err(ConfigFault::shape(key));
+    };
+    let Some(value) = given(document, key)? else {
         return Ok(default);
     };
     let Some(integer) = value.as_integer() else {
         return Err(ConfigFault::shape(key));
     };
     match u64::try_from(integer) {
-        Ok(number) if key.bounds().contain(number) => Ok(number),
+        Ok(number) if least <= number && number <= greatest => Ok(number),
         _ => Err(ConfigFault::range(key)),
     }
 }
 
-/// The integers at a key, or what they are where the document doesn't have the key. One below 0 becomes 0, which no
-/// list of a floor may have either.
+/// The integers at a key, or their default where the document doesn't say them. One below 0 becomes 0, which no list of
+/// a floor may have either.
 ///
 /// # Errors
 ///
 /// `Shape` where the value isn't a list of integers, or `Memory`.
-pub(crate) fn numbers(
-    alloc: Global,
-    document: &Table,
-    key: Key,
-    default: &[usize],
-) -> Result<Vec<usize>, ConfigFault>
-    ensures { MatchResult result (λ ns. numbers (table_view document.now) key default.now ≡ Ok ns.items)
-        (λ fault. is_memory fault ≡ false → numbers (table_view document.now) key default.now ≡ Err fault) }
+fn numbers(alloc: Global, document: &Table, key: Key) -> Result<Vec<usize>, ConfigFault>
+    ensures { Shows (λ ns. ns.items) (numbers (table_view document.now) key) result }
 {
-    let Some(value) = value_at(document, key)? else {
+    let Kind::Numbers(default) = key.row().kind else {
+        return Err(ConfigFault::shape(key));
+    };
+    let Some(value) = given(document, key)? else {
         return Ok(Vec::from_slice(alloc, default)?);
     };
     let Some(items) = value.as_array() else {
@@ -150,8 +161,7 @@ pub(crate) fn numbers(
 }
 
 fn naturals(alloc: Global, key: Key, items: &Array) -> Result<Vec<usize>, ConfigFault>
-    ensures { MatchResult result (λ ns. naturals key (array_view items.now) ≡ Ok ns.items)
-        (λ fault. is_memory fault ≡ false → naturals key (array_view items.now) ≡ Err fault) }
+    ensures { Shows (λ ns. ns.items) (naturals key (array_view items.now)) result }
 {
     let mut numbers = Vec::new(alloc);
     'items: for item in items {
@@ -162,4 +172,69 @@ fn naturals(alloc: Global, key: Key, items: &Array) -> Result<Vec<usize>, Config
         numbers.push(number).map_err(AllocError::from)?;
     }
     Ok(numbers)
+}
+
+/// Whether the value of a key fits it.
+#[tactic(auto, unfolding(crate::specs::Documents::fits))]
+fn fits(alloc: Global, document: &Table, key: Key) -> Result<(), ConfigFault>
+    ensures { IsAnswer (fits (table_view document.now) key) result }
+{
+    match key.row().kind {
+        Kind::Number(_, _, _) => {
+            number(document, key)?;
+            Ok(())
+        }
+        Kind::Numbers(_) => {
+            numbers(alloc, document, key)?;
+            Ok(())
+        }
+        _ => Ok(()),
+    }
+}
+
+/// Whether the value of each key does.
+///
+/// # Errors
+///
+/// The fault of the first key whose value doesn't, or `Memory`.
+pub(crate) fn values_fit(alloc: Global, document: &Table) -> Result<(), ConfigFault>
+    ensures { IsAnswer (values_fit (table_view document.now) all_keys) result }
+{
+    let keys = all_keys(alloc)?;
+    for key in &keys {
+        fits(alloc, document, *key)?;
+    }
+    Ok(())
+}
+
+/// The integer of a key: as it stands in the document, and its default where there is none that fits.
+#[tactic(auto, unfolding(crate::specs::Documents::number_in))]
+pub(crate) fn number_in(document: &Table, key: Key) -> u64
+    ensures value { result ≡ number_in (table_view document.now) key }
+    ensures within { IsWithin (row_of key).kind result }
+{
+    match number(document, key) {
+        Ok(number) => number,
+        Err(_) => key.default(),
+    }
+}
+
+/// The same of a list of integers.
+///
+/// # Errors
+///
+/// Memory ran out.
+#[tactic(auto, unfolding(crate::specs::Documents::numbers_in))]
+pub(crate) fn numbers_in(
+    alloc: Global,
+    document: &Table,
+    key: Key,
+) -> Result<Vec<usize>, AllocError>
+    ensures { IfOk result (λ ns. ns.items ≡ numbers_in (table_view document.now) key) }
+{
+    match numbers(alloc, document, key) {
+        Ok(numbers) => Ok(numbers),
+        Err(fault) if fault.kind == ConfigFaultKind::Memory => Err(AllocError),
+        Err(_) => Vec::from_slice(alloc, key.defaults()),
+    }
 }

@@ -1,60 +1,23 @@
 //! What is wrong with a document, in words.
 
-ghost use Rattle.std.specs.Prelude.{◌≡◌, ◌++◌, None, OnOk, IfOk, map};
+ghost use Rattle.std.specs.Prelude.{◌≡◌, ◌++◌, None, OnOk, IfOk};
 ghost use Rattle.std.specs.String.{string_bytes};
 ghost use Rattle.toml.specs.View.{table_view};
-ghost use Rattle.settings.specs.declared.config_fault.Key.TheVariants.{Floor, InPolicy};
-ghost use Rattle.settings.specs.Keys.{path_of, policy_keys};
+ghost use Rattle.settings.specs.declared.keys.Key.TheVariants.{Floor};
+ghost use Rattle.settings.specs.Keys.{all_keys};
 ghost use Rattle.settings.specs.SettingsTable.{document_of};
 ghost use Rattle.settings.specs.Documents.{misplaced_in};
-ghost use Rattle.settings.specs.FaultWords.{all_keys, document_words, edits, fault_words, fits_in, is_list, is_nearer};
-ghost use Rattle.settings.specs.FaultWords.{is_preferred};
+ghost use Rattle.settings.specs.FaultWords.{document_words, edits, fault_words, fits_in, is_nearer, is_preferred};
 ghost use Rattle.settings.specs.FaultWords.{key_words, lists_words, misplaced_text, misplaced_words, nearest_among};
-ghost use Rattle.settings.specs.FaultWords.{nearest_key, place_of, policy_scale, scale_of, text_words, value_words};
-ghost use Rattle.settings.specs.FaultWords.{with_keys};
+ghost use Rattle.settings.specs.FaultWords.{nearest_key, place_of, text_words, value_words};
 
-use crate::comments::comment;
 use crate::config::{MAX_SETTINGS_BYTES, document_of};
-use crate::config_fault::keys_in;
 use crate::document::misplaced_in;
-use crate::policy_key::policy_keys;
-use crate::{ConfigFault, ConfigFaultKind, Key, PolicyKey, PolicyTable};
+use crate::keys::{Kind, Row, all_keys};
+use crate::{ConfigFault, ConfigFaultKind, Key};
 use std::alloc::{AllocError, Global};
 use strsim::levenshtein;
 use toml::Table;
-
-/// Adds the keys of a policy.
-fn push_policy(keys: &mut Vec<Key>, table: PolicyTable) -> Result<(), AllocError>
-    ensures { OnOk result (keys.new.items ≡ keys.old.items ++ map (InPolicy table) policy_keys) }
-{
-    for key in policy_keys() {
-        keys.push(Key::InPolicy(table, *key))?;
-    }
-    Ok(())
-}
-
-/// Adds a table and the keys that it may have.
-fn push_keys(keys: &mut Vec<Key>, table: Key) -> Result<(), AllocError>
-    ensures { OnOk result (keys.new.items ≡ keys.old.items ++ with_keys table) }
-{
-    keys.push(table)?;
-    match table {
-        Key::Policy(policy) => push_policy(keys, policy),
-        _ => Ok(keys.extend_from_slice(keys_in(Some(table)))?),
-    }
-}
-
-/// All tables and keys that a document may have.
-#[tactic(auto, unfolding(crate::specs::FaultWords::all_keys))]
-fn all_keys(alloc: Global) -> Result<Vec<Key>, AllocError>
-    ensures { IfOk result (λ keys. keys.items ≡ all_keys) }
-{
-    let mut keys = Vec::new(alloc);
-    for table in keys_in(None) {
-        push_keys(&mut keys, *table)?;
-    }
-    Ok(keys)
-}
 
 /// How many characters have to be put in, taken out or changed for the name of this key.
 fn edits(alloc: Global, name: &str, key: Key) -> Result<usize, AllocError>
@@ -138,7 +101,8 @@ fn nearest_key(alloc: Global, within: Option<Key>, name: &str) -> Result<Key, Al
 
 /// Writes where a name stands in the document.
 fn write_place(text: &mut String, within: Option<Key>, name: &str) -> Result<(), AllocError>
-    ensures { OnOk result (string_bytes text.new ≡ string_bytes text.old ++ place_of (within, name.now)) }
+    ensures { OnOk result
+        (string_bytes text.new ≡ string_bytes text.old ++ place_of (within, name.now)) }
 {
     match within {
         None => text.push_str(name),
@@ -169,57 +133,22 @@ fn misplaced_words(alloc: Global, document: &Table) -> Result<String, AllocError
     }
 }
 
-/// Whether a list is to stand there.
-fn is_list(key: Key) -> bool
-    ensures { result ≡ is_list key }
-{
-    matches!(
-        key,
-        Key::FrontCuts
-            | Key::FrontWorkers
-            | Key::FrontCapacities
-            | Key::BackCuts
-            | Key::BackWorkers
-            | Key::BackCapacities
-    )
-}
-
-/// What a number of a rate is, in requests.
-fn policy_scale(key: PolicyKey) -> &'static str
-    ensures { result.now ≡ policy_scale key }
-{
-    match key {
-        PolicyKey::Rate => {
-            "; 1000 is one request a second, and rate_min and rate_max count where they are left out too"
-        }
-        PolicyKey::RateMin | PolicyKey::RateMax | PolicyKey::Up => "; 1000 is one request a second",
-        _ => "",
-    }
-}
-
-fn scale(key: Key) -> &'static str
-    ensures { result.now ≡ scale_of key }
-{
-    match key {
-        Key::InPolicy(_, key) => policy_scale(key),
-        _ => "",
-    }
-}
-
 /// What is to stand at one key.
 #[tactic(auto, unfolding(crate::specs::FaultWords::value_words))]
 fn value_words(alloc: Global, key: Key) -> Result<String, AllocError>
     ensures { IfOk result (λ text. string_bytes text ≡ value_words key) }
 {
-    if key.is_table() {
-        return format!(in alloc; "{key} is to be a table");
+    let Row {
+        kind,
+        comment,
+        scale,
+        ..
+    } = key.row();
+    match kind {
+        Kind::Table => format!(in alloc; "{key} is to be a table"),
+        Kind::Numbers(_) => format!(in alloc; "{key} is to be a list of integers: {comment}"),
+        _ => format!(in alloc; "{key} is to be an integer: {comment}{scale}"),
     }
-    let comment = comment(key);
-    if is_list(key) {
-        return format!(in alloc; "{key} is to be a list of integers: {comment}");
-    }
-    let scale = scale(key);
-    format!(in alloc; "{key} is to be an integer: {comment}{scale}")
 }
 
 /// What is said of the three lists of a floor, which don't fit together.
@@ -247,13 +176,8 @@ fn lists_words(
 fn key_words(alloc: Global, key: Key) -> Result<String, AllocError>
     ensures { IfOk result (λ text. string_bytes text ≡ key_words key) }
 {
-    use Key::{
-        Back, BackCapacities, BackCuts, BackWorkers, Front, FrontCapacities, FrontCuts,
-        FrontWorkers,
-    };
-    match key {
-        Front => lists_words(alloc, FrontCuts, FrontWorkers, FrontCapacities),
-        Back => lists_words(alloc, BackCuts, BackWorkers, BackCapacities),
+    match key.row().kind {
+        Kind::Lists(cuts, workers, capacities) => lists_words(alloc, cuts, workers, capacities),
         _ => value_words(alloc, key),
     }
 }

@@ -2,7 +2,7 @@ use Rattle.std.proofs.Common.{◌≡◌, Some, refl}
 use Rattle.std.proofs.lemmas.Str.{is_utf8-from_IsUtf8, IsUtf8-from_is_utf8}
 use Rattle.toml.specs.Parse.{parse_document}
 use Rattle.toml.specs.View.{table_view}
-use Rattle.settings.proofs.Choosing.{not_true, not_text, text_read}
+use Rattle.settings.proofs.Texts.{not_true, not_text, text_read}
 use Rattle.settings.proofs.config.document_of.Goals as goal
 
 pub returns-in_default : goal.returns-in_default

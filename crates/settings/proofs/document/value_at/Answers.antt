@@ -2,7 +2,7 @@ use Rattle.std.proofs.Common.{◌≡◌, Some, None, Ok, Err, refl, sym, ◌∙�
 use Rattle.toml.specs.Data.{Data, Members, get_member, as_table}
 use Rattle.toml.specs.View.{view, table_view}
 use Rattle.toml.proofs.Views.{table_get}
-use Rattle.settings.specs.declared.config_fault.Key.{Key}
+use Rattle.settings.specs.declared.keys.Key.{Key}
 use Rattle.settings.specs.Keys.{name_of, table_of}
 use Rattle.settings.specs.ConfigFaults.{shape}
 use Rattle.settings.specs.Documents.{value_at}

@@ -1,5 +1,5 @@
 use Rattle.std.proofs.Common.{◌≡◌, drop}
-use Rattle.settings.specs.declared.config_fault.Key.TheVariants.{Floor}
+use Rattle.settings.specs.declared.keys.Key.TheVariants.{Floor}
 use Rattle.settings.specs.FaultWords.{nearest_among}
 use Rattle.settings.proofs.in_words.nearest_of_all.Given as goal
 
