@@ -1,5 +1,5 @@
 -- A head, joined from what each step adds to it.
-use Rattle.std.proofs.Common.{◌≡◌, ℕ, ◌+◌, List, [], ◌∷◌, ◌++◌, length, codes, decimal, flat_map, true, false, cond, Result, Ok, Err, sym, ap, ◌∙◌, arith, length-append}
+use Rattle.std.proofs.Common.{◌≡◌, ℕ, ◌+◌, List, [], ◌∷◌, ◌++◌, length, codes, decimal, flat_map, true, false, cond, Result, Ok, Err, refl, sym, ap, ◌∙◌, arith, length-append}
 use Rattle.std.specs.Prelude.{OnOk}
 use Rattle.std.proofs.lemmas.List.{append_assoc, append-nil}
 use Rattle.std.proofs.lemmas.Grind.{flat_map-append}
@@ -20,13 +20,6 @@ pub more_fields : (old mid new : List ℕ) (xs ys : List (List ℕ × List ℕ))
 more_fields old mid new xs ys first second =
     second ∙ ap (λ v. v ++ flat_map field_line ys) first ∙ append_assoc old (flat_map field_line xs) (flat_map field_line ys) ∙ ap (λ v. old ++ v) (sym (flat_map-append field_line xs ys))
 
-pub one_field : (old mid new : List ℕ) (xs : List (List ℕ × List ℕ)) (y : List ℕ × List ℕ) → mid ≡ old ++ flat_map field_line xs → new ≡ mid ++ field_line y → new ≡ old ++ flat_map field_line (xs ++ y ∷ [])
-one_field old mid new xs y first second = more_fields old mid new xs (y ∷ []) first (second ∙ ap (λ v. mid ++ v) (sym (append-nil (field_line y))))
-
-pub two_fields : (old mid new : List ℕ) (x y : List ℕ × List ℕ) → mid ≡ old ++ field_line x → new ≡ mid ++ field_line y → new ≡ old ++ flat_map field_line (x ∷ y ∷ [])
-two_fields old mid new x y first second =
-    second ∙ ap (λ v. v ++ field_line y) first ∙ append_assoc old (field_line x) (field_line y) ∙ ap (λ v. old ++ (field_line x ++ v)) (sym (append-nil (field_line y)))
-
 pub described_added : (old new words : List ℕ) (code : ℕ) → words ≡ status_words code → new ≡ old ++ flat_map field_line (content_fields (codes "text/plain") (length words + 1)) → new ≡ old ++ flat_map field_line (described code)
 described_added old new words code is added =
     let size : length words + 1 ≡ length (status_text code) = omega (arith, ap length is, length-append (status_words code) (codes "\n")) in
@@ -44,14 +37,13 @@ pub page_fields_added : (f : File) (old mid new fields : List ℕ) (more : List 
     → new ≡ old ++ flat_map field_line (content_fields (media_text (media_of f.name)) (length f.bytes) ++ more)
 page_fields_added f old mid new fields more is added then = more_fields old mid new (content_fields (media_text (media_of f.name)) (length f.bytes)) more (added ∙ ap (λ v. old ++ v) (is ∙ page_fields_are f)) then
 
-pub head_joined : (h₀ h₁ h₂ h₃ h₄ h₅ h₆ h₇ http words end date : List ℕ) (own link : List (List ℕ × List ℕ))
-    → h₀ ≡ [] → h₁ ≡ h₀ ++ http → h₂ ≡ h₁ ++ words → h₃ ≡ h₂ ++ end → h₄ ≡ h₃ ++ date → h₅ ≡ h₄ ++ flat_map field_line own → h₆ ≡ h₅ ++ flat_map field_line link → h₇ ≡ h₆ ++ end
-    → h₇ ≡ http ++ words ++ end ++ (date ++ flat_map field_line (own ++ link)) ++ end
+pub head_joined : (h₀ h₁ h₂ h₃ h₄ h₅ h₆ h₇ http words end : List ℕ) (date : List ℕ × List ℕ) (own link : List (List ℕ × List ℕ))
+    → h₀ ≡ [] → h₁ ≡ h₀ ++ http → h₂ ≡ h₁ ++ words → h₃ ≡ h₂ ++ end → h₄ ≡ h₃ ++ flat_map field_line (date ∷ []) → h₅ ≡ h₄ ++ flat_map field_line own → h₆ ≡ h₅ ++ flat_map field_line link → h₇ ≡ h₆ ++ end
+    → h₇ ≡ http ++ words ++ end ++ flat_map field_line (date ∷ (own ++ link)) ++ end
 head_joined h₀ h₁ h₂ h₃ h₄ h₅ h₆ h₇ http words end date own link e₀ e₁ e₂ e₃ e₄ e₅ e₆ e₇ =
-    rw (e₇, e₆, e₅, e₄, e₃, e₂, e₁, e₀, flat_map-append field_line own link) (regroup http words end date (flat_map field_line own) (flat_map field_line link))
-  where
-    regroup : (a b c d e f : List ℕ) → (((((([] ++ a) ++ b) ++ c) ++ d) ++ e) ++ f) ++ c ≡ a ++ b ++ c ++ (d ++ (e ++ f)) ++ c
-    regroup a b c d e f = simp append_assoc
+    let dated = more_fields h₃ h₄ h₅ (date ∷ []) own e₄ e₅ in
+    let linked = more_fields h₃ h₅ h₆ (date ∷ own) link dated e₆ in
+    rw (e₇, linked, e₃, e₂, e₁, e₀) refl
 
 -- a reply in the parts in which it is held
 pub held_head : {X : Type 0} (files : List File) (slip : Slip X) (front : List ℕ) → front ≡ head_text files slip → slip.head ≡ true → front ++ [] ≡ reply_text files slip

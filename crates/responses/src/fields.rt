@@ -1,9 +1,10 @@
 //! The fields that an answer has of its own, in their order.
 
-ghost use Rattle.std.specs.Prelude.{◌≡◌, ◌≤◌, ◌++◌, OnOk, flat_map};
+ghost use Rattle.std.specs.Prelude.{◌≤◌};
 ghost use Rattle.paths.specs.Snapshots.{max_time};
-ghost use Rattle.responses.specs.Reference.{field_line, content_fields, described, changed, own_fields};
+ghost use Rattle.responses.specs.Reference.{content_fields, described, changed, own_fields};
 ghost use Rattle.responses.specs.Reference.{connection_fields, status_of};
+ghost use Rattle.responses.specs.Replies.{AddsFields};
 
 use crate::dates::DateText;
 use crate::head::{push_date, push_field, push_number};
@@ -13,7 +14,7 @@ use std::alloc::AllocError;
 
 /// Adds Content-Type and Content-Length of these values.
 fn push_content(head: &mut Vec<u8>, media: &[u8], len: u64) -> Result<(), AllocError>
-    ensures { OnOk result (head.new.items ≡ head.old.items ++ flat_map field_line (content_fields media.now len)) }
+    ensures { AddsFields head.old.items head.new.items result (content_fields media.now len) }
 {
     push_field(head, b"Content-Type", media)?;
     push_number(head, b"Content-Length", len)
@@ -21,8 +22,7 @@ fn push_content(head: &mut Vec<u8>, media: &[u8], len: u64) -> Result<(), AllocE
 
 /// Adds Content-Type and Content-Length of a content that is the status as a line.
 fn push_described<F: Tree>(head: &mut Vec<u8>, what: &Given<F>) -> Result<(), AllocError>
-    ensures { OnOk result (head.new.items ≡ head.old.items
-        ++ flat_map field_line (described (status_of what.now))) }
+    ensures { AddsFields head.old.items head.new.items result (described (status_of what.now)) }
 {
     let len = what.status_words().len() as u64 + 1;
     push_content(head, b"text/plain", len)
@@ -36,7 +36,7 @@ fn push_changed(
     mtime: u64,
 ) -> Result<(), AllocError>
     requires { date ≤ max_time }
-    ensures { OnOk result (head.new.items ≡ head.old.items ++ flat_map field_line (changed date mtime)) }
+    ensures { AddsFields head.old.items head.new.items result (changed date mtime) }
 {
     push_date(head, kept, b"Last-Modified", date.min(mtime))
 }
@@ -49,8 +49,7 @@ pub(crate) fn push_own<F: Tree>(
     what: &Given<F>,
 ) -> Result<(), AllocError>
     requires { date ≤ max_time }
-    ensures { OnOk result (head.new.items ≡ head.old.items
-        ++ flat_map field_line (own_fields F.files date what.now)) }
+    ensures { AddsFields head.old.items head.new.items result (own_fields F.files date what.now) }
 {
     match what {
         Given::Page { page, mtime } => {
@@ -83,7 +82,7 @@ pub(crate) fn push_own<F: Tree>(
 
 /// Adds Connection, where there is something to tell.
 pub(crate) fn push_connection(head: &mut Vec<u8>, link: Persistence) -> Result<(), AllocError>
-    ensures { OnOk result (head.new.items ≡ head.old.items ++ flat_map field_line (connection_fields link)) }
+    ensures { AddsFields head.old.items head.new.items result (connection_fields link) }
 {
     match link {
         Persistence::Close => push_field(head, b"Connection", b"close"),
