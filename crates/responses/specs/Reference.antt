@@ -1,9 +1,9 @@
 -- What a reader has to believe: the definitions of this crate that the headline stands on, in reading order.
-use Rattle.std.specs.Prelude.{ℕ, List, [], ◌∷◌, zero, suc, ◌+◌, ◌-◌, ◌/◌, ◌%◌, nat_lt, if◌then◌else◌, ◌++◌, length, min}
+use Rattle.std.specs.Prelude.{ℕ, List, [], ◌∷◌, zero, suc, ◌+◌, ◌-◌, ◌/◌, ◌%◌, nat_le, if◌then◌else◌, ◌++◌, length, min}
 use Rattle.std.specs.Prelude.{codes, decimal, flat_map, nat_eq, unwrap_or}
 use Rattle.std.specs.Map.{keys_of, lookup}
 use Rattle.httpdate.specs.declared.parts.Parts.{Parts}
-use Rattle.httpdate.specs.Calendar.{days_in_year, days_in_month, weekday}
+use Rattle.httpdate.specs.Calendar.{days_of_years, days_of_months, weekday}
 use Rattle.httpdate.specs.Text.{imf_fixdate}
 use Rattle.paths.specs.Reference.{file_of}
 use Rattle.paths.specs.declared.file.File.{File}
@@ -45,38 +45,26 @@ status_of (Plain (ServiceUnavailable seconds)) = 503
 
 -- The text of a second: its day in the calendar, its time of day, and how a head writes them (RFC 9110, 5.6.7).
 
--- A day, counted from the first of this year: the year in which it falls, and the day counted from that year's first.
--- At most n years are passed.
-unfoldable pub year_from : ℕ → ℕ → ℕ → ℕ × ℕ
-year_from zero year day = (year, day)
-year_from (suc more) year day =
-    if nat_lt day (days_in_year year) then (year, day)
-    else year_from more (year + 1) (day - days_in_year year)
-
--- The same of the months of a year.
-unfoldable pub month_from : ℕ → ℕ → ℕ → ℕ → ℕ × ℕ
-month_from zero year month day = (month, day)
-month_from (suc more) year month day =
-    if nat_lt day (days_in_month year month) then (month, day)
-    else month_from more year (month + 1) (day - days_in_month year month)
-
--- a day in its year, and then the time of a second in its day
-abbrev pub parts_of : ℕ → ℕ × ℕ → ℕ × ℕ → Parts
-parts_of second year month = record {
-  year = year.0;
-  mon = month.0;
-  day = month.1 + 1;
-  hour = second % 86400 / 3600;
-  min = second % 3600 / 60;
-  sec = second % 60;
-  wday = weekday (second / 86400);
-}
+-- how many years or months, at most n, are over at a day, where the first n of them have `days n`
+unfoldable pub passed : (ℕ → ℕ) → ℕ → ℕ → ℕ
+passed days zero day = 0
+passed days (suc n) day = if nat_le (days (suc n)) day then suc n else passed days n day
 
 -- the date and the time of a second since 1970-01-01, up to the year 9999
 unfoldable pub parts_at : ℕ → Parts
 parts_at second =
-    let year = year_from 8029 1970 (second / 86400) in
-    parts_of second year (month_from 11 year.0 1 year.1)
+    let day = second / 86400 in
+    let years = passed days_of_years 8029 day in
+    let months = passed (days_of_months (1970 + years)) 11 (day - days_of_years years) in
+    record {
+      year = 1970 + years;
+      mon = months + 1;
+      day = day - days_of_years years - days_of_months (1970 + years) months + 1;
+      hour = second % 86400 / 3600;
+      min = second % 3600 / 60;
+      sec = second % 60;
+      wday = weekday day;
+    }
 
 -- its text, as `Sun, 06 Nov 1994 08:49:37 GMT`
 unfoldable pub imf_date : ℕ → List ℕ
