@@ -88,7 +88,8 @@ impl MediaType {
 
 /// What stands after the last such byte of a text, where it has one.
 fn after_last(text: &[u8], mark: u8) -> Option<&[u8]>
-    ensures { MatchOption result (list_any (λ b. b == mark) text.now ≡ false) (λ rest. IsAfterLast mark text.now rest.now) }
+    ensures { MatchOption result (list_any (λ b. b == mark) text.now ≡ false)
+        (λ rest. IsAfterLast mark text.now rest.now) }
 {
     match text.iter().rposition(|byte| *byte == mark) {
         Some(at) => Some(&text[at + 1..]),
