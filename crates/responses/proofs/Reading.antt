@@ -1,6 +1,6 @@
 -- A reply is read back, whatever follows it.
 use Rattle.std.proofs.Common.{◌≡◌, ℕ, ◌^◌, ◌<◌, ◌≤◌, ◌||◌, ◌&&◌, not, nat_lt, Bool, true, false, cond, List, [], ◌∷◌, ◌++◌, map, length, take, drop, reverse, Option, Some, None, codes, decimal, subst, refl, sym, ap, ◌∙◌}
-use Rattle.std.specs.List.{list_all}
+use Rattle.std.specs.List.{filter, list_all}
 use Rattle.std.specs.Char.{is_ascii_digit}
 use Rattle.std.specs.Str.{str_eq_ignore_ascii_case}
 use Rattle.std.proofs.lemmas.List.{append_assoc, take_at, drop_at, reverse-append}
@@ -9,7 +9,7 @@ use Rattle.std.proofs.lemmas.Fmt.{decimal_is_IsNumeral, decimal_nonempty}
 use Rattle.httparse.specs.Grammar.{Field, ResponseHead, status_code, is_ows, skip_ows, trim_ows}
 use Rattle.httparse.proofs.TrimLemmas.{trim_ows_space}
 use Rattle.httparse.proofs.GrammarLemmas.{response_unique}
-use Rattle.http_requests.specs.Reference.{is_given, lines_of, values_of}
+use Rattle.http_requests.specs.Reference.{is_given, lines_of, same_text, values_of}
 use Rattle.paths.specs.declared.file.File.{File}
 use Rattle.paths.specs.Reference.{file_of}
 use Rattle.page_cache.specs.Reference.{media_of, media_text}
@@ -20,8 +20,8 @@ use Rattle.responses.specs.declared.slip.Persistence.{Persistence}
 use Rattle.responses.specs.declared.slip.Persistence.TheVariants.{Close, KeepAlive, Silent}
 use Rattle.std.specs.Str.Parse.{digits_value}
 use Rattle.responses.specs.declared.slip.Status.TheVariants.{BadRequest, NotFound, MethodNotAllowed, ContentTooLarge, NotImplemented, ServiceUnavailable}
-use Rattle.responses.specs.Reference.{imf_date, content_fields, described, changed, own_fields, connection_fields, status_of, status_text, content_of, head_text, body_text, reply_text}
-use Rattle.responses.specs.Replies.{HasLocation, OnlyHead}
+use Rattle.responses.specs.Reference.{imf_date, content_fields, described, changed, own_fields, connection_fields, status_of, status_text, content_of, head_text, reply_text}
+use Rattle.responses.specs.Replies.{HasLocation, OnlyHead, body_text}
 use Rattle.responses.specs.Messages.{stated_length, body_length, is_bodyless, Reads, IsHead, IsReply}
 use Rattle.responses.proofs.Bytes.{both, list_all-append, decimal_digits, decimal_no_space}
 use Rattle.responses.proofs.Heads.{as_field, in_words, head_of, head_printed, head_valid}
@@ -32,7 +32,9 @@ turned false h = refl
 
 -- a field of another name adds no value
 other : (name : List ℕ) (field : List ℕ × List ℕ) (fields : List Field) → str_eq_ignore_ascii_case field.0 name ≡ false → values_of name (lines_of (as_field field ∷ fields)) ≡ values_of name (lines_of fields)
-other name field fields no_match = ap (λ t. cond t (trim_ows (32 ∷ field.1) ∷ values_of name (lines_of fields)) (values_of name (lines_of fields))) no_match
+other name field fields no_match =
+    let rest = filter (λ line. same_text line.0 name) (lines_of fields) in
+    ap (λ t. map (λ line. line.1) (cond t ((field.0, trim_ows (32 ∷ field.1)) ∷ rest) rest)) no_match
 
 abbrev has_none : List ℕ → List (List ℕ × List ℕ) → Bool
 has_none name fields = list_all (λ field. not (str_eq_ignore_ascii_case field.0 name)) fields

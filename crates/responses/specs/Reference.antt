@@ -126,21 +126,13 @@ content_of files (Known media len mtime) = []
 content_of files (Unmodified mtime) = []
 content_of files what = status_text (status_of what)
 
--- the body: none in the answer to HEAD
-abbrev pub body_text : {X : Type 0} → List File → Slip X → List ℕ
-body_text files slip = if slip.head then [] else content_of files slip.what
-
--- the reply
+-- the reply; the answer to HEAD has no body
 abbrev pub reply_text : {X : Type 0} → List File → Slip X → List ℕ
-reply_text files slip = head_text files slip ++ body_text files slip
+reply_text files slip = head_text files slip ++ (if slip.head then [] else content_of files slip.what)
 
--- The record of a reply in a text of replies.
-
--- the line before a reply of n bytes
-abbrev pub record_line : ℕ → ℕ → ℕ → List ℕ
-record_line number conn len = codes "reply " ++ decimal number ++ codes " " ++ decimal conn ++ codes " " ++ decimal len
-    ++ codes "\n"
-
--- a reply's record: that line, and the reply with a line feed after it
+-- The record of a reply in a text of replies: a line with its number, its connection and its length, and then the reply
+-- with a line feed after it.
 abbrev pub record_text : ℕ × ℕ × List ℕ → List ℕ
-record_text reply = record_line reply.0 reply.1 (length reply.2) ++ reply.2 ++ codes "\n"
+record_text reply =
+    codes "reply " ++ decimal reply.0 ++ codes " " ++ decimal reply.1 ++ codes " " ++ decimal (length reply.2)
+    ++ codes "\n" ++ reply.2 ++ codes "\n"

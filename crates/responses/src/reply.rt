@@ -2,8 +2,8 @@
 
 ghost use Rattle.std.specs.Prelude.{◌≡◌, ◌≤◌, ◌+◌, ◌<◌, ◌^◌, ◌++◌, length, IfOk, IfErr, OnOk};
 ghost use Rattle.paths.specs.Snapshots.{max_time};
-ghost use Rattle.responses.specs.Reference.{reply_text, head_text, body_text, status_of, status_text, content_of};
-ghost use Rattle.responses.specs.Replies.{OnlyHead, HasLocation, held_body, note_of, front_text};
+ghost use Rattle.responses.specs.Reference.{reply_text, head_text, status_of, status_text, content_of};
+ghost use Rattle.responses.specs.Replies.{OnlyHead, HasLocation, held_body, note_of, front_text, body_text};
 ghost use Rattle.responses.specs.Messages.{IsReply};
 
 use crate::dates::Dates;

@@ -60,13 +60,13 @@ impl Status {
     }
 }
 
-/// What a request is answered with. The type names the snapshot of the pages.
+/// What a request is answered with; `mtime` is when the file was last changed, in seconds since 1970-01-01. The type
+/// names the snapshot of the pages.
 #[derive(Drop)]
 pub enum Given<F: Tree> {
     /// 200 with the bytes of a file.
     Page {
         page: SharedPage<F>,
-        /// When the file was last changed, in seconds since 1970-01-01.
         mtime: u64,
     },
     /// 200 without the bytes, which answers HEAD.
@@ -74,12 +74,10 @@ pub enum Given<F: Tree> {
         media: MediaType,
         /// How many bytes the file has.
         len: u64,
-        /// When the file was last changed, in seconds since 1970-01-01.
         mtime: u64,
     },
     /// 304.
     Unmodified {
-        /// When the file was last changed, in seconds since 1970-01-01.
         mtime: u64,
     },
     /// 301.
