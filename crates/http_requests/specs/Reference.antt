@@ -135,8 +135,8 @@ IsOnlySecond (value ∷ other ∷ values) since = since ≡ None
 abbrev pub is_get_or_head : List ℕ → Bool
 is_get_or_head method = bytes_eq method (codes "GET") || bytes_eq method (codes "HEAD")
 
--- What If-Modified-Since says: a second, where there is one such line and it has a date. It counts for these two methods
--- alone, and not beside If-None-Match (RFC 9110, 13.1.3)
+-- What If-Modified-Since says: a second, where there is one such line and it has a date. It counts for these two
+-- methods alone, and not beside If-None-Match (RFC 9110, 13.1.3)
 abbrev pub IsModifiedSince : List ℕ → List FieldLine → Option ℕ → Type 0
 IsModifiedSince method lines since =
     MatchBool (is_get_or_head method && not (is_given (values_of (codes "if-none-match") lines)))
