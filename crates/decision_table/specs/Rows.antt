@@ -5,7 +5,7 @@ use Rattle.std.specs.Prelude.{ℕ, ◌-◌, ◌==◌, ◌&&◌, ◌||◌, not, B
 use Rattle.std.specs.Prelude.{decimal, flat_map, if◌then◌else◌}
 use Rattle.std.specs.Char.{is_ascii_graphic}
 use Rattle.percent_encoding.specs.Percent.{percent_encode_byte}
-use Rattle.paths.specs.Reference.{hyphen, percent_sign}
+use Rattle.paths.specs.Reference.{percent_sign}
 use Rattle.devices.specs.Ascii.{quote, comma}
 use Rattle.admission.specs.declared.control.Decision.{Decision}
 use Rattle.admission.specs.declared.control.Decision.TheVariants.{Admitted, Rejected}
@@ -53,6 +53,9 @@ equals_sign = 61
 
 abbrev pub at_sign : ℕ
 at_sign = 64
+
+abbrev pub hyphen : ℕ
+hyphen = 45
 
 -- visible ASCII but the quote, the percent sign, the comma and the semicolon
 abbrev pub stands_as_it_is : ℕ → Bool

@@ -7,7 +7,7 @@ use Rattle.std.proofs.lemmas.List.{take-append-drop, length-map}
 use Rattle.std.specs.Char.{to_ascii_lowercase}
 use Rattle.std.proofs.lemmas.List.Folds.{list_any-append}
 use Rattle.std.specs.Prelude.{◌&&◌, ◌==◌, codes}
-use Rattle.std.specs.List.{list_any, slice_split}
+use Rattle.std.specs.List.{filter, list_any, slice_split}
 use Rattle.httparse.specs.Grammar.{trim_ows}
 use Rattle.httparse.specs.declared.spans.HeaderSpan.{HeaderSpan}
 use Rattle.httparse.specs.declared.spans.Span.{Span}
@@ -26,16 +26,17 @@ abbrev pub value_if : Bool → List ℕ → List (List ℕ)
 value_if true value = value ∷ []
 value_if false value = []
 
-values_one : (b : Bool) (value : List ℕ) (more : List (List ℕ)) → (if b then value ∷ more else more) ≡ value_if b value ++ more
-values_one true value more = refl
-values_one false value more = refl
+values_one : (b : Bool) (line : FieldLine) (more : List FieldLine) → map (λ l. l.1) (if b then line ∷ more else more) ≡ value_if b line.1 ++ map (λ l. l.1) more
+values_one true line more = refl
+values_one false line more = refl
 
 pub values_append : (name : List ℕ) (a b : List FieldLine) → values_of name (a ++ b) ≡ values_of name a ++ values_of name b
 values_append name [] b = refl
 values_append name (line ∷ a) b =
     let t = same_text line.0 name in
-    values_one t line.1 (values_of name (a ++ b)) ∙ ap (λ more. value_if t line.1 ++ more) (values_append name a b)
-    ∙ sym (append_assoc (value_if t line.1) (values_of name a) (values_of name b)) ∙ ap (λ front. front ++ values_of name b) (sym (values_one t line.1 (values_of name a)))
+    let named : List FieldLine → List FieldLine = λ lines. filter (λ l. same_text l.0 name) lines in
+    values_one t line (named (a ++ b)) ∙ ap (λ more. value_if t line.1 ++ more) (values_append name a b)
+    ∙ sym (append_assoc (value_if t line.1) (values_of name a) (values_of name b)) ∙ ap (λ front. front ++ values_of name b) (sym (values_one t line (named a)))
 
 pub lines_more : (block : List ℕ) (headers : List HeaderSpan) (i : ℕ) (d : HeaderSpan) → i < length headers
     → lines_from block (take (i + 1) headers) ≡ lines_from block (take i headers) ++ header_bytes block (get_or headers i d) ∷ []
@@ -47,7 +48,7 @@ pub values_more : (name block : List ℕ) (headers : List HeaderSpan) (i : ℕ) 
 values_more name block headers i d h =
     ap (values_of name) (lines_more block headers i d h)
     ∙ values_append name (lines_from block (take i headers)) (header_bytes block (get_or headers i d) ∷ [])
-    ∙ ap (λ more. values_of name (lines_from block (take i headers)) ++ more) (values_one (same_text (span_bytes block (get_or headers i d).name) name) (span_bytes block (get_or headers i d).value) [] ∙ append_nil_of (same_text (span_bytes block (get_or headers i d).name) name) (span_bytes block (get_or headers i d).value))
+    ∙ ap (λ more. values_of name (lines_from block (take i headers)) ++ more) (values_one (same_text (span_bytes block (get_or headers i d).name) name) (header_bytes block (get_or headers i d)) [] ∙ append_nil_of (same_text (span_bytes block (get_or headers i d).name) name) (span_bytes block (get_or headers i d).value))
   where
     append_nil_of : (b : Bool) (value : List ℕ) → value_if b value ++ [] ≡ value_if b value
     append_nil_of true value = refl
@@ -70,15 +71,15 @@ has_option_append option a b =
     ∙ ap (list_any (λ given. same_text given option)) (options_append (values_of (codes "connection") a) (values_of (codes "connection") b))
     ∙ list_any-append (λ given. same_text given option) (options_of (values_of (codes "connection") a)) (options_of (values_of (codes "connection") b))
 
-one_option : (b : Bool) (option value : List ℕ)
-    → list_any (λ given. same_text given option) (options_of (if b then value ∷ [] else [])) ≡ (b && list_any (λ part. same_text (trim_ows part) option) (slice_split (λ c. c == 44) value))
-one_option true option value = any_or_nil (λ given. same_text given option) (map trim_ows (slice_split (λ c. c == 44) value)) ∙ any_map (λ given. same_text given option) trim_ows (slice_split (λ c. c == 44) value)
-one_option false option value = refl
+one_option : (b : Bool) (option : List ℕ) (line : FieldLine)
+    → list_any (λ given. same_text given option) (options_of (map (λ l. l.1) (if b then line ∷ [] else []))) ≡ (b && list_any (λ part. same_text (trim_ows part) option) (slice_split (λ c. c == 44) line.1))
+one_option true option line = any_or_nil (λ given. same_text given option) (map trim_ows (slice_split (λ c. c == 44) line.1)) ∙ any_map (λ given. same_text given option) trim_ows (slice_split (λ c. c == 44) line.1)
+one_option false option line = refl
 
 -- one line has the option
 pub has_option_one : (option : List ℕ) (line : FieldLine)
     → has_option option (line ∷ []) ≡ (same_text line.0 (codes "connection") && list_any (λ part. same_text (trim_ows part) option) (slice_split (λ c. c == 44) line.1))
-has_option_one option line = one_option (same_text line.0 (codes "connection")) option line.1
+has_option_one option line = one_option (same_text line.0 (codes "connection")) option line
 
 pub has_option_more : (option block : List ℕ) (headers : List HeaderSpan) (i : ℕ) (d : HeaderSpan) → i < length headers
     → has_option option (lines_from block (take (i + 1) headers))
@@ -181,7 +182,7 @@ there block (value ∷ values) Repeated are = refl
 pub option_once : (option block : List ℕ) (lines : List FieldLine) (span : Span) → AreLines block (values_of (codes "connection") lines) (Once span)
     → has_option option lines ≡ list_any (λ part. same_text (trim_ows part) option) (slice_split (λ c. c == 44) (span_bytes block span))
 option_once option block lines span are =
-    ap (λ values. list_any (λ given. same_text given option) (options_of values)) are.1 ∙ one_option true option (span_bytes block span)
+    ap (λ values. list_any (λ given. same_text given option) (options_of values)) are.1 ∙ one_option true option ([], span_bytes block span)
 
 pub option_absent : (option block : List ℕ) (lines : List FieldLine) → AreLines block (values_of (codes "connection") lines) Absent → has_option option lines ≡ false
 option_absent option block lines are = ap (λ values. list_any (λ given. same_text given option) (options_of values)) are

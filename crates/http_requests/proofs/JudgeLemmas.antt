@@ -9,7 +9,8 @@ use Rattle.httparse.specs.Spans.{IsRequestWithin, IsRequestAt, IsRequestOf, head
 use Rattle.httparse.proofs.GrammarLemmas.{request_unique}
 use Rattle.http_requests.specs.declared.messages.MessageFault.TheVariants.{Block}
 use Rattle.http_requests.specs.declared.heads.Verdict.{Verdict}
-use Rattle.http_requests.specs.Reference.{IsVerdict, IsHead, HeadSays, PartsSay, bad}
+use Rattle.http_requests.specs.Reference.{IsVerdict, IsHead, PartsSay, bad}
+use Rattle.http_requests.specs.Lines.{HeadSays}
 use Rattle.http_requests.proofs.HeadLemmas.{lines_from}
 
 field_count : (block : List ℕ) (headers : List HeaderSpan) (r : RequestSpans) (h : RequestHead) → IsRequestWithin block headers r → IsRequestAt block headers r h → r.headers ≡ length h.fields

@@ -1,8 +1,9 @@
 -- What the code reads of a head, whose parts the parser gives as places in the block.
 use Rattle.std.specs.Prelude.{◌≡◌, ℕ, ◌≤◌, Bool, true, false, List, [], ◌∷◌, length, map, All, codes}
 use Rattle.httparse.specs.declared.spans.Span.{Span}
+use Rattle.httparse.specs.Grammar.{RequestHead}
 use Rattle.httparse.specs.Spans.{header_bytes, span_bytes, IsWithin, IsHeaderWithin}
-use Rattle.http_requests.specs.Reference.{FieldLine, PartsSay, same_text, values_of}
+use Rattle.http_requests.specs.Reference.{FieldLine, PartsSay, lines_of, same_text, values_of}
 use Rattle.http_requests.specs.declared.heads.Verdict.{Verdict}
 use Rattle.http_requests.specs.declared.heads.Head.{Head}
 use Rattle.http_requests.specs.declared.heads.Lines.{Lines}
@@ -18,6 +19,10 @@ pub record LiesWithin (head : Head) : Type 0 where
 -- the field lines that stand at the head's places
 abbrev pub lines_at : Head → List FieldLine
 lines_at head = map (header_bytes head.block.now) head.headers.now
+
+-- what a head says
+abbrev pub HeadSays : RequestHead → Verdict → Type 0
+HeadSays head verdict = PartsSay head.method head.target head.minor (lines_of head.fields) verdict
 
 -- what the head says, whose parts stand at its places
 abbrev pub Says : Head → Verdict → Type 0

@@ -2,7 +2,7 @@
 use Rattle.std.specs.Prelude.{ℕ, ◌≡◌, ◌≤◌, ◌⊎◌, Bool, true, false, not, ◌&&◌, ◌||◌, ◌==◌, nat_lt, if◌then◌else◌, List}
 use Rattle.std.specs.Prelude.{[], ◌∷◌, map, length, Option, Some, None, MatchOption, MatchBool, codes, bytes_eq, suc}
 use Rattle.std.specs.Prelude.{◌+◌, ◌<◌, ◌++◌, take, drop}
-use Rattle.std.specs.List.{flat_map, list_all, list_any, slice_split}
+use Rattle.std.specs.List.{filter, flat_map, list_all, list_any, slice_split}
 use Rattle.std.specs.Char.{is_ascii_alphanumeric, is_ascii_digit, to_ascii_lowercase}
 use Rattle.std.specs.Str.Parse.{digits_value}
 use Rattle.httparse.specs.Grammar.{Field, RequestHead, ReadsRequest, trim_ows}
@@ -59,9 +59,7 @@ same_text a b = bytes_eq (map to_ascii_lowercase a) (map to_ascii_lowercase b)
 
 -- the values of the lines of this name, in order; a name's case doesn't matter (RFC 9110, 5.1)
 abbrev pub values_of : List ℕ → List FieldLine → List (List ℕ)
-values_of name [] = []
-values_of name (line ∷ lines) =
-    if same_text line.0 name then line.1 ∷ values_of name lines else values_of name lines
+values_of name lines = map (λ line. line.1) (filter (λ line. same_text line.0 name) lines)
 
 -- a byte of a host and a port: one of those that RFC 3986, 3.2.2 and 3.2.3 allow there
 abbrev pub is_host_byte : ℕ → Bool
@@ -137,14 +135,11 @@ IsOnlySecond (value ∷ other ∷ values) since = since ≡ None
 abbrev pub is_get_or_head : List ℕ → Bool
 is_get_or_head method = bytes_eq method (codes "GET") || bytes_eq method (codes "HEAD")
 
--- If-Modified-Since counts for these two alone, and not beside If-None-Match (RFC 9110, 13.1.3)
-abbrev pub counts_since : List ℕ → List FieldLine → Bool
-counts_since method lines = is_get_or_head method && not (is_given (values_of (codes "if-none-match") lines))
-
--- what If-Modified-Since says, where it counts: a second, where there is one such line and it has a date
+-- What If-Modified-Since says: a second, where there is one such line and it has a date. It counts for these two
+-- methods alone, and not beside If-None-Match (RFC 9110, 13.1.3)
 abbrev pub IsModifiedSince : List ℕ → List FieldLine → Option ℕ → Type 0
 IsModifiedSince method lines since =
-    MatchBool (counts_since method lines)
+    MatchBool (is_get_or_head method && not (is_given (values_of (codes "if-none-match") lines)))
     (IsOnlySecond (values_of (codes "if-modified-since") lines) since)
     (since ≡ None)
 
@@ -169,10 +164,6 @@ PartsSay method target minor lines verdict =
     MatchOption (head_fault minor lines) (IsRequest method target minor lines verdict)
     (λ fault. verdict ≡ bad fault)
 
--- what a head says
-abbrev pub HeadSays : RequestHead → Verdict → Type 0
-HeadSays head verdict = PartsSay head.method head.target head.minor (lines_of head.fields) verdict
-
 -- the whole block is this head, with at most 64 fields
 abbrev pub IsHead : List ℕ → RequestHead → Type 0
 IsHead block head = ReadsRequest block head [] × (length head.fields ≤ max_fields)
@@ -180,7 +171,8 @@ IsHead block head = ReadsRequest block head [] × (length head.fields ≤ max_fi
 -- the verdict of a block: what its head says, or `Block` where it is no head
 unfoldable pub IsVerdict : List ℕ → Verdict → Type 0
 IsVerdict block verdict =
-    ((head : RequestHead) × IsHead block head × HeadSays head verdict)
+    ((head : RequestHead) × IsHead block head
+    × PartsSay head.method head.target head.minor (lines_of head.fields) verdict)
     ⊎ (((head : RequestHead) → ¬ (IsHead block head)) × (verdict ≡ bad Block))
 
 -- The messages of a whole text (RFC 9112, sections 2 and 6).

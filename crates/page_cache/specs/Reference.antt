@@ -1,7 +1,7 @@
 -- What a reader has to believe: the definitions of this crate that the headline stands on, in reading order.
-use Rattle.std.specs.Prelude.{ℕ, ◌==◌, ◌||◌, List, [], ◌∷◌, Option, Some, None, codes, map, unwrap_or, bytes_eq}
-use Rattle.std.specs.Prelude.{if◌then◌else◌}
-use Rattle.std.specs.Option.{option_or, option_map_or}
+use Rattle.std.specs.Prelude.{ℕ, ◌==◌, List, [], ◌∷◌, codes, map, unwrap_or, bytes_eq, if◌then◌else◌}
+use Rattle.std.specs.List.{after_last, list_any}
+use Rattle.std.specs.Map.{lookup}
 use Rattle.std.specs.Char.{to_ascii_lowercase}
 use Rattle.paths.specs.Reference.{dot, slash}
 use Rattle.page_cache.specs.declared.media.MediaType.{MediaType}
@@ -10,35 +10,23 @@ use Rattle.page_cache.specs.declared.media.MediaType.TheVariants.{Gif, OctetStre
 
 -- The media type of a file, by its name.
 
--- what stands after the last such byte of a text, where it has one
-unfoldable pub after_last : ℕ → List ℕ → Option (List ℕ)
-after_last mark [] = None
-after_last mark (b ∷ text) = option_or (after_last mark text) (if b == mark then Some text else None)
+-- the types by extensions in lower case
+abbrev pub media_types : List (List ℕ × MediaType)
+media_types =
+    (codes "html", Html) ∷ (codes "htm", Html) ∷ (codes "css", Css) ∷ (codes "js", JavaScript) ∷ (codes "json", Json)
+    ∷ (codes "txt", Plain) ∷ (codes "svg", Svg) ∷ (codes "png", Png) ∷ (codes "jpg", Jpeg) ∷ (codes "jpeg", Jpeg)
+    ∷ (codes "gif", Gif) ∷ []
 
--- the last part of a name, and what stands after its last dot, where it has one
-abbrev pub last_part : List ℕ → List ℕ
-last_part name = unwrap_or (after_last slash name) name
-
-abbrev pub extension : List ℕ → Option (List ℕ)
-extension name = after_last dot (last_part name)
-
--- the media type of an extension in lower case
 abbrev pub media_by_extension : List ℕ → MediaType
-media_by_extension e =
-    if bytes_eq e (codes "html") || bytes_eq e (codes "htm") then Html
-    else if bytes_eq e (codes "css") then Css
-    else if bytes_eq e (codes "js") then JavaScript
-    else if bytes_eq e (codes "json") then Json
-    else if bytes_eq e (codes "txt") then Plain
-    else if bytes_eq e (codes "svg") then Svg
-    else if bytes_eq e (codes "png") then Png
-    else if bytes_eq e (codes "jpg") || bytes_eq e (codes "jpeg") then Jpeg
-    else if bytes_eq e (codes "gif") then Gif
-    else OctetStream
+media_by_extension e = unwrap_or (lookup (bytes_eq e) media_types) OctetStream
 
--- the media type of a file of this name; the case of its extension does not matter
+-- what stands after the last dot of a part of a name; nothing where there is no dot
+abbrev pub extension : List ℕ → List ℕ
+extension part = if list_any (λ b. b == dot) part then after_last (λ b. b == dot) part else []
+
+-- the media type of a file of this name, by its last part; the case of its extension does not matter
 unfoldable pub media_of : List ℕ → MediaType
-media_of name = option_map_or (λ e. media_by_extension (map to_ascii_lowercase e)) (extension name) OctetStream
+media_of name = media_by_extension (map to_ascii_lowercase (extension (after_last (λ b. b == slash) name)))
 
 -- its name (RFC 9110, 8.3.1)
 abbrev pub media_text : MediaType → List ℕ

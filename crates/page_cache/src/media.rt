@@ -1,9 +1,11 @@
 //! Media types by extensions, and the fields of a file.
 
-ghost use Rattle.std.specs.Prelude.{◌≡◌, IfOk, string_bytes, map, unwrap_or};
-ghost use Rattle.std.specs.Option.{option_map};
+ghost use Rattle.std.specs.Prelude.{◌≡◌, ◌==◌, IfOk, MatchOption, false, string_bytes, map};
 ghost use Rattle.std.specs.Char.{to_ascii_lowercase};
-ghost use Rattle.page_cache.specs.Reference.{after_last, last_part, media_by_extension, media_of, media_text};
+ghost use Rattle.std.specs.List.{after_last, list_any};
+ghost use Rattle.paths.specs.Reference.{slash};
+ghost use Rattle.page_cache.specs.Reference.{media_by_extension, media_of, media_text};
+ghost use Rattle.page_cache.specs.Media.{IsAfterLast};
 ghost use Rattle.page_cache.specs.Media.{entity_fields};
 
 use itoa::Buffer;
@@ -86,7 +88,8 @@ impl MediaType {
 
 /// What stands after the last such byte of a text, where it has one.
 fn after_last(text: &[u8], mark: u8) -> Option<&[u8]>
-    ensures { option_map (λ rest. rest.now) result ≡ after_last mark text.now }
+    ensures { MatchOption result (list_any (λ b. b == mark) text.now ≡ false)
+        (λ rest. IsAfterLast mark text.now rest.now) }
 {
     match text.iter().rposition(|byte| *byte == mark) {
         Some(at) => Some(&text[at + 1..]),
@@ -96,7 +99,7 @@ fn after_last(text: &[u8], mark: u8) -> Option<&[u8]>
 
 /// The last part of a name.
 fn last_part(name: &[u8]) -> &[u8]
-    ensures { result.now ≡ last_part name.now }
+    ensures { result.now ≡ after_last (λ b. b == slash) name.now }
 {
     match after_last(name, b'/') {
         Some(part) => part,

@@ -2,7 +2,7 @@
 use Rattle.std.proofs.Common.{◌≡◌, ℕ, ◌<◌, ◌%◌, ◌/◌, ◌&&◌, Bool, true, false, List, [], ◌∷◌, ◌++◌, length, flat_map, Option, Some, None, refl, ◌∙◌, arith, nat_lt}
 use Rattle.std.proofs.lemmas.Grind.{common_steps}
 use Rattle.std.specs.Prelude.{codes, Result, Ok, Err, IfOk}
-use Rattle.paths.specs.Reference.{slash, is_unreserved, location_byte, location, joined, outcome, file_or_missing, file_or_folder, position_of, has_folder}
+use Rattle.paths.specs.Reference.{slash, is_unreserved, location_byte, location, joined, outcome, file_or_folder, position_of, has_folder}
 use Rattle.paths.specs.declared.resolution.Outcome.{Outcome}
 use Rattle.std.specs.List.{list_all, position, position_or_len}
 use Rattle.std.specs.Char.{is_ascii_graphic}
@@ -60,7 +60,7 @@ file_there p xs i h = go (nat_lt (position_or_len p xs) (length xs)) refl
     go true e = let same : Some (position_or_len p xs) ≡ Some i = rw e at h in grind (arith, common_steps, e, same)
     go false e = absurd (let none : None ≡ Some i = rw e at h in cc)
 
-file_or_missing_is : (files : List File) (found : Option ℕ) → ((i : ℕ) → found ≡ Some i → i < length files) → IsOutcome files (file_or_missing found)
+file_or_missing_is : (files : List File) (found : Option ℕ) → ((i : ℕ) → found ≡ Some i → i < length files) → IsOutcome files (file_or_folder found false [])
 file_or_missing_is files (Some i) h = h i refl
 file_or_missing_is files None h = tt
 

@@ -22,9 +22,6 @@ number_sign = 35
 abbrev pub percent_sign : ℕ
 percent_sign = 37
 
-abbrev pub hyphen : ℕ
-hyphen = 45
-
 abbrev pub dot : ℕ
 dot = 46
 
@@ -34,15 +31,7 @@ slash = 47
 abbrev pub question_mark : ℕ
 question_mark = 63
 
-abbrev pub underscore : ℕ
-underscore = 95
-
-abbrev pub tilde : ℕ
-tilde = 126
-
--- What is said of a device's bytes, which its type tells or doesn't.
-
--- The text of a snapshot of a file tree.
+-- The files of a snapshot.
 
 -- the name lies in the folder: it begins with the folder's name and a slash
 abbrev pub lies_in : List ℕ → List ℕ → Bool
@@ -144,7 +133,7 @@ asked method target =
 
 -- letters, digits and `-._~` (RFC 3986, 2.3)
 abbrev pub is_unreserved : ℕ → Bool
-is_unreserved b = is_ascii_alphanumeric b || b == hyphen || b == dot || b == underscore || b == tilde
+is_unreserved b = is_ascii_alphanumeric b || list_any (λ c. b == c) (codes "-._~")
 
 -- a byte of a location: itself, or `%` and two hexadecimal digits, those above 9 in capitals (RFC 3986, 2.1)
 abbrev pub location_byte : ℕ → List ℕ
@@ -158,12 +147,7 @@ location segments = flat_map (λ s. slash ∷ flat_map location_byte s) segments
 abbrev pub joined : List (List ℕ) → List ℕ
 joined segments = join_with_byte slash segments
 
--- a file by its name, or none
-abbrev pub file_or_missing : Option ℕ → Outcome
-file_or_missing (Some file) = outcomes.File file
-file_or_missing None = outcomes.Missing
-
--- a file, a folder named without its slash, or none
+-- a file, or a folder that was named without its slash, or none
 abbrev pub file_or_folder : Option ℕ → Bool → List ℕ → Outcome
 file_or_folder (Some file) folder to = outcomes.File file
 file_or_folder None true to = outcomes.Move to
@@ -171,8 +155,8 @@ file_or_folder None false to = outcomes.Missing
 
 -- In folder form the folder's `index.html` is asked for; else a file, and a folder of that name is redirected to.
 abbrev pub outcome : List File → Asked → Outcome
-outcome files (askeds.Path segments true) = file_or_missing
-    (position_of files (joined (segments ++ codes "index.html" ∷ [])))
+outcome files (askeds.Path segments true) = file_or_folder
+    (position_of files (joined (segments ++ codes "index.html" ∷ []))) false []
 outcome files (askeds.Path segments false) = file_or_folder (position_of files (joined segments))
     (has_folder files (joined segments)) (location segments)
 outcome files askeds.Missing = outcomes.Missing

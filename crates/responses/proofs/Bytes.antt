@@ -1,14 +1,16 @@
 -- Which bytes the values of fields have.
-use Rattle.std.proofs.Common.{◌≡◌, ℕ, zero, suc, ◌/◌, ◌%◌, ◌==◌, ◌&&◌, not, Bool, true, false, cond, List, [], ◌∷◌, ◌++◌, decimal, refl, ap, ◌∙◌, arith}
+use Rattle.std.proofs.Common.{◌≡◌, ℕ, zero, suc, ◌/◌, ◌%◌, ◌==◌, ◌&&◌, not, Bool, true, false, cond, List, [], ◌∷◌, ◌++◌, decimal, codes, ◌^◌, ◌<◌, nat_lt, nat_eq, length, unwrap_or, Some, length-append, ltb-true, refl, ap, ◌∙◌, arith}
 use Rattle.std.proofs.lemmas.Bool.Decides.{nat_tests}
 use Rattle.std.proofs.lemmas.List.Elements.{All-cons, All-nil}
 use Rattle.std.specs.List.{list_all}
 use Rattle.std.specs.Char.{is_ascii_digit, is_ascii_graphic}
+use Rattle.std.specs.Map.{lookup}
 use Rattle.std.specs.Fmt.{digits, digits_onto, digit_glyph}
 use Rattle.httparse.specs.Grammar.{AllPass, is_value_byte, is_ows}
 use Rattle.page_cache.specs.declared.media.MediaType.{MediaType}
 use Rattle.page_cache.specs.declared.media.MediaType.TheVariants.{Html, Css, JavaScript, Json, Plain, Svg, Png, Jpeg, Gif, OctetStream}
 use Rattle.page_cache.specs.Reference.{media_text}
+use Rattle.responses.specs.Reference.{status_rows, status_words, status_text}
 
 pub both : (a b : Bool) → a && b ≡ true → (a ≡ true) × (b ≡ true)
 both true true h = (refl, refl)
@@ -16,7 +18,7 @@ both true false h = absurd (cc)
 both false b h = absurd (cc)
 
 -- both parts pass
-pub list_all-append : (test : ℕ → Bool) (xs ys : List ℕ) → list_all test xs ≡ true → list_all test ys ≡ true → list_all test (xs ++ ys) ≡ true
+pub list_all-append : {A : Type 0} (test : A → Bool) (xs ys : List A) → list_all test xs ≡ true → list_all test ys ≡ true → list_all test (xs ++ ys) ≡ true
 list_all-append test [] ys first second = second
 list_all-append test (x ∷ xs) ys first second =
     let parts = both (test x) (list_all test xs) first in
@@ -88,3 +90,16 @@ media_value Png = refl
 media_value Jpeg = refl
 media_value Gif = refl
 media_value OctetStream = refl
+
+-- no status has a long text
+most_words : (rows : List (ℕ × List ℕ)) → list_all (λ row. nat_lt (length row.1) 99) rows ≡ true → (code : ℕ) → length (unwrap_or (lookup (nat_eq code) rows) []) < 99
+most_words [] short code = omega arith
+most_words (row ∷ rows) short code =
+    let parts = both (nat_lt (length row.1) 99) (list_all (λ row. nat_lt (length row.1) 99) rows) short in
+    elim (nat_eq code row.0) as (λ t. length (unwrap_or (cond t (Some row.1) (lookup (nat_eq code) rows)) []) < 99) [
+      | true ↦ ltb-true _ _ parts.0
+      | false ↦ most_words rows parts.1 code
+    ]
+
+pub status_text_short : (code : ℕ) → length (status_text code) < 2 ^ 64
+status_text_short code = omega (arith, most_words status_rows refl code, length-append (status_words code) (codes "\n"))

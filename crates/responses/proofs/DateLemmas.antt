@@ -1,5 +1,5 @@
 -- The date of a second is the one that `httpdate` keeps for it.
-use Rattle.std.proofs.Common.{◌≡◌, ℕ, zero, suc, ◌+◌, ◌-◌, ◌/◌, ◌%◌, ◌<◌, ◌≤◌, ◌&&◌, Bool, true, false, nat_lt, cond, List, [], ◌∷◌, codes, get_or, refl, sym, ap, ◌∙◌, arith, ltb-true, ltb-false}
+use Rattle.std.proofs.Common.{◌≡◌, ℕ, zero, suc, ◌+◌, ◌-◌, ◌/◌, ◌%◌, ◌<◌, ◌≤◌, ◌&&◌, Bool, true, false, nat_le, cond, List, [], ◌∷◌, codes, get_or, refl, sym, ap, ◌∙◌, arith, leb-true, leb-false}
 use Rattle.httpdate.specs.declared.parts.Parts.{Parts}
 use Rattle.httpdate.specs.declared.date.HttpDate.{HttpDate}
 use Rattle.httpdate.specs.Calendar.{days_in_year, days_in_month, days_of_years, days_of_months, days_from_civil, weekday}
@@ -13,61 +13,24 @@ use Rattle.responses.proofs.Bytes.{both, Good, joined}
 use Rattle.httpdate.proofs.CalendarLemmas.{days_of_years_closed, days_of_months_all}
 use Rattle.httpdate.proofs.Theorems.{date_text_is}
 use Rattle.httpdate.proofs.ValidLemmas.{is_valid_complete}
-use Rattle.responses.specs.Reference.{year_from, month_from, parts_at, imf_date}
+use Rattle.responses.specs.Reference.{passed, parts_at, imf_date}
 
--- the year that was found is one of those that were looked at, the day lies in it, and no day was lost
-record InYear (most year day : ℕ) (found : ℕ × ℕ) : Type 0 where
-  low : year ≤ found.0
-  high : found.0 ≤ year + most
-  inside : found.1 < days_in_year found.0
-  days : days_of_years (found.0 - 1970) + found.1 ≡ days_of_years (year - 1970) + day
+-- the day lies in the year or the month that was found
+record Passed (days : ℕ → ℕ) (most day n : ℕ) : Type 0 where
+  high : n ≤ most
+  begun : days n ≤ day
+  open_still : day < days (suc n)
 
-year_found : (most year day : ℕ) → 1970 ≤ year → days_of_years (year - 1970) + day < days_of_years (year + most + 1 - 1970) → InYear most year day (year_from most year day)
-unfolding year_from days_of_years
-year_found zero year day from lt =
-    let next : year + 0 + 1 - 1970 ≡ suc (year - 1970) = omega arith in
-    let same : 1970 + (year - 1970) ≡ year = omega arith in
-    record { low = omega arith; high = omega arith; inside = omega (arith, rw (next, same) at lt); days = refl }
-year_found (suc most) year day from lt = by_test (year_found most (year + 1) (day - days_in_year year)) (nat_lt day (days_in_year year)) refl
+passed_found : (days : ℕ → ℕ) (most day : ℕ) → days 0 ≤ day → day < days (suc most) → Passed days most day (passed days most day)
+unfolding passed
+passed_found days zero day low lt = record { high = omega arith; begun = low; open_still = lt }
+passed_found days (suc most) day low lt = by_test (passed_found days most day low) (nat_le (days (suc most)) day) refl
   where
-    by_test : (1970 ≤ year + 1 → days_of_years (year + 1 - 1970) + (day - days_in_year year) < days_of_years (year + 1 + most + 1 - 1970) → InYear most (year + 1) (day - days_in_year year) (year_from most (year + 1) (day - days_in_year year)))
-        → (t : Bool) → nat_lt day (days_in_year year) ≡ t → InYear (suc most) year day (cond t (year, day) (year_from most (year + 1) (day - days_in_year year)))
-    by_test after true here = record { low = omega arith; high = omega arith; inside = omega (arith, ltb-true _ _ here); days = refl }
-    by_test after false later =
-        let past : days_in_year year ≤ day = omega (arith, ltb-false _ _ later) in
-        let next : year + 1 - 1970 ≡ suc (year - 1970) = omega arith in
-        let same : 1970 + (year - 1970) ≡ year = omega arith in
-        let end : year + 1 + most + 1 - 1970 ≡ year + suc most + 1 - 1970 = omega arith in
-        let moved : days_of_years (year + 1 - 1970) + (day - days_in_year year) ≡ days_of_years (year - 1970) + day = rw (next, same) (omega arith) in
-        let found = after (omega arith) (rw (moved, end) lt) in
-        record { low = omega (arith, found.low); high = omega (arith, found.high); inside = found.inside; days = found.days ∙ moved }
-
--- the same of the month
-record InMonth (most year month day : ℕ) (found : ℕ × ℕ) : Type 0 where
-  low : month ≤ found.0
-  high : found.0 ≤ month + most
-  inside : found.1 < days_in_month year found.0
-  days : days_of_months year (found.0 - 1) + found.1 ≡ days_of_months year (month - 1) + day
-
-month_found : (most year month day : ℕ) → 1 ≤ month → days_of_months year (month - 1) + day < days_of_months year (month + most) → InMonth most year month day (month_from most year month day)
-unfolding month_from days_of_months
-month_found zero year month day from lt =
-    let next : month + 0 ≡ suc (month - 1) = omega arith in
-    let same : suc (month - 1) ≡ month = omega arith in
-    record { low = omega arith; high = omega arith; inside = omega (arith, rw (next, same) at lt); days = refl }
-month_found (suc most) year month day from lt = by_test (month_found most year (month + 1) (day - days_in_month year month)) (nat_lt day (days_in_month year month)) refl
-  where
-    by_test : (1 ≤ month + 1 → days_of_months year (month + 1 - 1) + (day - days_in_month year month) < days_of_months year (month + 1 + most) → InMonth most year (month + 1) (day - days_in_month year month) (month_from most year (month + 1) (day - days_in_month year month)))
-        → (t : Bool) → nat_lt day (days_in_month year month) ≡ t → InMonth (suc most) year month day (cond t (month, day) (month_from most year (month + 1) (day - days_in_month year month)))
-    by_test after true here = record { low = omega arith; high = omega arith; inside = omega (arith, ltb-true _ _ here); days = refl }
-    by_test after false later =
-        let past : days_in_month year month ≤ day = omega (arith, ltb-false _ _ later) in
-        let next : month + 1 - 1 ≡ suc (month - 1) = omega arith in
-        let same : suc (month - 1) ≡ month = omega arith in
-        let end : month + 1 + most ≡ month + suc most = omega arith in
-        let moved : days_of_months year (month + 1 - 1) + (day - days_in_month year month) ≡ days_of_months year (month - 1) + day = rw (next, same) (omega arith) in
-        let found = after (omega arith) (rw (moved, end) lt) in
-        record { low = omega (arith, found.low); high = omega (arith, found.high); inside = found.inside; days = found.days ∙ moved }
+    by_test : (day < days (suc most) → Passed days most day (passed days most day)) → (t : Bool) → nat_le (days (suc most)) day ≡ t → Passed days (suc most) day (cond t (suc most) (passed days most day))
+    by_test before true over = record { high = omega arith; begun = leb-true _ _ over; open_still = lt }
+    by_test before false later =
+        let found = before (leb-false _ _ later) in
+        record { high = omega (arith, found.high); begun = found.begun; open_still = found.open_still }
 
 -- the numbers of a second up to the year 9999: a valid date, of just that second
 parts_right : (second : ℕ) → second ≤ 253402300799 → IsValid (parts_at second) × (parts_secs (parts_at second) ≡ second)
@@ -75,14 +38,23 @@ unfolding parts_at
 parts_right second most =
     let day = second / 86400 in
     let begin : days_of_years 0 ≡ 0 = unfold days_of_years in refl in
-    let year = year_from 8029 1970 day in
-    let in_year : InYear 8029 1970 day year = year_found 8029 1970 day (omega arith) (omega (arith, begin, days_of_years_closed 8030)) in
-    let first : days_of_months year.0 0 ≡ 0 = unfold days_of_months in refl in
-    let month = month_from 11 year.0 1 year.1 in
-    let in_month : InMonth 11 year.0 1 year.1 month = month_found 11 year.0 1 year.1 (omega arith) (rw (days_of_months_all year.0, first) (omega (arith, in_year.inside))) in
-    let days : days_from_civil year.0 month.0 (month.1 + 1) ≡ day = omega (arith, in_year.days, in_month.days, begin, first) in (
+    let years = passed days_of_years 8029 day in
+    let in_year : Passed days_of_years 8029 day years = passed_found days_of_years 8029 day (omega (arith, begin)) (omega (arith, begin, days_of_years_closed 8030)) in
+    let year = 1970 + years in
+    let rest = day - days_of_years years in
+    let year_ends : days_of_years (suc years) ≡ days_of_years years + days_in_year year = unfold days_of_years in refl in
+    let first : days_of_months year 0 ≡ 0 = unfold days_of_months in refl in
+    let whole : days_of_months year 12 ≡ days_in_year year = days_of_months_all year in
+    let months = passed (days_of_months year) 11 rest in
+    let in_month : Passed (days_of_months year) 11 rest months = passed_found (days_of_months year) 11 rest (omega (arith, first)) (omega (arith, whole, in_year.open_still, year_ends, in_year.begun)) in
+    let month_ends : days_of_months year (suc months) ≡ days_of_months year months + days_in_month year (suc months) = unfold days_of_months in refl in
+    let next : months + 1 ≡ suc months = omega arith in
+    let since : year - 1970 ≡ years = omega arith in
+    let before : months + 1 - 1 ≡ months = omega arith in
+    let inside : rest - days_of_months year months + 1 ≤ days_in_month year (months + 1) = rw next (omega (arith, in_month.open_still, in_month.begun, month_ends)) in
+    let days : days_from_civil year (months + 1) (rest - days_of_months year months + 1) ≡ day = rw (since, before) (omega (arith, in_year.begun, in_month.begun)) in (
       (
-        ((omega (arith, in_year.low), omega (arith, in_year.high)), (omega (arith, in_month.low), omega (arith, in_month.high)), (omega arith, omega (arith, in_month.inside))),
+        ((omega arith, omega (arith, in_year.high)), (omega arith, omega (arith, in_month.high)), (omega arith, inside)),
         (omega arith, omega arith, omega arith),
         ap weekday (sym days),
       ),

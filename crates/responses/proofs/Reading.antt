@@ -1,7 +1,6 @@
 -- A reply is read back, whatever follows it.
-use Rattle.std.proofs.Common.{◌≡◌, ℕ, ◌^◌, ◌<◌, ◌≤◌, ◌||◌, ◌&&◌, not, nat_lt, Bool, true, false, cond, List, [], ◌∷◌, ◌++◌, length, take, drop, reverse, Option, Some, None, codes, decimal, min, subst, refl, sym, ap, ◌∙◌}
-use Rattle.std.specs.Option.{option_map}
-use Rattle.std.specs.List.{list_all}
+use Rattle.std.proofs.Common.{◌≡◌, ℕ, ◌^◌, ◌<◌, ◌≤◌, ◌||◌, ◌&&◌, not, nat_lt, Bool, true, false, cond, List, [], ◌∷◌, ◌++◌, map, length, take, drop, reverse, Option, Some, None, codes, decimal, subst, refl, sym, ap, ◌∙◌}
+use Rattle.std.specs.List.{filter, list_all}
 use Rattle.std.specs.Char.{is_ascii_digit}
 use Rattle.std.specs.Str.{str_eq_ignore_ascii_case}
 use Rattle.std.proofs.lemmas.List.{append_assoc, take_at, drop_at, reverse-append}
@@ -10,38 +9,66 @@ use Rattle.std.proofs.lemmas.Fmt.{decimal_is_IsNumeral, decimal_nonempty}
 use Rattle.httparse.specs.Grammar.{Field, ResponseHead, status_code, is_ows, skip_ows, trim_ows}
 use Rattle.httparse.proofs.TrimLemmas.{trim_ows_space}
 use Rattle.httparse.proofs.GrammarLemmas.{response_unique}
-use Rattle.http_requests.specs.Reference.{is_given, lines_of, values_of}
+use Rattle.http_requests.specs.Reference.{is_given, lines_of, same_text, values_of}
 use Rattle.paths.specs.declared.file.File.{File}
+use Rattle.paths.specs.Reference.{file_of}
+use Rattle.page_cache.specs.Reference.{media_of, media_text}
 use Rattle.responses.specs.declared.slip.Given.{Given}
 use Rattle.responses.specs.declared.slip.Given.TheVariants.{Page, Known, Unmodified, Moved, Plain}
 use Rattle.responses.specs.declared.slip.Slip.{Slip}
+use Rattle.responses.specs.declared.slip.Persistence.{Persistence}
+use Rattle.responses.specs.declared.slip.Persistence.TheVariants.{Close, KeepAlive, Silent}
 use Rattle.std.specs.Str.Parse.{digits_value}
-use Rattle.responses.specs.declared.slip.Status.{Status}
 use Rattle.responses.specs.declared.slip.Status.TheVariants.{BadRequest, NotFound, MethodNotAllowed, ContentTooLarge, NotImplemented, ServiceUnavailable}
-use Rattle.responses.specs.Reference.{imf_date, content_type, last_modified, location_of, allow_of, retry_after_of, connection_of, plain_status, status_of, content_length, content_of, fields_of, head_text, body_text, reply_text}
-use Rattle.responses.specs.Replies.{HasLocation, OnlyHead}
+use Rattle.responses.specs.Reference.{imf_date, content_fields, described, changed, own_fields, connection_fields, status_of, status_text, content_of, head_text, reply_text}
+use Rattle.responses.specs.Replies.{HasLocation, OnlyHead, body_text}
 use Rattle.responses.specs.Messages.{stated_length, body_length, is_bodyless, Reads, IsHead, IsReply}
-use Rattle.responses.proofs.Bytes.{both, decimal_digits, decimal_no_space}
-use Rattle.responses.proofs.Heads.{add_field, parsed, in_words, head_of, head_printed, head_valid}
-
--- a field of another name adds no value
-other : (name own : List ℕ) (value : Option (List ℕ)) (fields : List Field) → str_eq_ignore_ascii_case own name ≡ false → values_of name (lines_of (add_field own value fields)) ≡ values_of name (lines_of fields)
-other name own None fields no_match = refl
-other name own (Some value) fields no_match = ap (λ t. cond t (trim_ows (32 ∷ value) ∷ values_of name (lines_of fields)) (values_of name (lines_of fields))) no_match
+use Rattle.responses.proofs.Bytes.{both, list_all-append, decimal_digits, decimal_no_space}
+use Rattle.responses.proofs.Heads.{as_field, in_words, head_of, head_printed, head_valid}
 
 turned : (t : Bool) → not t ≡ true → t ≡ false
 turned true h = absurd (cc)
 turned false h = refl
 
-others : (name : List ℕ) (front rest : List (List ℕ × Option (List ℕ))) → list_all (λ field. not (str_eq_ignore_ascii_case field.0 name)) front ≡ true
-    → values_of name (lines_of (parsed (front ++ rest))) ≡ values_of name (lines_of (parsed rest))
-others name [] rest none = refl
-others name (field ∷ front) rest none =
-    let parts = both (not (str_eq_ignore_ascii_case field.0 name)) (list_all (λ f. not (str_eq_ignore_ascii_case f.0 name)) front) none in
-    other name field.0 field.1 (parsed (front ++ rest)) (turned (str_eq_ignore_ascii_case field.0 name) parts.0) ∙ others name front rest parts.1
+-- a field of another name adds no value
+other : (name : List ℕ) (field : List ℕ × List ℕ) (fields : List Field) → str_eq_ignore_ascii_case field.0 name ≡ false → values_of name (lines_of (as_field field ∷ fields)) ≡ values_of name (lines_of fields)
+other name field fields no_match =
+    let rest = filter (λ line. same_text line.0 name) (lines_of fields) in
+    ap (λ t. map (λ line. line.1) (cond t ((field.0, trim_ows (32 ∷ field.1)) ∷ rest) rest)) no_match
 
-no_coding : {X : Type 0} (files : List File) (slip : Slip X) → values_of (codes "transfer-encoding") (lines_of (parsed (fields_of files slip))) ≡ []
-no_coding files slip = others (codes "transfer-encoding") (fields_of files slip) [] refl
+abbrev has_none : List ℕ → List (List ℕ × List ℕ) → Bool
+has_none name fields = list_all (λ field. not (str_eq_ignore_ascii_case field.0 name)) fields
+
+others : (name : List ℕ) (fields : List (List ℕ × List ℕ)) → has_none name fields ≡ true → values_of name (lines_of (map as_field fields)) ≡ []
+others name [] none = refl
+others name (field ∷ fields) none =
+    let parts = both (not (str_eq_ignore_ascii_case field.0 name)) (has_none name fields) none in
+    other name field (map as_field fields) (turned (str_eq_ignore_ascii_case field.0 name) parts.0) ∙ others name fields parts.1
+
+abbrev answer_fields : {X : Type 0} → List File → ℕ → Persistence → Given X → List (List ℕ × List ℕ)
+answer_fields files date link what = (codes "Date", imf_date date) ∷ (own_fields files date what ++ connection_fields link)
+
+no_coding_own : {X : Type 0} (files : List File) (date : ℕ) (what : Given X) → has_none (codes "transfer-encoding") (own_fields files date what) ≡ true
+no_coding_own files date (Page file mtime) = refl
+no_coding_own files date (Known media len mtime) = refl
+no_coding_own files date (Unmodified mtime) = refl
+no_coding_own files date (Moved location) = refl
+no_coding_own files date (Plain BadRequest) = refl
+no_coding_own files date (Plain NotFound) = refl
+no_coding_own files date (Plain MethodNotAllowed) = refl
+no_coding_own files date (Plain ContentTooLarge) = refl
+no_coding_own files date (Plain NotImplemented) = refl
+no_coding_own files date (Plain (ServiceUnavailable seconds)) = refl
+
+no_coding_linked : (link : Persistence) → has_none (codes "transfer-encoding") (connection_fields link) ≡ true
+no_coding_linked Close = refl
+no_coding_linked KeepAlive = refl
+no_coding_linked Silent = refl
+
+no_coding : {X : Type 0} (files : List File) (date : ℕ) (link : Persistence) (what : Given X) → values_of (codes "transfer-encoding") (lines_of (map as_field (answer_fields files date link what))) ≡ []
+no_coding files date link what =
+    others (codes "transfer-encoding") (answer_fields files date link what)
+    (list_all-append (λ field. not (str_eq_ignore_ascii_case field.0 (codes "transfer-encoding"))) (own_fields files date what) (connection_fields link) (no_coding_own files date what) (no_coding_linked link))
 
 -- a text without white space is not trimmed
 no_skip : (v : List ℕ) → list_all (λ b. not (is_ows b)) v ≡ true → skip_ows v ≡ v
@@ -63,18 +90,15 @@ list_all-reverse test (x ∷ xs) all =
 trimmed : (n : ℕ) → trim_ows (32 ∷ decimal n) ≡ decimal n
 trimmed n = trim_ows_space (decimal n) (no_skip (decimal n) (decimal_no_space n)) (no_skip (reverse (decimal n)) (list_all-reverse (λ b. not (is_ows b)) (decimal n) (decimal_no_space n)))
 
-lone_length : {X : Type 0} (files : List File) (slip : Slip X) (n : ℕ) → content_length files slip.what ≡ Some n → values_of (codes "content-length") (lines_of (parsed (fields_of files slip))) ≡ decimal n ∷ []
-lone_length files slip n is =
-    let name = codes "content-length" in
-    let front = (codes "Date", Some (imf_date slip.date)) ∷ (codes "Content-Type", content_type files slip.what) ∷ [] in
-    let back =
-    (codes "Last-Modified", option_map (λ mtime. imf_date (min mtime slip.date)) (last_modified slip.what))
-    ∷ (codes "Location", location_of slip.what) ∷ (codes "Allow", allow_of slip.what)
-    ∷ (codes "Retry-After", option_map decimal (retry_after_of slip.what)) ∷ (codes "Connection", connection_of slip.link) ∷ [] in
-    others name front ((codes "Content-Length", option_map decimal (content_length files slip.what)) ∷ back) refl
-    ∙ ap (λ o. values_of name (lines_of (add_field (codes "Content-Length") (option_map decimal o) (parsed back)))) is
-    ∙ ap (λ v. trim_ows (32 ∷ decimal n) ∷ v) (others name back [] refl)
-    ∙ ap (λ v. v ∷ []) (trimmed n)
+no_length : (link : Persistence) → has_none (codes "content-length") (connection_fields link) ≡ true
+no_length Close = refl
+no_length KeepAlive = refl
+no_length Silent = refl
+
+lone_length : (date media : List ℕ) (n : ℕ) (back : List (List ℕ × List ℕ)) → has_none (codes "content-length") back ≡ true
+    → values_of (codes "content-length") (lines_of (map as_field ((codes "Date", date) ∷ (content_fields media n ++ back)))) ≡ decimal n ∷ []
+lone_length date media n back none =
+    ap (λ v. trim_ows (32 ∷ decimal n) ∷ v) (others (codes "content-length") back none) ∙ ap (λ v. v ∷ []) (trimmed n)
 
 -- what the head tells of the body
 stated_number : (n : ℕ) → n < 2 ^ 64 → stated_length (decimal n ∷ []) ≡ Some n
@@ -96,28 +120,34 @@ stated_by head h status n code body get coding value lt =
     ∙ stated_number n lt
 
 -- what stands in the place of a body where the answer isn't to HEAD
-get_stated : {X : Type 0} (files : List File) (what : Given X) (h : ResponseHead) → OnlyHead false what → length (content_of files what) < 2 ^ 64 → status_code h ≡ status_of what
-    → values_of (codes "transfer-encoding") (lines_of h.fields) ≡ [] → ((n : ℕ) → content_length files what ≡ Some n → values_of (codes "content-length") (lines_of h.fields) ≡ decimal n ∷ [])
-    → body_length false h ≡ Some (length (content_of files what))
-get_stated files (Page file mtime) h only fits code coding value = stated_by false h 200 _ code refl refl coding (value _ refl) fits
-get_stated files (Known media len mtime) h only fits code coding value = absurd (cc)
-get_stated files (Unmodified mtime) h only fits code coding value = ap (λ s. cond (is_bodyless s) (Some 0) (cond (is_given (values_of (codes "transfer-encoding") (lines_of h.fields))) None (stated_length (values_of (codes "content-length") (lines_of h.fields))))) code
-get_stated files (Moved location) h only fits code coding value = stated_by false h 301 _ code refl refl coding (value _ refl) fits
-get_stated files (Plain status) h only fits code coding value = stated_by false h (plain_status status) _ code (has_body status) refl coding (value _ refl) fits
+get_stated : {X : Type 0} (files : List File) (date : ℕ) (link : Persistence) (what : Given X) (h : ResponseHead) → OnlyHead false what → length (content_of files what) < 2 ^ 64
+    → status_code h ≡ status_of what → h.fields ≡ map as_field (answer_fields files date link what) → body_length false h ≡ Some (length (content_of files what))
+get_stated {X = X} files date link what h only fits code is =
+    go what only fits code (ap (λ f. values_of (codes "transfer-encoding") (lines_of f)) is ∙ no_coding files date link what) (ap (λ f. values_of (codes "content-length") (lines_of f)) is)
   where
-    has_body : (status : Status) → is_bodyless (plain_status status) ≡ false
-    has_body BadRequest = refl
-    has_body NotFound = refl
-    has_body MethodNotAllowed = refl
-    has_body ContentTooLarge = refl
-    has_body NotImplemented = refl
-    has_body (ServiceUnavailable seconds) = refl
+    as_text : (status : ℕ) (back : List (List ℕ × List ℕ)) → is_bodyless status ≡ false → has_none (codes "content-length") back ≡ true → status_code h ≡ status → values_of (codes "transfer-encoding") (lines_of h.fields) ≡ []
+        → values_of (codes "content-length") (lines_of h.fields) ≡ values_of (codes "content-length") (lines_of (map as_field ((codes "Date", imf_date date) ∷ (described status ++ back)))) → length (status_text status) < 2 ^ 64
+        → body_length false h ≡ Some (length (status_text status))
+    as_text status back body none code coding value fits = stated_by false h status (length (status_text status)) code body refl coding (value ∙ lone_length (imf_date date) (codes "text/plain") (length (status_text status)) back none) fits
 
-stated : {X : Type 0} (files : List File) (what : Given X) (head : Bool) (h : ResponseHead) → OnlyHead head what → (head ≡ false → length (content_of files what) < 2 ^ 64) → status_code h ≡ status_of what
-    → values_of (codes "transfer-encoding") (lines_of h.fields) ≡ [] → ((n : ℕ) → content_length files what ≡ Some n → values_of (codes "content-length") (lines_of h.fields) ≡ decimal n ∷ [])
+    go : (what : Given X) → OnlyHead false what → length (content_of files what) < 2 ^ 64 → status_code h ≡ status_of what → values_of (codes "transfer-encoding") (lines_of h.fields) ≡ []
+        → values_of (codes "content-length") (lines_of h.fields) ≡ values_of (codes "content-length") (lines_of (map as_field (answer_fields files date link what))) → body_length false h ≡ Some (length (content_of files what))
+    go (Page file mtime) only fits code coding value = stated_by false h 200 (length (file_of files file).bytes) code refl refl coding (value ∙ lone_length (imf_date date) (media_text (media_of (file_of files file).name)) (length (file_of files file).bytes) (changed date mtime ++ connection_fields link) (no_length link)) fits
+    go (Known media len mtime) only fits code coding value = absurd (cc)
+    go (Unmodified mtime) only fits code coding value = ap (λ s. cond (is_bodyless s) (Some 0) (cond (is_given (values_of (codes "transfer-encoding") (lines_of h.fields))) None (stated_length (values_of (codes "content-length") (lines_of h.fields))))) code
+    go (Moved location) only fits code coding value = as_text 301 ((codes "Location", location) ∷ connection_fields link) refl (no_length link) code coding value fits
+    go (Plain BadRequest) only fits code coding value = as_text 400 (connection_fields link) refl (no_length link) code coding value fits
+    go (Plain NotFound) only fits code coding value = as_text 404 (connection_fields link) refl (no_length link) code coding value fits
+    go (Plain MethodNotAllowed) only fits code coding value = as_text 405 ((codes "Allow", codes "GET, HEAD") ∷ connection_fields link) refl (no_length link) code coding value fits
+    go (Plain ContentTooLarge) only fits code coding value = as_text 413 (connection_fields link) refl (no_length link) code coding value fits
+    go (Plain NotImplemented) only fits code coding value = as_text 501 (connection_fields link) refl (no_length link) code coding value fits
+    go (Plain (ServiceUnavailable seconds)) only fits code coding value = as_text 503 ((codes "Retry-After", decimal seconds) ∷ connection_fields link) refl (no_length link) code coding value fits
+
+stated : {X : Type 0} (files : List File) (date : ℕ) (link : Persistence) (what : Given X) (head : Bool) (h : ResponseHead) → OnlyHead head what
+    → (head ≡ false → length (content_of files what) < 2 ^ 64) → status_code h ≡ status_of what → h.fields ≡ map as_field (answer_fields files date link what)
     → body_length head h ≡ Some (length (cond head [] (content_of files what)))
-stated files what true h only fits code coding value = refl
-stated files what false h only fits code coding value = get_stated files what h only (fits refl) code coding value
+stated files date link what true h only fits code is = refl
+stated files date link what false h only fits code is = get_stated files date link what h only (fits refl) code is
 
 -- two lists with equal fronts
 same_parts : (a b c d : List ℕ) → length a ≡ length c → a ++ b ≡ c ++ d → (a ≡ c) × (b ≡ d)
@@ -134,9 +164,9 @@ pub reply_read : {X : Type 0} (files : List File) (slip : Slip X) → slip.date 
 reply_read files slip most only has fits =
     let h = head_of files slip in
     let body = body_text files slip in
-    let code : status_code h ≡ status_of slip.what = (in_words slip.what).code in
+    let code : status_code h ≡ status_of slip.what = (in_words slip.what).number in
     let is_head : IsHead (status_of slip.what) h = record { blank = refl; minor = refl; status = code } in
-    let length_stated : body_length slip.head h ≡ Some (length body) = stated files slip.what slip.head h only fits code (no_coding files slip) (lone_length files slip) in
+    let length_stated : body_length slip.head h ≡ Some (length body) = stated files slip.date slip.link slip.what slip.head h only fits code refl in
     let read : (more : List ℕ) → Reads slip.head (reply_text files slip ++ more) h body more = λ more. record {
       grammar = (head_valid files slip most has, append_assoc (head_text files slip) body more ∙ ap (λ v. v ++ (body ++ more)) (sym (head_printed files slip)));
       stated = length_stated;

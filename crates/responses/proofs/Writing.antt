@@ -1,9 +1,8 @@
 -- What stands at a device after a write after another.
-use Rattle.std.proofs.Common.{◌≡◌, ℕ, ◌+◌, ◌<◌, List, [], ◌∷◌, ◌++◌, length, take, drop, Option, Some, None, sym, ap, ◌∙◌, arith}
-use Rattle.std.proofs.lemmas.List.{append_assoc, length-append, take-append-le}
-use Rattle.std.proofs.Math.Seq.{take-add, take-append-add}
-use Rattle.std.specs.Io.KnownBytes.{Appends}
-use Rattle.responses.specs.Reference.{record_line, record_text}
+use Rattle.std.proofs.Common.{◌≡◌, ℕ, ◌+◌, List, [], ◌∷◌, ◌++◌, length, sym, ap, ◌∙◌, arith}
+use Rattle.std.proofs.lemmas.List.{append_assoc, length-append}
+use Rattle.responses.specs.Reference.{record_text}
+use Rattle.responses.specs.Replies.{record_line}
 
 -- a record in the parts in which it is written
 pub record_parts : (reply : ℕ × ℕ × List ℕ) (line shown front body : List ℕ) → shown ≡ line → line ≡ record_line reply.0 reply.1 (length front + length body) → reply.2 ≡ front ++ body

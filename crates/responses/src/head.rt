@@ -1,8 +1,9 @@
 //! Pushing a field, a number or a date.
 
-ghost use Rattle.std.specs.Prelude.{◌≡◌, ◌≤◌, ◌++◌, OnOk, Some, codes, decimal};
+ghost use Rattle.std.specs.Prelude.{◌≤◌, [], ◌∷◌, decimal};
 ghost use Rattle.paths.specs.Snapshots.{max_time};
-ghost use Rattle.responses.specs.Reference.{imf_date, field_line};
+ghost use Rattle.responses.specs.Reference.{imf_date};
+ghost use Rattle.responses.specs.Replies.{AddsFields};
 
 use crate::dates::DateText;
 use itoa::Buffer;
@@ -11,7 +12,7 @@ use std::alloc::AllocError;
 /// Adds a field after a head.
 #[inline(always)]
 pub(crate) fn push_field(head: &mut Vec<u8>, name: &[u8], value: &[u8]) -> Result<(), AllocError>
-    ensures { OnOk result (head.new.items ≡ head.old.items ++ field_line name.now (Some value.now)) }
+    ensures { AddsFields head.old.items head.new.items result ((name.now, value.now) ∷ []) }
 {
     head.extend_from_slice(name)?;
     head.extend_from_slice(b": ")?;
@@ -22,7 +23,7 @@ pub(crate) fn push_field(head: &mut Vec<u8>, name: &[u8], value: &[u8]) -> Resul
 
 /// Adds a field whose value is a number.
 pub(crate) fn push_number(head: &mut Vec<u8>, name: &[u8], number: u64) -> Result<(), AllocError>
-    ensures { OnOk result (head.new.items ≡ head.old.items ++ field_line name.now (Some (decimal number))) }
+    ensures { AddsFields head.old.items head.new.items result ((name.now, decimal number) ∷ []) }
 {
     let mut buffer = Buffer::new();
     push_field(head, name, buffer.format(number).as_bytes())
@@ -36,7 +37,7 @@ pub(crate) fn push_date(
     second: u64,
 ) -> Result<(), AllocError>
     requires { second ≤ max_time }
-    ensures { OnOk result (head.new.items ≡ head.old.items ++ field_line name.now (Some (imf_date second))) }
+    ensures { AddsFields head.old.items head.new.items result ((name.now, imf_date second) ∷ []) }
 {
     date.turn_to(second);
     push_field(head, name, &date.text)

@@ -3,7 +3,8 @@
 ghost use Rattle.std.specs.Prelude.{◌≡◌, ◌<◌, ◌≤◌, ◌+◌, ◌-◌, ◌^◌, ◌++◌, [], ◌∷◌, decimal};
 ghost use Rattle.devices.specs.Devices.{CanFail, WritesProperPrefix, CountsFailed};
 ghost use Rattle.arrayvec.specs.ArrayVec.{array_vec_len};
-ghost use Rattle.responses.specs.Reference.{record_line, record_text};
+ghost use Rattle.responses.specs.Reference.{record_text};
+ghost use Rattle.responses.specs.Replies.{record_line};
 
 use crate::Reply;
 use arrayvec::ArrayVec;

@@ -6,7 +6,7 @@ ghost use Rattle.responses.specs.Reference.{head_text};
 
 use crate::Slip;
 use crate::dates::Dates;
-use crate::fields::{push_connection, push_content, push_last_modified, push_own, status_words};
+use crate::fields::{push_connection, push_own};
 use crate::head::push_date;
 use paths::Tree;
 use std::alloc::{AllocError, Global};
@@ -23,12 +23,10 @@ pub(crate) fn push_head<F: Tree>(
     ensures { OnOk result (head.new.items ≡ head_text F.files slip.now) }
 {
     head.extend_from_slice(b"HTTP/1.1 ")?;
-    head.extend_from_slice(status_words(&slip.what))?;
+    head.extend_from_slice(slip.what.status_words())?;
     head.extend_from_slice(b"\r\n")?;
     push_date(head, &mut dates.date, b"Date", slip.date)?;
-    push_content(head, &slip.what)?;
-    push_last_modified(head, &mut dates.last_modified, &slip.what, slip.date)?;
-    push_own(head, &slip.what)?;
+    push_own(head, &mut dates.last_modified, slip.date, &slip.what)?;
     push_connection(head, slip.link)?;
     head.extend_from_slice(b"\r\n")?;
     Ok(())

@@ -2,12 +2,11 @@
 
 ghost use Rattle.std.specs.Prelude.{◌≡◌, ◌≤◌, ◌+◌, ◌<◌, ◌^◌, ◌++◌, length, IfOk, IfErr, OnOk};
 ghost use Rattle.paths.specs.Snapshots.{max_time};
-ghost use Rattle.responses.specs.Reference.{reply_text, head_text, body_text, status_of, content_of};
-ghost use Rattle.responses.specs.Replies.{OnlyHead, HasLocation, held_body, note_of, front_text};
+ghost use Rattle.responses.specs.Reference.{reply_text, head_text, status_of, status_text, content_of};
+ghost use Rattle.responses.specs.Replies.{OnlyHead, HasLocation, held_body, note_of, front_text, body_text};
 ghost use Rattle.responses.specs.Messages.{IsReply};
 
 use crate::dates::Dates;
-use crate::fields::status_words;
 use crate::rendering::push_head;
 use crate::{Given, SharedPage, Slip};
 use paths::Tree;
@@ -75,17 +74,23 @@ fn render_head<F: Tree>(alloc: Global, slip: &Slip<F>) -> Result<Vec<u8>, AllocE
     Ok(head)
 }
 
+/// Adds the status as a line.
+fn push_status<F: Tree>(front: &mut Vec<u8>, what: &Given<F>) -> Result<(), AllocError>
+    ensures { OnOk result (front.new.items ≡ front.old.items ++ status_text (status_of what.now)) }
+{
+    front.extend_from_slice(what.status_words())?;
+    front.extend_from_slice(b"\n")?;
+    Ok(())
+}
+
 /// Adds the body, where it is no file's.
 fn push_note<F: Tree>(front: &mut Vec<u8>, what: &Given<F>) -> Result<(), AllocError>
     ensures { OnOk result (front.new.items ≡ front.old.items ++ note_of what.now) }
 {
     match what {
-        Given::Moved { .. } | Given::Plain { .. } => {
-            front.extend_from_slice(status_words(what))?;
-            front.extend_from_slice(b"\n")?;
-            Ok(())
-        }
         Given::Page { .. } | Given::Known { .. } | Given::Unmodified { .. } => Ok(()),
+        Given::Moved { .. } => push_status(front, what),
+        Given::Plain { .. } => push_status(front, what),
     }
 }
 

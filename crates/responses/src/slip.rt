@@ -1,7 +1,8 @@
 //! All that a reply is made of: the slip, and its parts.
 
 ghost use Rattle.std.specs.Prelude.{◌≡◌, slice_get};
-ghost use Rattle.responses.specs.Reference.{plain_status, status_of, statuses};
+ghost use Rattle.responses.specs.Reference.{status_of, status_words, statuses};
+ghost use Rattle.responses.specs.declared.slip.Given.TheVariants.{Plain};
 
 use crate::SharedPage;
 use devices::Bytes;
@@ -43,28 +44,29 @@ pub enum Status {
 }
 
 impl Status {
-    /// The place of its code in `STATUS_CODES`.
-    pub fn place(self) -> usize
-        ensures { slice_get statuses result ≡ Some (plain_status self) }
+    /// The place of the code in `STATUS_CODES`, and the code with its reason.
+    fn row(self) -> (usize, &'static [u8])
+        ensures place { slice_get statuses result.0 ≡ Some (status_of {X = Unit {0}} (Plain self)) }
+        ensures words { result.1.now ≡ status_words (status_of {X = Unit {0}} (Plain self)) }
     {
         match self {
-            Status::BadRequest => 3,
-            Status::NotFound => 4,
-            Status::MethodNotAllowed => 5,
-            Status::ContentTooLarge => 6,
-            Status::NotImplemented => 7,
-            Status::ServiceUnavailable { .. } => 8,
+            Status::BadRequest => (3, b"400 Bad Request"),
+            Status::NotFound => (4, b"404 Not Found"),
+            Status::MethodNotAllowed => (5, b"405 Method Not Allowed"),
+            Status::ContentTooLarge => (6, b"413 Content Too Large"),
+            Status::NotImplemented => (7, b"501 Not Implemented"),
+            Status::ServiceUnavailable { .. } => (8, b"503 Service Unavailable"),
         }
     }
 }
 
-/// What a request is answered with. The type names the snapshot of the pages.
+/// What a request is answered with; `mtime` is when the file was last changed, in seconds since 1970-01-01. The type
+/// names the snapshot of the pages.
 #[derive(Drop)]
 pub enum Given<F: Tree> {
     /// 200 with the bytes of a file.
     Page {
         page: SharedPage<F>,
-        /// When the file was last changed, in seconds since 1970-01-01.
         mtime: u64,
     },
     /// 200 without the bytes, which answers HEAD.
@@ -72,12 +74,10 @@ pub enum Given<F: Tree> {
         media: MediaType,
         /// How many bytes the file has.
         len: u64,
-        /// When the file was last changed, in seconds since 1970-01-01.
         mtime: u64,
     },
     /// 304.
     Unmodified {
-        /// When the file was last changed, in seconds since 1970-01-01.
         mtime: u64,
     },
     /// 301.
@@ -92,16 +92,24 @@ pub enum Given<F: Tree> {
 }
 
 impl<F: Tree> Given<F> {
+    /// The place of the code of its status in `STATUS_CODES`, and the code with its reason.
+    fn row(&self) -> (usize, &'static [u8])
+        ensures place { slice_get statuses result.0 ≡ Some (status_of self.now) }
+        ensures words { result.1.now ≡ status_words (status_of self.now) }
+    {
+        match self {
+            Given::Page { .. } | Given::Known { .. } => (OK_PLACE, b"200 OK"),
+            Given::Moved { .. } => (1, b"301 Moved Permanently"),
+            Given::Unmodified { .. } => (2, b"304 Not Modified"),
+            Given::Plain { status } => status.row(),
+        }
+    }
+
     /// The place of the code of its status in `STATUS_CODES`.
     pub fn status_place(&self) -> usize
         ensures { slice_get statuses result ≡ Some (status_of self.now) }
     {
-        match self {
-            Given::Page { .. } | Given::Known { .. } => OK_PLACE,
-            Given::Moved { .. } => 1,
-            Given::Unmodified { .. } => 2,
-            Given::Plain { status } => status.place(),
-        }
+        self.row().0
     }
 
     /// The code of its status (RFC 9110, section 15).
@@ -109,6 +117,13 @@ impl<F: Tree> Given<F> {
         ensures { result ≡ status_of self.now }
     {
         STATUS_CODES[self.status_place()]
+    }
+
+    /// Its status and the reason, as `404 Not Found`.
+    pub(crate) fn status_words(&self) -> &'static [u8]
+        ensures { result.now ≡ status_words (status_of self.now) }
+    {
+        self.row().1
     }
 }
 

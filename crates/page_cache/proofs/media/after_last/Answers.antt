@@ -6,7 +6,7 @@ use Rattle.page_cache.proofs.media.after_last.Goals as goal
 pub returns-in-Some : goal.returns-in-Some
 returns-in-Some c =
     let found = after_last_at c.args.mark c.args.text.now c.in-Some.at (search rules) (search rules) (search rules) in
-    rw (found, take_rest)
+    rw take_rest found
 
 pub returns-in-None : goal.returns-in-None
-returns-in-None c = rw (after_last_none c.args.mark c.args.text.now (search rules))
+returns-in-None c = after_last_none c.args.mark c.args.text.now (search rules)

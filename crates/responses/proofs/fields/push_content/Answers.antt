@@ -1,7 +1,9 @@
-use Rattle.paths.specs.Reference.{file_of}
-use Rattle.responses.proofs.Joining.{page_fields_added}
+use Rattle.std.proofs.Common.{[], ◌∷◌, codes, decimal}
+use Rattle.responses.proofs.Joining.{on_ok, more_fields}
 use Rattle.responses.proofs.fields.push_content.Goals as goal
 
-pub returns-in_ok-extend_from_slice-in-Page : goal.returns-in_ok-extend_from_slice-in-Page
-returns-in_ok-extend_from_slice-in-Page g c =
-    rw c.in-Page.is (page_fields_added (file_of g.F.Tree.files c.in-Page.page) c.args.head.now.items _ _ c.fields.ensures c.in_ok-extend_from_slice-in-Page.ensures.items)
+pub returns : goal.returns
+returns c =
+    on_ok _ _ c.push_number.result
+    (more_fields c.args.head.now.items _ _ ((codes "Content-Type", c.args.media.now) ∷ []) ((codes "Content-Length", decimal c.args.len) ∷ []) c.in_ok-push_field.ensures)
+    c.push_number.ensures

@@ -1,7 +1,7 @@
 use Rattle.std.proofs.Common.{sym, ◌∙◌, subst}
 use mathlib.Core.Bool.{true≢false}
-use Rattle.responses.specs.Reference.{status_of, body_text}
-use Rattle.responses.specs.Replies.{note_of, held_body}
+use Rattle.responses.specs.Reference.{status_of}
+use Rattle.responses.specs.Replies.{note_of, held_body, body_text}
 use Rattle.responses.specs.Messages.{IsReply}
 use Rattle.responses.proofs.Joining.{held_head, held_get}
 use Rattle.responses.proofs.Reading.{reply_read}
