@@ -1,11 +1,10 @@
 -- What stands at a device, from what its buffer keeps.
 use Rattle.std.specs.Bool.{◌==◌}
 use Rattle.std.specs.Option.{option_map}
-use Rattle.std.proofs.Common.{◌≡◌, ℕ, ◌+◌, cond, List, [], ◌++◌, refl, length, take, drop, Option, Some, None, sym, ap, ◌∙◌}
-use Rattle.std.proofs.lemmas.List.{append_assoc, take-append-drop, append-nil}
-use Rattle.std.proofs.Math.Seq.{take-add}
-use Rattle.std.specs.Io.KnownBytes.{Appends, Keeps, append_known}
-use Rattle.program.specs.Buffers.{front_of, IsPrefix}
+use Rattle.std.proofs.Common.{◌≡◌, ℕ, cond, List, [], ◌++◌, refl, length, take, drop, Option, Some, None, sym, ap, ◌∙◌, subst}
+use Rattle.std.proofs.lemmas.List.{take-append-drop}
+use Rattle.std.specs.Io.KnownBytes.{Keeps, append_known}
+use Rattle.program.specs.Ports.{front_of, IsPrefix}
 
 some_of : {x y : List ℕ} → Some x ≡ Some y → x ≡ y
 some_of e = cc
@@ -24,16 +23,17 @@ part_stands (Some s) (Some xs) (Some ys) waited waits before begins keeps =
       sym keeps,
     )
 
--- what is known stays as it is
-pub keeps_same : (known : Option (List ℕ)) → Keeps known known
-keeps_same None = tt
-keeps_same (Some bytes) = refl
+-- what a buffered reader has, in whose room these bytes were read ahead
+abbrev pub behind : ℕ → List ℕ → Option (List ℕ) → Option (List ℕ)
+behind room ahead known = cond (room == 0) None (option_map (λ bytes. ahead ++ bytes) known)
 
-pub append_nothing : (known : Option (List ℕ)) → append_known known [] ≡ known
-append_nothing None = refl
-append_nothing (Some bytes) = ap Some (append-nil bytes)
-
--- where nothing was read ahead, a buffered reader has what its reader has
-pub nothing_ahead : (room : ℕ) (ahead : List ℕ) (known : Option (List ℕ)) → room ≡ 65536 → ahead ≡ [] → cond (room == 0) None (option_map (λ bytes. ahead ++ bytes) known) ≡ known
+-- where none were, that is what its reader has
+nothing_ahead : (room : ℕ) (ahead : List ℕ) (known : Option (List ℕ)) → room ≡ 65536 → ahead ≡ [] → behind room ahead known ≡ known
 nothing_ahead room ahead None is none = rw is refl
 nothing_ahead room ahead (Some bytes) is none = rw (is, none) refl
+
+pub both_behind : (P : Option (List ℕ) → Option (List ℕ) → Type 0) (room other_room : ℕ) (ahead other_ahead : List ℕ) (known other : Option (List ℕ)) → room ≡ 65536 → ahead ≡ [] → other_room ≡ 65536 → other_ahead ≡ []
+    → P (behind room ahead known) (behind other_room other_ahead other) → P known other
+both_behind P room other_room ahead other_ahead known other is none other_is other_none h =
+    subst (λ (k : Option (List ℕ)). P k other) (nothing_ahead room ahead known is none)
+    (subst (λ (k : Option (List ℕ)). P (behind room ahead known) k) (nothing_ahead other_room other_ahead other other_is other_none) h)

@@ -9,7 +9,7 @@ use Rattle.std.specs.Io.KnownBytes.{Appends}
 use Rattle.paths.specs.declared.file.File.{File}
 use Rattle.paths.specs.Snapshots.{last_line, text_before_end, snapshot_text, IsSnapshotText}
 use Rattle.paths.proofs.FilesOrFault.{rules_none}
-use Rattle.snapshots.specs.declared.so_far.SoFar.{SoFar}
+use Rattle.snapshots.specs.declared.so_far.FilesSoFar.{FilesSoFar}
 use Rattle.snapshots.specs.declared.write_fault.WriteFault.{WriteFault}
 use Rattle.snapshots.specs.declared.write_fault.WriteFault.TheVariants as rules
 use Rattle.snapshots.specs.Keeping.{a_file}
@@ -19,11 +19,11 @@ use Rattle.snapshots.proofs.Rulings.{keeps}
 use Rattle.snapshots.proofs.Taken.{whole}
 use Rattle.program.specs.declared.fault.Fault.{Fault}
 use Rattle.program.specs.declared.fault.Fault.TheVariants.{Open, Write, Memory}
-use Rattle.program.specs.declared.file_fault.FileFault.{FileFault}
+use Rattle.program.specs.declared.folder.FileFault.{FileFault}
 use Rattle.program.specs.declared.folder.Contents.{Contents}
 use Rattle.program.specs.declared.folder.Found.{Found}
-use Rattle.program.specs.declared.place.Place.TheVariants.{Output}
-use Rattle.program.specs.declared.place.Place.TheVariants as places
+use Rattle.program.specs.declared.fault.Place.TheVariants.{Output}
+use Rattle.program.specs.declared.fault.Place.TheVariants as places
 use Rattle.program.specs.Folders.{Answering, AddsFile, AddsFound, Breaks, Cuts, CutsFile, CutsFound, IsOutputFault, IsRefused, IsSnapshotRunFault, IsTaken, Names, Takes, WritesFolder, WritesFolderPrefix, name_of, refusal, unwritten}
 
 -- ---- the first line and the last
@@ -48,10 +48,10 @@ no_files = record {
 
 -- ---- one file
 
-still : (files : List File) (before : Option (List ℕ)) (old new : Device) (s next : SoFar) → (next ≡ s) × (new ≡ old) → Took files before old.bytes s → Took files before new.bytes next
+still : (files : List File) (before : Option (List ℕ)) (old new : Device) (s next : FilesSoFar) → (next ≡ s) × (new ≡ old) → Took files before old.bytes s → Took files before new.bytes next
 still files before old new s next same took = rw (same.0, same.1) took
 
-pub file_refused : (files : List File) (before : Option (List ℕ)) (f : File) (old new : Device) (s next : SoFar) (fault : WriteFault) (why : FileFault) → refusal fault ≡ Ok why
+pub file_refused : (files : List File) (before : Option (List ℕ)) (f : File) (old new : Device) (s next : FilesSoFar) (fault : WriteFault) (why : FileFault) → refusal fault ≡ Ok why
     → (fault ≢ rules.Write → (next ≡ s) × (new ≡ old)) → refused_for (Err fault) ≡ broken_rule files f → Took files before old.bytes s
     → Breaks files f why × Took files before new.bytes next
 file_refused files before f old new s next rules.Time why is same rule took = ((rules.Time, sym rule, is), still files before old new s next (same (λ e. cc)) took)
@@ -64,7 +64,7 @@ file_refused files before f old new s next rules.Text why is same rule took = ((
 file_refused files before f old new s next rules.Write why is same rule took = cc
 file_refused files before f old new s next rules.Memory why is same rule took = cc
 
-pub file_cut : (files : List File) (before : Option (List ℕ)) (f : File) (old new : Device) (s next : SoFar) (fault : WriteFault) (reported : Fault) → refusal fault ≡ Err reported
+pub file_cut : (files : List File) (before : Option (List ℕ)) (f : File) (old new : Device) (s next : FilesSoFar) (fault : WriteFault) (reported : Fault) → refusal fault ≡ Err reported
     → (fault ≡ rules.Write → AppendsPrefix before new.bytes (text_before_end (files ++ f ∷ [])))
     → (fault ≢ rules.Write → (next ≡ s) × (new ≡ old)) → refused_for (Err fault) ≡ broken_rule files f → Took files before old.bytes s
     → CutsFile files before f new.bytes reported
@@ -84,13 +84,13 @@ pub none_of : (o : Option FileFault) (b : Bool) → b ≡ is_some o → b ≡ fa
 none_of None b is isnt = refl
 none_of (Some x) b is isnt = (let never : true ≡ false = sym is ∙ isnt in cc)
 
-found_added : (answers : Answering) (files : List File) (before : Option (List ℕ)) (found : Found) (c : Contents) (r : Option FileFault) (now : Option (List ℕ)) (s : SoFar) → found.fault ≡ None → answers (name_of found) (Ok c)
+found_added : (answers : Answering) (files : List File) (before : Option (List ℕ)) (found : Found) (c : Contents) (r : Option FileFault) (now : Option (List ℕ)) (s : FilesSoFar) → found.fault ≡ None → answers (name_of found) (Ok c)
     → AddsFile files before (a_file (name_of found) c.mtime c.bytes.items) r now s → AddsFound answers files before found r now s
 found_added answers files before found c None now s known says h = (a_file (name_of found) c.mtime c.bytes.items, ((c, known, says, refl), h.0), h.1)
 found_added answers files before found c (Some fault) now s known says h =
     (inr (inr (a_file (name_of found) c.mtime c.bytes.items, (c, known, says, refl), h.0)), h.1)
 
-pub found_ok : (answers : Answering) (files : List File) (before : Option (List ℕ)) (found : Found) (c : Contents) (r : Result (Option FileFault) Fault) (now : Option (List ℕ)) (s : SoFar) → found.fault ≡ None → answers (name_of found) (Ok c)
+pub found_ok : (answers : Answering) (files : List File) (before : Option (List ℕ)) (found : Found) (c : Contents) (r : Result (Option FileFault) Fault) (now : Option (List ℕ)) (s : FilesSoFar) → found.fault ≡ None → answers (name_of found) (Ok c)
     → IfOk r (λ o. AddsFile files before (a_file (name_of found) c.mtime c.bytes.items) o now s) → IfOk r (λ o. AddsFound answers files before found o now s)
 found_ok answers files before found c (Ok o) now s known says h = found_added answers files before found c o now s known says h
 found_ok answers files before found c (Err f) now s known says h = tt
@@ -120,14 +120,14 @@ leaves_one answers before (y ∷ xs) x mid n fault (inl h) refused = inl (h.0, h
 leaves_one answers before (y ∷ xs) x mid n fault (inr h) refused = inr (h.0, h.1 + 1, h.2, ap (λ (k : ℕ). k + 1) h.3, leaves_one answers before xs x mid h.1 fault h.4 refused)
 
 -- what stands after n of what was found
-pub record Stands (answers : Answering) (found : List Found) (at : ℕ) (skip : Bool) (skipped : ℕ) (before now : Option (List ℕ)) (s : SoFar) : Type 0 where
+pub record Stands (answers : Answering) (found : List Found) (at : ℕ) (skip : Bool) (skipped : ℕ) (before now : Option (List ℕ)) (s : FilesSoFar) : Type 0 where
   pub files : List File
   pub takes : Takes answers [] (take at found) files skipped
   pub took : Took files before now s
   pub all : skip ≡ false → skipped ≡ 0
   pub few : skipped ≤ at
 
-pub stands_none : (answers : Answering) (found : List Found) (skip : Bool) (before now : Option (List ℕ)) (s : SoFar) → Took [] before now s → Stands answers found 0 skip 0 before now s
+pub stands_none : (answers : Answering) (found : List Found) (skip : Bool) (before now : Option (List ℕ)) (s : FilesSoFar) → Took [] before now s → Stands answers found 0 skip 0 before now s
 stands_none answers found skip before now s took = record {
   files = [];
   takes = (refl, refl);
@@ -136,7 +136,7 @@ stands_none answers found skip before now s took = record {
   few = omega arith;
 }
 
-pub stands_taken : (answers : Answering) (found : List Found) (at : ℕ) (skip : Bool) (skipped : ℕ) (before now new : Option (List ℕ)) (s next : SoFar) (item : Found) → at < length found → item ≡ get_or found at item
+pub stands_taken : (answers : Answering) (found : List Found) (at : ℕ) (skip : Bool) (skipped : ℕ) (before now new : Option (List ℕ)) (s next : FilesSoFar) (item : Found) → at < length found → item ≡ get_or found at item
     → (stands : Stands answers found at skip skipped before now s) → AddsFound answers stands.files before item None new next → Stands answers found (at + 1) skip skipped before new next
 stands_taken answers found at skip skipped before now new s next item lt is stands adds = record {
   files = stands.files ++ adds.0 ∷ [];
@@ -148,7 +148,7 @@ stands_taken answers found at skip skipped before now new s next item lt is stan
   few = omega (arith, stands.few);
 }
 
-pub stands_left : (answers : Answering) (found : List Found) (at : ℕ) (skip : Bool) (skipped : ℕ) (before now new : Option (List ℕ)) (s next : SoFar) (item : Found) (fault : FileFault) → at < length found → item ≡ get_or found at item → skip ≡ true
+pub stands_left : (answers : Answering) (found : List Found) (at : ℕ) (skip : Bool) (skipped : ℕ) (before now new : Option (List ℕ)) (s next : FilesSoFar) (item : Found) (fault : FileFault) → at < length found → item ≡ get_or found at item → skip ≡ true
     → (stands : Stands answers found at skip skipped before now s) → AddsFound answers stands.files before item (Some fault) new next → Stands answers found (at + 1) skip (skipped + 1) before new next
 stands_left answers found at skip skipped before now new s next item fault lt is skips stands adds = record {
   files = stands.files;
@@ -174,7 +174,7 @@ none_begun answers found skip old new f h =
     inl (inl h.0, ([], found, [], 0, refl, (refl, refl), no_files, prefix_first old new (text_before_end []) (last_line [] ++ line_feed ∷ []) h.1))
 
 -- out of memory between two files
-kept_prefix : (answers : Answering) (found : List Found) (at : ℕ) (skipped : ℕ) (old new : Option (List ℕ)) (files : List File) (s : SoFar) (was : Option (List ℕ)) → Takes answers [] (take at found) files skipped → Took files old was s
+kept_prefix : (answers : Answering) (found : List Found) (at : ℕ) (skipped : ℕ) (old new : Option (List ℕ)) (files : List File) (s : FilesSoFar) (was : Option (List ℕ)) → Takes answers [] (take at found) files skipped → Took files old was s
     → Appends old new (text_before_end files) → WritesFolderPrefix answers found old new
 kept_prefix answers found at skipped old new files s was takes took h = (
   take at found,
@@ -187,7 +187,7 @@ kept_prefix answers found at skipped old new files s was takes took h = (
   prefix_first old new (text_before_end files) (last_line files ++ line_feed ∷ []) (prefix_all old new (text_before_end files) h),
 )
 
-cut_prefix : (answers : Answering) (found : List Found) (at : ℕ) (skip : Bool) (skipped : ℕ) (old now new : Option (List ℕ)) (s : SoFar) (item : Found) (f : File) → at < length found → item ≡ get_or found at item
+cut_prefix : (answers : Answering) (found : List Found) (at : ℕ) (skip : Bool) (skipped : ℕ) (old now new : Option (List ℕ)) (s : FilesSoFar) (item : Found) (f : File) → at < length found → item ≡ get_or found at item
     → (stands : Stands answers found at skip skipped old now s) → IsTaken answers stands.files item f → AppendsPrefix old new (text_before_end (stands.files ++ f ∷ [])) → WritesFolderPrefix answers found old new
 cut_prefix answers found at skip skipped old now new s item f lt is stands taken h = (
   take at found ++ item ∷ [],
@@ -204,18 +204,18 @@ cut_short : {reported : Fault} → (reported ≡ Memory) ⊎ (reported ≡ Open 
 cut_short (inl memory) = inl (inr memory)
 cut_short (inr opening) = inr opening
 
-pub stopped : (answers : Answering) (found : List Found) (at : ℕ) (skip : Bool) (skipped : ℕ) (old now new : Option (List ℕ)) (s : SoFar) (item : Found) (reported : Fault) → at < length found → item ≡ get_or found at item
+pub stopped : (answers : Answering) (found : List Found) (at : ℕ) (skip : Bool) (skipped : ℕ) (old now new : Option (List ℕ)) (s : FilesSoFar) (item : Found) (reported : Fault) → at < length found → item ≡ get_or found at item
     → (stands : Stands answers found at skip skipped old now s) → CutsFound answers stands.files old item new reported → IsSnapshotRunFault answers found skip old new reported
 stopped answers found at skip skipped old now new s item reported lt is stands (inl h) = inl (inl (inl h.0), cut_prefix answers found at skip skipped old now new s item h.1 lt is stands h.2 h.3)
 stopped answers found at skip skipped old now new s item reported lt is stands (inr h) = inl (cut_short h.0, kept_prefix answers found at skipped old new stands.files s now stands.takes stands.took h.1)
 
 -- out of memory once a file was left out
-pub lacking : (answers : Answering) (found : List Found) (at : ℕ) (skip : Bool) (skipped : ℕ) (old now new : Option (List ℕ)) (s next : SoFar) (item : Found) (fault : FileFault) (reported : Fault) → reported ≡ Memory → item ≡ get_or found at item
+pub lacking : (answers : Answering) (found : List Found) (at : ℕ) (skip : Bool) (skipped : ℕ) (old now new : Option (List ℕ)) (s next : FilesSoFar) (item : Found) (fault : FileFault) (reported : Fault) → reported ≡ Memory → item ≡ get_or found at item
     → (stands : Stands answers found at skip skipped old now s) → AddsFound answers stands.files old item (Some fault) new next → IsSnapshotRunFault answers found skip old new reported
 lacking answers found at skip skipped old now new s next item fault reported memory is stands adds =
     inl (inl (inr memory), kept_prefix answers found at skipped old new stands.files next new stands.takes adds.1 adds.1.text)
 
-pub refused_first : (answers : Answering) (found : List Found) (at : ℕ) (skip : Bool) (skipped : ℕ) (old now new : Option (List ℕ)) (s next : SoFar) (item : Found) (fault : FileFault) (reported : Fault) → at < length found → item ≡ get_or found at item → skip ≡ false
+pub refused_first : (answers : Answering) (found : List Found) (at : ℕ) (skip : Bool) (skipped : ℕ) (old now new : Option (List ℕ)) (s next : FilesSoFar) (item : Found) (fault : FileFault) (reported : Fault) → at < length found → item ≡ get_or found at item → skip ≡ false
     → (stands : Stands answers found at skip skipped old now s) → AddsFound answers stands.files old item (Some fault) new next → Names (name_of item) fault reported → IsSnapshotRunFault answers found skip old new reported
 refused_first answers found at skip skipped old now new s next item fault reported lt is never stands adds (inl memory) =
     inl (inl (inr memory), kept_prefix answers found at skipped old new stands.files next new stands.takes adds.1 adds.1.text)
@@ -242,12 +242,12 @@ refused_first answers found at skip skipped old now new s next item fault report
 all_taken : (answers : Answering) (found : List Found) (at : ℕ) (files : List File) (skipped : ℕ) → length found ≤ at → Takes answers [] (take at found) files skipped → Takes answers [] found files skipped
 all_taken answers found at files skipped le takes = subst (λ (fs : List Found). Takes answers [] fs files skipped) (take_all at found le) takes
 
-pub ended : (answers : Answering) (found : List Found) (at : ℕ) (skip : Bool) (skipped : ℕ) (old now new : Option (List ℕ)) (s : SoFar) → length found ≤ at
+pub ended : (answers : Answering) (found : List Found) (at : ℕ) (skip : Bool) (skipped : ℕ) (old now new : Option (List ℕ)) (s : FilesSoFar) → length found ≤ at
     → (stands : Stands answers found at skip skipped old now s) → Appends old new (snapshot_text stands.files) → WritesFolder answers found skip old new skipped
 ended answers found at skip skipped old now new s le stands h =
     (stands.files, all_taken answers found at stands.files skipped le stands.takes, stands.all, whole stands.files old now s stands.took, h)
 
-pub unended : (answers : Answering) (found : List Found) (at : ℕ) (skip : Bool) (skipped : ℕ) (old now new : Option (List ℕ)) (s : SoFar) (reported : Fault) → length found ≤ at
+pub unended : (answers : Answering) (found : List Found) (at : ℕ) (skip : Bool) (skipped : ℕ) (old now new : Option (List ℕ)) (s : FilesSoFar) (reported : Fault) → length found ≤ at
     → (stands : Stands answers found at skip skipped old now s) → Cuts (snapshot_text stands.files) old new reported → IsSnapshotRunFault answers found skip old new reported
 unended answers found at skip skipped old now new s reported le stands h =
     inl (inl h.0, (found, [], stands.files, skipped, sym (append-nil found), all_taken answers found at stands.files skipped le stands.takes, whole stands.files old now s stands.took, h.1))

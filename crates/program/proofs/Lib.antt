@@ -1,8 +1,8 @@
 pub mod Buffering
 pub mod Bundling
+pub mod Settling
 pub mod Programs
 pub mod Reporting
-pub mod Settling
 pub mod Upgraded
 pub mod LineWrites
 pub mod FoldersTaken

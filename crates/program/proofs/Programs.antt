@@ -1,8 +1,7 @@
 -- From what a run says to what the program says.
-use Rattle.devices.specs.Devices.{Device}
-use Rattle.std.proofs.Common.{◌≡◌, ◌⊎◌, inl, inr, ℕ, List, Option, false, Result, Ok, Err, IfErr}
+use Rattle.devices.specs.Devices.{fresh}
+use Rattle.std.proofs.Common.{◌≡◌, ℕ, List, Option, false, Result, OnOk, IfErr}
 use Rattle.paths.specs.declared.file.File.{File}
-use Rattle.captures.specs.declared.capture_fault.CaptureFault.{CaptureFault}
 use Rattle.captures.specs.CaptureFaults.{is_unforeseen_kind, IsFirstFault}
 use Rattle.captures.specs.declared.pass_fault.PassFault.{PassFault}
 use Rattle.captures.specs.declared.pass_fault.PassFault.TheVariants as replays
@@ -11,9 +10,10 @@ use Rattle.reference.specs.Outcomes.{IfCapture, Leaves}
 use Rattle.captures.proofs.PassLemmas.{first_of_stop}
 use Rattle.reference.specs.Texts.{Texts, reply_texts}
 use Rattle.program.specs.declared.fault.Fault.{Fault}
-use Rattle.program.specs.declared.fault.Fault.TheVariants.{Words, Settings, Snapshot, Replay, Upgrade, Folder, Open, Read, Write, Memory}
-use Rattle.program.specs.declared.place.Place.TheVariants.{Replies}
-use Rattle.program.specs.Bundles.{AfterSnapshot, IsBundleFault, IsProgramFault, default_terms}
+use Rattle.program.specs.declared.fault.Fault.TheVariants.{Snapshot, Replay, Memory}
+use Rattle.program.specs.Bundles.{AfterSnapshot, BundleSays, HoldsCapture, IsBundleFault, IsProgramFault, WritesAnswer, default_terms}
+use Rattle.program.specs.Ports.{Port, Reads, port}
+use Rattle.program.proofs.Settling.{ok_weaker, fault_weaker}
 
 -- where a replay stops, the capture's fault is the first of its text
 pub first_of_replay : (t : Texts) (input ahead old new : Option (List ℕ)) (f : PassFault) → Leaves t input ahead old new f
@@ -36,22 +36,18 @@ after_weaker input P Q weaker b = record {
 }
 
 -- a fault of the run is one of the program
-pub reported_of_run : (input ahead : Option (List ℕ)) (old new : Device) (f : Fault) → IsBundleFault input ahead old new f → IsProgramFault input f
-reported_of_run input ahead old new (Words f) says = absurd says
-reported_of_run input ahead old new (Settings f) says = absurd says
-reported_of_run input ahead old new (Snapshot f) says = says.0
-reported_of_run input ahead old new (Replay f) says =
-    after_weaker input (λ files rest. Leaves (reply_texts (default_terms files)) rest ahead old.bytes new.bytes f) _ (λ files rest reported. first_of_replay (reply_texts (default_terms files)) rest ahead old.bytes new.bytes f reported) says
-reported_of_run input ahead old new (Upgrade f) says = absurd says
-reported_of_run input ahead old new (Folder f) says = absurd says
-reported_of_run input ahead old new (Open place) says = absurd says
-reported_of_run input ahead old new (Read place) says = absurd says
-reported_of_run input ahead old new (Write place) says = absurd says
-reported_of_run input ahead old new Memory says = tt
+reported_of_run : (input output : Port) (f : Fault) → IsBundleFault input output f → IsProgramFault input.old.bytes f
+reported_of_run input output (Snapshot f) says = says.0
+reported_of_run input output (Replay f) says =
+    after_weaker input.old.bytes _ _ (λ files rest leaves. first_of_replay (reply_texts (default_terms files)) rest input.new.bytes output.old.bytes output.new.bytes f leaves) says
+reported_of_run input output Memory says = tt
+reported_of_run input output other says = absurd says
 
--- the fault of the program is that of the run, or that the rest of the replies can't be written
-pub reported_of_program : (input ahead : Option (List ℕ)) (old new : Device) (ran reported : Result Unit Fault) → IfErr ran (IsBundleFault input ahead old new)
-    → (reported ≡ ran) ⊎ (reported ≡ Err (Write Replies)) → IfErr reported (IsProgramFault input)
-reported_of_program input ahead old new (Ok x) reported says (inl same) = rw same tt
-reported_of_program input ahead old new (Err f) reported says (inl same) = rw same (reported_of_run input ahead old new f says)
-reported_of_program input ahead old new ran reported says (inr unwritten) = rw unwritten tt
+-- what the run says is what the program says
+pub program_fault : (input : Option (List ℕ)) (output : Port) (ran : Result Unit Fault) → Reads BundleSays input output ran → IfErr ran (IsProgramFault input)
+program_fault input output ran says = fault_weaker _ _ ran (reported_of_run (port (fresh input) says.0) output) says.1.1
+
+-- where it came to its end, the capture that it answered is a capture's text
+pub program_ok : (input : Option (List ℕ)) (output : Port) (ran : Result Unit Fault) → Reads BundleSays input output ran → OnOk ran (AfterSnapshot input HoldsCapture)
+program_ok input output ran says =
+    ok_weaker _ _ ran (after_weaker input (WritesAnswer output.old.bytes output.new.bytes) HoldsCapture (λ files rest answer known. (let c = answer.1.read.capture in (c.version, c.start, c.records, c.text known)))) says.1.0

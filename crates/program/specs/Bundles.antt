@@ -1,6 +1,5 @@
 -- The run over one input that holds a snapshot's text and, after it, a capture.
-use Rattle.devices.specs.Devices.{Device, fresh}
-use Rattle.std.specs.Prelude.{◌≡◌, ℕ, true, false, List, [], Option, is_some, unwrap_or, Result, MatchResult}
+use Rattle.std.specs.Prelude.{◌≡◌, ℕ, true, false, List, [], Option, is_some, unwrap_or, Result, OnOk, IfErr}
 use Rattle.devices.specs.Reference.{WhereKnown}
 use Rattle.paths.specs.declared.file.File.{File}
 use Rattle.paths.specs.Snapshots.{IsSnapshot, BeginsWithSnapshot}
@@ -11,11 +10,11 @@ use Rattle.reference.specs.Reference.{Terms, terms_of, Answers}
 use Rattle.reference.specs.Outcomes.{IfCapture, Leaves}
 use Rattle.reference.specs.Texts.{reply_texts}
 use Rattle.settings.specs.SettingsTable.{default_choice}
-use Rattle.reference.specs.Outcomes as replays
+use Rattle.captures.specs.Passes as passes
 use Rattle.program.specs.declared.fault.Fault.{Fault}
-use Rattle.captures.specs.Upgrades as upgrades
 use Rattle.program.specs.declared.fault.Fault.TheVariants.{Snapshot, Replay, Upgrade, Write, Memory}
-use Rattle.program.specs.declared.place.Place.TheVariants.{Replies}
+use Rattle.program.specs.declared.fault.Place.TheVariants.{Replies}
+use Rattle.program.specs.Ports.{Port}
 use Rattle.program.specs.Upgrading.{IsCaptureOfSomeVersion}
 
 -- There are files that keep the rules of a snapshot, and P holds of them and of the rest of the input. Where the bytes
@@ -35,28 +34,31 @@ default_terms files = terms_of files default_choice
 abbrev pub WritesAnswer : Option (List ℕ) → Option (List ℕ) → List File → Option (List ℕ) → Type 0
 WritesAnswer old new files capture = (outcome : Outcome) × Answers (default_terms files) capture old new outcome
 
--- What a fault of the run says, with what of the input wasn't read, and the output's bytes and failures before and
--- after. One of the snapshot is its first and nothing was written; one of the replay comes after a whole snapshot, and
--- says what it says of the rest; memory may run out between the two, and then nothing was written either. None else
--- comes.
-abbrev pub IsBundleFault : Option (List ℕ) → Option (List ℕ) → Device → Device → Fault
-    → Type 0
-IsBundleFault input ahead old new (Snapshot f) = IsForeseen IsFrontFault input f × (new ≡ old)
-IsBundleFault input ahead old new (Replay f) = AfterSnapshot input
-    (λ files capture. Leaves (reply_texts (default_terms files)) capture ahead old.bytes new.bytes f)
-IsBundleFault input ahead old new Memory = new ≡ old
-IsBundleFault input ahead old new other = ⊥
+-- What a fault of the run says of the input and of the output. One of the snapshot is its first and nothing was
+-- written; one of the replay comes after a whole snapshot, and says what it says of the rest; memory may run out between
+-- the two, and then nothing was written either. None else comes.
+abbrev pub IsBundleFault : Port → Port → Fault → Type 0
+IsBundleFault input output (Snapshot f) = IsForeseen IsFrontFault input.old.bytes f × (output.new ≡ output.old)
+IsBundleFault input output (Replay f) = AfterSnapshot input.old.bytes (λ files capture.
+    Leaves (reply_texts (default_terms files)) capture input.new.bytes output.old.bytes output.new.bytes f)
+IsBundleFault input output Memory = output.new ≡ output.old
+IsBundleFault input output other = ⊥
+
+-- what the run says
+abbrev pub BundleSays : Port → Port → Result Unit Fault → Type 0
+BundleSays input output ran = OnOk ran (AfterSnapshot input.old.bytes (WritesAnswer output.old.bytes output.new.bytes))
+    × IfErr ran (IsBundleFault input output)
 
 -- how often the reader and the writer failed in a run that answered this fault
 abbrev pub reader_failures : Fault → ℕ
 reader_failures (Snapshot f) = failures_of f.kind
-reader_failures (Replay f) = replays.reader_failures f
-reader_failures (Upgrade f) = upgrades.reader_failures f
+reader_failures (Replay f) = passes.reader_failures f
+reader_failures (Upgrade f) = passes.reader_failures f
 reader_failures other = 0
 
 abbrev pub writer_failures : Fault → ℕ
-writer_failures (Replay f) = replays.writer_failures f
-writer_failures (Upgrade f) = upgrades.writer_failures f
+writer_failures (Replay f) = passes.writer_failures f
+writer_failures (Upgrade f) = passes.writer_failures f
 writer_failures other = 0
 
 -- where the bytes after the snapshot are known, they are the text of a capture
@@ -72,10 +74,3 @@ IsProgramFault input (Replay f) = AfterSnapshot input (λ files capture. IfCaptu
 IsProgramFault input (Write Replies) = Unit {0}
 IsProgramFault input Memory = Unit {0}
 IsProgramFault input other = ⊥
-
--- what a run says of its input, and of what it was to leave at the device; what of the input wasn't read is what a
--- reader before the buffer has left
-abbrev pub BundleSays : Option (List ℕ) → Option (List ℕ) → Result Unit Fault → Option (List ℕ) → Type 0
-BundleSays input old ran whole = (ahead : Option (List ℕ)) × (count : ℕ) × MatchResult ran
-    (λ done. AfterSnapshot input (WritesAnswer old whole))
-    (λ f. IsBundleFault input ahead (fresh old) (record { bytes = whole; failures = count }) f)

@@ -22,16 +22,16 @@ use Rattle.settings.specs.declared.config_fault.ConfigFaultKind.{ConfigFaultKind
 use Rattle.settings.specs.declared.config_fault.ConfigFaultKind.TheVariants as settings
 use Rattle.settings.specs.ConfigFaults.{fault_text}
 use Rattle.settings.specs.FaultWords.{fault_words}
-use Rattle.program.specs.declared.place.Place.{Place}
-use Rattle.program.specs.declared.place.Place.TheVariants as places
+use Rattle.program.specs.declared.fault.Place.{Place}
+use Rattle.program.specs.declared.fault.Place.TheVariants as places
 use Rattle.program.specs.declared.fault.Fault.{Fault}
 use Rattle.program.specs.declared.fault.Fault.TheVariants as faults
-use Rattle.program.specs.declared.file_fault.FileFault.{FileFault}
-use Rattle.program.specs.declared.file_fault.FileFault.TheVariants as files
-use Rattle.program.specs.declared.reported.Reported.{Reported}
-use Rattle.program.specs.declared.reported.Reported.TheVariants.{Usage, Engine, Settings, Entry, Record, TooMany, File}
-use Rattle.program.specs.declared.reported.Reported.TheVariants.{Open, Read}
-use Rattle.program.specs.declared.reported.Reported.TheVariants.{Write, Memory}
+use Rattle.program.specs.declared.folder.FileFault.{FileFault}
+use Rattle.program.specs.declared.folder.FileFault.TheVariants as files
+use Rattle.program.specs.declared.fault.Reported.{Reported}
+use Rattle.program.specs.declared.fault.Reported.TheVariants.{Usage, Engine, Settings, Entry, Record, TooMany, File}
+use Rattle.program.specs.declared.fault.Reported.TheVariants.{Open, Read}
+use Rattle.program.specs.declared.fault.Reported.TheVariants.{Write, Memory}
 
 -- a failed read or write and out of memory are reported alike, whatever fault they stand in
 abbrev pub reported_entry : SnapshotFaultKind → SnapshotFault → Reported
@@ -168,7 +168,7 @@ abbrev pub usage_of : Fault → Option (List ℕ)
 usage_of (faults.Words f) = usage_in f
 usage_of other = None
 
--- the line of what is told with its name
+-- the line of what is reported with its name
 abbrev pub named_line : Fault → Option (List ℕ)
 named_line (faults.Folder f) = Some (named_line_of (reported_file f.fault) f.name.items)
 named_line other = None

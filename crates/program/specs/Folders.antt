@@ -5,7 +5,7 @@ use Rattle.std.specs.Io.KnownBytes.{Appends}
 use Rattle.devices.specs.Devices.{AppendsPrefix}
 use Rattle.paths.specs.declared.file.File.{File}
 use Rattle.paths.specs.Snapshots.{text_before_end, snapshot_text, IsSnapshotText}
-use Rattle.snapshots.specs.declared.so_far.SoFar.{SoFar}
+use Rattle.snapshots.specs.declared.so_far.FilesSoFar.{FilesSoFar}
 use Rattle.snapshots.specs.declared.write_fault.WriteFault.{WriteFault}
 use Rattle.snapshots.specs.declared.write_fault.WriteFault.TheVariants as rules
 use Rattle.snapshots.specs.Keeping.{a_file}
@@ -13,15 +13,15 @@ use Rattle.snapshots.specs.Rules.{broken_rule}
 use Rattle.snapshots.specs.Writers.{Took}
 use Rattle.program.specs.declared.fault.Fault.{Fault}
 use Rattle.program.specs.declared.fault.Fault.TheVariants.{Folder, Open, Write, Memory}
-use Rattle.program.specs.declared.file_fault.FileFault.{FileFault}
-use Rattle.program.specs.declared.file_fault.FileFault.TheVariants.{Time, Size, Count, Name, Order, Conflict, Text}
-use Rattle.program.specs.declared.file_fault.FolderFault.{FolderFault}
+use Rattle.program.specs.declared.folder.FileFault.{FileFault}
+use Rattle.program.specs.declared.folder.FileFault.TheVariants.{Time, Size, Count, Name, Order, Conflict, Text}
+use Rattle.program.specs.declared.folder.FolderFault.{FolderFault}
 use Rattle.program.specs.declared.folder.Contents.{Contents}
 use Rattle.program.specs.declared.folder.Found.{Found}
 use Rattle.program.specs.declared.folder.Unanswered.{Unanswered}
 use Rattle.program.specs.declared.folder.Unanswered.TheVariants as whys
-use Rattle.program.specs.declared.place.Place.TheVariants.{Output}
-use Rattle.program.specs.declared.place.Place.TheVariants as places
+use Rattle.program.specs.declared.fault.Place.TheVariants.{Output}
+use Rattle.program.specs.declared.fault.Place.TheVariants as places
 use Rattle.program.specs.FaultLines.{shown_name}
 
 -- what a folder may answer for a name
@@ -123,8 +123,13 @@ output_failures other = 0
 
 -- ---- one step
 
+-- P holds of the files that a writer took until now, and of what stood before them
+abbrev pub AfterTaking : Option (List ℕ) → FilesSoFar → (List File → Option (List ℕ) → Type 0) → Type 0
+AfterTaking now writer P = (files : List File) (before : Option (List ℕ)) → Took files before now writer
+    → P files before
+
 -- what becomes of a file that is given to a writer which took these files: it is taken, or why not
-abbrev pub AddsFile : List File → Option (List ℕ) → File → Option FileFault → Option (List ℕ) → SoFar → Type 0
+abbrev pub AddsFile : List File → Option (List ℕ) → File → Option FileFault → Option (List ℕ) → FilesSoFar → Type 0
 AddsFile files before f None now writer = (broken_rule files f ≡ None) × Took (files ++ f ∷ []) before now writer
 AddsFile files before f (Some fault) now writer = Breaks files f fault × Took files before now writer
 
@@ -137,7 +142,7 @@ CutsFile files before f now fault =
 
 -- the same of what was found
 abbrev pub AddsFound :
-    Answering → List File → Option (List ℕ) → Found → Option FileFault → Option (List ℕ) → SoFar → Type 0
+    Answering → List File → Option (List ℕ) → Found → Option FileFault → Option (List ℕ) → FilesSoFar → Type 0
 AddsFound answers files before found None now writer =
     (f : File) × IsTaken answers files found f × Took (files ++ f ∷ []) before now writer
 AddsFound answers files before found (Some fault) now writer =

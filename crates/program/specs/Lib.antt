@@ -1,8 +1,6 @@
+pub mod Ports
 pub mod FaultLines
-pub mod Wanted
 pub mod Bundles
-pub mod Buffers
-pub mod Devices
 pub mod Replays
 pub mod Upgrading
 pub mod Folders

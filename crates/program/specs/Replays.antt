@@ -1,23 +1,27 @@
 -- The run over a snapshot and a capture, each in an input of its own, with a report.
-use Rattle.std.specs.Prelude.{◌≡◌, ℕ, false, List, Option, Result, MatchResult}
+use Rattle.std.specs.Prelude.{◌≡◌, ℕ, false, List, Option, Result, OnOk, IfErr}
 use Rattle.std.specs.Io.KnownBytes.{Appends}
-use Rattle.devices.specs.Devices.{Device, AppendsProperPrefix, fresh}
+use Rattle.devices.specs.Devices.{Device, AppendsProperPrefix, BlamedOnce, CountsBy, fresh}
 use Rattle.paths.specs.declared.file.File.{File}
 use Rattle.paths.specs.Snapshots.{IsSnapshot, IsSnapshotText}
 use Rattle.paths.specs.SnapshotFaults.{IsFirstFault, IsForeseen, failures_of}
 use Rattle.captures.specs.CaptureFaults.{is_unforeseen_kind}
 use Rattle.captures.specs.CaptureFaults as captures
 use Rattle.reference.specs.declared.summary.Outcome.{Outcome}
-use Rattle.reference.specs.Reference.{Choice, Terms, terms_of}
+use Rattle.reference.specs.Reference.{Answers, Choice, Terms, terms_of}
+use Rattle.reference.specs.Explaining.{Explains, row_texts}
+use Rattle.reference.specs.Texts.{Texts, reply_texts}
 use Rattle.devices.specs.Reference.{WhereKnown}
 use Rattle.reference.specs.Outcomes.{IfCapture, Leaves}
-use Rattle.reference.specs.Outcomes as replays
+use Rattle.captures.specs.Passes as passes
 use Rattle.report.specs.Reports.{report_text}
-use Rattle.program.specs.Wanted.{HasWritten, wanted_of}
+use Rattle.program.specs.Bundles.{writer_failures}
+use Rattle.program.specs.Ports.{Port, port}
 use Rattle.program.specs.declared.replaying.Wanted.{Wanted}
+use Rattle.program.specs.declared.replaying.Wanted.TheVariants as wants
 use Rattle.program.specs.declared.fault.Fault.{Fault}
 use Rattle.program.specs.declared.fault.Fault.TheVariants.{Snapshot, Replay, Write, Memory}
-use Rattle.program.specs.declared.place.Place.TheVariants.{Replies, Report}
+use Rattle.program.specs.declared.fault.Place.TheVariants.{Replies, Report}
 
 -- There are files that keep the rules of a snapshot, and P holds of them. Where the bytes of the input are known, they
 -- are the text of these files.
@@ -27,39 +31,73 @@ pub record OfSnapshot (snapshot : Option (List ℕ)) (P : List File → Type 0) 
   pub text : WhereKnown snapshot (λ bytes. IsSnapshotText bytes files)
   pub holds : P files
 
+-- the texts that are wanted
+abbrev pub wanted_of : Wanted → Terms → Texts
+wanted_of (wants.Replies engine) terms = reply_texts terms
+wanted_of wants.Rows terms = row_texts terms
+
+-- The answer of the reference server to the capture was written, whatever the engine, or the table of its decisions;
+-- and this is the outcome.
+abbrev pub HasWritten : Wanted → Terms → Option (List ℕ) → Port → Outcome → Type 0
+HasWritten (wants.Replies engine) terms capture written outcome =
+    Answers terms capture written.old.bytes written.new.bytes outcome
+HasWritten wants.Rows terms capture written outcome =
+    Explains terms capture written.old.bytes written.new.bytes outcome
+
 -- what is wanted of the capture was written, and P holds of its outcome
-pub record AnswersAnd (wanted : Wanted) (terms : Terms) (capture old new : Option (List ℕ))
+pub record AnswersAnd (wanted : Wanted) (terms : Terms) (capture : Option (List ℕ)) (written : Port)
     (P : Outcome → Type 0) : Type 0 where
   pub outcome : Outcome
-  pub answer : HasWritten wanted terms capture old new outcome
+  pub answer : HasWritten wanted terms capture written outcome
   pub holds : P outcome
 
--- what a fault of the report says of its text and of the output: no memory for it, or a failed write
-abbrev pub IsReportFault : List ℕ → Device → Device → Fault → Type 0
-IsReportFault text old new (Write Report) = AppendsProperPrefix old.bytes new.bytes text
-IsReportFault text old new Memory = new ≡ old
-IsReportFault text old new other = ⊥
+-- the devices of a run: of its inputs, of what is wanted of the messages, and of the report
+pub record Ports : Type 0 where
+  pub snapshot : Port
+  pub capture : Port
+  pub written : Port
+  pub report : Port
 
--- What a fault of the run says, with what of the capture wasn't read, and the bytes and failures of the replies and of
--- the report's output before and after. One of the snapshot is its first, and nothing was written. One of the replay
--- comes after a whole snapshot, and says what it says of the capture; no report was written. Else the whole answer was
--- written, and there was no memory for the report, or a prefix of it stands. None else comes.
-abbrev pub IsReplayFault : Wanted → Choice → Option (List ℕ) → Option (List ℕ) → Option (List ℕ) → Device
-    → Device → Device → Device → Fault → Type 0
-IsReplayFault wanted choice snapshot capture ahead old new out_old out_new (Snapshot f) =
-    IsForeseen IsFirstFault snapshot f × (new ≡ old) × (out_new ≡ out_old)
-IsReplayFault wanted choice snapshot capture ahead old new out_old out_new (Replay f) =
-    OfSnapshot snapshot
-    (λ files. Leaves (wanted_of wanted (terms_of files choice)) capture ahead old.bytes new.bytes f)
-    × (out_new ≡ out_old)
-IsReplayFault wanted choice snapshot capture ahead old new out_old out_new (Write Report) =
-    OfSnapshot snapshot (λ files. AnswersAnd wanted (terms_of files choice) capture old.bytes new.bytes
-    (λ outcome. AppendsProperPrefix out_old.bytes out_new.bytes (report_text outcome)))
-IsReplayFault wanted choice snapshot capture ahead old new out_old out_new Memory =
-    OfSnapshot snapshot (λ files. AnswersAnd wanted (terms_of files choice) capture old.bytes new.bytes
-    (λ outcome. Unit {0}))
-    × (out_new ≡ out_old)
-IsReplayFault wanted choice snapshot capture ahead old new out_old out_new other = ⊥
+-- these, each before the run and after it
+abbrev pub ports : Device → Device → Device → Device → Device → Device → Device → Device → Ports
+ports snapshot snapshot_new capture capture_new written written_new report report_new = record {
+  snapshot = port snapshot snapshot_new;
+  capture = port capture capture_new;
+  written = port written written_new;
+  report = port report report_new;
+}
+
+-- what is wanted was written, and P holds of its outcome
+abbrev pub WritesWanted : Wanted → Choice → Ports → (Outcome → Type 0) → Type 0
+WritesWanted wanted choice at P = OfSnapshot at.snapshot.old.bytes (λ files.
+    AnswersAnd wanted (terms_of files choice) at.capture.old.bytes at.written P)
+
+-- and the whole report of it
+abbrev pub Replays : Wanted → Choice → Ports → Type 0
+Replays wanted choice at = WritesWanted wanted choice at (λ outcome.
+    Appends at.report.old.bytes at.report.new.bytes (report_text outcome))
+
+-- what a fault of the report says of its text and of the output: no memory for it, or a failed write
+abbrev pub IsReportFault : List ℕ → Port → Fault → Type 0
+IsReportFault text output (Write Report) = AppendsProperPrefix output.old.bytes output.new.bytes text
+IsReportFault text output Memory = output.new ≡ output.old
+IsReportFault text output other = ⊥
+
+-- What a fault of the run says of its devices. One of the snapshot is its first, and nothing was written. One of the
+-- replay comes after a whole snapshot, and says what it says of the capture; no report was written. Else the whole
+-- answer was written, and there was no memory for the report, or a prefix of it stands. None else comes.
+abbrev pub IsReplayFault : Wanted → Choice → Ports → Fault → Type 0
+IsReplayFault wanted choice at (Snapshot f) = IsForeseen IsFirstFault at.snapshot.old.bytes f
+    × (at.written.new ≡ at.written.old) × (at.report.new ≡ at.report.old)
+IsReplayFault wanted choice at (Replay f) =
+    OfSnapshot at.snapshot.old.bytes (λ files. Leaves (wanted_of wanted (terms_of files choice))
+    at.capture.old.bytes at.capture.new.bytes at.written.old.bytes at.written.new.bytes f)
+    × (at.report.new ≡ at.report.old)
+IsReplayFault wanted choice at (Write Report) = WritesWanted wanted choice at (λ outcome.
+    AppendsProperPrefix at.report.old.bytes at.report.new.bytes (report_text outcome))
+IsReplayFault wanted choice at Memory = WritesWanted wanted choice at (λ outcome. Unit {0})
+    × (at.report.new ≡ at.report.old)
+IsReplayFault wanted choice at other = ⊥
 
 -- how often each device failed in a run that answered this fault (the replies' is `writer_failures` of Bundles)
 abbrev pub snapshot_failures : Fault → ℕ
@@ -67,12 +105,20 @@ snapshot_failures (Snapshot f) = failures_of f.kind
 snapshot_failures other = 0
 
 abbrev pub capture_failures : Fault → ℕ
-capture_failures (Replay f) = replays.reader_failures f
+capture_failures (Replay f) = passes.reader_failures f
 capture_failures other = 0
 
 abbrev pub report_failures : Fault → ℕ
 report_failures (Write Report) = 1
 report_failures other = 0
+
+-- A device is blamed only where it failed in the call. A read of the capture that failed may not be reported: where
+-- another fault comes before it.
+abbrev pub Blames : Ports → Result Unit Fault → Type 0
+Blames at ran = CountsBy snapshot_failures at.snapshot.old.failures at.snapshot.new.failures ran
+    × BlamedOnce capture_failures at.capture.old.failures at.capture.new.failures ran
+    × CountsBy writer_failures at.written.old.failures at.written.new.failures ran
+    × CountsBy report_failures at.report.old.failures at.report.new.failures ran
 
 -- What a fault of the program over files says of its inputs: that of a snapshot or a capture is the first, but for a
 -- failed read and out of memory. Other faults are that the replies or the report can't be written to their end, and out
@@ -87,14 +133,12 @@ IsFilesFault snapshot capture (Write Report) = Unit {0}
 IsFilesFault snapshot capture Memory = Unit {0}
 IsFilesFault snapshot capture other = ⊥
 
--- what a run over files says of its inputs, and of what it was to leave at the devices of the replies and of the report
-abbrev pub FilesSays : Wanted → Choice → Option (List ℕ) → Option (List ℕ) → Option (List ℕ) → Option (List ℕ)
-    → Result Unit Fault → Option (List ℕ) → Option (List ℕ) → Type 0
-FilesSays wanted choice snapshot capture old out_old ran whole out_whole = (ahead : Option (List ℕ)) × (count : ℕ)
-    × (out_count : ℕ) × MatchResult ran
-    (λ done. OfSnapshot snapshot
-    (λ files. AnswersAnd wanted (terms_of files choice) capture old whole
-    (λ outcome. Appends out_old out_whole (report_text outcome))))
-    (λ f. IsReplayFault wanted choice snapshot capture ahead
-    (fresh old) (record { bytes = whole; failures = count })
-    (fresh out_old) (record { bytes = out_whole; failures = out_count }) f)
+-- what a run over files says of its inputs, whatever it leaves of them, and of its outputs
+abbrev pub FilesSays : Wanted → Choice → Option (List ℕ) → Option (List ℕ) → Port → Port → Result Unit Fault → Type 0
+FilesSays wanted choice snapshot capture written report ran = (snapshot_left capture_left : Device)
+    × (let at : Ports = record {
+      snapshot = port (fresh snapshot) snapshot_left;
+      capture = port (fresh capture) capture_left;
+      written = written;
+      report = report;
+    } in OnOk ran (Replays wanted choice at) × IfErr ran (IsReplayFault wanted choice at))

@@ -1,7 +1,7 @@
 //! A buffer before a device of the program, which tries no failed write again.
 
-ghost use Rattle.program.specs.Buffers.{front_of, IsPrefix};
-ghost use Rattle.std.specs.Prelude.{◌≡◌, ◌≤◌, [], length, take, true};
+ghost use Rattle.program.specs.Ports.{front_of, IsPrefix};
+ghost use Rattle.std.specs.Prelude.{◌≡◌, ◌≤◌, [], length, take, true, false};
 ghost use Rattle.std.specs.Io.KnownBytes.{Appends, Keeps, WriteAppends, append_known};
 ghost use Rattle.std.specs.Io.{WritesAtMost};
 
@@ -53,7 +53,8 @@ impl<N: Stood, W: Write> Device<N, W> {
     /// Makes one write.
     fn write(&mut self, bytes: &[u8]) -> io::Result<usize>
         ensures bound { WritesAtMost result bytes.now }
-        ensures bytes { WriteAppends (W.contents self.old.writer) (W.contents self.new.writer) result bytes.now }
+        ensures bytes { WriteAppends
+            (W.contents self.old.writer) (W.contents self.new.writer) result bytes.now }
     {
         self.writer.write(bytes)
     }
@@ -69,7 +70,8 @@ impl<N: Stood, W: Write> Device<N, W> {
     fn write_out(&mut self, bytes: &[u8]) -> (usize, bool)
         ensures bound { result.0 ≤ length bytes.now }
         ensures all { result.1 ≡ true → result.0 ≡ length bytes.now }
-        ensures bytes { Appends (W.contents self.old.writer) (W.contents self.new.writer) (take result.0 bytes.now) }
+        ensures bytes { Appends
+            (W.contents self.old.writer) (W.contents self.new.writer) (take result.0 bytes.now) }
     {
         let mut written = 0;
         while written < bytes.len() {
@@ -106,7 +108,8 @@ impl<N: Stood, W: Write> Buffered<N, W> {
     /// Writes what waits, until a write fails; whether all was written. What wasn't waits on.
     fn empty(&mut self) -> bool
         ensures all { result ≡ true → self.new.waiting.items ≡ [] }
-        ensures bytes { Keeps (append_known (W.contents self.old.device.writer) self.old.waiting.items)
+        ensures bytes { Keeps
+            (append_known (W.contents self.old.device.writer) self.old.waiting.items)
             (append_known (W.contents self.new.device.writer) self.new.waiting.items) }
     {
         let (written, all) = self.device.write_out(&self.waiting);
@@ -123,20 +126,25 @@ impl<N: Stood, W: Write> Buffered<N, W> {
     /// Writes what waits where it is due; whether it was and all was written.
     fn write_rest(&mut self, due: bool) -> bool
         ensures due { result ≡ true → due ≡ true }
+        ensures kept { due ≡ false
+            → Keeps (W.contents self.old.device.writer) (W.contents self.new.device.writer) }
         ensures all { result ≡ true → self.new.waiting.items ≡ [] }
-        ensures bytes { Keeps (append_known (W.contents self.old.device.writer) self.old.waiting.items)
+        ensures bytes { Keeps
+            (append_known (W.contents self.old.device.writer) self.old.waiting.items)
             (append_known (W.contents self.new.device.writer) self.new.waiting.items) }
     {
         due && self.empty() && self.device.flush().is_ok()
     }
 
-    /// The device, and whether all that waited was written, where it was due.
+    /// The device, and whether all that waited was written, where it was due. Else nothing more is written.
     pub fn finish(mut self, due: bool) -> (W, bool)
         ensures due { result.1 ≡ true → due ≡ true }
+        ensures kept { due ≡ false
+            → Keeps (W.contents self.device.writer) (W.contents result.0) }
         ensures all { result.1 ≡ true
             → Keeps (append_known (W.contents self.device.writer) self.waiting.items) (W.contents result.0) }
-        ensures part { IsPrefix N.stood (append_known (W.contents self.device.writer) self.waiting.items)
-            (W.contents result.0) }
+        ensures part { IsPrefix N.stood
+            (append_known (W.contents self.device.writer) self.waiting.items) (W.contents result.0) }
     {
         let done = self.write_rest(due);
         let Buffered { device, waiting: _ } = self;

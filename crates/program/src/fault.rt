@@ -1,18 +1,48 @@
-//! All faults of the program, with their status.
+//! All faults of the program, with the devices that they name, what is reported of each, and its status.
 
-ghost use Rattle.std.specs.Prelude.{◌≡◌};
+ghost use Rattle.std.specs.Prelude.{◌≡◌, ◌≤◌, length};
 ghost use Rattle.program.specs.FaultLines.{reported, reported_entry, reported_file, reported_record, of_rows};
-ghost use Rattle.program.specs.FaultLines.{status_of};
+ghost use Rattle.program.specs.FaultLines.{place_name, status_of};
 
-use crate::file_fault::{FileFault, FolderFault};
-use crate::place::Place;
-use crate::reported::Reported;
+use crate::folder::{FileFault, FolderFault};
 use captures::{CaptureFault, CaptureFaultKind, UpgradeFault};
 use command_line::WordFault;
 use paths::{SnapshotFault, SnapshotFaultKind};
 use replay::ReplayFault;
 use settings::{ConfigFault, ConfigFaultKind};
 use std::alloc::AllocError;
+
+/// A file that the program reads or writes, whatever its name.
+#[derive(Clone, Copy, Debug, PartialEq, Eq)]
+pub enum Place {
+    Settings,
+    Snapshot,
+    Capture,
+    Replies,
+    Messages,
+    Report,
+    Output,
+    Folder,
+}
+
+impl Place {
+    /// The word for it in a fault's line.
+    pub(crate) fn name(self) -> &'static str
+        ensures name { result.now ≡ place_name self }
+        ensures short { length result.now ≤ 12 }
+    {
+        match self {
+            Place::Settings => "settings",
+            Place::Snapshot => "snapshot",
+            Place::Capture => "capture",
+            Place::Replies => "replies",
+            Place::Messages => "messages",
+            Place::Report => "report",
+            Place::Output => "output",
+            Place::Folder => "folder",
+        }
+    }
+}
 
 /// Why the program didn't do what it was to do.
 #[derive(Debug, PartialEq, Drop)]
@@ -36,6 +66,29 @@ pub enum Fault {
     /// A file couldn't be written to its end.
     Write(Place),
     /// There was no memory.
+    Memory,
+}
+
+/// What is reported of a fault: a failed read or write and out of memory alike, whatever fault they stand in.
+#[derive(Clone, Copy, Debug)]
+pub enum Reported {
+    /// The words on the command line are wrong, or ask for help: the text says it.
+    Usage,
+    /// There is no engine of that name.
+    Engine,
+    /// A key of the settings is wrong, or the document.
+    Settings(ConfigFault),
+    /// An entry of the snapshot is wrong.
+    Entry(SnapshotFault),
+    /// A record of the capture is wrong.
+    Record(CaptureFault),
+    /// The capture's message of this number is one too many.
+    TooMany(usize),
+    /// What was found in a folder can't be taken.
+    File(FileFault),
+    Open(Place),
+    Read(Place),
+    Write(Place),
     Memory,
 }
 
@@ -79,16 +132,6 @@ impl From<ReplayFault> for Fault {
     }
 }
 
-impl From<UpgradeFault> for Fault {
-    ghost use Rattle.program.specs.declared.fault.Fault.TheVariants.{Upgrade};
-
-    ghost from_gives = { λ inner fault. fault ≡ Upgrade inner };
-
-    fn from(inner: UpgradeFault) -> Fault {
-        Fault::Upgrade(inner)
-    }
-}
-
 impl From<AllocError> for Fault {
     ghost use Rattle.program.specs.declared.fault.Fault.TheVariants.{Memory};
 
@@ -99,7 +142,7 @@ impl From<AllocError> for Fault {
     }
 }
 
-/// What is told of a snapshot's fault.
+/// What is reported of a snapshot's fault.
 fn reported_entry(fault: SnapshotFault) -> Reported
     ensures { result ≡ reported_entry fault.kind fault }
 {
@@ -110,7 +153,7 @@ fn reported_entry(fault: SnapshotFault) -> Reported
     }
 }
 
-/// What is told of a capture's fault.
+/// What is reported of a capture's fault.
 fn reported_record(fault: CaptureFault) -> Reported
     ensures { result ≡ reported_record fault.kind fault }
 {
@@ -121,7 +164,7 @@ fn reported_record(fault: CaptureFault) -> Reported
     }
 }
 
-/// What is told of what was found in a folder.
+/// What is reported of what was found in a folder.
 pub(crate) fn reported_file(fault: FileFault) -> Reported
     ensures { result ≡ reported_file fault }
 {
@@ -132,7 +175,7 @@ pub(crate) fn reported_file(fault: FileFault) -> Reported
 }
 
 impl Fault {
-    /// What is told of the fault.
+    /// What is reported of the fault.
     pub(crate) fn reported(&self) -> Reported
         ensures { result ≡ reported self.now }
     {

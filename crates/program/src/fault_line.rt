@@ -1,22 +1,24 @@
-//! The one line that tells a fault.
+//! The one line that reports a fault, and what stands after it.
 
 ghost use Rattle.std.specs.Prelude.{◌≡◌, ◌-◌, ◌+◌, ◌<◌, ◌≤◌, ◌^◌, ◌++◌, ◌∷◌, [], length, codes, decimal, option_map};
+ghost use Rattle.std.specs.Prelude.{IfOk, string_bytes};
 ghost use Rattle.devices.specs.Devices.{CanFail, WritesProperPrefix, CountsFailed};
 ghost use Rattle.program.specs.FaultLines.{line_of, named_line, named_line_of, skipped_line, text_of, text_reported};
-ghost use Rattle.program.specs.FaultLines.{reported_file, usage_of};
+ghost use Rattle.program.specs.FaultLines.{is_hidden, reported_file, shown_char, shown_name, usage_of};
+ghost use Rattle.program.specs.FaultLines.{words_line, words_shown};
 ghost use Rattle.arrayvec.specs.ArrayVec.{array_vec_len};
 ghost use Rattle.settings.specs.ConfigFaults.{fault_text};
 ghost use Rattle.settings.specs.Keys.{path_of};
 
-use crate::fault::{Fault, reported_file};
-use crate::file_fault::{FileFault, FolderFault};
-use crate::reported::Reported;
+use crate::fault::{Fault, Reported, reported_file};
+use crate::folder::{FileFault, FolderFault};
 use arrayvec::ArrayVec;
 use command_line::WordFault;
 use devices::{Failed, Output};
 use itoa::Buffer;
 use responses::Write;
-use settings::{ConfigFault, Key};
+use settings::{ConfigFault, Key, fault_words};
+use std::alloc::{AllocError, Global};
 use std::io;
 
 /// Room for the longest line: `haboob: `, 17 bytes, a number of 64 bits, `: `, 12 bytes and a line feed.
@@ -40,7 +42,8 @@ fn plain_line(prefix: &str, name: &str, end: u8) -> Line
 fn numbered_line(prefix: &str, number: usize, name: &str) -> Line
     requires prefix { length prefix.now ≤ 17 }
     requires name { length name.now ≤ 12 }
-    ensures { result.items ≡ codes "haboob: " ++ prefix.now ++ decimal number ++ codes ": " ++ name.now ++ codes "\n" }
+    ensures { result.items
+        ≡ codes "haboob: " ++ prefix.now ++ decimal number ++ codes ": " ++ name.now ++ codes "\n" }
 {
     let mut buffer = Buffer::new();
     let mut line = Line::new();
@@ -84,7 +87,7 @@ fn push_key(line: &mut Line, key: Key)
     line.try_extend_from_slice(key.name().as_bytes()).unwrap();
 }
 
-/// The line of what is reported. (A fault of usage is told by its text.)
+/// The line of what is reported. (A fault of usage is reported by its text.)
 fn line_of(reported: Reported) -> Line
     ensures { result.items ≡ line_of reported }
 {
@@ -130,11 +133,12 @@ fn write_named<W: io::Write>(writer: &mut Output<W>, fault: &FolderFault) -> Res
     }
 }
 
-/// Writes the one line that tells how many were left out. It takes no memory. At an `Err` the writer failed in this
+/// Writes the one line that says how many were left out. It takes no memory. At an `Err` the writer failed in this
 /// call, and a prefix of the line stands there.
 pub fn write_skipped<W: io::Write>(count: usize, writer: &mut Output<W>) -> Result<(), Write>
     requires { CanFail writer.old }
-    ensures line { WritesProperPrefix writer.old.bytes writer.new.bytes result (skipped_line count) }
+    ensures line { WritesProperPrefix
+        writer.old.bytes writer.new.bytes result (skipped_line count) }
     ensures count { CountsFailed writer.old.failures writer.new.failures result }
 {
     writer.write_all(skipped_line(count).as_slice())?;
@@ -166,7 +170,8 @@ impl Fault {
 
     /// What can't be taken, where the fault is of that.
     fn named(&self) -> Option<&FolderFault>
-        ensures { option_map (λ f. named_line_of (reported_file f.now.fault) f.now.name.items) result
+        ensures { option_map
+            (λ f. named_line_of (reported_file f.now.fault) f.now.name.items) result
             ≡ named_line self.now }
     {
         match self {
@@ -175,11 +180,12 @@ impl Fault {
         }
     }
 
-    /// Writes the one line that tells of the fault, or the text of one on the command line. It takes no memory. At an
+    /// Writes the one line that reports the fault, or the text of one on the command line. It takes no memory. At an
     /// `Err` the writer failed in this call, and a prefix of the line stands there.
     pub fn write_line<W: io::Write>(&self, writer: &mut Output<W>) -> Result<(), Write>
         requires { CanFail writer.old }
-        ensures line { WritesProperPrefix writer.old.bytes writer.new.bytes result (text_reported self.now) }
+        ensures line { WritesProperPrefix
+            writer.old.bytes writer.new.bytes result (text_reported self.now) }
         ensures count { CountsFailed writer.old.failures writer.new.failures result }
     {
         if let Some(text) = self.usage() {
@@ -191,4 +197,62 @@ impl Fault {
         }
         Ok(())
     }
+}
+
+/// Whether a character ends a line, acts on a terminal, or says in which direction others are shown.
+fn is_hidden(c: char) -> bool
+    ensures { result ≡ is_hidden c }
+{
+    match c {
+        '\0'..='\x1f'
+        | '\x7f'..='\u{9f}'
+        | '\u{61c}'
+        | '\u{200e}'..='\u{200f}'
+        | '\u{2028}'..='\u{202e}'
+        | '\u{2066}'..='\u{2069}'
+        | '\u{feff}' => true,
+        _ => false,
+    }
+}
+
+/// How a character of a name stands in a line.
+fn shown_char(c: char) -> char
+    ensures { result ≡ shown_char c }
+{
+    if is_hidden(c) { '?' } else { c }
+}
+
+/// A name, or a word of the command line, as a line shows it: with a question mark for each character that acts on a
+/// terminal or on how others are shown.
+pub fn shown_name(alloc: Global, name: &str) -> Result<String, AllocError>
+    ensures { IfOk result (λ shown. string_bytes shown ≡ shown_name name.now) }
+{
+    name.chars().map(shown_char).collect(alloc)
+}
+
+/// The line of these words, where there are some.
+fn words_shown(alloc: Global, words: &str) -> Result<Vec<u8>, AllocError>
+    ensures { IfOk result (λ line. line.items ≡ words_shown words.now) }
+{
+    let mut line = Vec::new(alloc);
+    if words.is_empty() {
+        return Ok(line);
+    }
+    line.extend_from_slice(b"haboob: ")?;
+    line.extend_from_slice(shown_name(alloc, words)?.as_bytes())?;
+    line.push(b'\n')?;
+    Ok(line)
+}
+
+/// The line that stands after the one of a fault of this settings document, where words are wanted (docs/FORMATS.md,
+/// "Settings"): what is to stand at the key, or which key there isn't, and the nearest one. Of a fault that isn't the
+/// document's there is none. It is shown as names are: with a question mark for each character that acts on a terminal.
+///
+/// # Errors
+///
+/// Memory ran out.
+pub fn words_line(alloc: Global, document: &[u8], fault: ConfigFault) -> Result<Vec<u8>, AllocError>
+    ensures { IfOk result (λ line. line.items ≡ words_line document.now fault) }
+{
+    words_shown(alloc, &fault_words(alloc, document, fault)?)
 }

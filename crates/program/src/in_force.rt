@@ -1,23 +1,18 @@
 //! The settings in force, written out.
 
-ghost use Rattle.std.specs.Prelude.{◌≡◌, ◌⊎◌, ◌-◌, ◌<◌, ◌^◌, [], OnOk, IfErr};
+ghost use Rattle.std.specs.Prelude.{◌≡◌, ◌⊎◌, ◌-◌, ◌<◌, ◌^◌, OnOk, IfErr};
 ghost use Rattle.devices.specs.Devices.{CanFail, CountsBy};
 ghost use Rattle.settings.specs.WrittenOut.{AreSettings};
-ghost use Rattle.program.specs.Devices.{Refused};
 ghost use Rattle.program.specs.InForce.{IsSettingsFault, IsSettingsFilesFault, SettingsSays, WritesSettings};
-ghost use Rattle.program.specs.Inspecting.{AtReport};
+ghost use Rattle.program.specs.Ports.{Runs, port};
 ghost use Rattle.program.specs.Replays.{report_failures};
 
-use crate::buffer::{Buffered, Device, ROOM, Stood};
-use crate::fault::Fault;
-use crate::inspecting::is_unwritten;
-use crate::place::Place;
-use crate::program::write_rest;
+use crate::fault::{Fault, Place};
+use crate::running::{Job, run_buffered};
 use devices::Output;
 use settings::settings_text;
 use std::alloc::Global;
 use std::io::Write;
-use std::marker::Brand;
 
 /// Writes out the settings of a document (docs/FORMATS.md, "Settings"), each key with the value that is in force. No
 /// bytes give the default settings.
@@ -32,8 +27,8 @@ pub fn run_settings<W: Write>(
     output: &mut Output<W>,
 ) -> Result<(), Fault>
     requires { CanFail output.old }
-    ensures ok { OnOk result (WritesSettings document.now output.old.bytes output.new.bytes) }
-    ensures fault { IfErr result (IsSettingsFault document.now output.old output.new) }
+    ensures ok { OnOk result (WritesSettings document.now (port output.old output.new)) }
+    ensures fault { IfErr result (IsSettingsFault document.now (port output.old output.new)) }
     // The writer is blamed only where it failed in this call.
     ensures writes { CountsBy report_failures output.old.failures output.new.failures result }
     ensures settings { OnOk result (AreSettings document.now) }
@@ -45,22 +40,21 @@ pub fn run_settings<W: Write>(
     }
 }
 
-/// Runs over a buffer that was made.
-fn settings_buffered<N: Stood, W: Write + Drop>(
+/// A document whose settings are to be written out.
+#[derive(Drop)]
+struct Document<'a> {
     alloc: Global,
-    document: &[u8],
-    writer: W,
-    waiting: Vec<u8>,
-) -> (Result<(), Fault>, W)
-    requires stood { W.contents writer ≡ N.stood }
-    requires waiting { waiting.items ≡ [] }
-    ensures { AtReport (SettingsSays document.now (W.contents writer))
-        (W.contents writer) (W.contents result.1) result.0 }
-{
-    let mut output = Output::new(Buffered::<N, W>::new(Device::new(writer), waiting));
-    let ran = run_settings(alloc, document, &mut output);
-    let cut = is_unwritten(&ran);
-    write_rest(output.into_writer(), Place::Report, cut, ran)
+    bytes: &'a [u8],
+}
+
+impl<'a> Job for Document<'a> {
+    ghost use Rattle.program.specs.InForce.{SettingsSays};
+
+    ghost says = { λ job. SettingsSays job.bytes.now };
+
+    fn run<W: Write>(self, output: &mut Output<W>) -> Result<(), Fault> {
+        run_settings(self.alloc, self.bytes, output)
+    }
 }
 
 /// Writes out the settings of a document, with a buffer before the device, and gives the writer back.
@@ -74,13 +68,13 @@ pub fn settings_files<W: Write + Drop>(
     document: &[u8],
     writer: W,
 ) -> (Result<(), Fault>, W)
-    ensures device { Refused (W.contents writer) (W.contents result.1) result.0
-        ⊎ AtReport (SettingsSays document.now (W.contents writer))
+    ensures device { Runs Place.Report (SettingsSays document.now)
         (W.contents writer) (W.contents result.1) result.0 }
     ensures fault { IfErr result.0 (IsSettingsFilesFault document.now) }
 {
-    let Ok(waiting) = Vec::with_capacity(alloc, ROOM) else {
-        return (Err(Fault::Memory), writer);
+    let job = Document {
+        alloc,
+        bytes: document,
     };
-    settings_buffered::<Brand, W>(alloc, document, writer, waiting)
+    run_buffered(alloc, job, Place::Report, writer)
 }

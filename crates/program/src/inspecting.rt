@@ -1,26 +1,23 @@
 //! What a capture holds, written out.
 
-ghost use Rattle.std.specs.Prelude.{◌≡◌, ◌⊎◌, ◌-◌, ◌<◌, ◌^◌, [], OnOk, IfErr};
+ghost use Rattle.std.specs.Prelude.{◌≡◌, ◌⊎◌, ◌-◌, ◌<◌, ◌^◌, OnOk, IfErr};
 ghost use Rattle.std.specs.Io.KnownBytes.{Appends};
 ghost use Rattle.devices.specs.Devices.{CanFail, BlamedOnce, CountsBy};
-ghost use Rattle.inspection.specs.Texts.{inspection_text};
 ghost use Rattle.devices.specs.Reference.{WhereKnown};
-ghost use Rattle.program.specs.Devices.{Refused};
-ghost use Rattle.program.specs.Inspecting.{Inspects, IsInspectFault, IsInspectFilesFault, InspectSays, AtReport};
-ghost use Rattle.program.specs.Inspecting.{is_unwritten};
+ghost use Rattle.inspection.specs.Texts.{inspection_text};
+ghost use Rattle.program.specs.Inspecting.{Inspects, IsInspectFault, IsInspectFilesFault, InspectSays};
+ghost use Rattle.program.specs.Ports.{Reads, Runs, port};
 ghost use Rattle.program.specs.Replays.{IsReportFault, capture_failures, report_failures};
 ghost use Rattle.program.specs.Upgrading.{IsCaptureOfSomeVersion};
 
-use crate::buffer::{Buffered, Device, ROOM, Stood};
-use crate::fault::Fault;
-use crate::place::Place;
-use crate::program::write_rest;
+use crate::buffer::ROOM;
+use crate::fault::{Fault, Place};
+use crate::running::{Job, run_buffered};
 use devices::{Input, Output};
 use inspection::{InspectFault, Inspection, inspect, inspection_text};
 use replay::ReplayFault;
 use std::alloc::Global;
 use std::io::{BufReader, Read, Write};
-use std::marker::Brand;
 
 /// Writes the text of an inspection.
 fn write_inspection<W: Write>(
@@ -29,8 +26,10 @@ fn write_inspection<W: Write>(
     output: &mut Output<W>,
 ) -> Result<(), Fault>
     requires { CanFail output.old }
-    ensures ok { OnOk result (Appends output.old.bytes output.new.bytes (inspection_text inspection.now)) }
-    ensures fault { IfErr result (IsReportFault (inspection_text inspection.now) output.old output.new) }
+    ensures ok { OnOk result
+        (Appends output.old.bytes output.new.bytes (inspection_text inspection.now)) }
+    ensures fault { IfErr result
+        (IsReportFault (inspection_text inspection.now) (port output.old output.new)) }
     ensures count { CountsBy report_failures output.old.failures output.new.failures result }
 {
     let text = inspection_text(alloc, inspection)?;
@@ -44,7 +43,7 @@ fn write_inspection<W: Write>(
 ///
 /// # Errors
 ///
-/// `Replay` with the capture's first fault, or where its reader failed, as a replay tells it: the text of what the
+/// `Replay` with the capture's first fault, or where its reader failed, as a replay reports it: the text of what the
 /// whole records before the fault hold is written first, and nothing where the fault is in the first line. `Write` of
 /// the report where the writer failed: a prefix stands. `Memory`, and then nothing is written. No other fault.
 pub fn run_inspect<R: Read, W: Write>(
@@ -54,8 +53,9 @@ pub fn run_inspect<R: Read, W: Write>(
 ) -> Result<(), Fault>
     requires reading { CanFail input.old }
     requires writing { CanFail output.old }
-    ensures ok { OnOk result (Inspects input.old.bytes output.old.bytes output.new.bytes) }
-    ensures fault { IfErr result (IsInspectFault input.old.bytes input.new.bytes output.old output.new) }
+    ensures ok { OnOk result (Inspects (port input.old input.new) (port output.old output.new)) }
+    ensures fault { IfErr result
+        (IsInspectFault (port input.old input.new) (port output.old output.new)) }
     // A device is blamed only where it failed in this call. A read that failed may not be reported: where a write fails
     // after it, or there is no memory.
     ensures reads { BlamedOnce capture_failures input.old.failures input.new.failures result }
@@ -72,29 +72,22 @@ pub fn run_inspect<R: Read, W: Write>(
     }
 }
 
-/// Whether a write failed in a run.
-pub(crate) fn is_unwritten(ran: &Result<(), Fault>) -> bool
-    ensures { result ≡ is_unwritten ran.now }
-{
-    matches!(ran, Err(Fault::Write(Place::Report)))
-}
-
-/// Runs over buffers that were made.
-fn inspect_buffered<N: Stood, R: Read + Drop, W: Write + Drop>(
+/// A capture to inspect.
+#[derive(Drop)]
+struct Inspecting<R: Read + Drop> {
     alloc: Global,
     reader: BufReader<R>,
-    writer: W,
-    waiting: Vec<u8>,
-) -> (Result<(), Fault>, W)
-    requires stood { W.contents writer ≡ N.stood }
-    requires waiting { waiting.items ≡ [] }
-    ensures { AtReport (InspectSays (⟦<BufReader<R> as Read>⟧.remaining reader) (W.contents writer))
-        (W.contents writer) (W.contents result.1) result.0 }
-{
-    let mut output = Output::new(Buffered::<N, W>::new(Device::new(writer), waiting));
-    let ran = run_inspect(alloc, &mut Input::ahead(reader), &mut output);
-    let cut = is_unwritten(&ran);
-    write_rest(output.into_writer(), Place::Report, cut, ran)
+}
+
+impl<R: Read + Drop> Job for Inspecting<R> {
+    ghost use Rattle.program.specs.Ports.{Reads};
+    ghost use Rattle.program.specs.Inspecting.{InspectSays};
+
+    ghost says = { λ job. Reads InspectSays (⟦<BufReader<R> as Read>⟧.remaining job.reader) };
+
+    fn run<W: Write>(self, output: &mut Output<W>) -> Result<(), Fault> {
+        run_inspect(self.alloc, &mut Input::ahead(self.reader), output)
+    }
 }
 
 /// Writes what a capture holds, with a buffer before each device, and gives the writer back.
@@ -108,18 +101,14 @@ pub fn inspect_files<R: Read + Drop, W: Write + Drop>(
     reader: R,
     writer: W,
 ) -> (Result<(), Fault>, W)
-    ensures device { Refused (W.contents writer) (W.contents result.1) result.0
-        ⊎ AtReport (InspectSays (R.remaining reader) (W.contents writer))
+    ensures device { Runs Place.Report (Reads InspectSays (R.remaining reader))
         (W.contents writer) (W.contents result.1) result.0 }
     // Where the bytes of the input are known, they were a capture's text, or a fault is their first.
     ensures ok { OnOk result.0 (WhereKnown (R.remaining reader) IsCaptureOfSomeVersion) }
     ensures fault { IfErr result.0 (IsInspectFilesFault (R.remaining reader)) }
 {
-    let Ok(waiting) = Vec::with_capacity(alloc, ROOM) else {
-        return (Err(Fault::Memory), writer);
-    };
-    let Ok(reader) = BufReader::with_capacity(alloc, ROOM, reader) else {
-        return (Err(Fault::Memory), writer);
-    };
-    inspect_buffered::<Brand, R, W>(alloc, reader, writer, waiting)
+    match BufReader::with_capacity(alloc, ROOM, reader) {
+        Ok(reader) => run_buffered(alloc, Inspecting { alloc, reader }, Place::Report, writer),
+        Err(_) => (Err(Fault::Memory), writer),
+    }
 }

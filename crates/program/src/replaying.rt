@@ -1,19 +1,20 @@
-//! A replay or a table of decisions, and its report.
+//! A replay or a table of decisions, and its report: with and without a buffer before each device.
 
-ghost use Rattle.std.specs.Prelude.{◌≡◌, ◌-◌, ◌<◌, ◌^◌, OnOk, IfOk, IfErr};
+ghost use Rattle.std.specs.Prelude.{◌≡◌, ◌⊎◌, ◌-◌, ◌<◌, ◌^◌, [], OnOk, IfOk, IfErr};
 ghost use Rattle.std.specs.Io.KnownBytes.{Appends};
 ghost use Rattle.devices.specs.Devices.{CanFail, BlamedOnce, CountsBy};
 ghost use Rattle.reference.specs.Reference.{terms_of};
 ghost use Rattle.reference.specs.Outcomes.{Leaves};
-ghost use Rattle.reference.specs.Outcomes as replays;
+ghost use Rattle.captures.specs.Passes as passes;
 ghost use Rattle.report.specs.Reports.{report_text};
-ghost use Rattle.program.specs.Bundles.{writer_failures};
-ghost use Rattle.program.specs.Replays.{OfSnapshot, AnswersAnd, IsReplayFault, IsReportFault, snapshot_failures};
-ghost use Rattle.program.specs.Replays.{capture_failures, report_failures};
-ghost use Rattle.program.specs.Wanted.{HasWritten, wanted_of};
+ghost use Rattle.program.specs.Bundles.{HoldsCapture};
+ghost use Rattle.program.specs.Ports.{AtDevices, RunsAtBoth, port};
+ghost use Rattle.program.specs.Replays.{Blames, FilesSays, HasWritten, IsFilesFault, IsReplayFault, IsReportFault};
+ghost use Rattle.program.specs.Replays.{OfSnapshot, Replays, ports, report_failures, wanted_of};
 
-use crate::fault::Fault;
-use crate::place::Place;
+use crate::buffer::{ROOM, Stood};
+use crate::fault::{Fault, Place};
+use crate::running::{buffered, is_due, settle};
 use command_line::Engine;
 use devices::{Input, Output};
 use paths::{Snapshot, Tree};
@@ -21,7 +22,7 @@ use replay::{Outcome, ReplayFault, Settings, explain_replay, plain_replay, stage
 use report::report;
 use stage_graph::NoGate;
 use std::alloc::Global;
-use std::io::{Read, Write};
+use std::io::{BufReader, Read, Write};
 use std::marker::Brand;
 use std::sync::Wait;
 use std::thread::Threads;
@@ -43,7 +44,7 @@ fn write_report<O: Write>(
 ) -> Result<(), Fault>
     requires { CanFail out.old }
     ensures ok { OnOk result (Appends out.old.bytes out.new.bytes (report_text outcome.now)) }
-    ensures fault { IfErr result (IsReportFault (report_text outcome.now) out.old out.new) }
+    ensures fault { IfErr result (IsReportFault (report_text outcome.now) (port out.old out.new)) }
     ensures count { CountsBy report_failures out.old.failures out.new.failures result }
 {
     let text = report(alloc, outcome)?;
@@ -64,14 +65,15 @@ fn run_wanted<F: Tree + Send + Sync, T: Threads + Wait + Sync, C: Read, W: Write
     written: &mut Output<W>,
 ) -> Result<Outcome, ReplayFault>
     requires files { files.now ≡ F.files }
-    requires capture { CanFail capture.old }
-    requires written { CanFail written.old }
+    requires devices { CanFail capture.old × CanFail written.old }
     ensures fault { IfErr result (Leaves (wanted_of wanted (terms_of F.files settings.now))
         capture.old.bytes capture.new.bytes written.old.bytes written.new.bytes) }
-    ensures reads { BlamedOnce replays.reader_failures capture.old.failures capture.new.failures result }
-    ensures writes { CountsBy replays.writer_failures written.old.failures written.new.failures result }
+    ensures reads { BlamedOnce passes.reader_failures
+        capture.old.failures capture.new.failures result }
+    ensures writes { CountsBy passes.writer_failures
+        written.old.failures written.new.failures result }
     ensures ok { IfOk result (HasWritten wanted (terms_of F.files settings.now)
-        capture.old.bytes written.old.bytes written.new.bytes) }
+        capture.old.bytes (port written.old written.new)) }
 {
     match wanted {
         Wanted::Replies(Engine::Plain) => {
@@ -104,26 +106,125 @@ pub fn run_replay<T: Threads + Wait + Sync, S: Read, C: Read, W: Write, O: Write
     written: &mut Output<W>,
     out: &mut Output<O>,
 ) -> Result<(), Fault>
-    requires snapshot { CanFail snapshot.old }
-    requires capture { CanFail capture.old }
-    requires written { CanFail written.old }
-    requires out { CanFail out.old }
-    ensures ok { OnOk result (OfSnapshot snapshot.old.bytes (λ files.
-        AnswersAnd wanted (terms_of files settings.now) capture.old.bytes written.old.bytes written.new.bytes
-        (λ outcome. Appends out.old.bytes out.new.bytes (report_text outcome)))) }
-    ensures fault { IfErr result
-        (IsReplayFault wanted settings.now snapshot.old.bytes capture.old.bytes capture.new.bytes
-        written.old written.new out.old out.new) }
-    // A device is blamed only where it failed in this call. A read of the capture that failed may not be reported:
-    // where another fault comes before it.
-    ensures reads_snapshot { CountsBy snapshot_failures snapshot.old.failures snapshot.new.failures result }
-    ensures reads_capture { BlamedOnce capture_failures capture.old.failures capture.new.failures result }
-    ensures writes { CountsBy writer_failures written.old.failures written.new.failures result }
-    ensures writes_report { CountsBy report_failures out.old.failures out.new.failures result }
+    requires inputs { CanFail snapshot.old × CanFail capture.old }
+    requires outputs { CanFail written.old × CanFail out.old }
+    ensures ok { OnOk result (Replays wanted settings.now
+        (ports snapshot.old snapshot.new capture.old capture.new written.old written.new out.old out.new)) }
+    ensures fault { IfErr result (IsReplayFault wanted settings.now
+        (ports snapshot.old snapshot.new capture.old capture.new written.old written.new out.old out.new)) }
+    ensures blames { Blames
+        (ports snapshot.old snapshot.new capture.old capture.new written.old written.new out.old out.new)
+        result }
 {
     let files = Snapshot::read(alloc, snapshot)?;
     let outcome = run_wanted::<Brand, T, C, W>(
         rt, alloc, wanted, &files, settings, capture, written,
     )?;
     write_report(alloc, &outcome, out)
+}
+
+/// Runs over buffers that were made. After a fault, no more of the report is written.
+fn run_files_buffered<
+    M: Stood,
+    N: Stood,
+    T: Threads + Wait + Sync,
+    S: Read + Drop,
+    C: Read + Drop,
+    W: Write + Drop,
+    O: Write + Drop,
+>(
+    rt: &T,
+    alloc: Global,
+    settings: &Settings,
+    wanted: Wanted,
+    snapshot: BufReader<S>,
+    capture: BufReader<C>,
+    written: W,
+    out: O,
+    waiting: Vec<u8>,
+    report_waiting: Vec<u8>,
+) -> (Result<(), Fault>, W, O)
+    requires written { W.contents written ≡ M.stood }
+    requires out { O.contents out ≡ N.stood }
+    requires waiting { waiting.items ≡ [] }
+    requires report_waiting { report_waiting.items ≡ [] }
+    ensures { AtDevices (FilesSays wanted settings.now
+        (⟦<BufReader<S> as Read>⟧.remaining snapshot) (⟦<BufReader<C> as Read>⟧.remaining capture))
+        (W.contents written) (W.contents result.1) (O.contents out) (O.contents result.2) result.0 }
+{
+    let mut written = buffered::<M, W>(written, waiting);
+    let mut report = buffered::<N, O>(out, report_waiting);
+    let ran = run_replay(
+        rt,
+        alloc,
+        settings,
+        wanted,
+        &mut Input::ahead(snapshot),
+        &mut Input::ahead(capture),
+        &mut written,
+        &mut report,
+    );
+    let due = is_due(Place::Replies, &ran);
+    let (ran, written) = settle(written, Place::Replies, due, ran);
+    let due = ran.is_ok();
+    let (ran, out) = settle(report, Place::Report, due, ran);
+    (ran, written, out)
+}
+
+/// Replays a capture against a snapshot, with a buffer before each device, writes what is wanted of its messages, and
+/// the report to `out`, and gives both writers back.
+///
+/// # Errors
+///
+/// Those of [`run_replay`]; `Memory` where there is none for the buffers, and then nothing is written; `Write` of the
+/// replies (or the rows) or of the report where what its buffer held at the end couldn't be written. The replies were
+/// due before any other fault; after one, no more of the report is written.
+pub fn run_files<
+    T: Threads + Wait + Sync,
+    S: Read + Drop,
+    C: Read + Drop,
+    W: Write + Drop,
+    O: Write + Drop,
+>(
+    rt: &T,
+    alloc: Global,
+    settings: &Settings,
+    wanted: Wanted,
+    snapshot: S,
+    capture: C,
+    written: W,
+    out: O,
+) -> (Result<(), Fault>, W, O)
+    ensures device { RunsAtBoth
+        (FilesSays wanted settings.now (S.remaining snapshot) (C.remaining capture))
+        (W.contents written) (W.contents result.1) (O.contents out) (O.contents result.2) result.0 }
+    // Where the bytes of the inputs are known, they were a snapshot's text and a capture's, or a fault is their first.
+    ensures ok { OnOk result.0 (OfSnapshot (S.remaining snapshot)
+        (λ files. HoldsCapture files (C.remaining capture))) }
+    ensures fault { IfErr result.0 (IsFilesFault (S.remaining snapshot) (C.remaining capture)) }
+{
+    let (Ok(waiting), Ok(report_waiting)) = (
+        Vec::with_capacity(alloc, ROOM),
+        Vec::with_capacity(alloc, ROOM),
+    ) else {
+        return (Err(Fault::Memory), written, out);
+    };
+    let Ok(snapshot) = BufReader::with_capacity(alloc, ROOM, snapshot) else {
+        return (Err(Fault::Memory), written, out);
+    };
+    let Ok(capture) = BufReader::with_capacity(alloc, ROOM, capture) else {
+        return (Err(Fault::Memory), written, out);
+    };
+    run_files_buffered::<Brand, Brand, T, S, C, W, O>(
+        rt,
+        alloc,
+        settings,
+        wanted,
+        snapshot,
+        capture,
+        written,
+        out,
+        waiting,
+        report_waiting,
+    )
 }

@@ -1,19 +1,16 @@
 //! The snapshot of what was found in a folder.
 
-ghost use Rattle.std.specs.Prelude.{◌≡◌, ◌-◌, ◌<◌, ◌^◌, [], List, ℕ, Option, MatchResult, IfOk, IfErr};
-ghost use Rattle.paths.specs.declared.file.File.{File as AFile};
+ghost use Rattle.std.specs.Prelude.{◌≡◌, ◌-◌, ◌<◌, ◌^◌, [], MatchResult, IfOk, IfErr};
 ghost use Rattle.paths.specs.Snapshots.{text_before_end, snapshot_text};
 ghost use Rattle.snapshots.specs.Keeping.{a_file};
 ghost use Rattle.snapshots.specs.Writers.{Took};
 ghost use Rattle.std.specs.Io.KnownBytes.{Appends};
 ghost use Rattle.devices.specs.Devices.{CanFail, CountsBy};
-ghost use Rattle.program.specs.Folders.{AddsFile, AddsFound, Cuts, CutsFile, CutsFound, Names, refusal, unwritten};
-ghost use Rattle.program.specs.Folders.{IsSnapshotRunFault, WritesFolder, output_failures};
+ghost use Rattle.program.specs.Folders.{AddsFile, AddsFound, AfterTaking, Cuts, CutsFile, CutsFound, Names, refusal};
+ghost use Rattle.program.specs.Folders.{IsSnapshotRunFault, WritesFolder, output_failures, unwritten};
 
-use crate::fault::Fault;
-use crate::file_fault::{FileFault, FolderFault};
-use crate::folder::{Contents, Folder, Found};
-use crate::place::Place;
+use crate::fault::{Fault, Place};
+use crate::folder::{Contents, FileFault, Folder, FolderFault, Found};
 use devices::Output;
 use snapshots::{SnapshotWriter, WriteFault};
 use std::alloc::Global;
@@ -44,12 +41,12 @@ fn add_file<W: Write>(
     contents: &Contents,
 ) -> Result<Option<FileFault>, Fault>
     requires { CanFail output.old }
-    ensures ok { (files : List AFile) (before : Option (List ℕ)) → Took files before output.old.bytes writer.old
-        → IfOk result (λ r. AddsFile files before
-        (a_file name.now contents.now.mtime contents.now.bytes.items) r output.new.bytes writer.new) }
-    ensures fault { (files : List AFile) (before : Option (List ℕ)) → Took files before output.old.bytes writer.old
-        → IfErr result (CutsFile files before
-        (a_file name.now contents.now.mtime contents.now.bytes.items) output.new.bytes) }
+    ensures ok { AfterTaking output.old.bytes writer.old (λ files before. IfOk result (λ r.
+        AddsFile files before (a_file name.now contents.now.mtime contents.now.bytes.items) r
+        output.new.bytes writer.new)) }
+    ensures fault { AfterTaking output.old.bytes writer.old (λ files before. IfErr result
+        (CutsFile files before (a_file name.now contents.now.mtime contents.now.bytes.items)
+        output.new.bytes)) }
     ensures count { CountsBy output_failures output.old.failures output.new.failures result }
 {
     match writer.add(output, name.as_bytes(), contents.mtime, &contents.bytes) {
@@ -66,10 +63,10 @@ fn add_found<F: Folder, W: Write>(
     found: &Found,
 ) -> Result<Option<FileFault>, Fault>
     requires { CanFail output.old }
-    ensures ok { (files : List AFile) (before : Option (List ℕ)) → Took files before output.old.bytes writer.old
-        → IfOk result (λ r. AddsFound (F.answers folder.now) files before found.now r output.new.bytes writer.new) }
-    ensures fault { (files : List AFile) (before : Option (List ℕ)) → Took files before output.old.bytes writer.old
-        → IfErr result (CutsFound (F.answers folder.now) files before found.now output.new.bytes) }
+    ensures ok { AfterTaking output.old.bytes writer.old (λ files before. IfOk result (λ r.
+        AddsFound (F.answers folder.now) files before found.now r output.new.bytes writer.new)) }
+    ensures fault { AfterTaking output.old.bytes writer.old (λ files before. IfErr result
+        (CutsFound (F.answers folder.now) files before found.now output.new.bytes)) }
     ensures count { CountsBy output_failures output.old.failures output.new.failures result }
 {
     if found.fault.is_some() {
@@ -107,9 +104,9 @@ fn begin<W: Write>(alloc: Global, output: &mut Output<W>) -> Result<SnapshotWrit
 /// Writes the last line.
 fn finish<W: Write>(writer: SnapshotWriter, output: &mut Output<W>) -> Result<(), Fault>
     requires { CanFail output.old }
-    ensures text { (files : List AFile) (before : Option (List ℕ)) → Took files before output.old.bytes writer
-        → MatchResult result (λ _. Appends before output.new.bytes (snapshot_text files))
-        (Cuts (snapshot_text files) before output.new.bytes) }
+    ensures text { AfterTaking output.old.bytes writer (λ files before. MatchResult result
+        (λ _. Appends before output.new.bytes (snapshot_text files))
+        (Cuts (snapshot_text files) before output.new.bytes)) }
     ensures count { CountsBy output_failures output.old.failures output.new.failures result }
 {
     match writer.finish(output) {
@@ -145,7 +142,8 @@ pub fn run_snapshot<F: Folder, W: Write>(
     output: &mut Output<W>,
 ) -> Result<usize, Fault>
     requires { CanFail output.old }
-    ensures ok { IfOk result (WritesFolder (F.answers folder.now) found.now skip output.old.bytes output.new.bytes) }
+    ensures ok { IfOk result
+        (WritesFolder (F.answers folder.now) found.now skip output.old.bytes output.new.bytes) }
     ensures fault { IfErr result
         (IsSnapshotRunFault (F.answers folder.now) found.now skip output.old.bytes output.new.bytes) }
     // The output is blamed only where it failed in this call.

@@ -1,22 +1,20 @@
 //! An upgrade, with a buffer before each device.
 
-ghost use Rattle.std.specs.Prelude.{◌≡◌, ◌⊎◌, ◌-◌, ◌<◌, ◌^◌, [], OnOk, IfErr};
-ghost use Rattle.devices.specs.Devices.{CanFail, CountsBy};
+ghost use Rattle.std.specs.Prelude.{◌≡◌, ◌⊎◌, ◌-◌, ◌<◌, ◌^◌, OnOk, IfErr};
 ghost use Rattle.captures.specs.Upgrades.{Upgrades};
+ghost use Rattle.devices.specs.Devices.{CanFail, CountsBy};
 ghost use Rattle.devices.specs.Reference.{WhereKnown};
 ghost use Rattle.program.specs.Bundles.{reader_failures, writer_failures};
+ghost use Rattle.program.specs.Ports.{Reads, Runs, port};
 ghost use Rattle.program.specs.Upgrading.{IsCaptureOfSomeVersion, IsUpgradeFault, IsUpgradeFilesFault, UpgradeSays};
-ghost use Rattle.program.specs.Devices.{AtDevice, Refused};
 
-use crate::buffer::{Buffered, Device, ROOM, Stood};
-use crate::fault::Fault;
-use crate::place::Place;
-use crate::program::{is_cut, write_rest};
+use crate::buffer::ROOM;
+use crate::fault::{Fault, Place};
+use crate::running::{Job, run_buffered};
 use captures::upgrade;
 use devices::{Input, Output};
 use std::alloc::Global;
 use std::io::{BufReader, Read, Write};
-use std::marker::Brand;
 
 /// Writes a capture of either version as one of version 2, with the same start and the same records.
 ///
@@ -33,7 +31,8 @@ pub fn run_upgrade<R: Read, W: Write>(
     requires reading { CanFail input.old }
     requires writing { CanFail output.old }
     ensures ok { OnOk result (Upgrades input.old.bytes output.old.bytes output.new.bytes) }
-    ensures fault { IfErr result (IsUpgradeFault input.old.bytes input.new.bytes output.old.bytes output.new.bytes) }
+    ensures fault { IfErr result
+        (IsUpgradeFault (port input.old input.new) (port output.old output.new)) }
     // A device is blamed only where it failed in this call.
     ensures reads { CountsBy reader_failures input.old.failures input.new.failures result }
     ensures writes { CountsBy writer_failures output.old.failures output.new.failures result }
@@ -44,22 +43,22 @@ pub fn run_upgrade<R: Read, W: Write>(
     }
 }
 
-/// Runs over buffers that were made.
-fn upgrade_buffered<N: Stood, R: Read + Drop, W: Write + Drop>(
+/// A capture to upgrade.
+#[derive(Drop)]
+struct Upgrading<R: Read + Drop> {
     alloc: Global,
     reader: BufReader<R>,
-    writer: W,
-    waiting: Vec<u8>,
-) -> (Result<(), Fault>, W)
-    requires stood { W.contents writer ≡ N.stood }
-    requires waiting { waiting.items ≡ [] }
-    ensures { AtDevice Place.Output (UpgradeSays (⟦<BufReader<R> as Read>⟧.remaining reader) (W.contents writer))
-        (W.contents writer) (W.contents result.1) result.0 }
-{
-    let mut output = Output::new(Buffered::<N, W>::new(Device::new(writer), waiting));
-    let ran = run_upgrade(alloc, &mut Input::ahead(reader), &mut output);
-    let cut = is_cut(&ran);
-    write_rest(output.into_writer(), Place::Output, cut, ran)
+}
+
+impl<R: Read + Drop> Job for Upgrading<R> {
+    ghost use Rattle.program.specs.Ports.{Reads};
+    ghost use Rattle.program.specs.Upgrading.{UpgradeSays};
+
+    ghost says = { λ job. Reads UpgradeSays (⟦<BufReader<R> as Read>⟧.remaining job.reader) };
+
+    fn run<W: Write>(self, output: &mut Output<W>) -> Result<(), Fault> {
+        run_upgrade(self.alloc, &mut Input::ahead(self.reader), output)
+    }
 }
 
 /// Writes a capture of either version as one of version 2, with a buffer before each device, and gives the writer
@@ -74,18 +73,14 @@ pub fn upgrade_files<R: Read + Drop, W: Write + Drop>(
     reader: R,
     writer: W,
 ) -> (Result<(), Fault>, W)
-    ensures device { Refused (W.contents writer) (W.contents result.1) result.0
-        ⊎ AtDevice Place.Output (UpgradeSays (R.remaining reader) (W.contents writer))
+    ensures device { Runs Place.Output (Reads UpgradeSays (R.remaining reader))
         (W.contents writer) (W.contents result.1) result.0 }
     // Where the bytes of the input are known, they were a capture's text, or a fault is their first.
     ensures ok { OnOk result.0 (WhereKnown (R.remaining reader) IsCaptureOfSomeVersion) }
     ensures fault { IfErr result.0 (IsUpgradeFilesFault (R.remaining reader)) }
 {
-    let Ok(waiting) = Vec::with_capacity(alloc, ROOM) else {
-        return (Err(Fault::Memory), writer);
-    };
-    let Ok(reader) = BufReader::with_capacity(alloc, ROOM, reader) else {
-        return (Err(Fault::Memory), writer);
-    };
-    upgrade_buffered::<Brand, R, W>(alloc, reader, writer, waiting)
+    match BufReader::with_capacity(alloc, ROOM, reader) {
+        Ok(reader) => run_buffered(alloc, Upgrading { alloc, reader }, Place::Output, writer),
+        Err(_) => (Err(Fault::Memory), writer),
+    }
 }

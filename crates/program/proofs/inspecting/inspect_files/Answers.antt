@@ -1,14 +1,17 @@
 use Rattle.std.proofs.Common.{rules}
-use Rattle.program.specs.Inspecting.{InspectSays, AtReport}
+use Rattle.program.specs.declared.fault.Place.TheVariants.{Report}
+use Rattle.program.specs.Inspecting.{InspectSays}
 use Rattle.program.proofs.Inspected.{inspected_fault, inspected_ok}
+use Rattle.program.specs.Ports.{Reads, Runs}
+use Rattle.program.proofs.Settling.{ok_of_runs, fault_of_runs}
 use Rattle.program.proofs.inspecting.inspect_files.Goals as goal
 
-pub returns-clause-fault : goal.returns-clause-fault
-returns-clause-fault g c =
-    let at : AtReport (InspectSays (g.R.Read.remaining c.args.reader) (g.W.Write.contents c.args.writer)) (g.W.Write.contents c.args.writer) (g.W.Write.contents c.inspect_buffered.result.1) c.inspect_buffered.result.0 = search rules in
-    inspected_fault _ _ _ _ at
+pub returns-in-Ok-clause-ok : goal.returns-in-Ok-clause-ok
+returns-in-Ok-clause-ok g c =
+    let runs : Runs Report (Reads InspectSays (g.R.Read.remaining c.args.reader)) (g.W.Write.contents c.args.writer) (g.W.Write.contents c.run_buffered.result.1) c.run_buffered.result.0 = search rules in
+    ok_of_runs Report _ _ _ _ _ (inspected_ok _) runs
 
-pub returns-clause-ok : goal.returns-clause-ok
-returns-clause-ok g c =
-    let at : AtReport (InspectSays (g.R.Read.remaining c.args.reader) (g.W.Write.contents c.args.writer)) (g.W.Write.contents c.args.writer) (g.W.Write.contents c.inspect_buffered.result.1) c.inspect_buffered.result.0 = search rules in
-    inspected_ok _ _ _ _ at
+pub returns-in-Ok-clause-fault : goal.returns-in-Ok-clause-fault
+returns-in-Ok-clause-fault g c =
+    let runs : Runs Report (Reads InspectSays (g.R.Read.remaining c.args.reader)) (g.W.Write.contents c.args.writer) (g.W.Write.contents c.run_buffered.result.1) c.run_buffered.result.0 = search rules in
+    fault_of_runs Report _ _ _ _ _ tt tt (inspected_fault _) runs

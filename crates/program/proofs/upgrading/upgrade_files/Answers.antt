@@ -1,14 +1,17 @@
-use Rattle.std.proofs.Common.{List, ℕ, Option, subst}
-use Rattle.program.specs.declared.place.Place.TheVariants.{Output}
+use Rattle.std.proofs.Common.{rules}
+use Rattle.program.specs.declared.fault.Place.TheVariants.{Output}
 use Rattle.program.specs.Upgrading.{UpgradeSays}
-use Rattle.program.specs.Devices.{AtDevice}
-use Rattle.program.proofs.Buffering.{nothing_ahead}
-use Rattle.program.proofs.Settling.{upgraded_fault}
+use Rattle.program.proofs.Upgraded.{upgraded_fault, upgraded_ok}
+use Rattle.program.specs.Ports.{Reads, Runs}
+use Rattle.program.proofs.Settling.{ok_of_runs, fault_of_runs}
 use Rattle.program.proofs.upgrading.upgrade_files.Goals as goal
 
-pub returns-clause-fault : goal.returns-clause-fault
-returns-clause-fault g c =
-    let made = c.in-Ok-with_capacity.ensures in
-    let At : Option (List ℕ) → Type 0 = λ input. AtDevice Output (UpgradeSays input (g.W.Write.contents c.args.writer)) (g.W.Write.contents c.args.writer) (g.W.Write.contents c.upgrade_buffered.result.1) c.upgrade_buffered.result.0 in
-    let same = nothing_ahead _ _ (g.R.Read.remaining c.args.reader) made.capacity made.empty in
-    upgraded_fault _ _ _ _ (subst At same (rw made.inner at c.upgrade_buffered.ensures))
+pub returns-in-Ok-clause-ok : goal.returns-in-Ok-clause-ok
+returns-in-Ok-clause-ok g c =
+    let runs : Runs Output (Reads UpgradeSays (g.R.Read.remaining c.args.reader)) (g.W.Write.contents c.args.writer) (g.W.Write.contents c.run_buffered.result.1) c.run_buffered.result.0 = search rules in
+    ok_of_runs Output _ _ _ _ _ (upgraded_ok _) runs
+
+pub returns-in-Ok-clause-fault : goal.returns-in-Ok-clause-fault
+returns-in-Ok-clause-fault g c =
+    let runs : Runs Output (Reads UpgradeSays (g.R.Read.remaining c.args.reader)) (g.W.Write.contents c.args.writer) (g.W.Write.contents c.run_buffered.result.1) c.run_buffered.result.0 = search rules in
+    fault_of_runs Output _ _ _ _ _ tt tt (upgraded_fault _) runs

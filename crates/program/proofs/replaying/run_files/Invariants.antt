@@ -1,4 +1,4 @@
-use Rattle.program.proofs.buffered.run_files.Given as goal
+use Rattle.program.proofs.replaying.run_files.Given as goal
 
 abbrev pub ghosts-run_files_buffered-M-Stood : goal.ghosts-run_files_buffered-M-Stood
 ghosts-run_files_buffered-M-Stood g a = record { stood = g.W.Write.contents a.written }
