@@ -1,5 +1,6 @@
 -- A pass over a capture: it reads record by record, and writes as it reads. Where it stopped at the capture's fault.
-use Rattle.std.specs.Prelude.{◌≡◌, ℕ, ◌+◌, ◌≤◌, ◌⊎◌, Bool, true, false, List, ◌++◌, length, Option, Result, Err, MatchResult}
+use Rattle.std.specs.Prelude.{◌≡◌, ℕ, ◌+◌, ◌≤◌, ◌⊎◌, Bool, true, false, List, ◌++◌}
+use Rattle.std.specs.Prelude.{length, Option, Result, Err, MatchResult}
 use Rattle.devices.specs.Reference.{WhereKnown}
 use Rattle.captures.specs.declared.record.Record.{Record}
 use Rattle.captures.specs.declared.version.Version.{Version}

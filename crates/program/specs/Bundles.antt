@@ -35,8 +35,8 @@ abbrev pub WritesAnswer : Option (List ℕ) → Option (List ℕ) → List File 
 WritesAnswer old new files capture = (outcome : Outcome) × Answers (default_terms files) capture old new outcome
 
 -- What a fault of the run says of the input and of the output. One of the snapshot is its first and nothing was
--- written; one of the replay comes after a whole snapshot, and says what it says of the rest; memory may run out between
--- the two, and then nothing was written either. None else comes.
+-- written; one of the replay comes after a whole snapshot, and says what it says of the rest; memory may run out
+-- between the two, and then nothing was written either. No other comes.
 abbrev pub IsBundleFault : Port → Port → Fault → Type 0
 IsBundleFault input output (Snapshot f) = IsForeseen IsFrontFault input.old.bytes f × (output.new ≡ output.old)
 IsBundleFault input output (Replay f) = AfterSnapshot input.old.bytes (λ files capture.

@@ -53,11 +53,11 @@ returns-in_err-write_message-clause-part g c =
       i + 1,
       omega (arith, lt),
       (let given = c.requires.stands in
-      let stands = inv.0 given.0 0 given.1 in
-      let count = answered_is _ _ _ stands in
-      let few = stands.few in
-      let other = c.if-desk-eq-MAX_MESSAGES.false in
-      omega (arith, at, count, few, other)),
+          let stands = inv.0 given.0 0 given.1 in
+          let count = answered_is _ _ _ stands in
+          let few = stands.few in
+          let other = c.if-desk-eq-MAX_MESSAGES.false in
+          omega (arith, at, count, few, other)),
       λ arrivals place stands.
           (let sofar = arrivals_with place c.args.origin (take i messages) in
           let part = c.in_err-write_message.ensures.part (arrivals ++ sofar) (record { origin = c.args.origin; place = place; message = get_or messages i m }) (inv.0 arrivals place stands) refl (ap (λ x. x.what) (sym c.message-item.is)) in
