@@ -1,6 +1,7 @@
 -- From what the parts of a run with a report say to what the run says, and to what the program says.
-use Rattle.devices.specs.Devices.{fresh}
-use Rattle.std.proofs.Common.{ℕ, List, Option, Result, OnOk, IfErr}
+use Rattle.devices.specs.Devices.{CountsBy, fresh}
+use Rattle.captures.specs.Passes.{BlamesReader}
+use Rattle.std.proofs.Common.{ℕ, Bool, List, Option, Result, Ok, Err, inl, OnOk, IfErr}
 use Rattle.paths.specs.declared.file.File.{File}
 use Rattle.paths.specs.SnapshotFaults.{ReadsWhole}
 use Rattle.paths.specs.Snapshots.{IsSnapshot}
@@ -63,3 +64,8 @@ pub files_ok : (wanted : Wanted) (choice : Choice) (snapshot capture : Option (L
     → OnOk ran (OfSnapshot snapshot (λ files. HoldsCapture files capture))
 files_ok wanted choice snapshot capture written report ran says =
     ok_weaker _ _ ran (files_weaker snapshot _ (λ files. HoldsCapture files capture) (λ files answer known. is_text wanted (terms_of files choice) capture written answer.outcome answer.answer known)) says.2.0
+
+-- a device that is blamed exactly is, whatever may go untold
+pub exactly : {X E : Type 0} (r : Result X E) (blamed : E → ℕ) (untold : E → Bool) (old new : ℕ) → CountsBy blamed old new r → BlamesReader blamed untold old new r
+exactly (Ok x) blamed untold old new h = h
+exactly (Err e) blamed untold old new h = inl h

@@ -13,6 +13,7 @@ use Rattle.program.proofs.Settling.{ok_weaker, fault_weaker}
 -- a fault of the run is one of the program
 reported_of_upgrade : (input output : Port) (f : Fault) → IsUpgradeFault input output f → IsUpgradeFilesFault input.old.bytes f
 reported_of_upgrade input output (Upgrade (upgrades.Capture f)) says = first_of_stop input.old.bytes input.new.bytes _ _ f says.1
+reported_of_upgrade input output (Upgrade (upgrades.TooMany number)) says = absurd says
 reported_of_upgrade input output (Upgrade other) says = tt
 reported_of_upgrade input output other says = absurd says
 

@@ -12,9 +12,7 @@ use Rattle.captures.specs.declared.capture_fault.CaptureFault.{CaptureFault}
 use Rattle.captures.specs.declared.capture_fault.CaptureFaultKind.{CaptureFaultKind}
 use Rattle.captures.specs.declared.capture_fault.CaptureFaultKind.TheVariants as records
 use Rattle.captures.specs.declared.pass_fault.PassFault.{PassFault}
-use Rattle.captures.specs.declared.pass_fault.PassFault.TheVariants as upgrades
-use Rattle.captures.specs.declared.pass_fault.PassFault.{PassFault}
-use Rattle.captures.specs.declared.pass_fault.PassFault.TheVariants as replays
+use Rattle.captures.specs.declared.pass_fault.PassFault.TheVariants as passes
 use Rattle.command_line.specs.declared.words.WordFault.{WordFault}
 use Rattle.command_line.specs.declared.words.WordFault.TheVariants as words
 use Rattle.settings.specs.declared.config_fault.ConfigFault.{ConfigFault}
@@ -44,16 +42,12 @@ reported_record records.Read f = Read places.Capture
 reported_record records.Memory f = Memory
 reported_record other f = Record f
 
-abbrev pub reported_replay : PassFault → Reported
-reported_replay (replays.Capture f) = reported_record f.kind f
-reported_replay (replays.TooMany number) = TooMany number
-reported_replay replays.Write = Write places.Replies
-reported_replay replays.Memory = Memory
-
-abbrev pub reported_upgrade : PassFault → Reported
-reported_upgrade (upgrades.Capture f) = reported_record f.kind f
-reported_upgrade upgrades.Write = Write places.Output
-reported_upgrade upgrades.Memory = Memory
+-- that of a pass which writes there
+abbrev pub reported_pass : Place → PassFault → Reported
+reported_pass place (passes.Capture f) = reported_record f.kind f
+reported_pass place (passes.TooMany number) = TooMany number
+reported_pass place passes.Write = Write place
+reported_pass place passes.Memory = Memory
 
 abbrev pub reported_file : FileFault → Reported
 reported_file files.Read = Read places.Folder
@@ -61,7 +55,7 @@ reported_file other = File other
 
 -- the fault of a run that writes rows, of one that writes replies
 abbrev pub of_rows : Fault → Fault
-of_rows (faults.Replay replays.Write) = faults.Write places.Messages
+of_rows (faults.Replay passes.Write) = faults.Write places.Messages
 of_rows (faults.Write places.Replies) = faults.Write places.Messages
 of_rows f = f
 
@@ -78,8 +72,8 @@ abbrev pub reported : Fault → Reported
 reported (faults.Words f) = reported_words f
 reported (faults.Settings f) = reported_settings f.kind f
 reported (faults.Snapshot f) = reported_entry f.kind f
-reported (faults.Replay f) = reported_replay f
-reported (faults.Upgrade f) = reported_upgrade f
+reported (faults.Replay f) = reported_pass places.Replies f
+reported (faults.Upgrade f) = reported_pass places.Output f
 reported (faults.Folder f) = reported_file f.fault
 reported (faults.Open place) = Open place
 reported (faults.Read place) = Read place

@@ -1,5 +1,5 @@
 -- The run that writes what a capture holds.
-use Rattle.std.specs.Prelude.{◌≡◌, ◌≢◌, ◌⊎◌, ℕ, false, List, Option, Result, OnOk, IfErr}
+use Rattle.std.specs.Prelude.{◌≡◌, ◌≢◌, ◌⊎◌, ℕ, Bool, true, false, List, Option, Result, OnOk, IfErr}
 use Rattle.std.specs.Io.KnownBytes.{Appends}
 use Rattle.captures.specs.declared.capture_fault.CaptureFault.{CaptureFault}
 use Rattle.captures.specs.declared.capture_fault.CaptureFaultKind.TheVariants as kinds
@@ -55,3 +55,9 @@ IsInspectFilesFault input (Replay (Capture f)) =
 IsInspectFilesFault input (Write Report) = Unit {0}
 IsInspectFilesFault input Memory = Unit {0}
 IsInspectFilesFault input other = ⊥
+
+-- a read that failed may go untold where the figures before it can't be written, and where memory runs out
+abbrev pub is_untold : Fault → Bool
+is_untold (Write Report) = true
+is_untold Memory = true
+is_untold other = false

@@ -1,7 +1,7 @@
 -- The run over a snapshot and a capture, each in an input of its own, with a report.
-use Rattle.std.specs.Prelude.{◌≡◌, ℕ, false, List, Option, Result, OnOk, IfErr}
+use Rattle.std.specs.Prelude.{◌≡◌, ℕ, Bool, false, List, Option, Result, OnOk, IfErr}
 use Rattle.std.specs.Io.KnownBytes.{Appends}
-use Rattle.devices.specs.Devices.{Device, AppendsProperPrefix, BlamedOnce, CountsBy, fresh}
+use Rattle.devices.specs.Devices.{Device, AppendsProperPrefix, CountsBy, fresh}
 use Rattle.paths.specs.declared.file.File.{File}
 use Rattle.paths.specs.Snapshots.{IsSnapshot, IsSnapshotText}
 use Rattle.paths.specs.SnapshotFaults.{IsFirstFault, IsForeseen, failures_of}
@@ -14,6 +14,8 @@ use Rattle.reference.specs.Texts.{Texts, reply_texts}
 use Rattle.devices.specs.Reference.{WhereKnown}
 use Rattle.reference.specs.Outcomes.{IfCapture, Leaves}
 use Rattle.captures.specs.Passes as passes
+use Rattle.captures.specs.declared.pass_fault.PassFault.{PassFault}
+use Rattle.command_line.specs.declared.words.Engine.TheVariants as engines
 use Rattle.report.specs.Reports.{report_text}
 use Rattle.program.specs.Bundles.{writer_failures}
 use Rattle.program.specs.Ports.{Port, port}
@@ -112,11 +114,19 @@ abbrev pub report_failures : Fault → ℕ
 report_failures (Write Report) = 1
 report_failures other = 0
 
--- A device is blamed only where it failed in the call. A read of the capture that failed may not be reported: where
--- another fault comes before it.
-abbrev pub Blames : Ports → Result Unit Fault → Type 0
-Blames at ran = CountsBy snapshot_failures at.snapshot.old.failures at.snapshot.new.failures ran
-    × BlamedOnce capture_failures at.capture.old.failures at.capture.new.failures ran
+-- the staged engine alone may leave a read of the capture that failed untold, where another fault comes before it
+abbrev pub untold_by : Wanted → PassFault → Bool
+untold_by (wants.Replies engines.Staged) f = passes.leaves_reads_untold f
+untold_by other f = false
+
+abbrev pub is_untold : Wanted → Fault → Bool
+is_untold wanted (Replay f) = untold_by wanted f
+is_untold wanted other = false
+
+-- each device is blamed exactly where it failed in the call, but for such a read
+abbrev pub Blames : Wanted → Ports → Result Unit Fault → Type 0
+Blames wanted at ran = CountsBy snapshot_failures at.snapshot.old.failures at.snapshot.new.failures ran
+    × passes.BlamesReader capture_failures (is_untold wanted) at.capture.old.failures at.capture.new.failures ran
     × CountsBy writer_failures at.written.old.failures at.written.new.failures ran
     × CountsBy report_failures at.report.old.failures at.report.new.failures ran
 

@@ -1,7 +1,7 @@
 -- The run that writes a capture of either version as one of version 2.
 use Rattle.std.specs.Prelude.{◌≡◌, ℕ, false, List, Option, Result, OnOk, IfErr}
 use Rattle.captures.specs.declared.record.Record.{Record}
-use Rattle.captures.specs.declared.pass_fault.PassFault.TheVariants.{Capture}
+use Rattle.captures.specs.declared.pass_fault.PassFault.TheVariants.{Capture, TooMany}
 use Rattle.captures.specs.declared.version.Version.{Version}
 use Rattle.captures.specs.Reference.{IsCaptureText}
 use Rattle.captures.specs.CaptureFaults.{is_unforeseen_kind, IsFirstFault}
@@ -33,6 +33,7 @@ UpgradeSays input output ran = OnOk ran (Upgrades input.old.bytes output.old.byt
 abbrev pub IsUpgradeFilesFault : Option (List ℕ) → Fault → Type 0
 IsUpgradeFilesFault input (Upgrade (Capture f)) =
     is_unforeseen_kind f.kind ≡ false → WhereKnown input (λ bytes. IsFirstFault bytes f)
+IsUpgradeFilesFault input (Upgrade (TooMany number)) = ⊥
 IsUpgradeFilesFault input (Upgrade other) = Unit {0}
 IsUpgradeFilesFault input (Write Output) = Unit {0}
 IsUpgradeFilesFault input Memory = Unit {0}

@@ -1,11 +1,11 @@
 //! All faults of the program, with the devices that they name, what is reported of each, and its status.
 
 ghost use Rattle.std.specs.Prelude.{◌≡◌, ◌≤◌, length};
-ghost use Rattle.program.specs.FaultLines.{reported, reported_entry, reported_file, reported_record, of_rows};
+ghost use Rattle.program.specs.FaultLines.{reported, reported_entry, reported_file, reported_pass, reported_record, of_rows};
 ghost use Rattle.program.specs.FaultLines.{place_name, status_of};
 
 use crate::folder::{FileFault, FolderFault};
-use captures::{CaptureFault, CaptureFaultKind, UpgradeFault};
+use captures::{CaptureFault, CaptureFaultKind, PassFault, UpgradeFault};
 use command_line::WordFault;
 use paths::{SnapshotFault, SnapshotFaultKind};
 use replay::ReplayFault;
@@ -164,6 +164,18 @@ fn reported_record(fault: CaptureFault) -> Reported
     }
 }
 
+/// What is reported of a pass over a capture that writes there.
+fn reported_pass(place: Place, fault: PassFault) -> Reported
+    ensures { result ≡ reported_pass place fault }
+{
+    match fault {
+        PassFault::Capture(fault) => reported_record(fault),
+        PassFault::TooMany(number) => Reported::TooMany(number),
+        PassFault::Write => Reported::Write(place),
+        PassFault::Memory => Reported::Memory,
+    }
+}
+
 /// What is reported of what was found in a folder.
 pub(crate) fn reported_file(fault: FileFault) -> Reported
     ensures { result ≡ reported_file fault }
@@ -186,20 +198,14 @@ impl Fault {
                 Reported::Settings(*fault)
             }
             Fault::Snapshot(fault) => reported_entry(*fault),
-            Fault::Replay(ReplayFault::Capture(fault)) => reported_record(*fault),
-            Fault::Upgrade(UpgradeFault::Capture(fault)) => reported_record(*fault),
-            Fault::Replay(ReplayFault::TooMany(number)) => Reported::TooMany(*number),
-            Fault::Replay(ReplayFault::Write) => Reported::Write(Place::Replies),
-            Fault::Upgrade(UpgradeFault::Write) => Reported::Write(Place::Output),
+            Fault::Replay(fault) => reported_pass(Place::Replies, *fault),
+            Fault::Upgrade(fault) => reported_pass(Place::Output, *fault),
             Fault::Folder(fault) => reported_file(fault.fault),
             Fault::Open(place) => Reported::Open(*place),
             Fault::Read(place) => Reported::Read(*place),
             Fault::Write(place) => Reported::Write(*place),
-            Fault::Words(WordFault::Memory)
-            | Fault::Settings(_)
-            | Fault::Replay(ReplayFault::Memory)
-            | Fault::Upgrade(UpgradeFault::Memory)
-            | Fault::Memory => Reported::Memory,
+            Fault::Words(WordFault::Memory) | Fault::Settings(_) | Fault::Memory =>
+                Reported::Memory,
         }
     }
 

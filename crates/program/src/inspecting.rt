@@ -2,10 +2,11 @@
 
 ghost use Rattle.std.specs.Prelude.{◌≡◌, ◌⊎◌, ◌-◌, ◌<◌, ◌^◌, OnOk, IfErr};
 ghost use Rattle.std.specs.Io.KnownBytes.{Appends};
-ghost use Rattle.devices.specs.Devices.{CanFail, BlamedOnce, CountsBy};
+ghost use Rattle.devices.specs.Devices.{CanFail, CountsBy};
 ghost use Rattle.devices.specs.Reference.{WhereKnown};
 ghost use Rattle.inspection.specs.Texts.{inspection_text};
-ghost use Rattle.program.specs.Inspecting.{Inspects, IsInspectFault, IsInspectFilesFault, InspectSays};
+ghost use Rattle.captures.specs.Passes.{BlamesReader};
+ghost use Rattle.program.specs.Inspecting.{is_untold, Inspects, IsInspectFault, IsInspectFilesFault, InspectSays};
 ghost use Rattle.program.specs.Ports.{Reads, Runs, port};
 ghost use Rattle.program.specs.Replays.{IsReportFault, capture_failures, report_failures};
 ghost use Rattle.program.specs.Upgrading.{IsCaptureOfSomeVersion};
@@ -58,7 +59,8 @@ pub fn run_inspect<R: Read, W: Write>(
         (IsInspectFault (port input.old input.new) (port output.old output.new)) }
     // A device is blamed only where it failed in this call. A read that failed may not be reported: where a write fails
     // after it, or there is no memory.
-    ensures reads { BlamedOnce capture_failures input.old.failures input.new.failures result }
+    ensures reads { BlamesReader capture_failures is_untold
+        input.old.failures input.new.failures result }
     ensures writes { CountsBy report_failures output.old.failures output.new.failures result }
 {
     match inspect(alloc, input) {

@@ -2,7 +2,7 @@
 
 ghost use Rattle.std.specs.Prelude.{◌≡◌, ◌⊎◌, ◌-◌, ◌<◌, ◌^◌, [], OnOk, IfOk, IfErr};
 ghost use Rattle.std.specs.Io.KnownBytes.{Appends};
-ghost use Rattle.devices.specs.Devices.{CanFail, BlamedOnce, CountsBy};
+ghost use Rattle.devices.specs.Devices.{CanFail, CountsBy};
 ghost use Rattle.reference.specs.Reference.{terms_of};
 ghost use Rattle.reference.specs.Outcomes.{Leaves};
 ghost use Rattle.captures.specs.Passes as passes;
@@ -10,7 +10,7 @@ ghost use Rattle.report.specs.Reports.{report_text};
 ghost use Rattle.program.specs.Bundles.{HoldsCapture};
 ghost use Rattle.program.specs.Ports.{AtDevices, RunsAtBoth, port};
 ghost use Rattle.program.specs.Replays.{Blames, FilesSays, HasWritten, IsFilesFault, IsReplayFault, IsReportFault};
-ghost use Rattle.program.specs.Replays.{OfSnapshot, Replays, ports, report_failures, wanted_of};
+ghost use Rattle.program.specs.Replays.{OfSnapshot, Replays, ports, report_failures, untold_by, wanted_of};
 
 use crate::buffer::{ROOM, Stood};
 use crate::fault::{Fault, Place};
@@ -68,7 +68,7 @@ fn run_wanted<F: Tree + Send + Sync, T: Threads + Wait + Sync, C: Read, W: Write
     requires devices { CanFail capture.old × CanFail written.old }
     ensures fault { IfErr result (Leaves (wanted_of wanted (terms_of F.files settings.now))
         capture.old.bytes capture.new.bytes written.old.bytes written.new.bytes) }
-    ensures reads { BlamedOnce passes.reader_failures
+    ensures reads { passes.BlamesReader passes.reader_failures (untold_by wanted)
         capture.old.failures capture.new.failures result }
     ensures writes { CountsBy passes.writer_failures
         written.old.failures written.new.failures result }
@@ -112,7 +112,7 @@ pub fn run_replay<T: Threads + Wait + Sync, S: Read, C: Read, W: Write, O: Write
         (ports snapshot.old snapshot.new capture.old capture.new written.old written.new out.old out.new)) }
     ensures fault { IfErr result (IsReplayFault wanted settings.now
         (ports snapshot.old snapshot.new capture.old capture.new written.old written.new out.old out.new)) }
-    ensures blames { Blames
+    ensures blames { Blames wanted
         (ports snapshot.old snapshot.new capture.old capture.new written.old written.new out.old out.new)
         result }
 {
