@@ -67,7 +67,8 @@ impl Controller {
     pub fn new(alloc: Global, policies: [Policy; 4]) -> Result<Self, AllocError>
         ensures fits { IfOk result (λ controller. ControllerAfter [] controller) }
         ensures policies { IfOk result (λ controller. policies_of controller ≡ policies) }
-        ensures start { IfOk result (λ controller. (controller.offers ≡ 0) × (last_tick controller ≡ 0)) }
+        ensures start { IfOk result
+            (λ controller. (controller.offers ≡ 0) × (last_tick controller ≡ 0)) }
     {
         let tiers = tiers_of(alloc, &policies)?;
         Ok(Controller {

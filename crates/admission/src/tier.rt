@@ -74,7 +74,8 @@ fn pass(bucket: &mut Bucket, pending: &[Control], tick: u64) -> usize
     requires within { tick ≤ MAX_TICK }
     ensures reached { result ≡ passed pending.now tick }
     ensures tick { bucket.new.tick ≡ tick }
-    ensures passes { (past : Past) → BucketAfter past bucket.old → ((later : Past) × BucketAfter later bucket.new)
+    ensures passes { (past : Past) → BucketAfter past bucket.old
+        → ((later : Past) × BucketAfter later bucket.new)
         × (bucket.new ≡ passing bucket.old pending.now tick) }
 {
     let mut reached = 0;
@@ -159,7 +160,8 @@ fn note_control(
 )
     requires rates { AllRates controls.old.items }
     requires room { vec_len controls.old < vec_capacity controls.old }
-    ensures controls { controls.new.items ≡ with_due policy controls.old.items window.now.samples admitted instant }
+    ensures controls { controls.new.items
+        ≡ with_due policy controls.old.items window.now.samples admitted instant }
     ensures rates { AllRates controls.new.items }
 {
     if admitted % policy.numbers.every == 0 {

@@ -74,7 +74,8 @@ fn lower(counts: &mut BTreeMap<u64, usize>, sample: u64) -> bool
 /// Counts a sample once less. A sample that is counted no more leaves the map.
 fn uncount(counts: &mut BTreeMap<u64, usize>, sample: u64)
     requires { AllCounted counts.old.entries }
-    ensures removed { expanded counts.new.entries ≡ remove_one sample (expanded counts.old.entries) }
+    ensures removed { expanded counts.new.entries ≡ remove_one sample
+        (expanded counts.old.entries) }
     ensures positive { AllCounted counts.new.entries }
 {
     if !lower(counts, sample) {
@@ -85,7 +86,8 @@ fn uncount(counts: &mut BTreeMap<u64, usize>, sample: u64)
 /// Walks the counted samples down from the greatest: the one that stands below `above` others.
 fn sample_below(mut entries: btree_map::Iter<'_, u64, usize>, mut above: usize) -> Option<u64>
     requires { above < length (expanded entries) }
-    ensures { result ≡ slice_get (expanded entries.entry) (length (expanded entries.entry) - 1 - above) }
+    ensures { result ≡ slice_get (expanded entries.entry)
+        (length (expanded entries.entry) - 1 - above) }
 {
     while let Some((sample, count)) = entries.next_back() {
         if above < *count {

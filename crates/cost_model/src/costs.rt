@@ -59,7 +59,8 @@ impl Costs {
         ensures ok { IfOk result
             (λ costs. (is_in_range (record { file = file; kib = kib; error = error }) ≡ true)
             × (costs ≡ record { file = file; kib = kib; error = error })) }
-        ensures fault { IfErr result (λ _. is_in_range (record { file = file; kib = kib; error = error }) ≡ false) }
+        ensures fault { IfErr result
+            (λ _. is_in_range (record { file = file; kib = kib; error = error }) ≡ false) }
     {
         if (1..=MAX_COST).contains(&file) && kib <= MAX_COST && (1..=MAX_COST).contains(&error) {
             Ok(Costs { file, kib, error })

@@ -5,7 +5,7 @@ use Rattle.std.proofs.Math.Seq.{drop-cons}
 use Rattle.std.proofs.lemmas.Grind.{common_steps}
 use Rattle.std.proofs.lemmas.Bool.{cases_lt}
 use Rattle.http_requests.specs.Reference.{IsBlockEnd, EndsAt, IsBlock}
-use Rattle.http_requests.specs.Ends.{ends_at, IsShortestBlock}
+use Rattle.http_requests.specs.Scanning.{ends_at, IsShortestBlock}
 
 -- the test holds within the text alone, and looks at no byte after the place
 test_within : (s : List ℕ) (e : ℕ) → IsTrue (ends_at s e) → (2 ≤ e) × (e ≤ length s)

@@ -3,7 +3,7 @@ use Rattle.std.proofs.Common.{◌≡◌, ℕ, zero, suc, ◌+◌, ◌-◌, ◌<�
 use Rattle.std.proofs.lemmas.Grind.{common_steps}
 use Rattle.std.proofs.lemmas.Bool.{cases_lt, cases_Bool, cond-true, cond-false, both_ways, eqb-true}
 use Rattle.memchr.specs.Find.{Nowhere, Passes, is_byte, places_from}
-use Rattle.http_requests.specs.Ends.{ends_at}
+use Rattle.http_requests.specs.Scanning.{ends_at}
 use Rattle.http_requests.specs.Reference.{EndsAt, IsBlock, NoBlock, blank_len}
 use Rattle.http_requests.specs.Scanning.{NoEndIn}
 use Rattle.http_requests.proofs.EndLaws.{ends_within, ends_by_test, test_holds}

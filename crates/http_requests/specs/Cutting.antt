@@ -7,6 +7,7 @@ use Rattle.http_requests.specs.declared.messages.Message.{Message}
 use Rattle.http_requests.specs.declared.heads.Verdict.{Verdict}
 use Rattle.http_requests.specs.declared.cutting.CutterState.{CutterState}
 use Rattle.http_requests.specs.declared.cutting.CutterState.TheVariants.{Seeking, Body, Closed, Failed}
+use Rattle.http_requests.specs.declared.cutting.State.{State}
 
 -- what a cutter keeps of the text: where it stands, how many bytes were read, and the prefix that was
 -- read of a block that isn't whole
@@ -137,3 +138,10 @@ pub record FedSome
 abbrev pub joined : List (List ℕ) → List ℕ
 joined [] = []
 joined (piece ∷ pieces) = piece ++ joined pieces
+
+abbrev pub max_text_bytes : ℕ
+max_text_bytes = 1073741824
+
+-- without the allocator, and with the bytes that are held as a list
+abbrev pub progress : State → Progress
+progress s = record { stage = s.stage; read = s.read; held = s.held.items }

@@ -1,9 +1,6 @@
 pub mod Counting
 pub mod Cutting
-pub mod Ends
-pub mod Limits
 pub mod Lines
 pub mod Parts
 pub mod Reference
 pub mod Scanning
-pub mod State

@@ -2,7 +2,7 @@
 ghost use Rattle.std.specs.Prelude.{◌≡◌, ◌<◌, ◌≤◌, ◌++◌, ◌∷◌, [], drop, length, IfNone, IfOk, IfSome, OnErr, OnOk};
 ghost use Rattle.std.specs.Prelude.{OnSome};
 ghost use Rattle.http_requests.specs.Reference.{max_body_bytes};
-ghost use Rattle.http_requests.specs.Limits.{max_text_bytes};
+ghost use Rattle.http_requests.specs.Cutting.{max_text_bytes};
 ghost use Rattle.http_requests.specs.Cutting.{Begins, IsUnfinished, Waits};
 
 use crate::heads::{Verdict, bad, read_block};
@@ -44,8 +44,10 @@ fn take_here(
     requires empty { held.old.items ≡ [] }
     requires some { 0 < length text.now }
     ensures begins { IfOk result (λ took. IfSome took.1 (Begins held.old.items text.now took.0)) }
-    ensures small { IfOk result (λ took. IfSome took.1 (λ verdict. verdict.length ≤ max_body_bytes)) }
-    ensures waits { IfOk result (λ took. IfNone took.1 (Waits held.old.items text.now took.0 held.new.items)) }
+    ensures small { IfOk result
+        (λ took. IfSome took.1 (λ verdict. verdict.length ≤ max_body_bytes)) }
+    ensures waits { IfOk result
+        (λ took. IfNone took.1 (Waits held.old.items text.now took.0 held.new.items)) }
     ensures empty { IfOk result (λ took. OnSome took.1 (held.new.items ≡ [])) }
 {
     match find(text, 0) {
@@ -70,8 +72,10 @@ fn take_joined(
     requires unfinished { IsUnfinished held.old.items }
     requires some { 0 < length text.now }
     ensures begins { IfOk result (λ took. IfSome took.1 (Begins held.old.items text.now took.0)) }
-    ensures small { IfOk result (λ took. IfSome took.1 (λ verdict. verdict.length ≤ max_body_bytes)) }
-    ensures waits { IfOk result (λ took. IfNone took.1 (Waits held.old.items text.now took.0 held.new.items)) }
+    ensures small { IfOk result
+        (λ took. IfSome took.1 (λ verdict. verdict.length ≤ max_body_bytes)) }
+    ensures waits { IfOk result
+        (λ took. IfNone took.1 (Waits held.old.items text.now took.0 held.new.items)) }
     ensures empty { IfOk result (λ took. OnSome took.1 (held.new.items ≡ [])) }
 {
     let had = held.len();
@@ -103,8 +107,10 @@ fn take_block(
     requires unfinished { IsUnfinished held.old.items }
     requires some { 0 < length text.now }
     ensures begins { IfOk result (λ took. IfSome took.1 (Begins held.old.items text.now took.0)) }
-    ensures small { IfOk result (λ took. IfSome took.1 (λ verdict. verdict.length ≤ max_body_bytes)) }
-    ensures waits { IfOk result (λ took. IfNone took.1 (Waits held.old.items text.now took.0 held.new.items)) }
+    ensures small { IfOk result
+        (λ took. IfSome took.1 (λ verdict. verdict.length ≤ max_body_bytes)) }
+    ensures waits { IfOk result
+        (λ took. IfNone took.1 (Waits held.old.items text.now took.0 held.new.items)) }
     ensures empty { IfOk result (λ took. OnSome took.1 (held.new.items ≡ [])) }
 {
     if held.is_empty() {
@@ -144,7 +150,7 @@ impl State {
     ghost use Rattle.std.specs.Prelude.{◌≡◌, ◌+◌, ◌<◌, ◌≤◌, ℕ, List, [], length, IfOk, IsErr, OnErr, OnOk};
     ghost use Rattle.http_requests.specs.declared.messages.Message.{Message as AMessage};
     ghost use Rattle.http_requests.specs.Cutting.{IsSound, HasFailed, Enters, Took, CutterAfter, Fed, FedSome};
-    ghost use Rattle.http_requests.specs.State.{progress};
+    ghost use Rattle.http_requests.specs.Cutting.{progress};
 
     /// A cutter at the start of a text.
     fn new(alloc: Global) -> State
@@ -171,7 +177,8 @@ impl State {
         requires small { left ≤ max_body_bytes }
         ensures sound { OnOk result (IsSound (progress self.new)) }
         ensures live { OnOk result (¬ (HasFailed (progress self.new))) }
-        ensures enters { OnOk result (Enters what left self.old.read (progress self.new) out.old.items out.new.items) }
+        ensures enters { OnOk result
+            (Enters what left self.old.read (progress self.new) out.old.items out.new.items) }
         ensures out { OnErr result (out.new.items ≡ out.old.items) }
         ensures stage { OnErr result (self.new.stage ≡ self.old.stage) }
         ensures read { self.new.read ≡ self.old.read }
@@ -196,7 +203,8 @@ impl State {
         requires sound { IsSound (progress self.old) }
         requires some { 0 < length text.now }
         requires room { self.old.read + length text.now ≤ max_text_bytes }
-        ensures ok { IfOk result (Took (progress self.old) text.now (progress self.new) out.old.items out.new.items) }
+        ensures ok { IfOk result
+            (Took (progress self.old) text.now (progress self.new) out.old.items out.new.items) }
         ensures out { OnErr result (out.new.items ≡ out.old.items) }
         ensures read { OnErr result (self.new.read ≤ self.old.read + length text.now) }
         ensures failed { OnErr result (HasFailed (progress self.new)) }
@@ -232,7 +240,8 @@ impl State {
     fn feed(&mut self, piece: &[u8], out: &mut Vec<Message>) -> Result<(), AllocError>
         requires sound { IsSound (progress self.old) }
         requires room { self.old.read + length piece.now ≤ max_text_bytes }
-        ensures ok { OnOk result ((past : List ℕ) (sofar : List AMessage) → CutterAfter past sofar (progress self.old)
+        ensures ok { OnOk result ((past : List ℕ) (sofar : List AMessage)
+            → CutterAfter past sofar (progress self.old)
             → Fed past sofar (progress self.new) piece.now out.old.items out.new.items) }
         ensures some { OnErr result ((past : List ℕ) (sofar : List AMessage)
             → CutterAfter past sofar (progress self.old)
@@ -267,7 +276,7 @@ impl Model for Cutter {
 
     ghost Value = { Progress };
 
-    ghost use Rattle.http_requests.specs.State.{progress};
+    ghost use Rattle.http_requests.specs.Cutting.{progress};
 
     ghost view = { λ c. progress c.state };
 
@@ -297,9 +306,11 @@ impl Cutter {
         requires { self.old.read + length piece.now ≤ max_text_bytes }
 
         // Whatever the text so far was, its messages and the new ones are those of the longer text.
-        ensures ok { OnOk result ((past : List ℕ) (sofar : List AMessage) → CutterAfter past sofar self.old
+        ensures ok { OnOk result ((past : List ℕ) (sofar : List AMessage)
+            → CutterAfter past sofar self.old
             → Fed past sofar self.new piece.now out.old.items out.new.items) }
-        ensures memory { OnErr result ((past : List ℕ) (sofar : List AMessage) → CutterAfter past sofar self.old
+        ensures memory { OnErr result ((past : List ℕ) (sofar : List AMessage)
+            → CutterAfter past sofar self.old
             → FedSome past sofar piece.now out.old.items out.new.items) }
 
         // Out of memory is answered for good.

@@ -175,7 +175,8 @@ fn number(value: &[u8]) -> Option<u64>
 
 /// Whether the comma list has this option.
 fn lists(value: &[u8], option: &[u8]) -> bool
-    ensures { result ≡ list_any (λ part. same_text (trim_ows part) option.now) (slice_split (λ b. b == 44) value.now) }
+    ensures { result ≡ list_any (λ part. same_text (trim_ows part) option.now)
+        (slice_split (λ b. b == 44) value.now) }
 {
     value
         .split(|b| *b == b',')
@@ -224,7 +225,8 @@ impl<'a> Head<'a> {
     /// `headers`.
     fn parse(block: &'a [u8], headers: &'a mut [HeaderSpan; MAX_FIELDS]) -> Option<Head<'a>>
         ensures within { IfSome result LiesWithin }
-        ensures says { IfSome result (λ head. (verdict : AVerdict) → Says head verdict → IsVerdict block.now verdict) }
+        ensures says { IfSome result
+            (λ head. (verdict : AVerdict) → Says head verdict → IsVerdict block.now verdict) }
         ensures none { IfNone result (IsVerdict block.now (bad Block)) }
     {
         match parse_request(block, headers) {
@@ -249,7 +251,8 @@ impl<'a> Head<'a> {
     /// The lines of Host.
     fn host_lines(&self) -> Lines
         requires { LiesWithin self.now }
-        ensures { AreLines self.now.block.now (values_of (codes "host") (lines_at self.now)) result }
+        ensures { AreLines self.now.block.now
+            (values_of (codes "host") (lines_at self.now)) result }
     {
         let mut lines = Lines::Absent;
         for header in self.headers {
@@ -280,7 +283,8 @@ impl<'a> Head<'a> {
     /// Whether Host is missing where it must stand, is repeated, or has a wrong byte (RFC 9112, section 3.2).
     fn is_host_fault(&self) -> bool
         requires { LiesWithin self.now }
-        ensures { result ≡ is_host_fault self.now.minor (values_of (codes "host") (lines_at self.now)) }
+        ensures { result ≡ is_host_fault self.now.minor
+            (values_of (codes "host") (lines_at self.now)) }
     {
         match self.host_lines() {
             Lines::Absent => self.minor == 1,
@@ -297,7 +301,8 @@ impl<'a> Head<'a> {
             (λ found. (head_fault self.now.minor (lines_at self.now) ≡ None)
             × (found.0 ≡ body_length (values_of (codes "content-length") (lines_at self.now))))
             (λ fault. head_fault self.now.minor (lines_at self.now) ≡ Some fault) }
-        ensures noted { IfOk result (λ found. AreNoted self.now.block.now (lines_at self.now) found.1) }
+        ensures noted { IfOk result
+            (λ found. AreNoted self.now.block.now (lines_at self.now) found.1) }
         ensures small { IfOk result (λ found. found.0 ≤ max_body_bytes) }
     {
         if self.is_host_fault() {
@@ -360,7 +365,8 @@ impl<'a> Head<'a> {
     fn modified_since(&self, noted: &Noted) -> Option<u64>
         requires within { LiesWithin self.now }
         requires noted { AreNoted self.now.block.now (lines_at self.now) noted.now }
-        ensures { IsModifiedSince (span_bytes self.now.block.now self.now.method) (lines_at self.now) result }
+        ensures { IsModifiedSince (span_bytes self.now.block.now self.now.method)
+            (lines_at self.now) result }
     {
         if !is_get_or_head(self.method.of(self.block)) || noted.none_match.is_there() {
             return None;

@@ -2,7 +2,7 @@
 ghost use Rattle.std.specs.Prelude.{◌≡◌, ◌≢◌, ◌+◌, ◌<◌, ◌≤◌, ℕ, length, slice_index, IfSome, IfNone};
 ghost use Rattle.std.specs.Int.{bit_at};
 ghost use Rattle.http_requests.specs.Reference.{line_feed, max_block_bytes, NoBlock, blank_len, IsBlock};
-ghost use Rattle.http_requests.specs.Ends.{ends_at};
+ghost use Rattle.http_requests.specs.Scanning.{ends_at};
 ghost use Rattle.http_requests.specs.Scanning.{IsFound, NoEndIn, MarksFeeds};
 
 use memchr::{memchr, memchr_iter};
@@ -27,7 +27,7 @@ pub enum Found {
 
 /// Whether a block ends with the line feed at this place: whether LF, or LF CR, stands before it.
 #[inline(always)]
-#[tactic(auto, unfolding(crate::specs::Ends::ends_at))]
+#[tactic(auto, unfolding(crate::specs::Scanning::ends_at))]
 fn ends_with(s: &[u8], feed: usize) -> bool
     requires two { 2 ≤ feed }
     requires within { feed < length s.now }

@@ -12,7 +12,7 @@ use Rattle.lru.proofs.CallerLemmas.{Contains-lookup, Contains-promoted}
 use Rattle.paths.specs.declared.file.File.{File}
 use Rattle.page_cache.specs.Pages.{page_size}
 use Rattle.page_cache.specs.CacheLists.{has, without, to_front, found, sizes}
-use Rattle.page_cache.specs.Caches.{IsCache}
+use Rattle.page_cache.specs.CacheLists.{IsCache}
 
 pub keys-without : {X : Type 0} (k : ℕ) (es : List (ℕ × X)) → keys_of (remove_entry (nat_eq k) es) ≡ without k (keys_of es)
 unfolding without

@@ -11,7 +11,7 @@ use Rattle.lru.proofs.Splits.{Contains-cons}
 use Rattle.paths.specs.declared.file.File.{File}
 use Rattle.page_cache.specs.Pages.{page_size}
 use Rattle.page_cache.specs.CacheLists.{CacheList, has, sizes, fitting, kept}
-use Rattle.page_cache.specs.Caches.{IsCache}
+use Rattle.page_cache.specs.CacheLists.{IsCache}
 use Rattle.page_cache.proofs.CacheLemmas.{promoted_none, put_new}
 use Rattle.page_cache.proofs.EvictLemmas.{Evicts, evict, fitting_all}
 

@@ -4,7 +4,7 @@ use Rattle.std.proofs.lemmas.List.Sums.{sum_by-cons}
 use Rattle.paths.specs.declared.file.File.{File}
 use Rattle.page_cache.specs.Pages.{page_size}
 use Rattle.page_cache.specs.CacheLists.{sizes, fitting}
-use Rattle.page_cache.specs.Laws.{IsLongest}
+use Rattle.page_cache.specs.CacheLists.{IsLongest}
 
 -- one more in kept that fits
 longer : (files : List File) (room x : ℕ) (list kept : List ℕ) → page_size files x ≤ room → IsLongest files (room - page_size files x) list kept → IsLongest files room (x ∷ list) (x ∷ kept)

@@ -6,7 +6,7 @@ use Rattle.std.specs.Char.{to_ascii_lowercase}
 use Rattle.paths.specs.Reference.{dot, slash}
 use Rattle.page_cache.specs.declared.media.MediaType.{MediaType}
 use Rattle.page_cache.specs.Reference.{extension, media_by_extension, media_of}
-use Rattle.page_cache.specs.Media.{IsAfterLast}
+use Rattle.page_cache.specs.Pages.{IsAfterLast}
 
 other_byte : (b mark : ℕ) → b ≢ mark → (b == mark) ≡ false
 other_byte b mark ne = search (rules, ne)

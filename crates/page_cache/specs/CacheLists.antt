@@ -1,11 +1,14 @@
--- The pages of a cache as a list, and what each call does to it.
+-- The pages of a cache as a list, what each call does to it, what a cache keeps at all times, and what the definitions
+-- mean.
 use Rattle.std.specs.Prelude.{◌≡◌, ℕ, ◌-◌, ◌<◌, ◌≤◌, Bool, List, [], ◌∷◌, Option, Some, None, nat_eq, nat_le}
-use Rattle.std.specs.Prelude.{if◌then◌else◌, false}
+use Rattle.std.specs.Prelude.{if◌then◌else◌, false, length, Contains, take}
 use Rattle.std.specs.List.{list_any, sum_by}
 use Rattle.paths.specs.declared.file.File.{File}
 use Rattle.page_cache.specs.Pages.{page_size}
 use Rattle.page_cache.specs.declared.cache.Keeping.{Keeping}
 use Rattle.page_cache.specs.declared.cache.Keeping.TheVariants.{TooBig, Kept, NoMemory}
+use Rattle.std.specs.Map.{keys_of}
+use Rattle.lru.specs.LruCache.{LruCache}
 
 -- the pages that are there, by the numbers of their files and the most recently used first, and how many bytes they may
 -- have together
@@ -57,3 +60,22 @@ abbrev pub KeptAs : List File → ℕ → CacheList → CacheList → Keeping �
 KeptAs files file old new TooBig = (old.limit < page_size files file) × (new ≡ old)
 KeptAs files file old new Kept = (page_size files file ≤ old.limit) × (new ≡ kept files file old)
 KeptAs files file old new NoMemory = (page_size files file ≤ old.limit) × (has file old.pages ≡ false) × (new ≡ old)
+
+-- Of each page, what `file_in` says is its file: it stands under its file's number. The bytes are the sum of the sizes,
+-- and within the limit; there is room for a page of each file.
+pub record IsCache {Page : Type 0} (files : List File) (file_in : Page → ℕ) (pages : LruCache ℕ Page)
+    (bytes limit : ℕ) : Type 0 where
+  pub keyed : (e : ℕ × Page) → Contains pages.entries e → file_in e.1 ≡ e.0
+  pub there : (e : ℕ × Page) → Contains pages.entries e → e.0 < length files
+  pub sum : bytes ≡ sizes files (keys_of pages.entries)
+  pub within : bytes ≤ limit
+  pub room : length files ≤ pages.cap
+
+-- it is a prefix of the list, its pages fit, and those of no longer prefix do
+pub record IsLongest (files : List File) (room : ℕ) (list kept : List ℕ) : Type 0 where
+  pub begins : kept ≡ take (length kept) list
+  pub fits : sizes files kept ≤ room
+  pub longest : (n : ℕ) → n ≤ length list → sizes files (take n list) ≤ room → n ≤ length kept
+
+abbrev pub FittingIsLongest : Type 0
+FittingIsLongest = (files : List File) (room : ℕ) (list : List ℕ) → IsLongest files room list (fitting files room list)

@@ -39,7 +39,7 @@ impl<F: Tree> Model for PageCache<F> {
     ghost use Rattle.std.specs.Map.{keys_of};
     ghost use Rattle.std.specs.Arc.{arc_value};
     ghost use Rattle.page_cache.specs.CacheLists.{CacheList};
-    ghost use Rattle.page_cache.specs.Caches.{IsCache};
+    ghost use Rattle.page_cache.specs.CacheLists.{IsCache};
 
     ghost Value = { CacheList };
 
@@ -65,7 +65,8 @@ impl<F: Tree> PageCache<F> {
 
     /// The page of a file, if it is there; it becomes the most recently used.
     pub fn look(&mut self, file: usize) -> Result<Option<Arc<Page<F>>>, AllocError>
-        ensures page { IfOk result (λ page. option_map (λ p. arc_value p) page ≡ found file self.old.pages) }
+        ensures page { IfOk result
+            (λ page. option_map (λ p. arc_value p) page ≡ found file self.old.pages) }
         // Whatever is there, it is the page of that file.
         ensures own { IfOk result (λ page. IfSome page (λ p. arc_value p ≡ file)) }
         // Only a page that is there takes memory.
@@ -79,7 +80,8 @@ impl<F: Tree> PageCache<F> {
     }
 
     fn find(&self, file: usize) -> Result<Option<Arc<Page<F>>>, AllocError>
-        ensures page { IfOk result (λ page. option_map (λ p. arc_value p) page ≡ found file self.now.pages) }
+        ensures page { IfOk result
+            (λ page. option_map (λ p. arc_value p) page ≡ found file self.now.pages) }
         ensures own { IfOk result (λ page. IfSome page (λ p. arc_value p ≡ file)) }
         ensures absent { OnErr result (has file self.now.pages ≡ true) }
     {

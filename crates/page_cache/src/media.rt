@@ -5,8 +5,8 @@ ghost use Rattle.std.specs.Char.{to_ascii_lowercase};
 ghost use Rattle.std.specs.List.{after_last, list_any};
 ghost use Rattle.paths.specs.Reference.{slash};
 ghost use Rattle.page_cache.specs.Reference.{media_by_extension, media_of, media_text};
-ghost use Rattle.page_cache.specs.Media.{IsAfterLast};
-ghost use Rattle.page_cache.specs.Media.{entity_fields};
+ghost use Rattle.page_cache.specs.Pages.{IsAfterLast};
+ghost use Rattle.page_cache.specs.Pages.{entity_fields};
 
 use itoa::Buffer;
 use std::alloc::{AllocError, Global};
@@ -119,7 +119,7 @@ pub fn entity_fields(alloc: Global, media: MediaType, len: usize) -> Result<Stri
 }
 
 /// The fields of a content, in a text that has room for n bytes after them.
-#[tactic(auto, unfolding(crate::specs::Media::entity_fields))]
+#[tactic(auto, unfolding(crate::specs::Pages::entity_fields))]
 pub(crate) fn entity_fields_before(
     alloc: Global,
     media: MediaType,

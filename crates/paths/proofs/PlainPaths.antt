@@ -12,7 +12,7 @@ use Rattle.std.proofs.lemmas.List.Splits.{join_with_byte-slice_split}
 use Rattle.percent_encoding.specs.Percent.{percent_decode}
 use Rattle.paths.specs.Reference.{slash, no_file, position_of, is_served, path_of, has_good_escapes, segments_of, is_nameless, is_here, is_up, walked, asked, joined, outcome}
 use Rattle.paths.specs.Snapshots.{is_part, is_name, IsFile, IsSnapshot}
-use Rattle.paths.specs.PlainPaths.{is_plain}
+use Rattle.paths.specs.Resolution.{is_plain}
 use Rattle.paths.specs.Resolution.{IsOutcome}
 use Rattle.paths.proofs.Locations.{outcome_is}
 use Rattle.paths.specs.declared.resolution.Outcome.TheVariants as outcomes

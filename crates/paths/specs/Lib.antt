@@ -1,10 +1,7 @@
 pub mod Above
 pub mod Owed
 pub mod Parts
-pub mod PlainPaths
 pub mod Reference
 pub mod Resolution
 pub mod SnapshotFaults
 pub mod Snapshots
-pub mod Steps
-pub mod Targets

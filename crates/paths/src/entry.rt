@@ -54,7 +54,8 @@ pub(crate) fn read_header<R: Read>(
     left: &mut usize,
 ) -> Result<(), SnapshotFaultKind>
     requires { CanFail input.old }
-    ensures line { Gives is_unforeseen_kind header_at input.old.bytes left.old input.new.bytes left.new result }
+    ensures line { Gives is_unforeseen_kind header_at
+        input.old.bytes left.old input.new.bytes left.new result }
     // Where a read failed, no whole line had been taken.
     ensures part { FailsWithin SnapshotFaultKind.Read SnapshotFaultKind.Cut header_at
         input.old.bytes left.old input.new.bytes left.new result }
@@ -87,10 +88,12 @@ fn read_name<R: Read>(
     ensures name { Gives is_unforeseen_kind (name_at files.now len)
         input.old.bytes left.old input.new.bytes left.new result }
     // Where a read failed, no whole name had been taken.
-    ensures part { FailsWithin SnapshotFaultKind.Read SnapshotFaultKind.Cut (name_at files.now len)
+    ensures part { FailsWithin SnapshotFaultKind.Read SnapshotFaultKind.Cut
+        (name_at files.now len)
         input.old.bytes left.old input.new.bytes left.new result }
     // Where there was no memory, nothing had been taken.
-    ensures lacks { FailsAtOnce SnapshotFaultKind.Memory input.old.bytes left.old input.new.bytes left.new result }
+    ensures lacks { FailsAtOnce SnapshotFaultKind.Memory
+        input.old.bytes left.old input.new.bytes left.new result }
     ensures fits { IfOk result (λ name. FitsName files.now len name) }
     ensures count { CountsKind input.old.failures input.new.failures result }
 {
@@ -116,12 +119,15 @@ fn read_body<R: Read>(
     len: usize,
 ) -> Result<Bytes, SnapshotFaultKind>
     requires { CanFail input.old }
-    ensures bytes { Gives is_unforeseen_kind (body_at len) input.old.bytes left.old input.new.bytes left.new result }
+    ensures bytes { Gives is_unforeseen_kind (body_at len)
+        input.old.bytes left.old input.new.bytes left.new result }
     // Where a read failed, no whole run had been taken.
-    ensures part { FailsWithin SnapshotFaultKind.Read SnapshotFaultKind.Cut (body_at len)
+    ensures part { FailsWithin SnapshotFaultKind.Read SnapshotFaultKind.Cut
+        (body_at len)
         input.old.bytes left.old input.new.bytes left.new result }
     // Where there was no memory, nothing had been taken.
-    ensures lacks { FailsAtOnce SnapshotFaultKind.Memory input.old.bytes left.old input.new.bytes left.new result }
+    ensures lacks { FailsAtOnce SnapshotFaultKind.Memory
+        input.old.bytes left.old input.new.bytes left.new result }
     ensures length { IfOk result (λ bytes. length bytes ≡ len) }
     ensures count { CountsKind input.old.failures input.new.failures result }
 {
@@ -145,10 +151,12 @@ fn read_file<R: Read>(
     ensures file { Gives is_unforeseen_kind (file_at files.now line)
         input.old.bytes left.old input.new.bytes left.new result }
     // Where a read failed, no whole file had been taken.
-    ensures part { FailsWithin SnapshotFaultKind.Read SnapshotFaultKind.Cut (file_at files.now line)
+    ensures part { FailsWithin SnapshotFaultKind.Read SnapshotFaultKind.Cut
+        (file_at files.now line)
         input.old.bytes left.old input.new.bytes left.new result }
     // Nor where there was no memory.
-    ensures lacks { FailsWithin SnapshotFaultKind.Memory SnapshotFaultKind.Cut (file_at files.now line)
+    ensures lacks { FailsWithin SnapshotFaultKind.Memory SnapshotFaultKind.Cut
+        (file_at files.now line)
         input.old.bytes left.old input.new.bytes left.new result }
     ensures fits { IfOk result (λ file. Follows files.now file) }
     ensures count { CountsKind input.old.failures input.new.failures result }
@@ -183,10 +191,12 @@ fn read_announced<R: Read>(
     ensures entry { Gives is_unforeseen_kind
         (announced files.now heading) input.old.bytes left.old input.new.bytes left.new result }
     // Where a read failed, no whole file had been taken.
-    ensures part { FailsWithin SnapshotFaultKind.Read SnapshotFaultKind.Cut (announced files.now heading)
+    ensures part { FailsWithin SnapshotFaultKind.Read SnapshotFaultKind.Cut
+        (announced files.now heading)
         input.old.bytes left.old input.new.bytes left.new result }
     // Nor where there was no memory.
-    ensures lacks { FailsWithin SnapshotFaultKind.Memory SnapshotFaultKind.Cut (announced files.now heading)
+    ensures lacks { FailsWithin SnapshotFaultKind.Memory SnapshotFaultKind.Cut
+        (announced files.now heading)
         input.old.bytes left.old input.new.bytes left.new result }
     ensures fits { IfOk result (λ entry. IfSome entry (λ file. Follows files.now file)) }
     ensures count { CountsKind input.old.failures input.new.failures result }
@@ -217,7 +227,8 @@ pub(crate) fn read_entry<R: Read>(
     ensures entry { Gives is_unforeseen_kind (entry_at files.now)
         input.old.bytes left.old input.new.bytes left.new result }
     // Where a read failed, no whole entry had been taken.
-    ensures part { FailsWithin SnapshotFaultKind.Read SnapshotFaultKind.Cut (entry_at files.now)
+    ensures part { FailsWithin SnapshotFaultKind.Read SnapshotFaultKind.Cut
+        (entry_at files.now)
         input.old.bytes left.old input.new.bytes left.new result }
     // Where there was no memory, some of the entry had been taken, and no whole one.
     ensures lacks { LacksWithin SnapshotFaultKind.Memory SnapshotFaultKind.Cut (entry_at files.now)

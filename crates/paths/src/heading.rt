@@ -23,7 +23,8 @@ pub(crate) fn read_entry_line<R: Read>(input: &mut Input<R>, left: &mut usize) -
     requires { CanFail input.old }
     ensures line { GivesLine input.old.bytes left.old input.new.bytes left.new result }
     // Where a read failed, no whole line had been taken.
-    ensures part { FailsWithin Stop.Read Stop.Cut line_at input.old.bytes left.old input.new.bytes left.new result }
+    ensures part { FailsWithin Stop.Read Stop.Cut line_at
+        input.old.bytes left.old input.new.bytes left.new result }
     ensures count { Counts input.old.failures input.new.failures result }
     // It takes no memory.
     ensures memory { IfErr result (λ e. e ≢ Stop.Memory) }

@@ -110,7 +110,8 @@ impl NameIndex {
 
     /// The number of the file of a name, where it is found. A name that is longer than each of them isn't hashed.
     pub(crate) fn find(&self, files: &[File], name: &[u8]) -> Option<usize>
-        ensures { IfSome result (λ i. (i < length files.now) × ((file_of files.now i).name ≡ name.now)) }
+        ensures { IfSome result
+            (λ i. (i < length files.now) × ((file_of files.now i).name ≡ name.now)) }
     {
         if name.len() > self.longest {
             return None;

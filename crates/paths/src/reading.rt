@@ -25,7 +25,8 @@ impl Snapshot {
         ensures ok { IfOk result (ReadsFront input.old.bytes input.new.bytes) }
         ensures fault { IfErr result (IsForeseen IsFrontFault input.old.bytes) }
         // Where a read failed, the fault names the entry of which a part had been taken.
-        ensures failed { IfErr result (NamesFailed FailsInSnapshot input.old.bytes input.new.bytes) }
+        ensures failed { IfErr result
+            (NamesFailed FailsInSnapshot input.old.bytes input.new.bytes) }
         ensures count { CountsFault input.old.failures input.new.failures result }
         // Where memory ran out, the fault names the entry of which some bytes had been taken, at most a whole file.
         ensures lacking { IfErr result (NamesLacking input.old.bytes input.new.bytes) }

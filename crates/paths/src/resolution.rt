@@ -3,7 +3,7 @@
 ghost use Rattle.std.specs.Prelude.{◌≡◌, ◌++◌, [], ◌∷◌, true, false, IfOk, IfSome, OnOk, string_bytes, codes, flat_map};
 ghost use Rattle.std.specs.List.{list_all};
 ghost use Rattle.paths.specs.Reference.{slash, asked, outcome, joined, location, location_byte};
-ghost use Rattle.paths.specs.PlainPaths.{is_plain, plain_file};
+ghost use Rattle.paths.specs.Resolution.{is_plain, plain_file};
 ghost use Rattle.paths.specs.Resolution.{IsOutcome, slash_before};
 
 use crate::target::is_served;
@@ -77,7 +77,8 @@ fn is_plain_target(target: &[u8]) -> bool
 /// is found, it is what [`resolve`] answers. It takes no memory.
 pub fn find_plain(files: &Snapshot, method: &[u8], target: &[u8]) -> Option<usize>
     ensures found { result ≡ plain_file files.now method.now target.now }
-    ensures outcome { IfSome result (λ file. Outcome.File file ≡ outcome files.now (asked method.now target.now)) }
+    ensures outcome { IfSome result
+        (λ file. Outcome.File file ≡ outcome files.now (asked method.now target.now)) }
     ensures is { IfSome result (λ file. IsOutcome files.now (Outcome.File file)) }
 {
     if !is_served(method) || !is_plain_target(target) {
@@ -185,7 +186,8 @@ fn location_of(alloc: Global, segments: &[Bytes]) -> Result<Bytes, AllocError>
 
 /// Adds a slash and an encoded segment after a location.
 fn append_encoded(to: &mut String, segment: &[u8]) -> Result<(), AllocError>
-    ensures { OnOk result (string_bytes to.new ≡ string_bytes to.old ++ (slash ∷ flat_map location_byte segment.now)) }
+    ensures { OnOk result
+        (string_bytes to.new ≡ string_bytes to.old ++ (slash ∷ flat_map location_byte segment.now)) }
 {
     to.push('/')?;
     percent_encode(segment, RESERVED).append_to(to)?;

@@ -144,7 +144,8 @@ impl Snapshot {
 
     /// Whether some file lies in the folder whose name and a slash are given.
     pub(crate) fn has_folder(&self, name: &[u8]) -> bool
-        ensures { (folder : List ℕ) → name.now ≡ folder ++ slash ∷ [] → result ≡ has_folder self.now folder }
+        ensures { (folder : List ℕ) → name.now ≡ folder ++ slash ∷ []
+            → result ≡ has_folder self.now folder }
     {
         match self.search(name) {
             Ok(_) => true,

@@ -8,8 +8,8 @@ ghost use Rattle.percent_encoding.specs.Percent.{percent_decode};
 ghost use Rattle.paths.specs.Reference.{slash, question_mark, number_sign, percent_sign, is_served, is_known, path_of};
 ghost use Rattle.paths.specs.Reference.{begins_hexadecimal, has_good_escapes, is_nameless, is_here, is_up, walked};
 ghost use Rattle.paths.specs.Reference.{asked_by, asked, segments_of, is_authority_end, after_authority};
-ghost use Rattle.paths.specs.Steps.{after_step};
-ghost use Rattle.paths.specs.Targets.{parts_of};
+ghost use Rattle.paths.specs.Resolution.{after_step};
+ghost use Rattle.paths.specs.Resolution.{parts_of};
 
 use crate::Segments;
 use crate::bytes::is_text;
@@ -193,7 +193,8 @@ fn walk(alloc: Global, path: &[u8]) -> Result<Asked, AllocError>
 
 /// What stands before the first slash, and what stands after it where there is one.
 fn split_segment(text: &[u8]) -> (&[u8], Option<&[u8]>)
-    ensures { slice_split (λ b. b == slash) text.now ≡ result.0.now ∷ parts_of (option_map (λ t. t.now) result.1) }
+    ensures { slice_split (λ b. b == slash) text.now ≡ result.0.now
+        ∷ parts_of (option_map (λ t. t.now) result.1) }
 {
     match first_slash(text) {
         Some(at) => (&text[..at], Some(&text[at + 1..])),

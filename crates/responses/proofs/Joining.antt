@@ -5,7 +5,7 @@ use Rattle.std.proofs.lemmas.List.{append_assoc, append-nil}
 use Rattle.std.proofs.lemmas.Grind.{flat_map-append}
 use Rattle.paths.specs.declared.file.File.{File}
 use Rattle.page_cache.specs.Reference.{media_of, media_text}
-use Rattle.page_cache.specs.Media.{entity_fields}
+use Rattle.page_cache.specs.Pages.{entity_fields}
 use Rattle.page_cache.specs.Pages.{page_fields}
 use Rattle.responses.specs.declared.slip.Slip.{Slip}
 use Rattle.responses.specs.Reference.{field_line, content_fields, described, status_words, status_text, head_text, content_of, reply_text}

@@ -69,7 +69,8 @@ pub fn write_reply<F: Tree, W: io::Write>(
     reply: &Reply<F>,
 ) -> Result<(), Failed>
     requires { CanFail output.old }
-    ensures record { WritesProperPrefix output.old.bytes output.new.bytes result (record_text reply.now) }
+    ensures record { WritesProperPrefix output.old.bytes output.new.bytes result
+        (record_text reply.now) }
     ensures count { CountsFailed output.old.failures output.new.failures result }
 {
     let (front, body) = reply.parts();

@@ -123,7 +123,8 @@ pub fn render<F: Tree>(alloc: Global, slip: Slip<F>) -> Result<Reply<F>, AllocEr
     requires known { OnlyHead slip.head slip.what }
     requires location { HasLocation slip.what }
     ensures text { IfOk result (λ r. r ≡ (slip.number, slip.conn, reply_text F.files slip)) }
-    ensures reply { IfOk result (λ r. IsReply slip.head (status_of slip.what) (body_text F.files slip) r.2) }
+    ensures reply { IfOk result
+        (λ r. IsReply slip.head (status_of slip.what) (body_text F.files slip) r.2) }
 {
     let mut front = render_head(alloc, &slip)?;
     if slip.head {

@@ -1,7 +1,7 @@
 use Rattle.std.proofs.Common.{◌≡◌, ◌∷◌, ◌++◌, [], ap, ◌∙◌, sym}
 use Rattle.std.proofs.lemmas.Result.{err_from_is_err_and}
 use Rattle.devices.proofs.Appending.{stopped_first, stopped_in}
-use Rattle.decision_table.specs.Rows.{row_line, text_field, row_text}
+use Rattle.decision_table.specs.Rows.{text_field, row_text}
 use Rattle.decision_table.proofs.Writing.{stopped_third, stopped_fourth, stopped_fifth, five_written, five_parts}
 use Rattle.decision_table.proofs.table.write_row.Goals as goal
 

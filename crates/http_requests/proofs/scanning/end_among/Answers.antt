@@ -2,7 +2,7 @@ use Rattle.std.proofs.Common.{◌≡◌, ℕ, ◌+◌, ◌<◌, ◌⊎◌, inl, 
 use Rattle.std.specs.Int.{bit_at}
 use Rattle.std.proofs.lemmas.Bool.{cases_eq}
 use Rattle.std.proofs.lemmas.Nat.Bits.{bit_at-zero}
-use Rattle.http_requests.specs.Ends.{ends_at}
+use Rattle.http_requests.specs.Scanning.{ends_at}
 use Rattle.http_requests.specs.Scanning.{NoEndIn}
 use Rattle.http_requests.proofs.EndLemmas.{none_behind, first_end}
 use Rattle.http_requests.proofs.scanning.end_among.Goals as goal

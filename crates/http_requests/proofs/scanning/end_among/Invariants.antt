@@ -1,6 +1,6 @@
 use Rattle.std.proofs.Common.{◌≡◌, ℕ, ◌+◌, ◌<◌, ◌⊎◌, false, slice_index}
 use Rattle.std.specs.Int.{bit_at}
-use Rattle.http_requests.specs.Ends.{ends_at}
+use Rattle.http_requests.specs.Scanning.{ends_at}
 use Rattle.http_requests.proofs.scanning.end_among.Given as goal
 
 -- the marks are line feeds, and each line feed is still marked, or no block ends with it

@@ -2,7 +2,7 @@ use Rattle.std.proofs.Common.{◌≡◌, true, [], length, map}
 use Rattle.std.specs.Option.{option_map}
 use Rattle.percent_encoding.specs.Percent.{percent_decode}
 use Rattle.paths.specs.Reference.{walked, segments_of}
-use Rattle.paths.specs.Targets.{parts_of}
+use Rattle.paths.specs.Resolution.{parts_of}
 use Rattle.paths.proofs.target.walk.Given as goal
 
 abbrev pub invariant-loop-ahead : goal.invariant-loop-ahead

@@ -1,5 +1,5 @@
 use Rattle.std.proofs.Common.{sym, ◌∙◌, arith}
-use Rattle.http_requests.specs.State.{progress}
+use Rattle.http_requests.specs.Cutting.{progress}
 use Rattle.http_requests.proofs.CutLemmas.{took_begins, took_body, sound_body}
 use Rattle.http_requests.proofs.cutting.State.cut.Goals as goal
 

@@ -1,6 +1,6 @@
 use Rattle.std.proofs.Common.{refl, arith, length-drop}
 use Rattle.std.proofs.lemmas.Result.{err_from_is_err_and}
-use Rattle.http_requests.specs.State.{progress}
+use Rattle.http_requests.specs.Cutting.{progress}
 use Rattle.http_requests.proofs.CutLemmas.{cuts_fed, cuts_some, cuts_then, took_rest, tail_is, sound_failed}
 use Rattle.http_requests.proofs.cutting.State.feed.Goals as goal
 

@@ -1,6 +1,6 @@
 use Rattle.std.proofs.Common.{◌≡◌, ◌+◌, ◌-◌, ◌≤◌, length, take}
 use Rattle.http_requests.specs.Cutting.{IsSound, HasFailed, Cuts}
-use Rattle.http_requests.specs.State.{progress}
+use Rattle.http_requests.specs.Cutting.{progress}
 use Rattle.http_requests.proofs.cutting.State.feed.Given as goal
 
 abbrev pub invariant-loop-at : goal.invariant-loop-at
