@@ -146,7 +146,11 @@ static BEYOND: [(&str, i64, i64); 11] = [
 fn at_limits(alloc: Global, table: &str, greatest: bool) -> Result<String, Fail> {
     let mut text = format!(in alloc; "[{table}]\n")?;
     for (key, below, above) in BEYOND.iter() {
-        let number = if greatest { *above - 1 } else { *below + 1 };
+        let number = if greatest {
+            above.wrapping_sub(1)
+        } else {
+            below.wrapping_add(1)
+        };
         writeln!(&mut text, "{key} = {number}")?;
     }
     Ok(text)
