@@ -1,7 +1,9 @@
 -- From what the parts of a run with a report say to what the run says, and to what the program says.
 use Rattle.devices.specs.Devices.{CountsBy, fresh}
-use Rattle.captures.specs.Passes.{BlamesReader}
-use Rattle.std.proofs.Common.{ℕ, Bool, List, Option, Result, Ok, Err, inl, OnOk, IfErr}
+use Rattle.captures.specs.Passes.{BlamesReader, leaves_reads_untold}
+use Rattle.command_line.specs.declared.words.Engine.{Engine}
+use Rattle.command_line.specs.declared.words.Engine.TheVariants as engines
+use Rattle.std.proofs.Common.{◌≡◌, ◌∙◌, ℕ, Bool, List, Option, Result, Ok, Err, ap, inl, subst, sym, OnOk, IfErr}
 use Rattle.paths.specs.declared.file.File.{File}
 use Rattle.paths.specs.SnapshotFaults.{ReadsWhole}
 use Rattle.paths.specs.Snapshots.{IsSnapshot}
@@ -16,7 +18,7 @@ use Rattle.program.specs.Bundles.{HoldsCapture}
 use Rattle.program.specs.declared.replaying.Wanted.{Wanted}
 use Rattle.program.specs.declared.replaying.Wanted.TheVariants as wants
 use Rattle.program.specs.Ports.{Port}
-use Rattle.program.specs.Replays.{OfSnapshot, Ports, ports, HasWritten, IsReplayFault, IsFilesFault, FilesSays, wanted_of}
+use Rattle.program.specs.Replays.{OfSnapshot, Ports, ports, HasWritten, IsReplayFault, IsFilesFault, FilesSays, untold_by, wanted_of}
 use Rattle.program.proofs.Programs.{first_of_replay}
 use Rattle.program.proofs.Settling.{ok_weaker, fault_weaker}
 
@@ -69,3 +71,8 @@ files_ok wanted choice snapshot capture written report ran says =
 pub exactly : {X E : Type 0} (r : Result X E) (blamed : E → ℕ) (untold : E → Bool) (old new : ℕ) → CountsBy blamed old new r → BlamesReader blamed untold old new r
 exactly (Ok x) blamed untold old new h = h
 exactly (Err e) blamed untold old new h = inl h
+
+pub staged_untold : {X : Type 0} (w : Wanted) (e : Engine) (r : Result X PassFault) (blamed : PassFault → ℕ) (old new : ℕ) → w ≡ wants.Replies e → e ≡ engines.Staged
+    → BlamesReader blamed leaves_reads_untold old new r → BlamesReader blamed (untold_by w) old new r
+staged_untold w e r blamed old new is staged h =
+    subst (λ (x : Wanted). BlamesReader blamed (untold_by x) old new r) (sym (is ∙ ap wants.Replies staged)) h
