@@ -1,7 +1,8 @@
 //! All faults of the program, with the devices that they name, what is reported of each, and its status.
 
 ghost use Rattle.std.specs.Prelude.{◌≡◌, ◌≤◌, length};
-ghost use Rattle.program.specs.FaultLines.{reported, reported_entry, reported_file, reported_pass, reported_record, of_rows};
+ghost use Rattle.program.specs.FaultLines.{of_rows, reported, reported_entry, reported_file, reported_pass};
+ghost use Rattle.program.specs.FaultLines.{reported_record};
 ghost use Rattle.program.specs.FaultLines.{place_name, status_of};
 
 use crate::folder::{FileFault, FolderFault};
