@@ -76,14 +76,12 @@ fn run_wanted<F: Tree + Send + Sync, T: Threads + Wait + Sync, C: Read, W: Write
         capture.old.bytes (port written.old written.new)) }
 {
     match wanted {
-        Wanted::Replies(Engine::Plain) => {
-            plain_replay::<F, C, W>(alloc, files, settings, capture, written)
-        }
-        Wanted::Replies(Engine::Staged) => {
-            staged_replay::<F, NoGate, T, C, W>(
+        Wanted::Replies(engine) => match engine {
+            Engine::Plain => plain_replay::<F, C, W>(alloc, files, settings, capture, written),
+            Engine::Staged => staged_replay::<F, NoGate, T, C, W>(
                 rt, alloc, files, settings, &NoGate, capture, written,
-            )
-        }
+            ),
+        },
         Wanted::Rows => explain_replay::<F, C, W>(alloc, files, settings, capture, written),
     }
 }
