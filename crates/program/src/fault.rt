@@ -205,8 +205,8 @@ impl Fault {
             Fault::Open(place) => Reported::Open(*place),
             Fault::Read(place) => Reported::Read(*place),
             Fault::Write(place) => Reported::Write(*place),
-            Fault::Words(WordFault::Memory) | Fault::Settings(_) | Fault::Memory =>
-                Reported::Memory,
+            Fault::Words(WordFault::Memory) => Reported::Memory,
+            Fault::Settings(_) | Fault::Memory => Reported::Memory,
         }
     }
 
