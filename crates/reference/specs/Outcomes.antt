@@ -39,14 +39,14 @@ pub record Taken (input : Option (List ℕ)) : Type 0 where
   pub arrivals : List Arrival
   pub arrived : AreArrivals read.records arrivals
 
--- the messages that arrived with these records are within the limit, and what is told of them was written
+-- the messages that arrived with these records are within the limit, and their text was written
 pub record WritesAll (t : Texts) (start : ℕ) (records : List Record) (old new : Option (List ℕ)) : Type 0 where
   pub arrivals : List Arrival
   pub arrived : AreArrivals records arrivals
   pub few : length arrivals ≤ max_messages
   pub written : Appends old new (t.so_far start arrivals)
 
--- The replay stopped at a fault of the capture: it has written the first line, and what is told of the messages that
+-- The replay stopped at a fault of the capture: it has written the first line, and the text of the messages that
 -- arrived with the whole records before it, and no last line. (What is written are these texts, here and below: the
 -- replies, or the rows of a table.)
 abbrev pub StopsWriting : Texts → Option (List ℕ) → Option (List ℕ) → Option (List ℕ) → Option (List ℕ) → CaptureFault
@@ -57,7 +57,7 @@ StopsWriting t input ahead old new f =
 abbrev pub Stops : Terms → Option (List ℕ) → Option (List ℕ) → Option (List ℕ) → Option (List ℕ) → CaptureFault → Type 0
 Stops terms input ahead old new f = StopsWriting (reply_texts terms) input ahead old new f
 
--- The messages that arrived with these records are more than the limit: what is told of those within it was written,
+-- The messages that arrived with these records are more than the limit: the text of those within it was written,
 -- and no last line. The number is that of the first beyond it.
 pub record StopsBeyond (t : Texts) (input old new : Option (List ℕ)) (number : ℕ) : Type 0 where
   pub taken : Taken input
@@ -68,7 +68,7 @@ pub record StopsBeyond (t : Texts) (input old new : Option (List ℕ)) (number :
 abbrev pub StopsFull : Terms → Option (List ℕ) → Option (List ℕ) → Option (List ℕ) → ℕ → Type 0
 StopsFull terms input old new number = StopsBeyond (reply_texts terms) input old new number
 
--- A prefix was written of the first line and what is told of the messages, within the limit, that arrived with these
+-- A prefix was written of the first line and the text of the messages, within the limit, that arrived with these
 -- records.
 pub record StopsAmong (t : Texts) (input old new : Option (List ℕ)) : Type 0 where
   pub taken : Taken input
@@ -76,7 +76,7 @@ pub record StopsAmong (t : Texts) (input old new : Option (List ℕ)) : Type 0 w
   pub few : within ≤ max_messages
   pub written : AppendsPrefix old new (t.so_far taken.read.start (take within taken.arrivals))
 
--- the input is a capture's text, and a prefix of all that is told of it was written
+-- the input is a capture's text, and a prefix of all its text was written
 abbrev pub StopsAtEnd : Texts → Option (List ℕ) → Option (List ℕ) → Option (List ℕ) → Type 0
 StopsAtEnd t input old new =
     (read : ArrivedCapture input) × AppendsPrefix old new (t.whole read.capture.start read.arrivals)

@@ -74,7 +74,7 @@ abbrev pub is_unmodified : Option ℕ → ℕ → Bool
 is_unmodified (Some date) mtime = nat_le mtime date
 is_unmodified None mtime = false
 
--- a file is given, or only told of to HEAD; or it was not modified
+-- a file is given, or only its head to HEAD; or it was not modified
 abbrev pub file_answer : {X : Type 0} → List File → Bool → Option ℕ → ℕ → Given X
 file_answer files head since file =
     if is_unmodified since (file_of files file).mtime then (Unmodified (file_of files file).mtime)
@@ -104,7 +104,7 @@ answer files (Request method target version closing since) = outcome_answer file
     (outcome files (asked method target))
 answer files (Bad fault) = Plain (fault_status fault)
 
--- what the reply tells of its connection (RFC 9112, 9.3)
+-- what the reply says of its connection (RFC 9112, 9.3)
 abbrev pub request_persistence : HttpVersion → Bool → Persistence
 request_persistence version true = Close
 request_persistence Http10 false = KeepAlive

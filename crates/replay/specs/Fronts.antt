@@ -26,7 +26,7 @@ lookup_after files costs (Request method target version closing since) (Priced o
 abbrev pub front_step : List File → CostTable → ℕ → LookedUp → LookedUp
 front_step files costs k v = record { message = v.message; lookup = lookup_after files costs v.message.what v.lookup }
 
--- a message that wasn't looked into yet
+-- a message that wasn't looked up yet
 abbrev pub unseen : Incoming → LookedUp
 unseen message = record { message = message; lookup = Unseen }
 

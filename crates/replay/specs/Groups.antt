@@ -9,6 +9,6 @@ use Rattle.replay.specs.declared.pending.PendingReply.{PendingReply}
 abbrev pub all_of : {A : Type 0} → List (List A) → List A
 all_of groups = flat_map (λ group. group) groups
 
--- the records of the replies to these tickets
+-- the records of these pending replies
 abbrev pub records_of : {X : Type 0} → List File → List (PendingReply X) → List ℕ
 records_of files pending_replies = flat_map record_text (map (λ t. reply_to files (slip_of_pending t)) pending_replies)

@@ -17,7 +17,7 @@ incoming_of a = record { origin = a.origin; what = a.message.what }
 abbrev pub AreOf : List Arrival → List Incoming → Type 0
 AreOf arrivals messages = map incoming_of arrivals ≡ messages
 
--- these arrivals were looked into
+-- these arrivals were looked up
 abbrev pub AreLookedUp : List File → CostTable → List Arrival → List LookedUp → Type 0
 AreLookedUp files costs arrivals lookups = lookups ≡ map (λ a. front_value files costs (incoming_of a)) arrivals
 

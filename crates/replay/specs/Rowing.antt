@@ -10,7 +10,7 @@ use Rattle.decision_table.specs.declared.row.Offered.{Offered}
 use Rattle.replay.specs.declared.lookup.Lookup.{Lookup}
 use Rattle.replay.specs.declared.lookup.Lookup.TheVariants.{Priced}
 
--- how long the server works on a message that was looked into; nothing where it is no request
+-- how long the server works on a message that was looked up; nothing where it is no request
 abbrev pub service_in : Lookup → Option ℕ
 service_in (Priced o cost) = Some cost
 service_in lookup = None

@@ -57,7 +57,7 @@ pub record Serves (terms : Terms) (records : List Record) (arrivals : List Arriv
 abbrev pub ArriveNext : List Record → List Arrival → List Record → List Arrival → Type 0
 ArriveNext records arrivals rs more = AreArrivals (records ++ rs) (arrivals ++ more)
 
--- more records were read, and the messages that arrived with them were decided on and told of
+-- more records were read, and the messages that arrived with them were decided on and written
 pub record WritesMore (t : Texts) (terms : Terms) (records : List Record) (arrivals : List Arrival) (rs : List Record)
     (connections : List Connection) (desk : Desk)
     (old new : Option (List ℕ)) : Type 0 where
@@ -65,7 +65,7 @@ pub record WritesMore (t : Texts) (terms : Terms) (records : List Record) (arriv
   pub serves : Serves terms (records ++ rs) (arrivals ++ more) connections desk
   pub written : Wrote t desk.start arrivals more old new
 
--- the messages of the next records reach beyond the limit: those within it were told of
+-- the messages of the next records reach beyond the limit: those within it were written
 pub record WritesFull (t : Texts) (start : ℕ) (records : List Record) (arrivals : List Arrival) (rs : List Record)
     (old new : Option (List ℕ)) : Type 0 where
   pub more : List Arrival
@@ -75,7 +75,7 @@ pub record WritesFull (t : Texts) (start : ℕ) (records : List Record) (arrival
   pub beyond : within < length more
   pub written : Wrote t start arrivals (take within more) old new
 
--- a prefix was written of what is told of the messages of the next records within the limit
+-- a prefix was written of the text of the messages of the next records within the limit
 pub record WritesInPart (t : Texts) (start : ℕ) (records : List Record) (arrivals : List Arrival) (rs : List Record)
     (old new : Option (List ℕ)) : Type 0 where
   pub more : List Arrival
@@ -84,7 +84,7 @@ pub record WritesInPart (t : Texts) (start : ℕ) (records : List Record) (arriv
   pub few : length arrivals + within ≤ max_messages
   pub written : WroteInPart t start arrivals (take within more) old new
 
--- the same, where each message is told by its reply
+-- the same, where a reply is written of each message
 abbrev pub ServesMore : Terms → List Record → List Arrival → List Record → List Connection → Desk → Option (List ℕ)
     → Option (List ℕ) → Type 0
 ServesMore terms records arrivals rs connections desk old new =
@@ -99,7 +99,7 @@ abbrev pub ServesInPart : Terms → ℕ → List Record → List Arrival → Lis
 ServesInPart terms start records arrivals rs old new =
     WritesInPart (reply_texts terms) start records arrivals rs old new
 
--- a whole capture was told of: as `Answers`, whatever is told
+-- a whole capture was written: as `Answers`, whatever is written of a message
 pub record WritesWhole (t : Texts) (terms : Terms) (input old new : Option (List ℕ)) (outcome : Outcome) : Type 0 where
   pub read : ArrivedCapture input
   pub written : Appends old new (t.whole read.capture.start read.arrivals)

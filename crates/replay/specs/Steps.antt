@@ -33,7 +33,7 @@ abbrev pub DecidesNext : Terms → Origin → Meaning → Desk → Desk → Type
 DecidesNext terms origin what before after = (arrivals : List Arrival) (a : Arrival) → DeskAfter terms arrivals before
     → a.origin ≡ origin → a.message.what ≡ what → DeskAfter terms (arrivals ++ a ∷ []) after
 
--- what is told of it was written, and a prefix of that was
+-- its text was written, and a prefix of that was
 abbrev pub WritesNext : Texts → Terms → Origin → Meaning → Desk → Option (List ℕ) → Option (List ℕ) → Type 0
 WritesNext t terms origin what desk old new = (arrivals : List Arrival) (a : Arrival) → DeskAfter terms arrivals desk
     → a.origin ≡ origin → a.message.what ≡ what → Wrote t desk.start arrivals (a ∷ []) old new
@@ -48,7 +48,7 @@ abbrev pub DecidesPiece : Terms → Origin → List Message → Desk → Desk �
 DecidesPiece terms origin messages before after = (arrivals : List Arrival) (place : ℕ)
     → DeskAfter terms arrivals before → DeskAfter terms (arrivals ++ arrivals_with place origin messages) after
 
--- what is told of them was written, and a prefix of that was
+-- their text was written, and a prefix of that was
 abbrev pub WritesPiece : Texts → Terms → Origin → List Message → Desk → Option (List ℕ) → Option (List ℕ) → Type 0
 WritesPiece t terms origin messages desk old new = (arrivals : List Arrival) (place : ℕ)
     → DeskAfter terms arrivals desk → Wrote t desk.start arrivals (arrivals_with place origin messages) old new
@@ -58,7 +58,7 @@ abbrev pub WritesPieceInPart : Texts → Terms → Origin → List Message → D
 WritesPieceInPart t terms origin messages desk old new = (arrivals : List Arrival) (place : ℕ)
     → DeskAfter terms arrivals desk → WroteInPart t desk.start arrivals (arrivals_with place origin messages) old new
 
--- the next record was read, and the messages that arrived with it were decided on and told of
+-- the next record was read, and the messages that arrived with it were decided on and written
 abbrev pub AnswersRecord : Texts → Terms → Record → List ℕ → List Connection → Desk → List Connection → Desk
     → Option (List ℕ) → Option (List ℕ) → Type 0
 AnswersRecord t terms next tiers connections desk connections-after desk-after old new =
@@ -66,7 +66,7 @@ AnswersRecord t terms next tiers connections desk connections-after desk-after o
     → Serves terms records arrivals connections desk
     → WritesMore t terms records arrivals (next ∷ []) connections-after desk-after old new
 
--- they reach beyond the limit, and those within it were told of; a prefix of what is told of those within was written
+-- they reach beyond the limit, and those within it were written; a prefix of the text of those within was written
 abbrev pub FillsWithRecord : Texts → Terms → Record → List ℕ → List Connection → Desk → Option (List ℕ)
     → Option (List ℕ) → Type 0
 FillsWithRecord t terms next tiers connections desk old new = (records : List Record) (arrivals : List Arrival)

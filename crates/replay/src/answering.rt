@@ -67,7 +67,7 @@ fn is_unmodified(since: Option<u64>, mtime: u64) -> bool
     }
 }
 
-/// What HEAD is told of a file that was last changed at `mtime`, in seconds since 1970-01-01.
+/// What HEAD is answered for a file that was last changed at `mtime`, in seconds since 1970-01-01.
 pub(crate) fn known_file<F: Tree>(snapshot: &Snapshot, file: usize, mtime: u64) -> Given<F>
     requires { file < length snapshot.now }
     ensures { result ≡ Given.Known (media_of (file_of snapshot.now file).name)
@@ -132,7 +132,7 @@ pub(crate) fn answers_head(what: &Meaning) -> bool
     }
 }
 
-/// What the reply tells of its connection.
+/// What the reply says of its connection.
 pub(crate) fn persistence_of(what: &Meaning) -> Persistence
     ensures { result ≡ persistence_of what.now }
 {

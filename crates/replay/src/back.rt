@@ -1,4 +1,4 @@
-//! The back floor: a ticket becomes a reply, with its page out of the cache.
+//! The back floor: a pending reply becomes a reply, with its page out of the cache.
 
 ghost use Rattle.std.specs.Prelude.{◌≡◌, ◌<◌, ◌++◌, [], ◌∷◌, true, ℕ, List, length, map, flat_map, IfOk, OnOk};
 ghost use Rattle.std.specs.Prelude.{IfErr};
@@ -40,14 +40,14 @@ impl Tree for Unnamed {
 /// How far a reply has come.
 #[derive(Drop)]
 pub enum BackState<F: Tree> {
-    /// What is told is known, the page isn't there.
+    /// All but the page is there.
     Due(PendingReply<F>),
     /// The page is there.
     Fetched(Slip<F>),
     Rendered(Reply<F>),
 }
 
-/// Names the tickets of a back floor.
+/// Names the pending replies of a back floor.
 pub trait Backs {
     ghost use Rattle.std.specs.Prelude.{List};
     ghost use Rattle.replay.specs.declared.pending.PendingReply.{PendingReply};
@@ -114,7 +114,7 @@ impl<'a, F: Tree, K: Backs, R: Wait> Back<'a, F, K, R> {
         Ok(SharedPage::new(page))
     }
 
-    /// Fetches the page of a ticket, where one is due.
+    /// Fetches the page of a pending reply, where one is due.
     fn fetch(&self, pending: PendingReply<F>) -> Result<Slip<F>, PendingReply<F>>
         requires { is_due F.files pending.due ≡ true }
         ensures ok { IfOk result (λ slip. slip ≡ slip_of_pending pending) }
@@ -248,7 +248,7 @@ fn add_item<T: Drop>(
     Ok(())
 }
 
-/// The items of the tickets, with no step done, in lots for a plan. A large page is the last of its lot.
+/// The items of the pending replies, with no step done, in lots for a plan. A large page is the last of its lot.
 fn back_items<F: Tree, K: Backs>(
     alloc: Global,
     snapshot: &Snapshot,
@@ -341,7 +341,8 @@ fn run_back_with<
     Ok(replies_of(alloc, count, carried.lots)?)
 }
 
-/// The replies to the tickets, by the back floor of the settings and so many threads, which share a cache of pages.
+/// The pending replies with their pages, by the back floor of the settings and so many threads, which share a cache of
+/// pages.
 pub(crate) fn run_back<F: Tree + Send + Sync, G: Gate + Sync, T: Threads + Wait + Sync>(
     server: &Server<'_, F>,
     rt: &T,

@@ -66,7 +66,7 @@ impl Desk {
         }
     }
 
-    /// How a message that was looked into is to be answered. The admission control is asked where it is a request.
+    /// How a message that was looked up is to be answered. The admission control is asked where it is a request.
     pub(crate) fn decide<F: Tree>(
         &mut self,
         server: &Server<'_, F>,

@@ -23,7 +23,7 @@ use std::alloc::Global;
 use std::io::Write;
 
 /// What a replay writes of the messages of a capture, one after another: their replies, or the rows of a table.
-/// `telling` has the texts.
+/// `texts` are what is written.
 pub(crate) trait Format {
     ghost use Rattle.reference.specs.Reference.{Terms};
     ghost use Rattle.reference.specs.Texts.{Texts};
@@ -42,7 +42,7 @@ pub(crate) trait Format {
         ensures failures { CountsBy writer_failures writer.old.failures writer.new.failures result }
         ensures own { IfErr result IsWriteOrMemory };
 
-    /// Decides on the next message, counts it, and writes what is told of it. `heads` renders the head of a reply.
+    /// Decides on the next message, counts it, and writes its text. `heads` renders the head of a reply.
     fn write_message<F: Tree, W: Write>(
         server: &Server<'_, F>,
         heads: &mut HeadRenderer,

@@ -38,7 +38,7 @@ pub(crate) fn room_for_pages(snapshot: &Snapshot, cache: usize) -> usize {
     if all <= cache { usize::MAX } else { MAX_HELD }
 }
 
-/// How many bytes of a file the page of a ticket holds.
+/// How many bytes of a file the page of a pending reply holds.
 pub(crate) fn page_len<F: Tree>(snapshot: &Snapshot, pending: &PendingReply<F>) -> usize {
     match &pending.due {
         Due::Page { file, .. } if *file < snapshot.len() => snapshot.bytes(*file).len(),
@@ -63,7 +63,7 @@ fn laid_by<F: Tree>(
     Ok(Vec::new(alloc))
 }
 
-/// How many bytes of pages the tickets hold, each counted as often as it is due.
+/// How many bytes of pages the pending replies hold, each counted as often as it is due.
 fn held_by<F: Tree>(snapshot: &Snapshot, pending_replies: &[PendingReply<F>]) -> usize {
     let mut held: usize = 0;
     for pending in pending_replies {
@@ -93,7 +93,7 @@ pub(crate) fn work_of<F: Tree, R: Wait>(
     work
 }
 
-/// The tickets in one group.
+/// The pending replies in one group.
 fn one_group<F: Tree>(
     alloc: Global,
     pending_replies: Vec<PendingReply<F>>,
@@ -105,7 +105,7 @@ fn one_group<F: Tree>(
     Ok(whole)
 }
 
-/// The tickets in groups, one after another, whose pages take no more than `room` bytes.
+/// The pending replies in groups, one after another, whose pages take no more than `room` bytes.
 pub(crate) fn groups_of<F: Tree>(
     alloc: Global,
     snapshot: &Snapshot,

@@ -7,7 +7,7 @@ use arrivals::Incoming;
 use paths::{Asked, Outcome};
 use std::marker::Model;
 
-/// How far a message was looked into before it is decided on.
+/// How far a message was looked up before it is decided on.
 #[derive(Drop)]
 pub enum Lookup {
     /// It stands as it came.
@@ -20,7 +20,7 @@ pub enum Lookup {
     Priced(Outcome, ServiceTime),
 }
 
-/// A message, and how far it was looked into.
+/// A message, and how far it was looked up.
 #[derive(Drop)]
 pub struct LookedUp {
     pub message: Incoming,

@@ -128,7 +128,7 @@ fn answer_record<T: Format, F: Tree, W: Write>(
     }
 }
 
-/// Replays a capture on one thread: each message is decided on and told of, in the order of their arrival, before the
+/// Replays a capture on one thread: each message is decided on and written, in the order of their arrival, before the
 /// next record is read. The first line is written before anything is read, the last one after the end of the input.
 pub(crate) fn replay_writing<T: Format, F: Tree, R: Read, W: Write>(
     alloc: Global,

@@ -49,7 +49,7 @@ pub(crate) fn write_last_line<W: Write>(
     Ok(())
 }
 
-/// Each message is told by its reply.
+/// Of each message its reply is written.
 pub(crate) struct Replies;
 
 impl Format for Replies {

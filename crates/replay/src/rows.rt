@@ -29,7 +29,7 @@ use responses::{Given, HeadRenderer, OK_PLACE, STATUS_CODES, Status};
 use std::alloc::Global;
 use std::io::Write;
 
-/// How long the server works on a message that was looked into, in ticks: nothing where it is no request.
+/// How long the server works on a message that was looked up, in ticks: nothing where it is no request.
 fn service_in(lookup: &Lookup) -> Option<u64>
     ensures is { result ≡ service_in lookup.now }
     ensures range { IfSome result (λ service. service ≤ MAX_SERVICE) }
@@ -98,7 +98,7 @@ fn offered_of(found: Outlook, tick: u64, service: Option<u64>, away: bool) -> Op
     }
 }
 
-/// The row of a message that came from there, takes that long, found this and has this ticket.
+/// The row of a message that came from there, takes that long, found this and has this pending reply.
 fn row_of<F: Tree>(
     origin: Origin,
     service: Option<u64>,
@@ -144,7 +144,7 @@ fn target_of(what: &Meaning) -> &[u8]
     }
 }
 
-/// Each message is told by its row of a table.
+/// Of each message its row of a table is written.
 pub(crate) struct Rows;
 
 impl Format for Rows {
