@@ -1,7 +1,10 @@
 #!/usr/bin/env python3
 """Runs `haboob settings`, and compares status, line and text with a table, and the text with that of reference.py; and
-settings that were written out are read back the same.
+settings that were written out are read back the same. The table of docs/FORMATS.md has the keys of that text in their
+order, each with its default and its range.
 """
+import os
+import re
 import subprocess
 import sys
 import tempfile
@@ -32,6 +35,11 @@ READ_BACK = ["[%s]\n%s" % (table, limits(table, end)) for table in reference.SET
     "back_cuts = [2]\nback_workers = [16]\nback_capacities = [4096]\n",
     "[floor]\nfront_cuts = [2, 3]\nfront_workers = [16, 1]\nfront_capacities = [4096, 1]\nbatch = 1\ncache = 0\n",
 ]
+
+# A row of the page's table: the key, its default, its range.
+FORMATS = os.path.join(os.path.dirname(os.path.dirname(os.path.abspath(__file__))), "docs", "FORMATS.md")
+ROW = re.compile(r"^\| (\w+\.\w+)[^|]* \| ([^|]+) \| ([^|]+) \|", re.MULTILINE)
+RANGE = re.compile(r"^([\d,]+) to ([\d,]+)$")
 
 # What is said in words after a fault's line.
 DEPTH_WORDS = "policy.depth is to be an integer: tokens, 1 to 1000000: how many the bucket holds; it starts full"
@@ -96,6 +104,29 @@ RUNS = [
 ]
 
 
+def page_rows():
+    """The keys of the page's table, each with its default as the document has it, and its range where that is given by
+    two numbers."""
+    with open(FORMATS, encoding="utf-8") as file:
+        section = file.read().split("\n## Settings\n")[1].split("\n## ")[0]
+    for key, default, values in ROW.findall(section):
+        found = RANGE.match(values)
+        yield key, default, found and tuple(int(number.replace(",", "")) for number in found.groups())
+
+
+def is_page_right(rows):
+    """Whether these are the keys of a document without tables of tiers, with their defaults and ranges."""
+    wanted = [
+        ("%s.%s" % (table, key), str(default), tuple(bounds))
+        for table, keys in reference.SETTINGS.items()
+        if not table.startswith("tier")
+        for key, _, default, *bounds in keys
+    ]
+    return [row[:2] for row in rows] == [row[:2] for row in wanted] and all(
+        row[2] in (None, bounds) for row, (_, _, bounds) in zip(rows, wanted)
+    )
+
+
 def unwritten_settings(program):
     """The status and the line where standard output can't be written."""
     with open("/dev/full", "wb") as full:
@@ -152,6 +183,8 @@ def main():
         child = run_over(program, document.encode())
         got = (child.returncode, child.stderr, child.stdout)
         report.see_told("settings: %r" % document, got == (3, lines, b""), got)
+    rows = list(page_rows())
+    report.see("settings: the table of docs/FORMATS.md", is_page_right(rows), rows)
     for number, document in enumerate(READ_BACK):
         report.see("settings: read back, %d" % number, is_read_back(program, document), document)
     return report.end()
