@@ -6,11 +6,11 @@ use Rattle.devices.specs.Devices.{WritesPrefix}
 use Rattle.paths.specs.declared.file.File.{File}
 use Rattle.paths.specs.Snapshots.{snapshot_text, IsSnapshotText}
 use Rattle.snapshots.specs.declared.write_fault.WriteFault.{WriteFault}
-use Rattle.snapshots.specs.declared.so_far.SoFar.{SoFar}
+use Rattle.snapshots.specs.declared.so_far.FilesSoFar.{FilesSoFar}
 use Rattle.snapshots.specs.Keeping.{a_file}
 use Rattle.snapshots.specs.Writers.{Took}
 
-pub took_item : (files : List File) (i : ℕ) (item : File) (name bytes : List ℕ) (before new : Option (List ℕ)) (s : SoFar) → i < length files → item ≡ get_or files i item
+pub took_item : (files : List File) (i : ℕ) (item : File) (name bytes : List ℕ) (before new : Option (List ℕ)) (s : FilesSoFar) → i < length files → item ≡ get_or files i item
     → name ≡ item.name → bytes ≡ item.bytes → Took (take i files ++ a_file name item.mtime bytes ∷ []) before new s → Took (take (i + 1) files) before new s
 took_item files i item name bytes before new s lt is named filled took =
     subst (λ (fs : List File). Took fs before new s)
