@@ -67,7 +67,7 @@ fn looking_of(messages: &[Incoming]) -> usize {
     work
 }
 
-/// The fault of a replay whose floor has no run: for want of memory or of a thread.
+/// The fault of a replay whose floor has no run: it was out of memory, or a thread could not be started.
 fn of_unrun(_unrun: Unrun) -> ReplayFault
     ensures { result ≡ ReplayFault.Memory }
 {
