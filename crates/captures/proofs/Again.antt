@@ -18,17 +18,17 @@ use Rattle.devices.specs.Numbers.{is_decimal, number_of, number_and_rest, three_
 use Rattle.devices.specs.Texts.{Ahead, byte_at, run_at, line_at, available, past as beyond, ended}
 use Rattle.devices.specs.declared.text.Stop.{Stop}
 use Rattle.devices.proofs.Taking.{line_whole}
-use Rattle.captures.specs.Reference.{opening, last_connection, has_tiers, first_line, piece_line, end_line, tier_line, record_text, max_start, max_tick, max_piece_bytes, max_tier}
+use Rattle.captures.specs.Reference.{format_of, first_line, piece_line, end_line, tier_line, record_text, max_start, max_tick, max_piece_bytes, max_tier}
 use Rattle.captures.specs.Captures.{Past, Follows}
 use Rattle.captures.specs.declared.version.Version.{Version}
-use Rattle.captures.specs.declared.version.Version.TheVariants.{One, Two}
-use Rattle.captures.specs.CaptureFaults.{named, ◌>>=◌, kind_of, header_kind_of, start_heading, start_of, header_at, two_numbers, piece_heading, end_heading, tier_heading, stop_heading, heading_of, open_connection, allowed, body_at, piece_at, tier_record, record_at}
+use Rattle.captures.specs.declared.version.Version.TheVariants.{One, Two, Traffic}
+use Rattle.captures.specs.CaptureFaults.{named, ◌>>=◌, kind_of, header_kind_of, opens, start_heading, start_of, header_at, two_numbers, piece_heading, end_heading, tier_heading, stop_heading, heading_of, open_connection, allowed, body_at, piece_at, tier_record, record_at}
 use Rattle.captures.specs.declared.record.Record.{Record}
 use Rattle.captures.specs.declared.record.Record.TheVariants.{Piece, End, Tier}
 use Rattle.captures.specs.declared.heading.Heading.TheVariants as headings
 use Rattle.captures.specs.declared.capture_fault.CaptureFaultKind.{CaptureFaultKind}
 use Rattle.captures.specs.declared.capture_fault.CaptureFaultKind.TheVariants.{Header}
-use Rattle.captures.proofs.Lines.{few_connections}
+use Rattle.captures.proofs.Lines.{room_for_first, few_connections}
 use Rattle.captures.proofs.Records.{stop_text}
 
 -- ---- the steps of a definition that may refuse
@@ -181,9 +181,10 @@ piece_heading_again v t c l st sc sl =
 end_heading_again : (v : Version) (t c : ℕ) → t < 2 ^ 64 - 1 → c < 2 ^ 64 - 1 → heading_of v (end_line t c) ≡ Ok (headings.End (record { tick = t; conn = c }))
 end_heading_again v t c st sc = ap (heading_of v) (end_words (decimal t) (decimal c)) ∙ ap end_heading (two_again t c st sc)
 
-tier_heading_again : (v : Version) (c t : ℕ) → has_tiers v ≡ true → c < 2 ^ 64 - 1 → t < 2 ^ 64 - 1 → heading_of v (tier_line c t) ≡ Ok (headings.Tier (record { conn = c; tier = t }))
+tier_heading_again : (v : Version) (c t : ℕ) → (format_of v).has_tiers ≡ true → c < 2 ^ 64 - 1 → t < 2 ^ 64 - 1 → heading_of v (tier_line c t) ≡ Ok (headings.Tier (record { conn = c; tier = t }))
 tier_heading_again One c t has sc st = absurd cc
 tier_heading_again Two c t has sc st = ap (heading_of Two) (tier_words (decimal c) (decimal t)) ∙ ap tier_heading (two_again c t sc st)
+tier_heading_again Traffic c t has sc st = ap (heading_of Traffic) (tier_words (decimal c) (decimal t)) ∙ ap tier_heading (two_again c t sc st)
 
 stop_heading_again : (v : Version) (n : ℕ) → n < 2 ^ 64 - 1 → heading_of v (codes "stop " ++ decimal n) ≡ Ok (headings.Stop n)
 stop_heading_again v n small = ap stop_heading (number_again n small)
@@ -208,18 +209,18 @@ run_again n run t l nl is left =
     meet (nat_le n (length (available a))) (Ok (take n (run ++ t), beyond n a)) (Err (ended a)) there
     ∙ ap (λ (v : List ℕ × Ahead). let r : Result (List ℕ × Ahead) Stop = Ok v in r) (λ i. (bytes i, record { bytes = rest i; left = less i }))
 
-open_again : (v : Version) (past : Past) (conn : ℕ) → conn ≤ last_connection v → past.ended conn ≡ false → open_connection v past conn ≡ Ok conn
+open_again : (v : Version) (past : Past) (conn : ℕ) → conn ≤ (format_of v).last_connection → past.ended conn ≡ false → open_connection v past conn ≡ Ok conn
 open_again v past conn few live =
-    let c : nat_lt (last_connection v) conn ≡ false = grind (arith, nat_tests) in
-    pass (nat_lt (last_connection v) conn) _ _ c ∙ pass (past.ended conn) _ _ live
+    let c : nat_lt (format_of v).last_connection conn ≡ false = grind (arith, nat_tests) in
+    pass (nat_lt (format_of v).last_connection conn) _ _ c ∙ pass (past.ended conn) _ _ live
 
-allowed_again : (v : Version) (past : Past) (tick conn : ℕ) → tick ≤ max_tick → past.tick ≤ tick → conn ≤ last_connection v → past.ended conn ≡ false → allowed v past tick conn ≡ Ok conn
+allowed_again : (v : Version) (past : Past) (tick conn : ℕ) → tick ≤ max_tick → past.tick ≤ tick → conn ≤ (format_of v).last_connection → past.ended conn ≡ false → allowed v past tick conn ≡ Ok conn
 allowed_again v past tick conn in_time rising few live =
     let a : nat_lt max_tick tick ≡ false = grind (arith, nat_tests) in
     let b : nat_lt tick past.tick ≡ false = grind (arith, nat_tests) in
     pass (nat_lt max_tick tick || nat_lt tick past.tick) _ _ (neither _ _ a b) ∙ open_again v past conn few live
 
-tier_again : (v : Version) (past : Past) (conn tier : ℕ) → conn ≤ last_connection v → past.ended conn ≡ false → past.used conn ≡ false → tier ≤ max_tier
+tier_again : (v : Version) (past : Past) (conn tier : ℕ) → conn ≤ (format_of v).last_connection → past.ended conn ≡ false → past.used conn ≡ false → tier ≤ max_tier
     → tier_record v past (record { conn = conn; tier = tier }) ≡ Ok (Tier conn tier)
 tier_again v past conn tier few live unused low =
     let a : nat_lt max_tier tier ≡ false = grind (arith, nat_tests) in
@@ -290,12 +291,16 @@ stop_again v past l nl small left =
 -- the first line is a line, and tells its version
 first_is_line : (v : Version) (start : ℕ) → start < 2 ^ 64 - 1 → IsLine (first_line v start)
 first_is_line One start small = record {
-  feeds = passes_append _ (opening One) (decimal start) refl (decimal_passes 10 start (omega arith) small);
-  short = omega (arith, digits_short 20 start (omega arith) (omega arith) small, length-append (opening One) (decimal start));
+  feeds = passes_append _ (format_of One).opening (decimal start) refl (decimal_passes 10 start (omega arith) small);
+  short = omega (arith, digits_short 20 start (omega arith) (omega arith) small, length-append (format_of One).opening (decimal start));
 }
 first_is_line Two start small = record {
-  feeds = passes_append _ (opening Two) (decimal start) refl (decimal_passes 10 start (omega arith) small);
-  short = omega (arith, digits_short 20 start (omega arith) (omega arith) small, length-append (opening Two) (decimal start));
+  feeds = passes_append _ (format_of Two).opening (decimal start) refl (decimal_passes 10 start (omega arith) small);
+  short = omega (arith, digits_short 20 start (omega arith) (omega arith) small, length-append (format_of Two).opening (decimal start));
+}
+first_is_line Traffic start small = record {
+  feeds = passes_append _ (format_of Traffic).opening (decimal start) refl (decimal_passes 10 start (omega arith) small);
+  short = omega (arith, digits_short 20 start (omega arith) (omega arith) small, length-append (format_of Traffic).opening (decimal start));
 }
 
 start_again : (v : Version) (start : ℕ) → start ≤ max_start → start_heading v (number_of (decimal start)) ≡ Ok (v, start)
@@ -306,6 +311,7 @@ start_again v start in_time =
 first_again : (v : Version) (start : ℕ) → start ≤ max_start → start_of (first_line v start) ≡ Ok (v, start)
 first_again One start in_time = start_again One start in_time
 first_again Two start in_time = start_again Two start in_time
+first_again Traffic start in_time = start_again Traffic start in_time
 
 -- the first line is read as its version and its start
 pub header_again : (v : Version) (start : ℕ) (t : List ℕ) (l nl : ℕ) → start ≤ max_start → l ≡ length (first_line v start ++ line_feed ∷ []) + nl
@@ -330,7 +336,10 @@ turned xs ys h = go (pointwise nat_eq ys xs) refl
         let back : pointwise nat_eq xs ys ≡ true = (slice_eq-Decides Decides-eqb xs ys (pointwise nat_eq xs ys) refl).1 (sym same) in
         absurd (let t = h in cc)
 
--- a line that begins as neither version's is no first line
-pub no_header : (line : List ℕ) → pointwise nat_eq (take (length (opening One)) line) (opening One) ≡ false → pointwise nat_eq (take (length (opening Two)) line) (opening Two) ≡ false
-    → start_of line ≡ Err Header
-no_header line a b = pass (starts_with nat_eq line (opening One)) _ _ (turned (take (length (opening One)) line) (opening One) a) ∙ pass (starts_with nat_eq line (opening Two)) _ _ (turned (take (length (opening Two)) line) (opening Two) b)
+-- a line that begins as a format's doesn't, or does
+pub opens_not : (v : Version) (line : List ℕ) → pointwise nat_eq (take (length (format_of v).opening) line) (format_of v).opening ≡ false → opens v line ≡ false
+opens_not v line h = turned (take (length (format_of v).opening) line) (format_of v).opening h
+
+-- there is room for the first line in each format
+pub room_for_header : (v : Version) (start : ℕ) → start ≤ max_start → length (first_line v start ++ line_feed ∷ []) ≤ (format_of v).max_text_bytes
+room_for_header v start in_time = let short = (first_is_line v start (omega (arith, in_time))).short in omega (arith, short, room_for_first v, length-append (first_line v start) (line_feed ∷ []))

@@ -1,5 +1,5 @@
 -- Two readings of one text agree.
-use Rattle.std.proofs.Common.{◌≡◌, ℕ, ◌+◌, ◌-◌, ◌^◌, ◌<◌, ◌≤◌, ◌⊎◌, inl, inr, false, List, [], ◌∷◌, ◌++◌, length, get_or, Option, Some, Result, Ok, Err, refl, sym, ap, ◌∙◌, subst, arith, All, unwrap_or, flat_map}
+use Rattle.std.proofs.Common.{◌≡◌, ℕ, ◌+◌, ◌*◌, ◌-◌, ◌^◌, ◌<◌, ◌≤◌, ◌⊎◌, ◌&&◌, Bool, true, nat_lt, inl, inr, false, List, [], ◌∷◌, ◌++◌, length, get_or, Option, Some, Result, Ok, Err, refl, sym, ap, ◌∙◌, subst, arith, All, unwrap_or, flat_map}
 use Rattle.std.specs.List.{AllPairs, list_any}
 use Rattle.std.proofs.Math.Seq.{get_or-append_seam}
 use Rattle.std.proofs.lemmas.List.{append_assoc, append-nil, length-append, get_or_append_left}
@@ -9,10 +9,10 @@ use Rattle.std.proofs.lemmas.Grind.{flat_map-append}
 use Rattle.devices.specs.Reference.{line_feed}
 use Rattle.devices.specs.Texts.{Ahead}
 use Rattle.devices.proofs.Inverse.{ok_is}
-use Rattle.captures.specs.Reference.{first_line, record_text, text_before_stop, max_text_bytes, max_start, is_end_of, is_use_of, connection_of, LetsFollow, tick_of, ticks_of, IsRecord, IsCapture, IsCaptureText}
+use Rattle.captures.specs.Reference.{first_line, record_text, format_of, text_before_stop, max_start, ends_for_good, is_use_of, connection_of, connection_now, used_once, used_once_after, LetsFollow, tick_of, ticks_of, IsRecord, IsCapture, IsCaptureText}
 use Rattle.captures.specs.Captures.{Past, past_of, Follows}
 use Rattle.captures.specs.declared.version.Version.{Version}
-use Rattle.captures.specs.CaptureFaults.{header_at, record_at, FaultsAfter, IsHeaderFault, IsFirstFault}
+use Rattle.captures.specs.CaptureFaults.{header_at, record_at, FaultsAfter, IsHeaderFault, IsFirstFault, left_after, longest_text}
 use Rattle.captures.specs.declared.record.Record.{Record}
 use Rattle.captures.specs.declared.record.Record.TheVariants.{Piece, End, Tier}
 use Rattle.captures.specs.declared.capture_fault.CaptureFault.{CaptureFault}
@@ -20,6 +20,8 @@ use Rattle.captures.specs.declared.capture_fault.CaptureFaultKind.{CaptureFaultK
 use Rattle.captures.proofs.Records.{stop_text}
 use Rattle.captures.proofs.Fitting.{sizes_below}
 use Rattle.captures.proofs.Again.{record_again, stop_again, header_again}
+use Rattle.captures.proofs.Lines.{within_longest}
+use Rattle.captures.proofs.Lives.{once_append}
 
 -- ---- one record
 
@@ -67,20 +69,24 @@ agree v (r ∷ rs) (s ∷ ss) x y hr hs h =
 
 -- ---- the rules say that a record follows those before it
 
-follows_front : (v : Version) (start : ℕ) (ss more : List Record) (r : Record) → IsCapture v start (ss ++ r ∷ more) → Follows v (past_of ss) r
+and_none : (b : Bool) → (b && false) ≡ false
+and_none true = refl
+and_none false = refl
+
+follows_front : (v : Version) (start : ℕ) (ss more : List Record) (r : Record) → IsCapture v start (ss ++ r ∷ more) → Follows v (past_of v ss) r
 follows_front v start ss more r c = go r c
   where
     here : (r : Record) → IsCapture v start (ss ++ r ∷ more) → IsRecord v r
     here r c = subst (λ (q : Record). IsRecord v q) (get_or-append_seam ss r more r) (c.each (length ss) r (omega (arith, length-append ss (r ∷ more))))
 
-    live : (r : Record) → IsCapture v start (ss ++ r ∷ more) → list_any (is_end_of (connection_of r)) ss ≡ false
-    live r c = list_any_none (is_end_of (connection_of r)) ss (All-from_get_or (λ q. is_end_of (connection_of r) q ≡ false) ss r at)
+    live : (r : Record) → IsCapture v start (ss ++ r ∷ more) → list_any (ends_for_good v (connection_of r)) ss ≡ false
+    live r c = list_any_none (ends_for_good v (connection_of r)) ss (All-from_get_or (λ q. ends_for_good v (connection_of r) q ≡ false) ss r at)
       where
-        at : (i : ℕ) → i < length ss → is_end_of (connection_of r) (get_or ss i r) ≡ false
+        at : (i : ℕ) → i < length ss → ends_for_good v (connection_of r) (get_or ss i r) ≡ false
         at i lt =
             let apart = c.ends_last i (length ss) r lt (omega (arith, length-append ss (r ∷ more))) in
-            sym (ap (λ (q : Record). is_end_of (connection_of r) q) (get_or_append_left ss (r ∷ more) r i lt))
-            ∙ (sym (ap (λ (q : Record). is_end_of (connection_of q) (get_or (ss ++ r ∷ more) i r)) (get_or-append_seam ss r more r)) ∙ apart)
+            sym (ap (λ (q : Record). ends_for_good v (connection_of r) q) (get_or_append_left ss (r ∷ more) r i lt))
+            ∙ (sym (ap (λ (q : Record). ends_for_good v (connection_of q) (get_or (ss ++ r ∷ more) i r)) (get_or-append_seam ss r more r)) ∙ apart)
 
     rises : (t : ℕ) (ts us : List ℕ) → AllPairs (λ s u. s ≤ u) (ts ++ t ∷ us) → get_or ts (length ts - 1) 0 ≤ t
     rises t [] us h = omega arith
@@ -98,17 +104,26 @@ follows_front v start ss more r c = go r c
     late : (r : Record) (t : ℕ) → tick_of r ≡ t ∷ [] → IsCapture v start (ss ++ r ∷ more) → get_or (ticks_of ss) (length (ticks_of ss) - 1) 0 ≤ t
     late r t is c = rises t (ticks_of ss) (ticks_of more) (subst (λ (ts : List ℕ). AllPairs (λ s u. s ≤ u) ts) (ticks r t is) c.rising)
 
-    unused : (conn tier : ℕ) → IsCapture v start (ss ++ Tier conn tier ∷ more) → list_any (is_use_of conn) ss ≡ false
-    unused conn tier c = list_any_none (is_use_of conn) ss (All-from_get_or (λ q. is_use_of conn q ≡ false) ss (Tier conn tier) at)
+    unused : (conn tier : ℕ) → IsCapture v start (ss ++ Tier conn tier ∷ more) → (nat_lt conn 65536 && list_any (is_use_of (connection_now conn ss)) (used_once ss)) ≡ false
+    unused conn tier c = ap (λ b. nat_lt conn 65536 && b) (list_any_none (is_use_of id) (used_once ss) (All-from_get_or (λ q. is_use_of id q ≡ false) (used_once ss) (Tier id tier) at)) ∙ and_none (nat_lt conn 65536)
       where
-        at : (i : ℕ) → i < length ss → is_use_of conn (get_or ss i (Tier conn tier)) ≡ false
-        at i lt =
-            let all = ss ++ Tier conn tier ∷ more in
-            let apart = c.tiers_first i (length ss) (Tier conn tier) lt (omega (arith, length-append ss (Tier conn tier ∷ more))) in
-            let last : LetsFollow (get_or all i (Tier conn tier)) (Tier conn tier) = subst (λ (q : Record). LetsFollow (get_or all i (Tier conn tier)) q) (get_or-append_seam ss (Tier conn tier) more (Tier conn tier)) apart in
-            sym (ap (λ (q : Record). is_use_of conn q) (get_or_append_left ss (Tier conn tier ∷ more) (Tier conn tier) i lt)) ∙ last
+        id : ℕ
+        id = connection_now conn ss
 
-    go : (r : Record) → IsCapture v start (ss ++ r ∷ more) → Follows v (past_of ss) r
+        rest : List Record
+        rest = used_once_after (ss ++ Tier conn tier ∷ []) more
+
+        pairs : AllPairs LetsFollow (used_once ss ++ Tier id tier ∷ rest)
+        pairs = subst (λ (all : List Record). AllPairs LetsFollow all) (once_append ss (Tier conn tier ∷ more)) c.tiers_first
+
+        at : (i : ℕ) → i < length (used_once ss) → is_use_of id (get_or (used_once ss) i (Tier id tier)) ≡ false
+        at i lt =
+            let all = used_once ss ++ Tier id tier ∷ rest in
+            let apart = pairs i (length (used_once ss)) (Tier id tier) lt (omega (arith, length-append (used_once ss) (Tier id tier ∷ rest))) in
+            let last : LetsFollow (get_or all i (Tier id tier)) (Tier id tier) = subst (λ (q : Record). LetsFollow (get_or all i (Tier id tier)) q) (get_or-append_seam (used_once ss) (Tier id tier) rest (Tier id tier)) apart in
+            sym (ap (λ (q : Record). is_use_of id q) (get_or_append_left (used_once ss) (Tier id tier ∷ rest) (Tier id tier) i lt)) ∙ last
+
+    go : (r : Record) → IsCapture v start (ss ++ r ∷ more) → Follows v (past_of v ss) r
     go (Piece tick conn bytes) c = (late (Piece tick conn bytes) tick refl c, live (Piece tick conn bytes) c, here (Piece tick conn bytes) c)
     go (End tick conn) c = (late (End tick conn) tick refl c, live (End tick conn) c, here (End tick conn) c)
     go (Tier conn tier) c = (live (Tier conn tier) c, unused conn tier c, here (Tier conn tier) c)
@@ -166,26 +181,26 @@ not_both : {A : Type 0} (x : A) (k : CaptureFaultKind) (r : Result A CaptureFaul
 not_both x k r a b = absurd cc
 
 -- no fault stands in the first line of what begins with one
-header_good : (v : Version) (bytes : List ℕ) (s : ℕ) (rest : List ℕ) (f : CaptureFault) → s ≤ max_start → length (header_text v s) ≤ max_text_bytes → bytes ≡ header_text v s ++ rest → IsHeaderFault bytes f → ⊥
+header_good : (v : Version) (bytes : List ℕ) (s : ℕ) (rest : List ℕ) (f : CaptureFault) → s ≤ max_start → length (header_text v s) ≤ longest_text → bytes ≡ header_text v s ++ rest → IsHeaderFault bytes f → ⊥
 header_good v bytes s rest f in_time size is fault =
-    let good = header_again v s rest max_text_bytes (max_text_bytes - length (header_text v s)) in_time (omega arith) in
-    not_both _ f.kind (header_at (record { bytes = header_text v s ++ rest; left = max_text_bytes })) good (sym (ap (λ w. header_at (record { bytes = w; left = max_text_bytes })) is) ∙ fault.1)
+    let good = header_again v s rest longest_text (longest_text - length (header_text v s)) in_time (omega arith) in
+    not_both _ f.kind (header_at (record { bytes = header_text v s ++ rest; left = longest_text })) good (sym (ap (λ w. header_at (record { bytes = w; left = longest_text })) is) ∙ fault.1)
 
 -- nor after records where one more stands
 record_good : (v : Version) (bytes : List ℕ) (t : ℕ) (ss : List Record) (f : CaptureFault) (rest : List ℕ) (q : Record) (z : List ℕ) → FaultsAfter v bytes t ss f rest
-    → rest ≡ record_text q ++ z → Follows v (past_of ss) q → length (text_before_stop v t ss) + length (record_text q) ≤ max_text_bytes → ⊥
+    → rest ≡ record_text q ++ z → Follows v (past_of v ss) q → length (text_before_stop v t ss) + length (record_text q) ≤ (format_of v).max_text_bytes → ⊥
 record_good v bytes t ss f rest q z fault is follows size =
-    let l = max_text_bytes - length (text_before_stop v t ss) in
-    let good = record_again v (past_of ss) q z l (l - length (record_text q)) follows (omega arith) in
-    not_both _ f.kind (record_at v (past_of ss) (record { bytes = record_text q ++ z; left = l })) good (sym (ap (λ w. record_at v (past_of ss) (record { bytes = w; left = l })) is) ∙ fault.kind)
+    let l = left_after v t ss in
+    let good = record_again v (past_of v ss) q z l (l - length (record_text q)) follows (omega arith) in
+    not_both _ f.kind (record_at v (past_of v ss) (record { bytes = record_text q ++ z; left = l })) good (sym (ap (λ w. record_at v (past_of v ss) (record { bytes = w; left = l })) is) ∙ fault.kind)
 
 -- nor where the last line stands
 stop_good : (v : Version) (bytes : List ℕ) (t : ℕ) (ss : List Record) (f : CaptureFault) (rest : List ℕ) → FaultsAfter v bytes t ss f rest
-    → rest ≡ stop_text (length ss) → length ss < 2 ^ 64 - 1 → length (text_before_stop v t ss) + length (stop_text (length ss)) ≤ max_text_bytes → ⊥
+    → rest ≡ stop_text (length ss) → length ss < 2 ^ 64 - 1 → length (text_before_stop v t ss) + length (stop_text (length ss)) ≤ (format_of v).max_text_bytes → ⊥
 stop_good v bytes t ss f rest fault is small size =
-    let l = max_text_bytes - length (text_before_stop v t ss) in
-    let good = stop_again v (past_of ss) l (l - length (stop_text (length ss))) small (omega arith) in
-    not_both _ f.kind (record_at v (past_of ss) (record { bytes = stop_text (length ss); left = l })) good (sym (ap (λ w. record_at v (past_of ss) (record { bytes = w; left = l })) is) ∙ fault.kind)
+    let l = left_after v t ss in
+    let good = stop_again v (past_of v ss) l (l - length (stop_text (length ss))) small (omega arith) in
+    not_both _ f.kind (record_at v (past_of v ss) (record { bytes = stop_text (length ss); left = l })) good (sym (ap (λ w. record_at v (past_of v ss) (record { bytes = w; left = l })) is) ∙ fault.kind)
 
 -- the text of records up to one of them
 one_more_text : (v : Version) (t : ℕ) (ss more : List Record) (q : Record) → length (text_before_stop v t ss) + length (record_text q) ≤ length (text_before_stop v t (ss ++ q ∷ more))
@@ -202,22 +217,22 @@ after_good v bytes s t rs ss f rest small c fault =
     let both = starts_agree v v s t rs ss (stop_text (length rs)) rest bytes c.rules.in_time fault.rules.in_time c.text fault.whole in
     let long = ap length c.text in
     let size = c.size in
-    let all : length (text_before_stop v s rs) + length (stop_text (length rs)) ≤ max_text_bytes = omega (arith, length-append (text_before_stop v s rs) (stop_text (length rs))) in
+    let all : length (text_before_stop v s rs) + length (stop_text (length rs)) ≤ (format_of v).max_text_bytes = omega (arith, length-append (text_before_stop v s rs) (stop_text (length rs))) in
     elim (agree v ss rs rest (stop_text (length rs)) fault.rules.each c.rules.each (sym both.2)) [
       | inl a ↦ shorter both.1 all a.0 a.1 a.2 fault
       | inr b ↦ no_stop_then (length rs) b.0 _ b.3
     ]
   where
-    shorter : s ≡ t → length (text_before_stop v s rs) + length (stop_text (length rs)) ≤ max_text_bytes → (more : List Record) → rs ≡ ss ++ more
+    shorter : s ≡ t → length (text_before_stop v s rs) + length (stop_text (length rs)) ≤ (format_of v).max_text_bytes → (more : List Record) → rs ≡ ss ++ more
         → rest ≡ flat_map record_text more ++ stop_text (length rs) → FaultsAfter v bytes t ss f rest → ⊥
     shorter same all [] e g fault =
         let is : rs ≡ ss = e ∙ append-nil ss in
-        let size = subst (λ (p : ℕ × List Record). length (text_before_stop v p.0 p.1) + length (stop_text (length p.1)) ≤ max_text_bytes) (λ i. (same i, is i)) all in
+        let size = subst (λ (p : ℕ × List Record). length (text_before_stop v p.0 p.1) + length (stop_text (length p.1)) ≤ (format_of v).max_text_bytes) (λ i. (same i, is i)) all in
         let few = subst (λ (l : List Record). length l < 2 ^ 64 - 1) is small in
         stop_good v bytes t ss f rest fault (g ∙ ap (λ (l : List Record). stop_text (length l)) is) few size
     shorter same all (q ∷ more) e g fault =
         let rules = subst (λ (p : ℕ × List Record). IsCapture v p.0 p.1) (λ i. (same i, e i)) c.rules in
-        let size = subst (λ (p : ℕ × List Record). length (text_before_stop v p.0 p.1) ≤ max_text_bytes) (λ i. (same i, e i)) (let a = all in omega arith) in
+        let size = subst (λ (p : ℕ × List Record). length (text_before_stop v p.0 p.1) ≤ (format_of v).max_text_bytes) (λ i. (same i, e i)) (let a = all in omega arith) in
         record_good v bytes t ss f rest q (flat_map record_text more ++ stop_text (length rs)) fault (g ∙ append_assoc (record_text q) (flat_map record_text more) (stop_text (length rs)))
         (follows_front v t ss more q rules) (omega (arith, one_more_text v t ss more q))
 
@@ -226,7 +241,7 @@ pub no_fault : (bytes : List ℕ) (v : Version) (s : ℕ) (rs : List Record) (f 
 no_fault bytes v s rs f small c (inl first) =
     let long = ap length c.text in
     let size = c.size in
-    header_good v bytes s (flat_map record_text rs ++ stop_text (length rs)) f c.rules.in_time (omega (arith, header_below v s rs, length-append (text_before_stop v s rs) (stop_text (length rs))))
+    header_good v bytes s (flat_map record_text rs ++ stop_text (length rs)) f c.rules.in_time (omega (arith, within_longest v, header_below v s rs, length-append (text_before_stop v s rs) (stop_text (length rs))))
     (following v s rs (stop_text (length rs)) bytes c.text) first
 no_fault bytes v s rs f small c (inr (w, t, ss, (rest, fault))) =
     let same = (starts_agree v w s t rs ss (stop_text (length rs)) rest bytes c.rules.in_time fault.rules.in_time c.text fault.whole).0 in
@@ -243,11 +258,11 @@ fewer : (v : Version) (bytes : List ℕ) (t u : ℕ) (ss rs : List Record) (f g 
     → u ≡ t → rs ≡ ss ++ more → x ≡ flat_map record_text more ++ y → f ≡ g
 fewer v bytes t u ss rs f g x y [] a b same e h =
     let is : ss ≡ rs = sym (e ∙ append-nil ss) in
-    let kind = subst (λ (p : ℕ × (List Record × List ℕ)). record_at v (past_of p.1.0) (record { bytes = p.1.1; left = max_text_bytes - length (text_before_stop v p.0 p.1.0) }) ≡ Err f.kind) (λ i. (sym same i, (is i, h i))) a.kind in
+    let kind = subst (λ (p : ℕ × (List Record × List ℕ)). record_at v (past_of v p.1.0) (record { bytes = p.1.1; left = left_after v p.0 p.1.0 }) ≡ Err f.kind) (λ i. (sym same i, (is i, h i))) a.kind in
     same_fault f g (a.at ∙ (ap (λ (l : List Record). length l + 1) is ∙ sym b.at)) (same_kind _ f.kind g.kind kind b.kind)
 fewer v bytes t u ss rs f g x y (q ∷ more) a b same e h =
     let rules = subst (λ (p : ℕ × List Record). IsCapture v p.0 p.1) (λ i. (same i, e i)) b.rules in
-    let size = subst (λ (p : ℕ × List Record). length (text_before_stop v p.0 p.1) ≤ max_text_bytes) (λ i. (same i, e i)) b.size in
+    let size = subst (λ (p : ℕ × List Record). length (text_before_stop v p.0 p.1) ≤ (format_of v).max_text_bytes) (λ i. (same i, e i)) b.size in
     absurd (record_good v bytes t ss f x q (flat_map record_text more ++ y) a (h ∙ append_assoc (record_text q) (flat_map record_text more) y)
     (follows_front v t ss more q rules) (omega (arith, one_more_text v t ss more q)))
 
@@ -264,10 +279,10 @@ pub one_fault : (bytes : List ℕ) (f g : CaptureFault) → IsFirstFault bytes f
 one_fault bytes f g (inl a) (inl b) = same_fault f g (a.0 ∙ sym b.0) (same_kind _ f.kind g.kind a.1 b.1)
 one_fault bytes f g (inl a) (inr (w, t, ss, (y, b))) =
     let size = b.size in
-    absurd (header_good w bytes t (flat_map record_text ss ++ y) f b.rules.in_time (omega (arith, header_below w t ss)) (following w t ss y bytes b.whole) a)
+    absurd (header_good w bytes t (flat_map record_text ss ++ y) f b.rules.in_time (omega (arith, within_longest w, header_below w t ss)) (following w t ss y bytes b.whole) a)
 one_fault bytes f g (inr (v, s, rs, (x, a))) (inl b) =
     let size = a.size in
-    absurd (header_good v bytes s (flat_map record_text rs ++ x) g a.rules.in_time (omega (arith, header_below v s rs)) (following v s rs x bytes a.whole) b)
+    absurd (header_good v bytes s (flat_map record_text rs ++ x) g a.rules.in_time (omega (arith, within_longest v, header_below v s rs)) (following v s rs x bytes a.whole) b)
 one_fault bytes f g (inr (v, s, rs, (x, a))) (inr (w, t, ss, (y, b))) =
     let same = (starts_agree v w s t rs ss x y bytes a.rules.in_time b.rules.in_time a.whole b.whole).0 in
     following_same v bytes s t rs ss f g x y a (subst (λ (u : Version). FaultsAfter u bytes t ss g y) (sym same) b)
@@ -277,7 +292,7 @@ pub few_records : (v : Version) (bytes : List ℕ) (s : ℕ) (rs : List Record) 
 few_records v bytes s rs c =
     let long = ap length c.text in
     let size = c.size in
-    omega (arith, sizes_below rs, length-append (header_text v s) (flat_map record_text rs), length-append (text_before_stop v s rs) (stop_text (length rs)))
+    omega (arith, within_longest v, sizes_below rs, length-append (header_text v s) (flat_map record_text rs), length-append (text_before_stop v s rs) (stop_text (length rs)))
 
 -- ---- for callers
 
@@ -294,15 +309,15 @@ no_last_line n r y h = stop_apart n r [] y (append-nil (stop_text n) ∙ h)
 
 -- no fault of the first line stands in bytes that begin with one
 pub no_header_fault : (v : Version) (bytes : List ℕ) (s : ℕ) (rs : List Record) (rest : List ℕ) (f : CaptureFault) → IsCapture v s rs
-    → bytes ≡ text_before_stop v s rs ++ rest → length (text_before_stop v s rs) ≤ max_text_bytes → IsHeaderFault bytes f → ⊥
+    → bytes ≡ text_before_stop v s rs ++ rest → length (text_before_stop v s rs) ≤ (format_of v).max_text_bytes → IsHeaderFault bytes f → ⊥
 no_header_fault v bytes s rs rest f rules is size fault =
-    header_good v bytes s (flat_map record_text rs ++ rest) f rules.in_time (omega (arith, size, header_below v s rs)) (following v s rs rest bytes is) fault
+    header_good v bytes s (flat_map record_text rs ++ rest) f rules.in_time (omega (arith, size, within_longest v, header_below v s rs)) (following v s rs rest bytes is) fault
 
 -- nor any after the first of records that stand whole, within the limit
 pub no_fault_among : (v w : Version) (bytes : List ℕ) (s t : ℕ) (rs ss : List Record) (f : CaptureFault) (x y : List ℕ) (q : Record) (more : List Record) → FaultsAfter v bytes s rs f x
-    → IsCapture w t ss → length (text_before_stop w t ss) ≤ max_text_bytes → v ≡ w → s ≡ t → ss ≡ rs ++ q ∷ more → x ≡ flat_map record_text (q ∷ more) ++ y → ⊥
+    → IsCapture w t ss → length (text_before_stop w t ss) ≤ (format_of v).max_text_bytes → v ≡ w → s ≡ t → ss ≡ rs ++ q ∷ more → x ≡ flat_map record_text (q ∷ more) ++ y → ⊥
 no_fault_among v w bytes s t rs ss f x y q more fault rules size same start is rest =
     let whole : IsCapture v s (rs ++ q ∷ more) = subst (λ (p : Version × (ℕ × List Record)). IsCapture p.0 p.1.0 p.1.1) (λ i. (sym same i, (sym start i, is i))) rules in
-    let long : length (text_before_stop v s (rs ++ q ∷ more)) ≤ max_text_bytes = subst (λ (p : Version × (ℕ × List Record)). length (text_before_stop p.0 p.1.0 p.1.1) ≤ max_text_bytes) (λ i. (sym same i, (sym start i, is i))) size in
+    let long : length (text_before_stop v s (rs ++ q ∷ more)) ≤ (format_of v).max_text_bytes = subst (λ (p : Version × (ℕ × List Record)). length (text_before_stop p.0 p.1.0 p.1.1) ≤ (format_of v).max_text_bytes) (λ i. (sym same i, (sym start i, is i))) size in
     record_good v bytes s rs f x q (flat_map record_text more ++ y) fault (rest ∙ append_assoc (record_text q) (flat_map record_text more) y)
     (follows_front v s rs more q whole) (omega (arith, long, one_more_text v s rs more q))

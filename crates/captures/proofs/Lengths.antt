@@ -6,7 +6,7 @@ use Rattle.devices.specs.Numbers.{number_of, number_and_rest, three_numbers}
 use Rattle.devices.specs.LongLines.{IsLong, GivesLongLine}
 use Rattle.devices.specs.declared.text.Stop.{Stop}
 use Rattle.devices.proofs.Pieces.{number_long, rest_long, three_long}
-use Rattle.captures.specs.Reference.{has_tiers}
+use Rattle.captures.specs.Reference.{format_of}
 use Rattle.captures.specs.CaptureFaults.{two_numbers, piece_heading, end_heading, tier_heading, stop_heading, heading_of}
 use Rattle.captures.specs.RecordLines.{GivesLine}
 use Rattle.captures.specs.declared.version.Version.{Version}
@@ -23,7 +23,7 @@ two_long text numbers h =
 -- a line that announces something is that long
 pub heading_long : (v : Version) (line : List ℕ) (h : Heading) → heading_of v line ≡ Ok h → IsLong 7 (codes "piece ") 12 line
 heading_long v line h is =
-    go (starts_with nat_eq line (codes "piece ")) (starts_with nat_eq line (codes "end ")) (starts_with nat_eq line (codes "tier ") && has_tiers v)
+    go (starts_with nat_eq line (codes "piece ")) (starts_with nat_eq line (codes "end ")) (starts_with nat_eq line (codes "tier ") && (format_of v).has_tiers)
     (starts_with nat_eq line (codes "stop ")) refl
     (three_numbers (drop 6 line)) refl (two_numbers (drop 4 line)) refl (two_numbers (drop 5 line)) refl (number_of (drop 5 line)) refl is
   where

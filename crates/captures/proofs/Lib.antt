@@ -8,6 +8,7 @@ pub mod Agree
 pub mod Each
 pub mod PartLemmas
 pub mod Tiers
+pub mod Lives
 pub mod Sets
 pub mod WritingLemmas
 pub mod UpgradeLemmas

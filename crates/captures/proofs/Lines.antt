@@ -1,5 +1,5 @@
 -- What stands in a line of a capture that was read.
-use Rattle.std.proofs.Common.{◌≡◌, ℕ, ◌-◌, ◌^◌, ◌<◌, ◌≤◌, ◌⊎◌, inl, inr, cond, nat_lt, ◌&&◌, Bool, true, false, List, [], ◌∷◌, ◌++◌, length, drop, Option, Some, None, Result, Ok, Err, refl, ap, ◌∙◌, subst, arith, codes, decimal, nat_eq}
+use Rattle.std.proofs.Common.{◌≡◌, ℕ, ◌-◌, ◌^◌, ◌<◌, ◌≤◌, ◌⊎◌, inl, inr, cond, nat_lt, ◌&&◌, Bool, true, false, List, [], ◌∷◌, ◌++◌, length, drop, Option, Some, None, Result, Ok, Err, IfOk, refl, sym, ap, ◌∙◌, subst, arith, codes, decimal, nat_eq}
 use Rattle.std.specs.List.{starts_with}
 use Rattle.std.proofs.lemmas.Bool.Decides.{nat_tests, Decides-eqb}
 use Rattle.std.proofs.lemmas.Slice.Eq.{starts_is}
@@ -8,10 +8,10 @@ use Rattle.devices.specs.Numbers.{number_of, number_and_rest, three_numbers, ◌
 use Rattle.devices.specs.Texts.{Ahead, line_at}
 use Rattle.devices.specs.declared.text.Stop.{Stop}
 use Rattle.devices.proofs.Inverse.{TakesAhead, unless_ok, when_ok, ok_is, line_inverse, number_inverse, rest_inverse, three_inverse}
-use Rattle.captures.specs.Reference.{opening, last_connection, has_tiers, first_line, max_start}
-use Rattle.captures.specs.CaptureFaults.{named, ◌>>=◌, header_kind_of, start_heading, start_of, header_at, two_numbers, piece_heading, end_heading, tier_heading, stop_heading, heading_of, IsHeadingOf}
+use Rattle.captures.specs.Reference.{format_of, first_line, max_start}
+use Rattle.captures.specs.CaptureFaults.{named, ◌>>=◌, header_kind_of, start_heading, start_of, header_at, opens, longest_text, two_numbers, piece_heading, end_heading, tier_heading, stop_heading, heading_of, IsHeadingOf}
 use Rattle.captures.specs.declared.version.Version.{Version}
-use Rattle.captures.specs.declared.version.Version.TheVariants.{One, Two}
+use Rattle.captures.specs.declared.version.Version.TheVariants.{One, Two, Traffic}
 use Rattle.captures.specs.declared.heading.PieceLine.{PieceLine}
 use Rattle.captures.specs.declared.heading.TierLine.{TierLine}
 use Rattle.captures.specs.declared.heading.EndLine.{EndLine}
@@ -58,18 +58,26 @@ start_heading_is v w (Some m) n h =
     (ap (λ (p : Version × ℕ). p.0) same, ap (λ k. Some k) number, omega (arith, number, small))
 
 -- a line of this version
-start_at : (v w : Version) (line : List ℕ) (n : ℕ) → starts_with nat_eq line (opening w) ≡ true → start_heading w (number_of (drop (length (opening w)) line)) ≡ Ok (v, n)
+start_at : (v w : Version) (line : List ℕ) (n : ℕ) → starts_with nat_eq line (format_of w).opening ≡ true → start_heading w (number_of (drop (length (format_of w).opening) line)) ≡ Ok (v, n)
     → (line ≡ first_line v n) × (n ≤ max_start)
 start_at v w line n h e =
-    let is = start_heading_is v w (number_of (drop (length (opening w)) line)) n e in
-    let whole : line ≡ first_line w n = begins line (opening w) h ∙ ap (λ t. opening w ++ t) (number_inverse (drop (length (opening w)) line) n is.1 (let x = is.2 in omega arith)) in
+    let is = start_heading_is v w (number_of (drop (length (format_of w).opening) line)) n e in
+    let whole : line ≡ first_line w n = begins line (format_of w).opening h ∙ ap (λ t. (format_of w).opening ++ t) (number_inverse (drop (length (format_of w).opening) line) n is.1 (let x = is.2 in omega arith)) in
     (whole ∙ ap (λ (x : Version). first_line x n) is.0, is.2)
 
 start_inverse : (v : Version) (line : List ℕ) (n : ℕ) → start_of line ≡ Ok (v, n) → (line ≡ first_line v n) × (n ≤ max_start)
-start_inverse v line n h = elim (chosen (starts_with nat_eq line (opening One)) _ _ _ h) [
+start_inverse v line n h = elim (chosen (opens One line) _ _ _ h) [
   | inl a ↦ start_at v One line n a.0 a.1
-  | inr b ↦ let two = when_ok (starts_with nat_eq line (opening Two)) Header (start_heading Two (number_of (drop (length (opening Two)) line))) (v, n) b.1 in start_at v Two line n two.0 two.1
+  | inr b ↦ elim (chosen (opens Two line) _ _ _ b.1) [
+    | inl a ↦ start_at v Two line n a.0 a.1
+    | inr d ↦ let last = when_ok (opens Traffic line) Header (start_heading Traffic (number_of (drop (length (format_of Traffic).opening) line))) (v, n) d.1 in start_at v Traffic line n last.0 last.1
+  ]
 ]
+
+-- a start that was read is within its limit
+pub start_limit : (line : List ℕ) (r : Result (Version × ℕ) CaptureFaultKind) → r ≡ start_of line → IfOk r (λ first. first.1 ≤ max_start)
+start_limit line (Ok (v, n)) h = (start_inverse v line n (sym h)).1
+start_limit line (Err k) h = tt
 
 pub header_inverse : (v : Version) (a b : Ahead) (n : ℕ) → header_at a ≡ Ok ((v, n), b) → TakesAhead a (first_line v n ++ line_feed ∷ []) b × (n ≤ max_start)
 header_inverse v a b n h =
@@ -82,9 +90,22 @@ header_inverse v a b n h =
     subst (λ (p : (Version × ℕ) × Ahead). TakesAhead a (first_line p.0.0 p.0.1 ++ line_feed ∷ []) p.1 × (p.0.1 ≤ max_start)) pair (took, is.1)
 
 -- each version has few connections
-pub few_connections : (v : Version) → last_connection v ≤ 65535
+pub few_connections : (v : Version) → (format_of v).last_connection ≤ 65535
 few_connections One = omega arith
 few_connections Two = omega arith
+few_connections Traffic = omega arith
+
+-- and no more bytes than the longest text
+pub within_longest : (v : Version) → (format_of v).max_text_bytes ≤ longest_text
+within_longest One = omega arith
+within_longest Two = omega arith
+within_longest Traffic = omega arith
+
+-- and room for its first line
+pub room_for_first : (v : Version) → 1073741824 ≤ (format_of v).max_text_bytes
+room_for_first One = omega arith
+room_for_first Two = omega arith
+room_for_first Traffic = omega arith
 
 -- ---- the other lines
 
@@ -122,7 +143,7 @@ both_true false b h = absurd cc
 Announces : Version → List ℕ → Heading → Type 0
 Announces v line heading = ((line ≡ codes "piece " ++ drop 6 line) × (piece_heading (three_numbers (drop 6 line)) ≡ Ok heading))
     ⊎ (((line ≡ codes "end " ++ drop 4 line) × (end_heading (two_numbers (drop 4 line)) ≡ Ok heading))
-    ⊎ (((line ≡ codes "tier " ++ drop 5 line) × (has_tiers v ≡ true) × (tier_heading (two_numbers (drop 5 line)) ≡ Ok heading))
+    ⊎ (((line ≡ codes "tier " ++ drop 5 line) × ((format_of v).has_tiers ≡ true) × (tier_heading (two_numbers (drop 5 line)) ≡ Ok heading))
     ⊎ ((line ≡ codes "stop " ++ drop 5 line) × (stop_heading (number_of (drop 5 line)) ≡ Ok heading))))
 
 announces : (v : Version) (line : List ℕ) (heading : Heading) → heading_of v line ≡ Ok heading → Announces v line heading
@@ -131,7 +152,7 @@ announces v line heading h = elim (chosen (starts_with nat_eq line (codes "piece
   | inl p ↦ inl (begins line (codes "piece ") p.0, p.1)
   | inr n ↦ elim (chosen (starts_with nat_eq line (codes "end ")) _ _ _ n.1) [
     | inl e ↦ inr (inl (begins line (codes "end ") e.0, e.1))
-    | inr m ↦ elim (chosen (starts_with nat_eq line (codes "tier ") && has_tiers v) _ _ _ m.1) [
+    | inr m ↦ elim (chosen (starts_with nat_eq line (codes "tier ") && (format_of v).has_tiers) _ _ _ m.1) [
       | inl t ↦ let both = both_true _ _ t.0 in inr (inr (inl (begins line (codes "tier ") both.0, both.1, t.1)))
       | inr o ↦ elim (chosen (starts_with nat_eq line (codes "stop ")) _ _ _ o.1) [
         | inl s ↦ inr (inr (inr (begins line (codes "stop ") s.0, s.1)))

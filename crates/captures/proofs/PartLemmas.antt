@@ -11,10 +11,10 @@ use Rattle.devices.specs.declared.text.Stop.TheVariants as stops
 use Rattle.devices.proofs.Taking.{Takes}
 use Rattle.devices.proofs.Inverse.{line_inverse}
 use Rattle.devices.proofs.PartLemmas.{none_after, part_after, no_byte, run_alone, run_takes, line_alone}
-use Rattle.captures.specs.Reference.{last_connection, has_tiers, max_text_bytes, max_tick, max_tier, text_before_stop}
+use Rattle.captures.specs.Reference.{format_of, max_tick, max_tier, text_before_stop}
 use Rattle.captures.specs.Captures.{Past, past_of}
 use Rattle.captures.specs.declared.version.Version.{Version}
-use Rattle.captures.specs.CaptureFaults.{kind_of, named, ◌>>=◌, two_numbers, piece_heading, end_heading, tier_heading, stop_heading, heading_of, open_connection, allowed, tier_record, body_at, announced, record_at, IsUnfinished, failures_of}
+use Rattle.captures.specs.CaptureFaults.{kind_of, named, ◌>>=◌, two_numbers, piece_heading, end_heading, tier_heading, stop_heading, heading_of, open_connection, allowed, tier_record, body_at, announced, record_at, IsUnfinished, failures_of, left_after}
 use Rattle.captures.specs.Readers.{seen, ReaderAfter, FailsInRecord}
 use Rattle.captures.specs.declared.record.Record.{Record}
 use Rattle.captures.specs.declared.record.Record.TheVariants.{Tier}
@@ -60,7 +60,7 @@ body_fails n o m p l ml pl bytes is run h k =
     (λ known. body_cut n l ml bytes is (let e = t.count known in omega (arith, e, is))) h k
 
 open_kinds : (v : Version) (past : Past) (conn : ℕ) (kind : CaptureFaultKind) → open_connection v past conn ≡ Err kind → (kind ≡ Connection) ⊎ (kind ≡ Ended)
-open_kinds v past conn kind h = go (nat_lt (last_connection v) conn) (past.ended conn) h
+open_kinds v past conn kind h = go (nat_lt (format_of v).last_connection conn) (past.ended conn) h
   where
     go : (b c : Bool) → cond b (Err Connection) (cond c (Err Ended) (Ok conn)) ≡ Err kind → (kind ≡ Connection) ⊎ (kind ≡ Ended)
     go true c e = inl cc
@@ -99,7 +99,7 @@ tier_not_read v past line kind h is = go (open_connection v past line.conn) refl
 -- ---- records
 
 heading_kinds : (v : Version) (line : List ℕ) (kind : CaptureFaultKind) → heading_of v line ≡ Err kind → (kind ≡ Number) ⊎ (kind ≡ Kind)
-heading_kinds v line kind h = go (starts_with nat_eq line (codes "piece ")) (starts_with nat_eq line (codes "end ")) (starts_with nat_eq line (codes "tier ") && has_tiers v) (starts_with nat_eq line (codes "stop "))
+heading_kinds v line kind h = go (starts_with nat_eq line (codes "piece ")) (starts_with nat_eq line (codes "end ")) (starts_with nat_eq line (codes "tier ") && (format_of v).has_tiers) (starts_with nat_eq line (codes "stop "))
     (three_numbers (drop 6 line)) (two_numbers (drop 4 line)) (two_numbers (drop 5 line)) (number_of (drop 5 line)) h
   where
     go : (a b t c : Bool) (o : Option (ℕ × ℕ × ℕ)) (p u : Option (ℕ × ℕ)) (q : Option ℕ) → cond a (piece_heading o) (cond b (end_heading p) (cond t (tier_heading u) (cond c (stop_heading q) (Err Kind)))) ≡ Err kind → (kind ≡ Number) ⊎ (kind ≡ Kind)
@@ -148,12 +148,12 @@ pub fits_fails : (v : Version) (text now new : Option (List ℕ)) (start new_lef
     → is_some text ≡ true → (part : List ℕ) × FailsInRecord v (unwrap_or text []) start records part (unwrap_or new [])
 fits_fails v text now new start new_left records p f h k =
     let more = h (f.known k) in
-    let left : p.left ≡ max_text_bytes - length (text_before_stop v start records) = let all = f.left k in omega arith in (
+    let left : p.left ≡ left_after v start records = let all = f.left k in omega arith in (
       more.part,
       record {
         taken = f.taken k ∙ (ap (λ w. text_before_stop v start records ++ w) more.bytes ∙ sym (append_assoc (text_before_stop v start records) more.part (unwrap_or new [])));
         size = let all = f.left k in let part = more.count in omega arith;
-        unfinished = subst (λ (q : ℕ). IsUnfinished (record_at v (past_of records) (record { bytes = more.part; left = q }))) left
+        unfinished = subst (λ (q : ℕ). IsUnfinished (record_at v (past_of v records) (record { bytes = more.part; left = q }))) left
             (subst (λ (q : Past). IsUnfinished (record_at v q (record { bytes = more.part; left = p.left }))) f.past
             (subst (λ (w : Version). IsUnfinished (record_at w (seen p.so_far) (record { bytes = more.part; left = p.left }))) f.version more.holds));
       },

@@ -5,7 +5,7 @@ use Rattle.std.proofs.lemmas.List.{append_assoc, append-nil, length-append}
 use Rattle.devices.specs.Reference.{line_feed}
 use Rattle.devices.specs.Texts.{Ahead, line_at, run_at, byte_at}
 use Rattle.devices.proofs.Inverse.{TakesAhead, ahead_then, unless_ok, when_ok, ok_is, line_inverse, run_inverse, byte_takes}
-use Rattle.captures.specs.Reference.{last_connection, has_tiers, piece_line, record_text, max_tick, max_piece_bytes, max_tier}
+use Rattle.captures.specs.Reference.{format_of, piece_line, record_text, max_tick, max_piece_bytes, max_tier}
 use Rattle.captures.specs.Captures.{Past, size_of, Follows}
 use Rattle.captures.specs.declared.version.Version.{Version}
 use Rattle.captures.specs.CaptureFaults.{kind_of, named, heading_of, IsHeadingOf, open_connection, allowed, body_at, piece_at, tier_record, close_at, announced, record_at}
@@ -36,14 +36,14 @@ either_false : (b c : Bool) → (b || c) ≡ false → (b ≡ false) × (c ≡ f
 either_false true c h = absurd cc
 either_false false c h = (refl, h)
 
-open_inverse : (v : Version) (past : Past) (conn c : ℕ) → open_connection v past conn ≡ Ok c → (c ≡ conn) × (conn ≤ last_connection v) × (past.ended conn ≡ false)
+open_inverse : (v : Version) (past : Past) (conn c : ℕ) → open_connection v past conn ≡ Ok c → (c ≡ conn) × (conn ≤ (format_of v).last_connection) × (past.ended conn ≡ false)
 open_inverse v past conn c h =
-    let limit = unless_ok (nat_lt (last_connection v) conn) Connection _ _ h in
+    let limit = unless_ok (nat_lt (format_of v).last_connection conn) Connection _ _ h in
     let last = unless_ok (past.ended conn) Ended _ _ limit.1 in
     let same : conn ≡ c = ok_is {A = ℕ} {E = CaptureFaultKind} _ _ _ _ refl refl last.1 in
     (sym same, let t = limit.0 in grind (arith, nat_tests), last.0)
 
-allowed_inverse : (v : Version) (past : Past) (tick conn c : ℕ) → allowed v past tick conn ≡ Ok c → (c ≡ conn) × (tick ≤ max_tick) × (conn ≤ last_connection v) × (past.tick ≤ tick) × (past.ended conn ≡ false)
+allowed_inverse : (v : Version) (past : Past) (tick conn c : ℕ) → allowed v past tick conn ≡ Ok c → (c ≡ conn) × (tick ≤ max_tick) × (conn ≤ (format_of v).last_connection) × (past.tick ≤ tick) × (past.ended conn ≡ false)
 allowed_inverse v past tick conn c h =
     let time = unless_ok (nat_lt max_tick tick || nat_lt tick past.tick) Tick _ _ h in
     let names = open_inverse v past conn c time.1 in
@@ -58,9 +58,9 @@ allowed_inverse v past tick conn c h =
 -- what a tier's line said
 record GivesTier (v : Version) (past : Past) (l : TierLine) (r : Record) : Type 0 where
   is : r ≡ Tier l.conn l.tier
-  in_conn : l.conn ≤ last_connection v
+  in_conn : l.conn ≤ (format_of v).last_connection
   in_tier : l.tier ≤ max_tier
-  follows : has_tiers v ≡ true → Follows v past r
+  follows : (format_of v).has_tiers ≡ true → Follows v past r
 
 tier_inverse : (v : Version) (past : Past) (l : TierLine) (r : Record) → tier_record v past l ≡ Ok r → GivesTier v past l r
 tier_inverse v past l r h =
@@ -100,7 +100,7 @@ record TakesPiece (v : Version) (past : Past) (a : Ahead) (l : PieceLine) (r : R
   took : TakesAhead a (bytes ++ line_feed ∷ []) b
   len : length bytes ≡ l.len
   in_tick : l.tick ≤ max_tick
-  in_conn : l.conn ≤ last_connection v
+  in_conn : l.conn ≤ (format_of v).last_connection
   in_len : l.len ≤ max_piece_bytes
   follows : Follows v past r
 

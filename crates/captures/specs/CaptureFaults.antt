@@ -9,11 +9,11 @@ use Rattle.devices.specs.Numbers.{number_of, number_and_rest, three_numbers, ◌
 use Rattle.devices.specs.Texts.{Ahead, line_at, run_at, byte_at}
 use Rattle.devices.specs.declared.text.Stop.{Stop}
 use Rattle.devices.specs.declared.text.Stop.TheVariants as stops
-use Rattle.captures.specs.Reference.{opening, last_connection, has_tiers, max_start, max_tick, max_piece_bytes}
-use Rattle.captures.specs.Reference.{max_text_bytes, max_tier, text_before_stop, IsCapture}
+use Rattle.captures.specs.Reference.{format_of, max_start, max_tick, max_piece_bytes, max_tier, text_before_stop}
+use Rattle.captures.specs.Reference.{IsCapture}
 use Rattle.captures.specs.Captures.{Past, past_of}
 use Rattle.captures.specs.declared.version.Version.{Version}
-use Rattle.captures.specs.declared.version.Version.TheVariants.{One, Two}
+use Rattle.captures.specs.declared.version.Version.TheVariants.{One, Two, Traffic}
 use Rattle.captures.specs.declared.record.Record.{Record}
 use Rattle.captures.specs.declared.record.Record.TheVariants.{Piece, End, Tier}
 use Rattle.captures.specs.declared.heading.PieceLine.{PieceLine}
@@ -75,11 +75,22 @@ abbrev pub start_heading : Version → Option ℕ → Result (Version × ℕ) Ca
 start_heading v (Some start) = if nat_lt max_start start then Err Header else Ok (v, start)
 start_heading v None = Err Number
 
+abbrev pub start_after : Version → List ℕ → Result (Version × ℕ) CaptureFaultKind
+start_after v line = start_heading v (number_of (drop (length (format_of v).opening) line))
+
+abbrev pub opens : Version → List ℕ → Bool
+opens v line = starts_with nat_eq line (format_of v).opening
+
 abbrev pub start_of : List ℕ → Result (Version × ℕ) CaptureFaultKind
 start_of line =
-    if starts_with nat_eq line (opening One) then start_heading One (number_of (drop (length (opening One)) line))
-    else if starts_with nat_eq line (opening Two) then start_heading Two (number_of (drop (length (opening Two)) line))
+    if opens One line then start_after One line
+    else if opens Two line then start_after Two line
+    else if opens Traffic line then start_after Traffic line
     else Err Header
+
+-- the most bytes of a text, before its first line has told the format
+abbrev pub longest_text : ℕ
+longest_text = (format_of Traffic).max_text_bytes
 
 -- the first line: its version and its start, after it the records
 abbrev pub header_at : Ahead → Result ((Version × ℕ) × Ahead) CaptureFaultKind
@@ -114,7 +125,7 @@ abbrev pub heading_of : Version → List ℕ → Result Heading CaptureFaultKind
 heading_of v line =
     if starts_with nat_eq line (codes "piece ") then piece_heading (three_numbers (drop 6 line))
     else if starts_with nat_eq line (codes "end ") then end_heading (two_numbers (drop 4 line))
-    else if starts_with nat_eq line (codes "tier ") && has_tiers v then tier_heading (two_numbers (drop 5 line))
+    else if starts_with nat_eq line (codes "tier ") && (format_of v).has_tiers then tier_heading (two_numbers (drop 5 line))
     else if starts_with nat_eq line (codes "stop ") then stop_heading (number_of (drop 5 line))
     else Err Kind
 
@@ -122,13 +133,13 @@ heading_of v line =
 abbrev pub IsHeadingOf : Version → Heading → Type 0
 IsHeadingOf v (headings.Piece line) = Unit {0}
 IsHeadingOf v (headings.End line) = Unit {0}
-IsHeadingOf v (headings.Tier line) = has_tiers v ≡ true
+IsHeadingOf v (headings.Tier line) = (format_of v).has_tiers ≡ true
 IsHeadingOf v (headings.Stop count) = Unit {0}
 
 -- the connection that a record after this past may name
 abbrev pub open_connection : Version → Past → ℕ → Result ℕ CaptureFaultKind
 open_connection v past conn =
-    if nat_lt (last_connection v) conn then Err Connection
+    if nat_lt (format_of v).last_connection conn then Err Connection
     else if past.ended conn then Err Ended
     else Ok conn
 
@@ -198,20 +209,24 @@ is_unforeseen_kind _ = false
 abbrev pub IsUnfinished : Result (Option Record × Ahead) CaptureFaultKind → Type 0
 IsUnfinished r = (r ≡ Err Cut) ⊎ ((left : ℕ) × (r ≡ Ok (None, record { bytes = []; left = left })))
 
+-- how many bytes a text may still have after these records
+abbrev pub left_after : Version → ℕ → List Record → ℕ
+left_after v start records = (format_of v).max_text_bytes - length (text_before_stop v start records)
+
 -- The fault of the record after these, whose texts stand whole before it. (The last line is a record here too.)
 pub record FaultsAfter (v : Version) (text : List ℕ) (start : ℕ) (records : List Record) (f : CaptureFault)
     (rest : List ℕ) : Type 0 where
   pub whole : text ≡ text_before_stop v start records ++ rest
   pub rules : IsCapture v start records
-  pub size : length (text_before_stop v start records) ≤ max_text_bytes
+  pub size : length (text_before_stop v start records) ≤ (format_of v).max_text_bytes
   pub at : f.at ≡ length records + 1
-  pub kind : record_at v (past_of records)
-      (record { bytes = rest; left = max_text_bytes - length (text_before_stop v start records) }) ≡ Err f.kind
+  pub kind : record_at v (past_of v records)
+      (record { bytes = rest; left = left_after v start records }) ≡ Err f.kind
 
 -- The first fault of bytes that are no capture text: that of the first line, which is record 0, or of the record after
 -- those that stand whole, by the rules of the version that the first line gave.
 abbrev pub IsHeaderFault : List ℕ → CaptureFault → Type 0
-IsHeaderFault text f = (f.at ≡ 0) × (header_at (record { bytes = text; left = max_text_bytes }) ≡ Err f.kind)
+IsHeaderFault text f = (f.at ≡ 0) × (header_at (record { bytes = text; left = longest_text }) ≡ Err f.kind)
 
 abbrev pub IsFaultAfter : Version → List ℕ → ℕ → List Record → CaptureFault → Type 0
 IsFaultAfter v text start records f = (rest : List ℕ) × FaultsAfter v text start records f rest

@@ -1,25 +1,25 @@
--- The text of a capture, in either version of the format.
-use Rattle.std.specs.Prelude.{◌≡◌, ℕ, ◌≤◌, Bool, false, List, length, sum_by}
+-- What the rules ask of the records of a text, record by record.
+use Rattle.std.specs.Prelude.{◌≡◌, ℕ, ◌≤◌, ◌&&◌, Bool, false, List, length, nat_lt, sum_by}
 use Rattle.std.specs.List.{list_any}
 use Rattle.captures.specs.declared.version.Version.{Version}
 use Rattle.captures.specs.declared.record.Record.{Record}
 use Rattle.captures.specs.declared.record.Record.TheVariants.{Piece, End, Tier}
-use Rattle.captures.specs.Reference.{is_end_of, is_use_of, last_of, ticks_of, IsRecord}
+use Rattle.captures.specs.Reference.{ends_for_good, is_use_of, last_of, ticks_of, IsRecord, connection_now, used_once}
 
 -- What the rules ask of the records so far when one more comes: how many they are, the last tick (0 where none gave
--- one), which connections have ended, and which had a piece or a tier.
+-- one), which numbers have ended for good, and which name a connection that had a piece or a tier.
 pub record Past : Type 0 where
   pub count : ℕ
   pub tick : ℕ
   pub ended : ℕ → Bool
   pub used : ℕ → Bool
 
-abbrev pub past_of : List Record → Past
-past_of records = record {
+abbrev pub past_of : Version → List Record → Past
+past_of v records = record {
   count = length records;
   tick = last_of (ticks_of records);
-  ended = λ c. list_any (is_end_of c) records;
-  used = λ c. list_any (is_use_of c) records;
+  ended = λ c. list_any (ends_for_good v c) records;
+  used = λ c. nat_lt c 65536 && list_any (is_use_of (connection_now c records)) (used_once records);
 }
 
 -- a record that may stand after this past

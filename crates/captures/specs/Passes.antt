@@ -9,7 +9,7 @@ use Rattle.captures.specs.declared.capture_fault.CaptureFaultKind.{CaptureFaultK
 use Rattle.captures.specs.declared.capture_fault.CaptureFaultKind.TheVariants as kinds
 use Rattle.captures.specs.declared.pass_fault.PassFault.{PassFault}
 use Rattle.captures.specs.declared.pass_fault.PassFault.TheVariants.{Capture, TooMany, Memory, Write as Unwritten}
-use Rattle.captures.specs.Reference.{IsCapture, max_text_bytes, text_before_stop}
+use Rattle.captures.specs.Reference.{format_of, IsCapture, text_before_stop}
 use Rattle.captures.specs.CaptureFaults.{failures_of, is_unforeseen_kind, IsHeaderFault, IsFaultAfter}
 use Rattle.captures.specs.Readers.{FailsFirst, FailsNext}
 
@@ -21,7 +21,8 @@ pub record RecordsRead (input : Option (List ℕ)) : Type 0 where
   pub rest : List ℕ
   pub rules : IsCapture version start records
   pub begins : WhereKnown input (λ bytes. bytes ≡ text_before_stop version start records ++ rest)
-  pub size : WhereKnown input (λ bytes. length (text_before_stop version start records) ≤ max_text_bytes)
+  pub size : WhereKnown input
+      (λ bytes. length (text_before_stop version start records) ≤ (format_of version).max_text_bytes)
 
 -- The fault is that of the first line. Where it was a read that failed, what was read is no whole line; `ahead` is what
 -- of the input wasn't read, here and below.

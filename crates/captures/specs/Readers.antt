@@ -1,12 +1,13 @@
 -- A reader of a capture, which gives record after record.
-use Rattle.std.specs.Prelude.{◌≡◌, ◌≢◌, ℕ, ◌+◌, ◌-◌, ◌≤◌, ◌/◌, ◌%◌, Bool, true, ◌||◌, ◌==◌, List, [], ◌∷◌, ◌++◌, length}
+use Rattle.std.specs.Prelude.{◌≡◌, ◌≢◌, ℕ, ◌+◌, ◌≤◌, ◌/◌, ◌%◌, Bool, true, not, ◌||◌, ◌&&◌, ◌==◌, List, [], ◌∷◌, ◌++◌, length}
 use Rattle.std.specs.Prelude.{Option, Some, None, Result, Ok, Err, IfErr, slice_index_or, is_some, unwrap_or}
+use Rattle.std.specs.Prelude.{if◌then◌else◌}
 use Rattle.std.specs.Int.{bit_at}
 use Rattle.devices.specs.Devices.{Device, CountsBy}
-use Rattle.captures.specs.Reference.{max_text_bytes, text_before_stop, IsCapture, IsCaptureText, IsRecord}
+use Rattle.captures.specs.Reference.{format_of, text_before_stop, IsCapture, IsCaptureText, IsRecord}
 use Rattle.captures.specs.Captures.{Past, past_of, size_of, sizes_of}
 use Rattle.captures.specs.CaptureFaults.{IsFaultAfter, IsForeseen, IsHeaderFault, IsUnfinished, header_at, record_at}
-use Rattle.captures.specs.CaptureFaults.{failures_of}
+use Rattle.captures.specs.CaptureFaults.{failures_of, left_after, longest_text}
 use Rattle.captures.specs.declared.version.Version.{Version}
 use Rattle.captures.specs.declared.record.Record.{Record}
 use Rattle.captures.specs.declared.record.Record.TheVariants.{Piece, End, Tier}
@@ -27,13 +28,21 @@ is_in set c = bit_at (slice_index_or set.words (c / 64) 0) (c % 64) == 1
 abbrev pub seen : SoFar → Past
 seen s = record { count = s.count; tick = s.tick; ended = is_in s.ended; used = is_in s.used }
 
+-- the numbers that have ended for good, once this one has ended
+abbrev pub ended_with : Version → (ℕ → Bool) → ℕ → ℕ → Bool
+ended_with v ended conn c = if (format_of v).used_again then ended c else (ended c || conn == c)
+
 -- the past after one more record
-abbrev pub after : Past → Record → Past
-after past (Piece tick conn bytes) =
+abbrev pub after : Version → Past → Record → Past
+after v past (Piece tick conn bytes) =
     record { count = past.count + 1; tick = tick; ended = past.ended; used = λ c. past.used c || conn == c }
-after past (End tick conn) =
-    record { count = past.count + 1; tick = tick; ended = λ c. past.ended c || conn == c; used = past.used }
-after past (Tier conn tier) =
+after v past (End tick conn) = record {
+  count = past.count + 1;
+  tick = tick;
+  ended = ended_with v past.ended conn;
+  used = λ c. past.used c && not (conn == c);
+}
+after v past (Tier conn tier) =
     record { count = past.count + 1; tick = past.tick; ended = past.ended; used = λ c. past.used c || conn == c }
 
 -- A reader has given these records of a text, and no others: they keep the rules, and where the bytes of the input are
@@ -44,10 +53,10 @@ pub record ReaderAfter (v : Version) (text : Option (List ℕ)) (start : ℕ) (r
   pub version : p.version ≡ v
   pub begun : p.start ≡ start
   pub rules : IsCapture v start records
-  pub past : seen p.so_far ≡ past_of records
-  pub room : length records + sizes_of records + p.room ≡ max_text_bytes
+  pub past : seen p.so_far ≡ past_of v records
+  pub room : length records + sizes_of records + p.room ≡ (format_of v).max_text_bytes
   pub taken : is_some text ≡ true → unwrap_or text [] ≡ text_before_stop v start records ++ unwrap_or now []
-  pub left : is_some text ≡ true → max_text_bytes ≡ length (text_before_stop v start records) + p.left
+  pub left : is_some text ≡ true → (format_of v).max_text_bytes ≡ length (text_before_stop v start records) + p.left
   pub known : is_some text ≡ true → is_some now ≡ true
 
 -- What the next call on such a reader answers: one more record; `None` only where the text is the capture of these
@@ -84,8 +93,8 @@ CountsNext stage old new r = CountsBy (λ f. failures_next stage f.kind) old new
 -- A read failed in the first line: of the text a part was taken, in which that line doesn't end.
 pub record FailsInFirstLine (text part rest : List ℕ) : Type 0 where
   pub taken : text ≡ part ++ rest
-  pub size : length part ≤ max_text_bytes
-  pub cut : header_at (record { bytes = part; left = max_text_bytes }) ≡ Err Cut
+  pub size : length part ≤ longest_text
+  pub cut : header_at (record { bytes = part; left = longest_text }) ≡ Err Cut
 
 -- so it is where the fault of the first line is a failed read, and the bytes of the input are known; `now` is what is
 -- ahead then
@@ -98,10 +107,9 @@ FailsFirst text f now = f.kind ≡ Read → is_some text ≡ true
 pub record FailsInRecord (v : Version) (text : List ℕ) (start : ℕ) (records : List Record)
     (part rest : List ℕ) : Type 0 where
   pub taken : text ≡ (text_before_stop v start records ++ part) ++ rest
-  pub size : length (text_before_stop v start records) + length part ≤ max_text_bytes
+  pub size : length (text_before_stop v start records) + length part ≤ (format_of v).max_text_bytes
   pub unfinished : IsUnfinished
-      (record_at v (past_of records)
-      (record { bytes = part; left = max_text_bytes - length (text_before_stop v start records) }))
+      (record_at v (past_of v records) (record { bytes = part; left = left_after v start records }))
 
 -- so it is where a reader that has given these records answers a failed read, and the bytes of the input are known
 abbrev pub FailsNext : Version → Option (List ℕ) → ℕ → List Record → Result (Option Record) CaptureFault

@@ -1,31 +1,53 @@
 -- What a reader has to believe: the definitions of this crate that the headline stands on, in reading order.
-use Rattle.std.specs.Prelude.{◌≡◌, ℕ, ◌-◌, ◌<◌, ◌≤◌, ◌==◌, Bool, true, false, Option}
-use Rattle.std.specs.Prelude.{List, [], ◌∷◌, ◌++◌, length, All, codes}
+use Rattle.std.specs.Prelude.{◌≡◌, ℕ, ◌+◌, ◌*◌, ◌%◌, ◌-◌, ◌<◌, ◌≤◌, ◌==◌, Bool, true, false, Option}
+use Rattle.std.specs.Prelude.{List, [], ◌∷◌, ◌++◌, length, All, codes, count_by}
 use Rattle.std.specs.Prelude.{decimal, slice_index, flat_map, if◌then◌else◌}
 use Rattle.std.specs.List.{AllPairs}
 use Rattle.devices.specs.Reference.{line_feed, WhereKnown}
 use Rattle.captures.specs.declared.version.Version.{Version}
-use Rattle.captures.specs.declared.version.Version.TheVariants.{One, Two}
+use Rattle.captures.specs.declared.version.Version.TheVariants.{One, Two, Traffic}
 use Rattle.captures.specs.declared.record.Record.{Record}
 use Rattle.captures.specs.declared.record.Record.TheVariants.{Piece, End, Tier}
 
--- The text of a capture, in either version of the format.
+-- The text of a capture, in either version of the format, and the text of traffic, which may be days long.
 
--- What a version sets: the first line up to the start, the greatest number of a connection, and whether there are
--- tiers.
-abbrev pub opening : Version → List ℕ
-opening One = codes "haboob-capture 1 "
-opening Two = codes "haboob-capture 2 "
+-- What a format sets: the first line up to the start, the greatest number of a connection, whether there are tiers,
+-- whether a number is free again after the end of its connection, the most bytes of a text, and the most messages.
+pub record FormatRow : Type 0 where
+  pub opening : List ℕ
+  pub last_connection : ℕ
+  pub has_tiers : Bool
+  pub used_again : Bool
+  pub max_text_bytes : ℕ
+  pub max_messages : ℕ
 
-abbrev pub last_connection : Version → ℕ
-last_connection One = 4095
-last_connection Two = 65535
+abbrev pub format_of : Version → FormatRow
+format_of One = record {
+  opening = codes "haboob-capture 1 ";
+  last_connection = 4095;
+  has_tiers = false;
+  used_again = false;
+  max_text_bytes = 1073741824;
+  max_messages = 1048576;
+}
+format_of Two = record {
+  opening = codes "haboob-capture 2 ";
+  last_connection = 65535;
+  has_tiers = true;
+  used_again = false;
+  max_text_bytes = 1073741824;
+  max_messages = 1048576;
+}
+format_of Traffic = record {
+  opening = codes "haboob-traffic 1 ";
+  last_connection = 65535;
+  has_tiers = true;
+  used_again = true;
+  max_text_bytes = 1125899906842624;
+  max_messages = 536870912;
+}
 
-abbrev pub has_tiers : Version → Bool
-has_tiers One = false
-has_tiers Two = true
-
--- the latest start (seconds since 1970-01-01), the latest tick, the most bytes of a piece and of a text, the last tier
+-- the latest start (seconds since 1970-01-01), the latest tick, the most bytes of a piece, the last tier
 abbrev pub max_start : ℕ
 max_start = 4102444800
 
@@ -34,9 +56,6 @@ max_tick = 1000000000000000
 
 abbrev pub max_piece_bytes : ℕ
 max_piece_bytes = 65536
-
-abbrev pub max_text_bytes : ℕ
-max_text_bytes = 1073741824
 
 abbrev pub max_tier : ℕ
 max_tier = 3
@@ -52,7 +71,7 @@ abbrev pub tier_line : ℕ → ℕ → List ℕ
 tier_line conn tier = codes "tier " ++ decimal conn ++ codes " " ++ decimal tier
 
 abbrev pub first_line : Version → ℕ → List ℕ
-first_line v start = opening v ++ decimal start
+first_line v start = (format_of v).opening ++ decimal start
 
 abbrev pub last_line : List Record → List ℕ
 last_line records = codes "stop " ++ decimal (length records)
@@ -87,6 +106,31 @@ is_use_of c (Piece tick conn bytes) = conn == c
 is_use_of c (End tick conn) = false
 is_use_of c (Tier conn tier) = conn == c
 
+-- A number names one connection until that has ended, and then a further one. Each connection has a number of its own
+-- here: the first of a number that number, each further one 65536 more than the one before.
+abbrev pub connection_now : ℕ → List Record → ℕ
+connection_now number records = number + 65536 * count_by (is_end_of number) records
+
+-- the number that names this connection
+abbrev pub named_by : ℕ → ℕ
+named_by c = c % 65536
+
+-- the record with this connection in the place of its number
+abbrev pub of_connection : ℕ → Record → Record
+of_connection c (Piece tick number bytes) = Piece tick c bytes
+of_connection c (End tick number) = End tick c
+of_connection c (Tier number tier) = Tier c tier
+
+-- Records read as records of connections whose numbers are used once, after earlier ones, and from the first one on.
+-- (Of a capture, where nothing of a number follows its end, they are the records themselves.)
+abbrev pub used_once_after : List Record → List Record → List Record
+used_once_after earlier [] = []
+used_once_after earlier (r ∷ records) = of_connection (connection_now (connection_of r) earlier) r
+    ∷ used_once_after (earlier ++ r ∷ []) records
+
+abbrev pub used_once : List Record → List Record
+used_once records = used_once_after [] records
+
 -- the last number, or 0 where there is none
 abbrev pub last_of : List ℕ → ℕ
 last_of xs = slice_index xs (length xs - 1)
@@ -112,9 +156,10 @@ tier_of c records = last_of (flat_map (tier_given c) records)
 -- a record within the limits
 abbrev pub IsRecord : Version → Record → Type 0
 IsRecord v (Piece tick conn bytes) =
-    (tick ≤ max_tick) × (conn ≤ last_connection v) × (0 < length bytes) × (length bytes ≤ max_piece_bytes)
-IsRecord v (End tick conn) = (tick ≤ max_tick) × (conn ≤ last_connection v)
-IsRecord v (Tier conn tier) = (has_tiers v ≡ true) × (conn ≤ last_connection v) × (tier ≤ max_tier)
+    (tick ≤ max_tick) × (conn ≤ (format_of v).last_connection) × (0 < length bytes) × (length bytes ≤ max_piece_bytes)
+IsRecord v (End tick conn) = (tick ≤ max_tick) × (conn ≤ (format_of v).last_connection)
+IsRecord v (Tier conn tier) =
+    ((format_of v).has_tiers ≡ true) × (conn ≤ (format_of v).last_connection) × (tier ≤ max_tier)
 
 -- a tier comes before each piece of its connection, and once
 abbrev pub LetsFollow : Record → Record → Type 0
@@ -122,20 +167,24 @@ LetsFollow r (Piece tick conn bytes) = Unit {0}
 LetsFollow r (End tick conn) = Unit {0}
 LetsFollow r (Tier conn tier) = is_use_of conn r ≡ false
 
--- The rules of a capture: ticks don't fall, nothing of a connection comes after its end, and its tier comes first. (An
--- end may come without a piece.)
+-- whether the record ends this number for good, as each end does in a capture
+abbrev pub ends_for_good : Version → ℕ → Record → Bool
+ends_for_good v number r = if (format_of v).used_again then false else is_end_of number r
+
+-- The rules of records: ticks don't fall, nothing of a number comes after an end that is for good, and the tier of a
+-- connection comes first. (An end may come without a piece.)
 pub record IsCapture (v : Version) (start : ℕ) (records : List Record) : Type 0 where
   pub in_time : start ≤ max_start
   pub each : All (IsRecord v) records
   pub rising : AllPairs (λ s t. s ≤ t) (ticks_of records)
-  pub ends_last : AllPairs (λ r s. is_end_of (connection_of s) r ≡ false) records
-  pub tiers_first : AllPairs LetsFollow records
+  pub ends_last : AllPairs (λ r s. ends_for_good v (connection_of s) r ≡ false) records
+  pub tiers_first : AllPairs LetsFollow (used_once records)
 
 -- the bytes are the text of a capture with this start and these records
 pub record IsCaptureText (v : Version) (bytes : List ℕ) (start : ℕ) (records : List Record) : Type 0 where
   pub text : bytes ≡ capture_text v start records
   pub rules : IsCapture v start records
-  pub size : length bytes ≤ max_text_bytes
+  pub size : length bytes ≤ (format_of v).max_text_bytes
 
 -- the input is a capture's text, where its type tells its bytes; these are its version, its start and its records
 pub record WholeCapture (input : Option (List ℕ)) : Type 0 where

@@ -1,6 +1,6 @@
 //! A set of connection numbers.
 
-ghost use Rattle.std.specs.Prelude.{◌≡◌, ◌==◌, ◌||◌, ℕ, false};
+ghost use Rattle.std.specs.Prelude.{◌≡◌, ◌==◌, ◌||◌, ◌&&◌, ℕ, false, not};
 ghost use Rattle.captures.specs.Readers.{is_in};
 
 /// A set of connections, one bit each: it has room for all 65,536 of them in 8 KiB, and takes no other memory.
@@ -30,5 +30,12 @@ impl ConnectionSet {
     {
         let conn = usize::from(conn);
         self.words[conn / 64] = self.words[conn / 64] | 1 << (conn % 64);
+    }
+
+    pub(crate) fn remove(&mut self, conn: u16)
+        ensures { (c : ℕ) → is_in self.new c ≡ (is_in self.old c && not (conn == c)) }
+    {
+        let conn = usize::from(conn);
+        self.words[conn / 64] = self.words[conn / 64] & !(1 << (conn % 64));
     }
 }

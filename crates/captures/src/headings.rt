@@ -22,15 +22,18 @@ fn read_field(version: Version, field: &[u8]) -> Result<(Version, u64), CaptureF
     }
 }
 
-/// The version and the start that the first line gives.
+/// The format and the start that the first line gives.
 pub(crate) fn read_start(line: &[u8]) -> Result<(Version, u64), CaptureFaultKind>
     ensures { result ≡ start_of line.now }
 {
-    match line.strip_prefix(b"haboob-capture 1 ") {
+    match line.strip_prefix(Version::One.row().opening.as_bytes()) {
         Some(field) => read_field(Version::One, field),
-        None => match line.strip_prefix(b"haboob-capture 2 ") {
+        None => match line.strip_prefix(Version::Two.row().opening.as_bytes()) {
             Some(field) => read_field(Version::Two, field),
-            None => Err(CaptureFaultKind::Header),
+            None => match line.strip_prefix(Version::Traffic.row().opening.as_bytes()) {
+                Some(field) => read_field(Version::Traffic, field),
+                None => Err(CaptureFaultKind::Header),
+            },
         },
     }
 }
@@ -61,7 +64,7 @@ pub(crate) fn read_heading(version: Version, line: &[u8]) -> Result<Heading, Cap
         };
     }
     if let Some(fields) = line.strip_prefix(b"tier ") {
-        if version.has_tiers() {
+        if version.row().has_tiers {
             return match two_numbers(fields) {
                 Some((conn, tier)) => Ok(Heading::Tier(TierLine { conn, tier })),
                 None => Err(CaptureFaultKind::Number),

@@ -1,8 +1,8 @@
 //! What holds of each capture text, whoever reads it.
-ghost use Rattle.std.specs.Prelude.{◌≡◌, ℕ, List, ◌⊎◌};
-ghost use Rattle.captures.specs.Reference.{IsCapture, IsCaptureText};
-ghost use Rattle.captures.specs.Upgrades.{upgraded, IsUpgrade};
-ghost use Rattle.captures.specs.declared.version.Version.TheVariants.{One, Two};
+ghost use Rattle.std.specs.Prelude.{◌≡◌, ℕ, List, ◌⊎◌, false};
+ghost use Rattle.captures.specs.Reference.{IsCapture, IsCaptureText, format_of, used_once};
+ghost use Rattle.captures.specs.Upgrades.{later, upgraded, IsUpgrade};
+ghost use Rattle.captures.specs.declared.version.Version.TheVariants.{One, Two, Traffic};
 ghost use Rattle.captures.specs.CaptureFaults.{IsFirstFault};
 ghost use Rattle.captures.specs.declared.record.Record.{Record as ARecord};
 ghost use Rattle.captures.specs.declared.version.Version.{Version as AVersion};
@@ -39,13 +39,27 @@ pub fn records_of_version_one()
         → IsCapture Two start records }
 {}
 
-/// The upgraded text of a capture is one of version 2, with the same start and the same records.
+/// What keeps the rules of a capture keeps those of traffic.
+pub fn records_of_a_capture()
+    ensures { (v : AVersion) (start : ℕ) (records : List ARecord) → IsCapture v start records
+        → IsCapture Traffic start records }
+{}
+
+/// The numbers of a capture's connections are used once: its records are read as they are.
+pub fn numbers_of_a_capture()
+    ensures { (v : AVersion) (start : ℕ) (records : List ARecord) → (format_of v).used_again ≡ false
+        → IsCapture v start records → used_once records ≡ records }
+{}
+
+/// The upgraded text is one of the later format, with the same start and the same records.
 pub fn upgrade_of_a_capture()
-    ensures { (v : AVersion) (bytes : List ℕ) (start : ℕ) (records : List ARecord)
-        → IsCaptureText v bytes start records → IsCaptureText Two (upgraded start records) start records }
+    ensures { (to v : AVersion) (bytes : List ℕ) (start : ℕ) (records : List ARecord)
+        → IsCaptureText v bytes start records
+        → IsCaptureText (later to v) (upgraded to v start records) start records }
 {}
 
 /// An upgraded text given again comes out unchanged.
 pub fn upgrade_again()
-    ensures { (old new again : List ℕ) → IsUpgrade old new → IsUpgrade new again → again ≡ new }
+    ensures { (to : AVersion) (old new again : List ℕ) → IsUpgrade to old new → IsUpgrade to new again
+        → again ≡ new }
 {}

@@ -1,4 +1,5 @@
-//! The capture format in both its versions: read record by record, and upgraded to the second.
+//! Recorded traffic: captures of both versions, and texts that are days long. They are read record by record, and
+//! written in a later format.
 #![tactic(auto)]
 
 mod capture_fault;
@@ -18,8 +19,8 @@ mod version;
 
 pub use capture_fault::{CaptureFault, CaptureFaultKind};
 pub use laws::{
-    capture_or_fault, no_fault_of_a_capture, one_capture, one_first_fault, records_of_version_one,
-    upgrade_again, upgrade_of_a_capture,
+    capture_or_fault, no_fault_of_a_capture, numbers_of_a_capture, one_capture, one_first_fault,
+    records_of_a_capture, records_of_version_one, upgrade_again, upgrade_of_a_capture,
 };
 pub use pass_fault::{PassFault, PassFault as UpgradeFault};
 pub use reader::CaptureReader;

@@ -24,8 +24,8 @@ pub enum ReaderState {
     Failed(CaptureFault),
 }
 
-/// The most bytes of a capture text.
-const MAX_TEXT_BYTES: usize = 1_073_741_824;
+/// The most bytes of a text, before its first line has told the format: those of the longest.
+const LONGEST_TEXT: usize = 1_125_899_906_842_624;
 
 /// How far a capture was read.
 #[derive(Drop)]
@@ -65,16 +65,19 @@ impl Progress {
         ensures failed { IfErr result (λ f. FailsFirst input.old.bytes f input.new.bytes) }
         ensures count { CountsFault input.old.failures input.new.failures result }
     {
-        let mut left = MAX_TEXT_BYTES;
+        let mut left = LONGEST_TEXT;
         match read_header(input, &mut left) {
-            Ok((version, start)) => Ok(Progress {
-                version,
-                start,
-                left,
-                room: MAX_TEXT_BYTES,
-                so_far: SoFar::new(),
-                stage: ReaderState::Reading,
-            }),
+            Ok((version, start)) => {
+                let most = version.row().max_text_bytes;
+                Ok(Progress {
+                    version,
+                    start,
+                    left: most.saturating_sub(LONGEST_TEXT.saturating_sub(left)),
+                    room: most,
+                    so_far: SoFar::new(),
+                    stage: ReaderState::Reading,
+                })
+            }
             Err(kind) => Err(CaptureFault { at: 0, kind }),
         }
     }
@@ -107,7 +110,7 @@ impl Progress {
             Ok(Some(record)) => match room_after(self.room, &record) {
                 Some(room) => {
                     self.room = room;
-                    self.so_far.add(&record);
+                    self.so_far.add(self.version, &record);
                     Ok(Some(record))
                 }
                 None => Err(self.fail(at, CaptureFaultKind::TooLarge)),

@@ -1,4 +1,4 @@
-//! Writing records in version 2.
+//! Writing records.
 
 ghost use Rattle.std.specs.Prelude.{◌≡◌, ◌<◌, ◌-◌, ◌^◌, ◌++◌, ◌∷◌, [], codes, decimal, IfOk, IfErr};
 ghost use Rattle.std.specs.String.{string_bytes};
@@ -6,26 +6,27 @@ ghost use Rattle.devices.specs.Devices.{CanFail, CountsBy, WritesPrefix};
 ghost use Rattle.captures.specs.Reference.{first_line, piece_line, record_text};
 ghost use Rattle.captures.specs.Passes.{writer_failures, IsWriteOrMemory};
 ghost use Rattle.captures.specs.Writing.{line_of, rest_of};
-ghost use Rattle.captures.specs.declared.version.Version.TheVariants.{Two};
 
-use crate::{PassFault, Record};
+use crate::{PassFault, Record, Version};
 use devices::Output;
 use std::alloc::{AllocError, Global};
 use std::io::Write;
 
-/// Writes the first line of a capture of version 2.
+/// Writes the first line of a text in this format.
 pub(crate) fn write_first_line<W: Write>(
     alloc: Global,
     output: &mut Output<W>,
+    version: Version,
     start: u64,
 ) -> Result<(), PassFault>
     requires { CanFail output.old }
     ensures prefix { WritesPrefix
-        output.old.bytes output.new.bytes result (first_line Two start ++ 10 ∷ []) }
+        output.old.bytes output.new.bytes result (first_line version start ++ 10 ∷ []) }
     ensures count { CountsBy writer_failures output.old.failures output.new.failures result }
     ensures own { IfErr result IsWriteOrMemory }
 {
-    let line = format!(in alloc; "haboob-capture 2 {start}\n")?;
+    let opening = version.row().opening;
+    let line = format!(in alloc; "{opening}{start}\n")?;
     output.write_all(line.as_bytes())?;
     Ok(())
 }

@@ -4,6 +4,7 @@ ghost use Rattle.std.specs.Prelude.{◌≡◌, ◌≤◌, ◌<◌, ◌-◌, ◌^
 ghost use Rattle.captures.specs.Captures.{Follows, past_of};
 ghost use Rattle.captures.specs.CaptureFaults.{allowed, open_connection, tier_record};
 ghost use Rattle.captures.specs.Readers.{seen, after};
+ghost use Rattle.captures.specs.declared.version.Version.{Version as AVersion};
 
 use crate::connection_set::ConnectionSet;
 use crate::heading::TierLine;
@@ -21,16 +22,16 @@ pub struct SoFar {
     pub count: usize,
     /// The last tick, in microseconds.
     pub tick: u64,
-    /// Which connections have ended.
+    /// Which numbers have ended for good.
     pub ended: ConnectionSet,
-    /// Which connections had a piece or a tier.
+    /// Which numbers name a connection that had a piece or a tier.
     pub used: ConnectionSet,
 }
 
 impl SoFar {
     /// Before the first record.
     pub(crate) fn new() -> SoFar
-        ensures { seen result ≡ past_of [] }
+        ensures { (v : AVersion) → seen result ≡ past_of v [] }
     {
         SoFar {
             count: 0,
@@ -45,7 +46,7 @@ impl SoFar {
         ensures open { result ≡ open_connection version (seen self.now) conn }
         ensures same { IfOk result (λ c. c ≡ conn) }
     {
-        if conn > version.last_connection() {
+        if conn > version.row().last_connection {
             return Err(CaptureFaultKind::Connection);
         }
         let conn = conn as u16;
@@ -90,8 +91,8 @@ impl SoFar {
     }
 
     /// Takes one more record into account.
-    pub(crate) fn add(&mut self, next: &Record)
-        ensures { self.old.count < 2 ^ 64 - 1 → seen self.new ≡ after (seen self.old) next.now }
+    pub(crate) fn add(&mut self, version: Version, next: &Record)
+        ensures { self.old.count < 2 ^ 64 - 1 → seen self.new ≡ after version (seen self.old) next.now }
     {
         self.count = self.count.saturating_add(1);
         match next {
@@ -101,7 +102,10 @@ impl SoFar {
             }
             Record::End { tick, conn } => {
                 self.tick = *tick;
-                self.ended.insert(*conn);
+                self.used.remove(*conn);
+                if !version.used_again() {
+                    self.ended.insert(*conn);
+                }
             }
             Record::Tier { conn, .. } => self.used.insert(*conn),
         }

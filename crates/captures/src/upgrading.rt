@@ -1,4 +1,4 @@
-//! A capture of either version becomes one of version 2.
+//! A text becomes one of a later format.
 
 ghost use Rattle.std.specs.Prelude.{◌<◌, ◌-◌, ◌^◌, OnOk, IfErr};
 ghost use Rattle.devices.specs.Devices.{CanFail, CountsBy};
@@ -6,13 +6,13 @@ ghost use Rattle.captures.specs.Upgrades.{Upgrades, Leaves};
 ghost use Rattle.captures.specs.Passes.{reader_failures, writer_failures};
 
 use crate::record_writer::{write_first_line, write_last_line, write_record};
-use crate::{CaptureFaultKind, CaptureReader, PassFault};
+use crate::{CaptureReader, PassFault, Version};
 use devices::{Input, Output};
 use std::alloc::Global;
 use std::io::{Read, Write};
 
-/// Writes a capture of either version as one of version 2, with the same start and the same records: it reads a record,
-/// writes it, and goes on. The last line is written after the end of the input was met.
+/// Writes a text in the later of its format and the one asked for, with the same start and the same records: it reads a
+/// record, writes it, and goes on. The last line is written after the end of the input was met.
 ///
 /// # Errors
 ///
@@ -23,13 +23,14 @@ pub fn upgrade<R: Read, W: Write>(
     alloc: Global,
     reader: &mut Input<R>,
     writer: &mut Output<W>,
+    to: Version,
 ) -> Result<(), PassFault>
     requires reading { CanFail reader.old }
     requires writing { CanFail writer.old }
-    ensures ok { OnOk result (Upgrades reader.old.bytes writer.old.bytes writer.new.bytes) }
+    ensures ok { OnOk result (Upgrades to reader.old.bytes writer.old.bytes writer.new.bytes) }
     // After a capture's fault, the first line and the whole records before it stand; else a prefix of what was due.
     ensures fault { IfErr result
-        (Leaves reader.old.bytes reader.new.bytes writer.old.bytes writer.new.bytes) }
+        (Leaves to reader.old.bytes reader.new.bytes writer.old.bytes writer.new.bytes) }
     // A device is blamed only where it failed in this call.
     ensures reads { CountsBy reader_failures reader.old.failures reader.new.failures result }
     ensures writes { CountsBy writer_failures writer.old.failures writer.new.failures result }
@@ -38,7 +39,8 @@ pub fn upgrade<R: Read, W: Write>(
         Ok(capture) => capture,
         Err(fault) => return Err(PassFault::from(fault)),
     };
-    write_first_line(alloc, writer, capture.start())?;
+    let version = to.later(capture.version());
+    write_first_line(alloc, writer, version, capture.start())?;
     let mut count = 0;
     loop {
         let next = match capture.next_record(alloc) {

@@ -14,6 +14,8 @@ mod device_texts;
 #[cfg(test)]
 mod failing_writes;
 #[cfg(test)]
+mod later_upgrades;
+#[cfg(test)]
 mod names;
 #[cfg(test)]
 mod poor_devices;
@@ -27,6 +29,10 @@ mod snapshot_growths;
 mod snapshot_texts;
 #[cfg(test)]
 mod tiers;
+#[cfg(test)]
+mod traffic;
+#[cfg(test)]
+mod traffic_faults;
 #[cfg(test)]
 mod upgrades;
 #[cfg(test)]

@@ -1,7 +1,7 @@
 //! Captures upgraded to version 2.
 use crate::capture_inputs::fault;
 use crate::writing::ALL;
-use captures::{CaptureFaultKind as Kind, UpgradeFault, upgrade};
+use captures::{CaptureFaultKind as Kind, UpgradeFault, Version, upgrade};
 use devices::{Input, Output};
 use std::alloc::Global;
 use test_support::{Flaky, NEWER, OLDER, Slow};
@@ -10,23 +10,24 @@ static TIERS: &str =
     "haboob-capture 2 4102444800\nend 7 0\ntier 65535 3\npiece 1000000000000000 65535 7\nstop 0\n\nstop 3\n";
 
 /// What an upgrade between devices in memory came to, how often the reader and the writer failed, and what was written.
-fn run(
+pub fn run(
     alloc: Global,
     text: &[u8],
+    to: Version,
     reads: usize,
     writes: usize,
 ) -> (Result<(), UpgradeFault>, (u64, u64), Vec<u8>) {
     let mut taken = Vec::new(alloc);
     let mut reader = Input::new(Flaky::new(text, 5, reads));
     let mut writer = Output::new(Slow::new(&mut taken, 7, writes));
-    let result = upgrade(alloc, &mut reader, &mut writer);
+    let result = upgrade(alloc, &mut reader, &mut writer, to);
     let failures = (reader.failures(), writer.failures());
     (result, failures, taken)
 }
 
 #[test]
 fn version_one_becomes_two(rt: HostRuntime) {
-    let (result, failures, taken) = run(rt.alloc(), OLDER.as_bytes(), ALL, ALL);
+    let (result, failures, taken) = run(rt.alloc(), OLDER.as_bytes(), Version::Two, ALL, ALL);
     assert_eq!(rt; result, Ok(()));
     assert_eq!(rt; failures, (0, 0));
     assert_eq!(rt; taken.as_slice(), NEWER.as_bytes());
@@ -36,7 +37,7 @@ fn version_one_becomes_two(rt: HostRuntime) {
 #[test]
 fn version_two_stays(rt: HostRuntime) {
     for text in [NEWER, TIERS, "haboob-capture 2 0\nstop 0\n"] {
-        let (result, _, taken) = run(rt.alloc(), text.as_bytes(), ALL, ALL);
+        let (result, _, taken) = run(rt.alloc(), text.as_bytes(), Version::Two, ALL, ALL);
         assert_eq!(rt; result, Ok(()));
         assert_eq!(rt; taken.as_slice(), text.as_bytes());
     }
@@ -80,7 +81,7 @@ fn faults_of_upgrades(rt: HostRuntime) {
         ),
     ];
     for (text, at, kind, want) in table {
-        let (result, failures, taken) = run(rt.alloc(), text, ALL, ALL);
+        let (result, failures, taken) = run(rt.alloc(), text, Version::Two, ALL, ALL);
         match result {
             Err(UpgradeFault::Capture(found)) => assert_eq!(rt; Some(found), fault(at, kind)),
             _ => assert!(rt; false, "another answer"),
@@ -110,7 +111,7 @@ fn upgrades_cut_anywhere(rt: HostRuntime) {
     assert_eq!(rt; text.len(), 88);
     for end in 0..text.len() {
         let (at, len) = whole_before(end);
-        let (result, _, taken) = run(rt.alloc(), &text[..end], ALL, ALL);
+        let (result, _, taken) = run(rt.alloc(), &text[..end], Version::Two, ALL, ALL);
         match result {
             Err(UpgradeFault::Capture(found)) => assert_eq!(rt; Some(found), fault(at, Kind::Cut)),
             _ => assert!(rt; false, "another answer"),
@@ -124,7 +125,7 @@ fn upgrades_cut_anywhere(rt: HostRuntime) {
 #[test]
 fn reads_failing(rt: HostRuntime) {
     for good in 0..1000 {
-        let (result, failures, taken) = run(rt.alloc(), OLDER.as_bytes(), good, ALL);
+        let (result, failures, taken) = run(rt.alloc(), OLDER.as_bytes(), Version::Two, good, ALL);
         if result == Ok(()) {
             assert_eq!(rt; failures, (0, 0));
             assert_eq!(rt; taken.as_slice(), NEWER.as_bytes());
@@ -149,7 +150,7 @@ fn reads_failing(rt: HostRuntime) {
 fn writes_failing(rt: HostRuntime) {
     let mut last = 0;
     for good in 0..1000 {
-        let (result, failures, taken) = run(rt.alloc(), OLDER.as_bytes(), ALL, good);
+        let (result, failures, taken) = run(rt.alloc(), OLDER.as_bytes(), Version::Two, ALL, good);
         if result == Ok(()) {
             assert_eq!(rt; failures, (0, 0));
             assert!(rt; last > 73);
@@ -169,7 +170,7 @@ fn growths_of_upgrades_refused(rt: HostRuntime) {
     let mut taken = [0u8; 200];
     let mut reader = Input::new(OLDER.as_bytes());
     let mut writer = Output::new(taken.as_mut_slice());
-    let whole = match upgrade(rt.alloc(), &mut reader, &mut writer) {
+    let whole = match upgrade(rt.alloc(), &mut reader, &mut writer, Version::Two) {
         Ok(()) => true,
         Err(fault) => {
             assert_eq!(rt; fault, UpgradeFault::Memory);

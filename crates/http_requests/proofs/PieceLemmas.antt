@@ -23,7 +23,7 @@ piece_step (p ∷ ps) (suc i) d h = let e : suc i + 1 ≡ suc (i + 1) = omega ar
     rw (e, append_assoc p.now (joined (take i (map (λ piece. piece.now) ps))) (get_or ps i d).now) (ap (λ t. p.now ++ t) (piece_step ps i d (omega (arith, h))))
 
 pub piece_room : (ps : List (Bor (List ℕ))) (i read : ℕ) (d : Bor (List ℕ)) → i < length ps → read ≡ length (joined (take i (map (λ piece. piece.now) ps)))
-    → length (joined (map (λ piece. piece.now) ps)) ≤ 1_073_741_824 → read + length (get_or ps i d).now ≤ 1_073_741_824
+    → length (joined (map (λ piece. piece.now) ps)) ≤ 1_125_899_906_842_624 → read + length (get_or ps i d).now ≤ 1_125_899_906_842_624
 piece_room ps i read d h e room =
     let s = ap length (piece_step ps i d h) in
     let a = length-append (joined (take i (map (λ piece. piece.now) ps))) (get_or ps i d).now in

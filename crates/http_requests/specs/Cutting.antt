@@ -140,7 +140,7 @@ joined [] = []
 joined (piece ∷ pieces) = piece ++ joined pieces
 
 abbrev pub max_text_bytes : ℕ
-max_text_bytes = 1073741824
+max_text_bytes = 1125899906842624
 
 -- without the allocator, and with the bytes that are held as a list
 abbrev pub progress : State → Progress

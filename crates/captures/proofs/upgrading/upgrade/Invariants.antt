@@ -1,6 +1,6 @@
 use Rattle.std.proofs.Common.{◌≡◌, List, length}
 use Rattle.std.specs.Io.KnownBytes.{Appends}
-use Rattle.captures.specs.declared.version.Version.TheVariants.{Two}
+use Rattle.captures.specs.Upgrades.{later}
 use Rattle.captures.specs.declared.record.Record.{Record}
 use Rattle.captures.specs.Reference.{text_before_stop}
 use Rattle.captures.specs.Readers.{ReaderAfter}
@@ -10,7 +10,7 @@ use Rattle.captures.proofs.upgrading.upgrade.Given as goal
 abbrev pub invariant-loop-next : goal.invariant-loop-next
 invariant-loop-next g l =
     ((records : List Record) × ReaderAfter l.capture.progress.version l.fn.reader.bytes l.capture.progress.start records l.capture.progress l.capture.input.now.bytes
-    × Appends l.fn.writer.bytes l.writer.bytes (text_before_stop Two l.capture.progress.start records) × (l.count ≡ length records))
+    × Appends l.fn.writer.bytes l.writer.bytes (text_before_stop (later l.fn.to l.capture.progress.version) l.capture.progress.start records) × (l.count ≡ length records))
     × (l.capture.input.ghost_name ≡ l.initial.capture.input.ghost_name) × (l.capture.input.now.failures ≡ l.fn.reader.failures) × (l.writer.failures ≡ l.fn.writer.failures)
 
 abbrev pub decreases-loop-next : goal.decreases-loop-next

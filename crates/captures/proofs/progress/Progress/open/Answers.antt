@@ -1,5 +1,12 @@
+use Rattle.std.proofs.Common.{◌≡◌, ℕ, ◌-◌, arith}
 use Rattle.captures.proofs.Fitting.{fits_begins}
 use Rattle.captures.proofs.progress.Progress.open.Goals as goal
 
 pub returns-in-Ok-clause-ok : goal.returns-in-Ok-clause-ok
-returns-in-Ok-clause-ok g c = record { after = fits_begins _ _ _ _ _ _ c.new.ensures c.in-Ok.ensures.limit c.in-Ok.ensures.line; count = c.in-Ok.ensures.count }
+returns-in-Ok-clause-ok g c =
+    let less = c.saturating_sub-in-Ok.ensures in
+    let rest = c.saturating_sub.ensures in
+    record {
+      after = fits_begins _ _ _ _ _ _ _ _ c.row-most.ensures.max_text_bytes (omega (arith, less, rest)) (c.new.ensures c.in-Ok.version) c.in-Ok.ensures.limit c.in-Ok.ensures.line;
+      count = c.in-Ok.ensures.count;
+    }
