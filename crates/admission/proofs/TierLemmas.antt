@@ -13,11 +13,11 @@ use Rattle.admission.specs.declared.control.Decision.{Decision}
 use Rattle.admission.specs.declared.control.Outlook.{Outlook}
 use Rattle.admission.specs.declared.control.Decision.TheVariants.{Admitted, Rejected}
 use Rattle.admission.specs.Reference.{no_rules, rules_of, Offer, Decided, Served, of_tier, served, last_finish, finish_after, controls_until, credit, decide, decided_from, decided, tick_from}
-use Rattle.admission.specs.Decisions.{outlook}
+use Rattle.admission.specs.Decisions.{outlook, controls_in, all_controls}
 use Rattle.admission.specs.Standing.{TierStanding, Standing, policies_of, IsShare, IsSound}
 use Rattle.admission.specs.Running.{decision_after, free_after}
 use Rattle.admission.specs.After.{TierFits, ControllerAfter}
-use Rattle.admission.specs.TierCalls.{AreNew, Decides, Takes, Shows, Foresees}
+use Rattle.admission.specs.TierCalls.{AreNew, Decides, Takes, Shows, Foresees, AllShare, AllShow}
 use Rattle.admission.proofs.RequestLemmas.{decided_from-push, served-push, of_tier-same, of_tier-other, of_tier-none, tick_from-push, last_finish-push}
 use Rattle.admission.proofs.OfferLemmas.{tier_later}
 use Rattle.admission.proofs.SoundLemmas.{share_later}
@@ -284,3 +284,37 @@ foreseen_at c i tick t offers found within at fits foresees =
     let is : slice_get c.tiers i ≡ Some t = get_at c.tiers i t within at in
     rw (rules_at c i t is, ← fits.free)
     (rw (← at) at (foresees (of_tier i (decided (policies_of c) offers)) (rw (← at) (fits.tiers i t is))))
+
+-- ---- the controls of all tiers
+
+some_at : {X : Type 0} (xs : List X) (i : ℕ) → i < length xs → (x : X) × (slice_get xs i ≡ Some x)
+some_at [] i within = absurd (omega (arith, within))
+some_at (x ∷ xs) zero within = (x, refl)
+some_at (x ∷ xs) (suc i) within = some_at xs i (omega (arith, within))
+
+shown_in : (c : Standing) (offers : List Offer) (shown : List (List Control)) (i : ℕ) (controls : List Control)
+    → i < length c.tiers → ControllerAfter offers c → AllShow c.tiers c.tick shown → slice_get shown i ≡ Some controls
+    → controls ≡ controls_in (policies_of c) offers i
+shown_in c offers shown i controls within fits shows at =
+    let own = some_at c.tiers i within in
+    rw (rules_at c i own.0 own.1, ← fits.tick)
+    (shows i own.0 controls own.1 at (of_tier i (decided (policies_of c) offers)) c.free (fits.tiers i own.0 own.1))
+
+pub all_shown : (c : Standing) (offers : List Offer) (shown : List (List Control)) → length c.tiers ≡ 4
+    → length shown ≡ 4 → ControllerAfter offers c → AllShow c.tiers c.tick shown
+    → shown ≡ all_controls (policies_of c) offers
+all_shown c offers (w ∷ x ∷ y ∷ z ∷ []) four long fits shows =
+    let first = shown_in c offers (w ∷ x ∷ y ∷ z ∷ []) 0 w (omega (arith, four)) fits shows refl in
+    let second = shown_in c offers (w ∷ x ∷ y ∷ z ∷ []) 1 x (omega (arith, four)) fits shows refl in
+    let third = shown_in c offers (w ∷ x ∷ y ∷ z ∷ []) 2 y (omega (arith, four)) fits shows refl in
+    let fourth = shown_in c offers (w ∷ x ∷ y ∷ z ∷ []) 3 z (omega (arith, four)) fits shows refl in
+    rw (first, second, third, fourth) refl
+all_shown c offers [] four long fits shows = absurd (omega (arith, long))
+all_shown c offers (w ∷ []) four long fits shows = absurd (omega (arith, long))
+all_shown c offers (w ∷ x ∷ []) four long fits shows = absurd (omega (arith, long))
+all_shown c offers (w ∷ x ∷ y ∷ []) four long fits shows = absurd (omega (arith, long))
+all_shown c offers (w ∷ x ∷ y ∷ z ∷ v ∷ rest) four long fits shows = absurd (omega (arith, long))
+
+pub all_share : (c : Standing) → IsSound c → AllShare c.tiers c.tick
+all_share c sound i t at =
+    (c.free, share_later c.offers c.free c.tick MAX_OFFERS c.free c.tick t (sound.tiers i t at) sound.offers (omega arith) (omega arith))

@@ -30,4 +30,4 @@ MAX_SERVICE = 20000000000
 
 -- the most requests that are offered
 abbrev pub MAX_OFFERS : ℕ
-MAX_OFFERS = 1048576
+MAX_OFFERS = 536870912

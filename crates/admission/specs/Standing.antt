@@ -1,5 +1,5 @@
 -- What a contract sees of a `Controller`.
-use Rattle.std.specs.Prelude.{◌≡◌, ℕ, ◌+◌, ◌*◌, ◌≤◌, List, [], ◌∷◌, length, drop, map, Some, slice_get}
+use Rattle.std.specs.Prelude.{◌≡◌, ℕ, ◌+◌, ◌*◌, ◌<◌, ◌≤◌, List, [], ◌∷◌, length, drop, map, Some, slice_get}
 use Rattle.token_bucket.specs.Limits.{MAX_TICK, MAX_RATE}
 use Rattle.token_bucket.specs.Standing as bucket
 use Rattle.admission.specs.declared.policy.PolicyNumbers.{PolicyNumbers}
@@ -68,3 +68,11 @@ pub record IsSound (c : Standing) : Type 0 where
   pub free : c.free ≤ MAX_TICK + MAX_SERVICE * c.offers
   pub tick : c.tick ≤ MAX_TICK
   pub tiers : (i : ℕ) (t : TierStanding) → slice_get c.tiers i ≡ Some t → IsShare c.offers c.free c.tick t
+
+-- what is offered: one of the four tiers, a tick and a service within their limits
+abbrev pub IsOffer : ℕ → ℕ → ℕ → Type 0
+IsOffer tier tick service = (tier < 4) × (tick ≤ MAX_TICK) × (1 ≤ service) × (service ≤ MAX_SERVICE)
+
+-- the controller takes an offer at this tick: it is not before the last one, and there were fewer than the limit
+abbrev pub TakesOfferAt : Standing → ℕ → Type 0
+TakesOfferAt c tick = (last_tick c ≤ tick) × (c.offers < MAX_OFFERS)

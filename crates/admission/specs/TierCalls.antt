@@ -5,6 +5,7 @@ use Rattle.admission.specs.declared.control.Control.{Control}
 use Rattle.admission.specs.declared.control.Decision.{Decision}
 use Rattle.admission.specs.declared.control.Outlook.{Outlook}
 use Rattle.admission.specs.Reference.{Offer, Decided, served, controls_until, rate_at, credit}
+use Rattle.admission.specs.Limits.{MAX_OFFERS}
 use Rattle.admission.specs.Standing.{TierStanding, RiseWithin, IsShare}
 use Rattle.admission.specs.Running.{decision_after, free_after}
 use Rattle.admission.specs.After.{BucketFits, TierFits}
@@ -46,3 +47,12 @@ Shows t tick shown = (past : List Decided) (free : ℕ) → TierFits past free t
 abbrev pub Foresees : TierStanding → ℕ → ℕ → Outlook → Type 0
 Foresees t free tick found = (past : List Decided) → TierFits past free t → found
     ≡ record { credit = credit t.rules past tick; rate = rate_at t.rules (served past) tick; free = free }
+
+-- tiers that stay beside one another up to this tick
+abbrev pub AllShare : List TierStanding → ℕ → Type 0
+AllShare tiers tick = (i : ℕ) (t : TierStanding) → slice_get tiers i ≡ Some t → (free : ℕ) × IsShare MAX_OFFERS free tick t
+
+-- these lists are the controls of these tiers up to this tick
+abbrev pub AllShow : List TierStanding → ℕ → List (List Control) → Type 0
+AllShow tiers tick shown = (i : ℕ) (t : TierStanding) (controls : List Control)
+    → slice_get tiers i ≡ Some t → slice_get shown i ≡ Some controls → Shows t tick controls

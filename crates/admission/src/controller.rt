@@ -2,12 +2,11 @@
 
 ghost use Rattle.std.specs.Prelude.{◌≡◌, ◌+◌, ◌*◌, ◌<◌, ◌≤◌, ◌++◌, [], ◌∷◌, ℕ, List, length, map, IfOk, OnOk, OnErr};
 ghost use Rattle.std.specs.Prelude.{count_by};
-ghost use Rattle.admission.specs.Reference.{rules_of, Offer, of_tier, served, is_rejected, controls_until, decide};
-ghost use Rattle.admission.specs.Reference.{decided, tick_from};
-ghost use Rattle.admission.specs.Decisions.{outlook};
-ghost use Rattle.admission.specs.Standing.{last_tick, policies_of};
+ghost use Rattle.admission.specs.Reference.{Offer, of_tier, served, is_rejected, decide, decided};
+ghost use Rattle.admission.specs.Decisions.{outlook, controls_in, all_controls};
+ghost use Rattle.admission.specs.Standing.{last_tick, policies_of, IsOffer, TakesOfferAt};
 ghost use Rattle.admission.specs.After.{ControllerAfter};
-ghost use Rattle.admission.specs.TierCalls.{AreNew};
+ghost use Rattle.admission.specs.TierCalls.{AreNew, AllShare, AllShow};
 ghost use Rattle.admission.specs.Running.{free_after};
 
 use crate::tier::Tier;
@@ -62,6 +61,22 @@ fn tiers_of(alloc: Global, policies: &[Policy]) -> Result<[Tier; 4], AllocError>
     ])
 }
 
+/// The controls of four tiers up to this tick, without a copy.
+fn controls_of(tiers: [Tier; 4], tick: u64) -> [Vec<Control>; 4]
+    requires tiers { AllShare tiers tick }
+    requires tick { tick ≤ MAX_TICK }
+    ensures four { length result ≡ 4 }
+    ensures shown { AllShow tiers tick (map (λ v. v.items) result) }
+{
+    let [zero, one, two, three] = tiers;
+    [
+        zero.into_controls_until(tick),
+        one.into_controls_until(tick),
+        two.into_controls_until(tick),
+        three.into_controls_until(tick),
+    ]
+}
+
 impl Controller {
     /// A controller that was offered nothing yet, with the policies of the tiers 0 to 3.
     pub fn new(alloc: Global, policies: [Policy; 4]) -> Result<Self, AllocError>
@@ -81,10 +96,8 @@ impl Controller {
 
     /// Offers a request of a tier (0 to 3) that comes at `tick` and takes `service` ticks.
     pub fn offer(&mut self, tier: u8, tick: u64, service: u64) -> Result<Decision, AllocError>
-        requires tier { tier < 4 }
-        requires forward { (last_tick self.old ≤ tick) × (tick ≤ MAX_TICK) }
-        requires service { (1 ≤ service) × (service ≤ MAX_SERVICE) }
-        requires room { self.old.offers < MAX_OFFERS }
+        requires offer { IsOffer tier tick service }
+        requires room { TakesOfferAt self.old tick }
 
         // The decision is that of the definitions for the offers of all tiers so far followed by this one.
         ensures decision { IfOk result
@@ -145,9 +158,17 @@ impl Controller {
     pub fn controls(&self, tier: u8) -> &[Control]
         requires { tier < 4 }
         ensures { (offers : List Offer) → ControllerAfter offers self.now
-            → result.now ≡ controls_until (rules_of (policies_of self.now) tier)
-            (served (of_tier tier (decided (policies_of self.now) offers))) (tick_from 0 offers) }
+            → result.now ≡ controls_in (policies_of self.now) offers tier }
     {
         self.tiers[usize::from(tier)].controls_until(self.tick)
+    }
+
+    /// The controls of each tier, as [`Controller::controls`] shows them, without a copy.
+    pub fn into_controls(self) -> [Vec<Control>; 4]
+        ensures { (offers : List Offer) → ControllerAfter offers self
+            → map (λ v. v.items) result ≡ all_controls (policies_of self) offers }
+    {
+        let tick = self.tick;
+        controls_of(self.tiers, tick)
     }
 }

@@ -41,4 +41,8 @@ pub const MAX_TARGET: u64 = 1_000_000_000_000;
 pub const MAX_SERVICE: u64 = 20_000_000_000;
 
 /// The most offers that a controller takes.
-pub const MAX_OFFERS: u64 = 1_048_576;
+pub const MAX_OFFERS: u64 = 536_870_912;
+
+// The tick at which the server is free fits into 64 bits after all of these and one more, each of the longest service:
+// 10^15 + 2 * 10^10 * (2^29 + 1) is less than 2^64.
+const _: () = prove!(MAX_SERVICE <= (u64::MAX - MAX_TICK) / (MAX_OFFERS + 1));

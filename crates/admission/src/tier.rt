@@ -229,6 +229,7 @@ impl Tier {
             self.reject(bucket, reached);
             return Ok(Decision::Rejected);
         }
+        // at most MAX_TICK + MAX_SERVICE * (MAX_OFFERS + 1), which is less than 2^64
         let finish = free.max(tick) + service;
         self.admit(bucket, reached, finish, finish - tick)?;
         Ok(Decision::Admitted { finish })
@@ -242,6 +243,18 @@ impl Tier {
     {
         let (_, reached) = self.bucket_at(tick);
         &self.controls[..reached]
+    }
+
+    /// The same, without a copy and without the rest of the tier.
+    pub(crate) fn into_controls_until(self, tick: u64) -> Vec<Control>
+        requires share { (free : ℕ) × IsShare MAX_OFFERS free tick self }
+        requires tick { tick ≤ MAX_TICK }
+        ensures { Shows self tick result.items }
+    {
+        let (_, reached) = self.bucket_at(tick);
+        let mut controls = self.controls;
+        controls.truncate(reached);
+        controls
     }
 
     /// What a request of this tier finds that comes at `tick`, where the server is free from `free` on.

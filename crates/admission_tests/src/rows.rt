@@ -198,14 +198,15 @@ fn a_window_longer_than_a_control_apart(rt: HostRuntime) -> Result<(), Fail> {
     Ok(())
 }
 
-// Each second brings one token and two offers, so that the first of them takes it.
+// Each second brings one token and two offers, so that the first of them takes it: more offers
+// than 2^20, and a full window of the greatest size.
 #[test]
 fn many_offers(rt: HostRuntime) -> Result<(), Fail> {
-    let policy = Policy::new(1000, 100, 700, 1000, 1000, 1000, 2000, 120, 100_000, 90, 1).expect(
+    let policy = Policy::new(4096, 100, 700, 1000, 1000, 1000, 2000, 120, 100_000, 90, 1).expect(
         &rt, "a policy",
     );
     let mut controller = Controller::new(rt.alloc(), [policy; 4])?;
-    for j in 0..2400u64 {
+    for j in 0..1_100_000u64 {
         let wanted = if j % 2 == 0 {
             Decision::Admitted {
                 finish: 500_000 * j + 201,
@@ -215,10 +216,10 @@ fn many_offers(rt: HostRuntime) -> Result<(), Fail> {
         };
         assert_eq!(rt; controller.offer(0, 500_000 * j, 201)?, wanted);
     }
-    assert_eq!(rt; controller.controls(0).len(), 12);
+    assert_eq!(rt; controller.controls(0).len(), 5500);
     assert_eq!(rt;
         controller.controls(0).last().map(|control| control.instant),
-        Some(1_199_000_201)
+        Some(549_999_000_201)
     );
     Ok(())
 }
@@ -278,6 +279,14 @@ fn controls_are_shown_up_to_the_last_offer_of_any_tier(rt: HostRuntime) -> Resul
     assert_eq!(rt; controller.controls(2), lowered.as_slice());
     assert!(rt; controller.controls(1).is_empty());
     assert!(rt; controller.controls(3).is_empty());
+    let controls = controller.into_controls();
+    assert_eq!(rt;
+        controls[0].as_slice(),
+        [control(5100, 100, 30, 1010)].as_slice()
+    );
+    assert!(rt; controls[1].is_empty());
+    assert_eq!(rt; controls[2].as_slice(), lowered.as_slice());
+    assert!(rt; controls[3].is_empty());
     Ok(())
 }
 
@@ -332,4 +341,39 @@ fn the_first_fault_of_a_policy_is_named(rt: HostRuntime) {
     );
     assert_eq!(rt; fault(4096, 4096, 999, 50, 1, 0), Some(PolicyFault::Depth));
     assert_eq!(rt; fault(1, 1, 0, 50, 1, 1), None);
+}
+
+#[test]
+fn the_text_of_each_fault_of_a_policy(rt: HostRuntime) -> Result<(), Fail> {
+    let texts = [
+        (
+            PolicyFault::Window,
+            "the window is not within 1 to 4096 samples",
+        ),
+        (
+            PolicyFault::Every,
+            "a control is not made at each 1 to 4096 requests",
+        ),
+        (
+            PolicyFault::Smoothing,
+            "the smoothing is above 999 thousandths",
+        ),
+        (
+            PolicyFault::Rates,
+            "the rates or their steps are outside their ranges",
+        ),
+        (
+            PolicyFault::Target,
+            "the target or its low mark is outside its range",
+        ),
+        (
+            PolicyFault::Depth,
+            "the depth is not within 1 to 1000000 tokens",
+        ),
+    ];
+    for (fault, text) in texts {
+        let shown = format!(in rt.alloc(); "{fault}")?;
+        assert_eq!(rt; shown.as_str(), text);
+    }
+    Ok(())
 }

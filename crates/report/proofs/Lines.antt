@@ -1,30 +1,77 @@
 -- One line more.
-use Rattle.std.proofs.Common.{◌≡◌, ℕ, ◌+◌, ◌<◌, List, [], ◌∷◌, ◌++◌, length, take, sym, ap, ◌∙◌, refl, min, take_all, arith, rules}
+use Rattle.std.proofs.Common.{◌≡◌, ℕ, zero, suc, ◌+◌, ◌-◌, ◌<◌, List, [], ◌∷◌, ◌++◌, length, take, drop, sym, ap, ◌∙◌, refl, min, take_all, arith, rules}
+use Rattle.std.proofs.Common.{Bool, true, false, if◌then◌else◌}
 use Rattle.std.specs.List.{flat_map, zip}
 use Rattle.std.proofs.lemmas.Slice.Zip.{length-zip, get_or-zip}
-use Rattle.std.proofs.lemmas.List.{append_assoc, append-nil, flat_map_more, take_more}
+use Rattle.std.proofs.lemmas.List.{append-nil, flat_map_more, take_more, length-drop}
 use lib.ListN.{get_or}
-use Rattle.report.specs.Reports.{status_line, numbered_from}
+use Rattle.admission.specs.declared.control.Control.{Control}
+use Rattle.captures.specs.declared.version.Version.{Version}
+use Rattle.captures.specs.Reference.{format_of}
+use Rattle.report.specs.Reports.{status_line, numbered_from, numbered_lines, keep_last, listed, left_out}
 
-pub numbered-none : {X : Type 0} (k : ℕ) (lines_of : ℕ → X → List ℕ) (start : List ℕ) → start ≡ start ++ numbered_from k lines_of []
-unfolding numbered_from
-numbered-none k lines_of start = sym (append-nil start)
+-- ---- numbered values
 
-numbered-push : {X : Type 0} (k n : ℕ) (lines_of : ℕ → X → List ℕ) (xs : List X) (x : X) → n ≡ k + length xs → numbered_from k lines_of (xs ++ x ∷ []) ≡ numbered_from k lines_of xs ++ lines_of n x
+numbered-push : {X : Type 0} (k n : ℕ) (xs : List X) (x : X) → n ≡ k + length xs
+    → numbered_from k (xs ++ x ∷ []) ≡ numbered_from k xs ++ (n, x) ∷ []
 unfolding numbered_from
-numbered-push k n lines_of [] x h =
+numbered-push k n [] x h =
     let e : n ≡ k = omega (arith, h) in
-    rw e (append-nil (lines_of k x))
-numbered-push k n lines_of (y ∷ ys) x h =
+    rw e refl
+numbered-push k n (y ∷ ys) x h =
     let e : n ≡ k + 1 + length ys = omega (arith, h) in
-    rw (numbered-push (k + 1) n lines_of ys x e) (sym (append_assoc (lines_of k y) (numbered_from (k + 1) lines_of ys) (lines_of n x)))
+    ap (λ rest. (k, y) ∷ rest) (numbered-push (k + 1) n ys x e)
 
--- one value more of those that are numbered from 1
-pub numbered-more : {X : Type 0} (lines_of : ℕ → X → List ℕ) (start s s' : List ℕ) (xs : List X) (i : ℕ) (d : X) → i < length xs → s ≡ start ++ numbered_from 1 lines_of (take i xs) → s' ≡ s ++ lines_of (i + 1) (get_or xs i d) → s' ≡ start ++ numbered_from 1 lines_of (take (i + 1) xs)
-numbered-more lines_of start s s' xs i d h before now =
+numbered-length : {X : Type 0} (k : ℕ) (xs : List X) → length (numbered_from k xs) ≡ length xs
+unfolding numbered_from
+numbered-length k [] = refl
+numbered-length k (x ∷ xs) = ap suc (numbered-length (k + 1) xs)
+
+numbered-drop : {X : Type 0} (k n : ℕ) (xs : List X) → drop n (numbered_from k xs) ≡ numbered_from (k + n) (drop n xs)
+unfolding numbered_from
+numbered-drop k zero xs =
+    let e : k + 0 ≡ k = omega arith in
+    rw e refl
+numbered-drop k (suc n) [] = refl
+numbered-drop k (suc n) (x ∷ xs) =
+    let e : k + suc n ≡ k + 1 + n = omega arith in
+    rw e (numbered-drop (k + 1) n xs)
+
+pub numbered-none : {X : Type 0} (lines_of : ℕ → X → List ℕ) (k : ℕ) (start : List ℕ)
+    → start ≡ start ++ flat_map (numbered_lines lines_of) (numbered_from k [])
+unfolding numbered_from
+numbered-none lines_of k start = sym (append-nil start)
+
+-- one value more of those that are numbered from k
+pub numbered-more : {X : Type 0} (lines_of : ℕ → X → List ℕ) (k n : ℕ) (start s s' : List ℕ) (xs : List X) (i : ℕ)
+    (d : X) → i < length xs → n ≡ k + i → s ≡ start ++ flat_map (numbered_lines lines_of) (numbered_from k (take i xs))
+    → s' ≡ s ++ lines_of n (get_or xs i d)
+    → s' ≡ start ++ flat_map (numbered_lines lines_of) (numbered_from k (take (i + 1) xs))
+numbered-more lines_of k n start s s' xs i d h number before now =
     let x = get_or xs i d in
-    let e : i + 1 ≡ 1 + length (take i xs) = search (rules, h) in
-    rw (now, before, take_more xs i d h, numbered-push 1 (i + 1) lines_of (take i xs) x e) (append_assoc start (numbered_from 1 lines_of (take i xs)) (lines_of (i + 1) x))
+    let e : n ≡ k + length (take i xs) = search (rules, h, number) in
+    rw (now, before, take_more xs i d h, numbered-push k n (take i xs) x e)
+    (flat_map_more (numbered_lines lines_of) start (numbered_from k (take i xs)) (n, x))
+
+-- ---- the controls that are listed
+
+listed-by : (again : Bool) (controls : List Control)
+    → (if again then keep_last 1000 (numbered_from 1 controls) else numbered_from 1 controls)
+    ≡ numbered_from ((if again then length controls - 1000 else 0) + 1)
+    (drop (if again then length controls - 1000 else 0) controls)
+listed-by false controls = refl
+listed-by true controls =
+    let m = length controls - 1000 in
+    let e : 1 + m ≡ m + 1 = omega arith in
+    rw (numbered-length 1 controls, ← e) (numbered-drop 1 m controls)
+
+pub listed-is : (version : Version) (controls : List Control) → listed version controls
+    ≡ numbered_from (left_out version (length controls) + 1) (drop (left_out version (length controls)) controls)
+listed-is version controls = listed-by (format_of version).used_again controls
+
+-- what stands from an index on
+pub rest-is : {X : Type 0} (n : ℕ) (xs : List X) → take (length xs - n) (drop n xs) ≡ drop n xs
+rest-is n xs = take_all (length xs - n) (drop n xs) (omega (arith, length-drop n xs))
 
 -- the line of a status and its count
 abbrev pub line_of : ℕ × ℕ → List ℕ

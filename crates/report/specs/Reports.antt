@@ -1,6 +1,8 @@
 -- The text of a report (docs/FORMATS.md, "Report").
 use Rattle.std.specs.Prelude.{ℕ, ◌+◌, ◌-◌, ◌*◌, ◌/◌, List, [], ◌∷◌, ◌++◌, length, Option, Some, None, codes, decimal}
-use Rattle.std.specs.Prelude.{flat_map, slice_get, zip, Bool, nat_lt, if◌then◌else◌}
+use Rattle.std.specs.Prelude.{flat_map, drop, slice_get, zip, Bool, nat_lt, if◌then◌else◌}
+use Rattle.captures.specs.declared.version.Version.{Version}
+use Rattle.captures.specs.Reference.{format_of}
 use Rattle.admission.specs.Reference.{sorted}
 use Rattle.admission.specs.declared.control.Control.{Control}
 use Rattle.responses.specs.Reference.{statuses}
@@ -65,14 +67,33 @@ control_line k control =
     ++ codes " " ++ decimal control.rate
     ++ codes "\n"
 
--- the lines of values that are numbered from k
-unfoldable pub numbered_from : {X : Type 0} → ℕ → (ℕ → X → List ℕ) → List X → List ℕ
-numbered_from k lines_of [] = []
-numbered_from k lines_of (x ∷ xs) = lines_of k x ++ numbered_from (k + 1) lines_of xs
+-- values that are numbered from k
+unfoldable pub numbered_from : {X : Type 0} → ℕ → List X → List (ℕ × X)
+numbered_from k [] = []
+numbered_from k (x ∷ xs) = (k, x) ∷ numbered_from (k + 1) xs
 
--- a line for each control of a tier: they are numbered from 1
-abbrev pub control_lines : List Control → List ℕ
-control_lines controls = numbered_from 1 control_line controls
+-- the lines of a numbered value
+abbrev pub numbered_lines : {X : Type 0} → (ℕ → X → List ℕ) → ℕ × X → List ℕ
+numbered_lines lines_of entry = lines_of entry.0 entry.1
+
+-- the last n of these, or all where there are fewer
+abbrev pub keep_last : {X : Type 0} → ℕ → List X → List X
+keep_last n xs = drop (length xs - n) xs
+
+-- The controls of a tier that a report lists, each with its number, counted from 1: all of a capture's, and the last
+-- thousand of a text of traffic, which may have millions.
+abbrev pub listed : Version → List Control → List (ℕ × Control)
+listed version controls =
+    if (format_of version).used_again then keep_last 1000 (numbered_from 1 controls)
+    else numbered_from 1 controls
+
+-- how many of n controls stand before those
+abbrev pub left_out : Version → ℕ → ℕ
+left_out version n = if (format_of version).used_again then n - 1000 else 0
+
+-- a line for each control that is listed
+abbrev pub control_lines : Version → List Control → List ℕ
+control_lines version controls = flat_map (numbered_lines control_line) (listed version controls)
 
 -- a tier's number, how many of its requests were admitted and rejected, and how many controls it has
 abbrev pub tier_line : ℕ → Tally → List ℕ
@@ -88,14 +109,20 @@ abbrev pub was_offered : Tally → Bool
 was_offered tally = nat_lt 0 (tally.admitted + tally.rejected)
 
 -- the lines of a tier above 0: none where no request of it was offered
-abbrev pub tier_lines : ℕ → Tally → List ℕ
-tier_lines tier tally = if was_offered tally then tier_line tier tally ++ control_lines tally.controls else []
+abbrev pub tier_lines : Version → ℕ → Tally → List ℕ
+tier_lines version tier tally =
+    if was_offered tally then tier_line tier tally ++ control_lines version tally.controls else []
+
+-- the lines of the tiers above 0, of which the first is tier 1
+abbrev pub tiers_above_lines : Version → List Tally → List ℕ
+tiers_above_lines version tallies = flat_map (numbered_lines (tier_lines version)) (numbered_from 1 tallies)
 
 -- how many controls tier 0 has, and their lines; and then those of the tiers above it
-abbrev pub all_tier_lines : List Tally → List ℕ
-all_tier_lines [] = []
-all_tier_lines (zero ∷ above) =
-    line (codes "controls") (length zero.controls) ++ control_lines zero.controls ++ numbered_from 1 tier_lines above
+abbrev pub all_tier_lines : Version → List Tally → List ℕ
+all_tier_lines version [] = []
+all_tier_lines version (zero ∷ above) =
+    line (codes "controls") (length zero.controls) ++ control_lines version zero.controls
+    ++ tiers_above_lines version above
 
 -- a line for each request that was turned away
 abbrev pub reject_lines : List ℕ → List ℕ
@@ -108,6 +135,6 @@ report_text outcome =
     ++ total_lines outcome
     ++ status_lines outcome.summary.counts
     ++ percentile_lines outcome.summary.samples
-    ++ all_tier_lines outcome.summary.tiers
+    ++ all_tier_lines outcome.version outcome.summary.tiers
     ++ reject_lines outcome.rejected
     ++ codes "end\n"

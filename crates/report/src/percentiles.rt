@@ -1,18 +1,16 @@
 //! Percentiles by the nearest rank.
 
-ghost use Rattle.std.specs.Prelude.{◌≡◌, ◌≤◌, IfOk};
+ghost use Rattle.std.specs.Prelude.{◌≡◌, ◌≤◌};
 ghost use Rattle.admission.specs.Reference.{sorted};
 ghost use Rattle.report.specs.Reports.{percentile, rank};
 
-use std::alloc::{AllocError, Global};
-
-/// The samples from the least to the greatest.
-pub(crate) fn sorted(alloc: Global, samples: &[u64]) -> Result<Vec<u64>, AllocError>
-    ensures { IfOk result (λ ordered. ordered.items ≡ sorted samples.now) }
+/// The samples from the least to the greatest, where they lie.
+pub(crate) fn sorted(samples: Vec<u64>) -> Vec<u64>
+    ensures { result.items ≡ sorted samples.items }
 {
-    let mut ordered = Vec::from_slice(alloc, samples)?;
+    let mut ordered = samples;
     ordered.sort_unstable();
-    Ok(ordered)
+    ordered
 }
 
 /// The rank of a percentile of n samples, counted from 1: `ceil(percent * count / 100)`.

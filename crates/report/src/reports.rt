@@ -1,16 +1,21 @@
 //! The report of an outcome, line by line.
 
-ghost use Rattle.std.specs.Prelude.{◌≡◌, ◌++◌, ◌≤◌, ◌+◌, OnOk, IfOk};
+ghost use Rattle.std.specs.Prelude.{◌≡◌, ◌++◌, ◌≤◌, ◌<◌, ◌+◌, ◌^◌, OnOk, IfOk, length, flat_map};
 ghost use Rattle.std.specs.String.{string_bytes};
 ghost use Rattle.report.specs.Reports.{total_lines, status_line, status_lines, percentile_line, percentile_lines};
-ghost use Rattle.report.specs.Reports.{control_line, control_lines, tier_line, tier_lines, numbered_from};
-ghost use Rattle.report.specs.Reports.{all_tier_lines, reject_lines, report_text};
+ghost use Rattle.report.specs.Reports.{numbered_from, numbered_lines};
+ghost use Rattle.report.specs.Reports.{control_line, control_lines, left_out, tier_line, tier_lines};
+ghost use Rattle.report.specs.Reports.{tiers_above_lines, all_tier_lines, reject_lines, report_text};
 
 use crate::percentiles::{percentile, sorted};
 use admission::Control;
-use reference::{Counts, Outcome, Tally};
+use captures::Version;
+use reference::{Counts, Outcome, Summary, Tally};
 use responses::STATUS_CODES;
 use std::alloc::{AllocError, Global};
+
+/// The most controls of a tier that are listed of a text of traffic.
+const MOST_LISTED: usize = 1000;
 
 /// How many messages there were: 64 bits may not hold the sum.
 fn messages(admitted: usize, rejected: usize, bypassed: u64) -> u128
@@ -64,12 +69,12 @@ fn write_percentile(text: &mut String, percent: u8, ordered: &[u64]) -> Result<(
     }
 }
 
-/// Writes the percentiles of the samples.
-fn write_percentiles(alloc: Global, text: &mut String, samples: &[u64]) -> Result<(), AllocError>
+/// Writes the percentiles of the samples, which are sorted where they lie.
+fn write_percentiles(text: &mut String, samples: Vec<u64>) -> Result<(), AllocError>
     ensures { OnOk result
-        (string_bytes text.new ≡ string_bytes text.old ++ percentile_lines samples.now) }
+        (string_bytes text.new ≡ string_bytes text.old ++ percentile_lines samples.items) }
 {
-    let ordered = sorted(alloc, samples)?;
+    let ordered = sorted(samples);
     write_percentile(text, 50, &ordered)?;
     write_percentile(text, 90, &ordered)?;
     write_percentile(text, 99, &ordered)
@@ -87,27 +92,61 @@ fn write_control(text: &mut String, number: usize, control: Control) -> Result<(
     )
 }
 
-/// Writes the lines of a tier's controls, numbered from 1.
-fn write_controls(text: &mut String, controls: &[Control]) -> Result<(), AllocError>
-    ensures { OnOk result
-        (string_bytes text.new ≡ string_bytes text.old ++ control_lines controls.now) }
+/// How many of so many controls stand before those that are listed.
+fn left_out(version: Version, count: usize) -> usize
+    ensures { result ≡ left_out version count }
+{
+    if version.used_again() {
+        count.saturating_sub(MOST_LISTED)
+    } else {
+        0
+    }
+}
+
+/// Writes the lines of controls that stand after so many others of their tier.
+fn write_controls_after(
+    text: &mut String,
+    others: usize,
+    controls: &[Control],
+) -> Result<(), AllocError>
+    requires { others + length controls.now < 2 ^ 64 }
+    ensures { OnOk result (string_bytes text.new ≡ string_bytes text.old
+        ++ flat_map (numbered_lines control_line) (numbered_from (others + 1) controls.now)) }
 {
     for (index, control) in controls.iter().enumerate() {
-        write_control(text, index + 1, *control)?;
+        write_control(text, others + index + 1, *control)?;
     }
     Ok(())
 }
 
-/// Writes the lines of a tier above 0, if a request of it was offered.
-fn write_tier(text: &mut String, tier: usize, tally: &Tally) -> Result<(), AllocError>
+/// Writes the lines of a tier's controls that are listed, by their numbers from 1.
+fn write_controls(
+    text: &mut String,
+    version: Version,
+    controls: &[Control],
+) -> Result<(), AllocError>
     ensures { OnOk result
-        (string_bytes text.new ≡ string_bytes text.old ++ tier_lines tier tally.now) }
+        (string_bytes text.new ≡ string_bytes text.old ++ control_lines version controls.now) }
+{
+    let first = left_out(version, controls.len());
+    write_controls_after(text, first, &controls[first..])
+}
+
+/// Writes the lines of a tier above 0, if a request of it was offered.
+fn write_tier(
+    text: &mut String,
+    version: Version,
+    tier: usize,
+    tally: &Tally,
+) -> Result<(), AllocError>
+    ensures { OnOk result
+        (string_bytes text.new ≡ string_bytes text.old ++ tier_lines version tier tally.now) }
 {
     if tally.admitted == 0 && tally.rejected == 0 {
         return Ok(());
     }
     write_tier_line(text, tier, tally)?;
-    write_controls(text, tally.controls.as_slice())
+    write_controls(text, version, tally.controls.as_slice())
 }
 
 /// Writes what became of a tier's requests.
@@ -124,26 +163,30 @@ fn write_tier_line(text: &mut String, tier: usize, tally: &Tally) -> Result<(), 
 }
 
 /// Writes the lines of tiers, of which the first is tier 1.
-fn write_tiers_above(text: &mut String, tallies: &[Tally]) -> Result<(), AllocError>
+fn write_tiers_above(
+    text: &mut String,
+    version: Version,
+    tallies: &[Tally],
+) -> Result<(), AllocError>
     ensures { OnOk result
-        (string_bytes text.new ≡ string_bytes text.old ++ numbered_from 1 tier_lines tallies.now) }
+        (string_bytes text.new ≡ string_bytes text.old ++ tiers_above_lines version tallies.now) }
 {
     for (index, tally) in tallies.iter().enumerate() {
-        write_tier(text, index + 1, tally)?;
+        write_tier(text, version, index + 1, tally)?;
     }
     Ok(())
 }
 
 /// Writes the controls of tier 0, and what became of the requests of the tiers above it.
-fn write_tiers(text: &mut String, tiers: &[Tally; 4]) -> Result<(), AllocError>
+fn write_tiers(text: &mut String, version: Version, tiers: &[Tally; 4]) -> Result<(), AllocError>
     ensures { OnOk result
-        (string_bytes text.new ≡ string_bytes text.old ++ all_tier_lines tiers.now) }
+        (string_bytes text.new ≡ string_bytes text.old ++ all_tier_lines version tiers.now) }
 {
     let tiers = tiers.as_slice();
     let controls = tiers[0].controls.as_slice();
     writeln!(text, "controls {}", controls.len())?;
-    write_controls(text, controls)?;
-    write_tiers_above(text, &tiers[1..])
+    write_controls(text, version, controls)?;
+    write_tiers_above(text, version, &tiers[1..])
 }
 
 /// Writes the numbers of the requests that were turned away.
@@ -160,21 +203,33 @@ fn write_rejects(text: &mut String, rejected: &[usize]) -> Result<(), AllocError
 /// The report of a replay: how many messages there were and what became of them, how many were answered with each
 /// status, the percentiles of the admitted requests' times (in ticks of one microsecond), the changes of tier 0's rate,
 /// for each tier above it with a request that was offered what became of its requests and the changes of its rate, and
-/// the numbers of the rejected requests. docs/FORMATS.md has its format.
+/// the numbers of the rejected requests. docs/FORMATS.md has its format. The samples are sorted where they lie, and not
+/// kept a second time.
 ///
 /// # Errors
 ///
-/// There was no memory for it.
+/// There was no memory for its text.
 #[tactic(auto, unfolding(crate::specs::Reports::report_text))]
-pub fn report(alloc: Global, outcome: &Outcome) -> Result<String, AllocError>
-    ensures { IfOk result (λ text. string_bytes text ≡ report_text outcome.now) }
+pub fn report(alloc: Global, outcome: Outcome) -> Result<String, AllocError>
+    ensures { IfOk result (λ text. string_bytes text ≡ report_text outcome) }
 {
     let mut text = String::from_str(alloc, "haboob-report 1\n")?;
-    write_totals(&mut text, outcome)?;
-    write_statuses(&mut text, outcome.summary.counts)?;
-    write_percentiles(alloc, &mut text, outcome.summary.samples.as_slice())?;
-    write_tiers(&mut text, &outcome.summary.tiers)?;
-    write_rejects(&mut text, outcome.rejected.as_slice())?;
+    write_totals(&mut text, &outcome)?;
+    let Outcome {
+        version,
+        rejected,
+        summary,
+    } = outcome;
+    let Summary {
+        counts,
+        samples,
+        tiers,
+        ..
+    } = summary;
+    write_statuses(&mut text, counts)?;
+    write_percentiles(&mut text, samples.into_vec())?;
+    write_tiers(&mut text, version, &tiers)?;
+    write_rejects(&mut text, rejected.as_slice())?;
     text.push_str("end\n")?;
     Ok(text)
 }

@@ -4,34 +4,34 @@ use Rattle.admission.proofs.controller.Controller.offer.Goals as goal
 
 pub offer-requires-clause-share : goal.offer-requires-clause-share
 offer-requires-clause-share c =
-    let within : c.from.result < length c.self.inside.tiers = omega (arith, c.self.invariant.four, c.from.ensures, c.requires.tier) in (
+    let within : c.from.result < length c.self.inside.tiers = omega (arith, c.self.invariant.four, c.from.ensures, c.requires.offer.0) in (
       c.self.inside.offers,
-      rw (← c.self.view_is) at c.requires.room,
+      rw (← c.self.view_is) at c.requires.room.1,
       offered_at _ c.from.result c.args.tick c.index-self-from.result c.self.invariant within c.index-self-from.is
-          (rw (← c.self.view_is) at c.requires.forward.0),
+          (rw (← c.self.view_is) at c.requires.room.0),
     )
 
 pub invariant_of-self-2 : goal.invariant_of-self-2
 invariant_of-self-2 c =
-    let within : c.from.result < length c.self.inside.tiers = omega (arith, c.self.invariant.four, c.from.ensures, c.requires.tier) in
-    let forward = rw (← c.self.view_is) at c.requires.forward.0 in
+    let within : c.from.result < length c.self.inside.tiers = omega (arith, c.self.invariant.four, c.from.ensures, c.requires.offer.0) in
+    let forward = rw (← c.self.view_is) at c.requires.room.0 in
     rw c.free_after-self-inside.ensures
     (offer_sound _ c.from.result _ c.args.tick c.args.service c.offer.new.self c.self.invariant within
-    (rw (← c.self.view_is) at c.requires.room) c.requires.forward.1 c.requires.service.1 forward
+    (rw (← c.self.view_is) at c.requires.room.1) c.requires.offer.1 c.requires.offer.3 forward
     c.in_ok-decision.ensures.free.0 c.in_ok-decision.ensures.free.1
     (c.in_ok-decision.ensures.share c.self.inside.offers
     (offered_at _ c.from.result c.args.tick c.index-self-from.result c.self.invariant within c.index-self-from.is forward)))
 
 pub returns-clause-decision : goal.returns-clause-decision
 returns-clause-decision c offers fits =
-    let within : c.from.result < length c.self.inside.tiers = omega (arith, c.self.invariant.four, c.from.ensures, c.requires.tier) in
+    let within : c.from.result < length c.self.inside.tiers = omega (arith, c.self.invariant.four, c.from.ensures, c.requires.offer.0) in
     rw (← c.self.view_is, ← c.from.ensures)
     (offered_decision _ c.from.result c.args.tick c.args.service c.index-self-from.result offers c.in_ok-decision.decision within
     c.index-self-from.is (rw (← c.self.view_is) at fits) c.in_ok-decision.ensures.decision)
 
 pub returns-clause-fits : goal.returns-clause-fits
 returns-clause-fits c offers fits =
-    let within : c.from.result < length c.self.inside.tiers = omega (arith, c.self.invariant.four, c.from.ensures, c.requires.tier) in
+    let within : c.from.result < length c.self.inside.tiers = omega (arith, c.self.invariant.four, c.from.ensures, c.requires.offer.0) in
     rw (c.free_after-self-inside.ensures, ← c.from.ensures)
     (offered_fits _ c.from.result c.args.tick c.args.service c.index-self-from.result c.offer.new.self offers c.in_ok-decision.decision within
     c.index-self-from.is (rw (← c.self.view_is) at fits) c.in_ok-decision.ensures.decision c.in_ok-decision.ensures.fits
@@ -39,7 +39,7 @@ returns-clause-fits c offers fits =
 
 pub returns-clause-next : goal.returns-clause-next
 returns-clause-next c =
-    let within : c.from.result < length c.self.inside.tiers = omega (arith, c.self.invariant.four, c.from.ensures, c.requires.tier) in (
+    let within : c.from.result < length c.self.inside.tiers = omega (arith, c.self.invariant.four, c.from.ensures, c.requires.offer.0) in (
       refl,
       rw (← c.self.view_is) refl,
       rw (← c.self.view_is)
