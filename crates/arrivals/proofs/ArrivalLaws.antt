@@ -23,14 +23,14 @@ use Rattle.arrivals.proofs.ArrivalLaws.OnePlace.{text_past, same_arrival, preced
 -- ---- messages of a connection
 
 -- a connection's messages, where the first arrival is its own, and where it is another's
-own_first : (c : ℕ) (a : Arrival) (others : List Arrival) → a.origin.conn ≡ c → messages_of c (a ∷ others) ≡ a.message ∷ messages_of c others
-own_first c a others e = elim (eqb_tells a.origin.conn c) [
+own_first : (c : ℕ) (a : Arrival) (others : List Arrival) → a.connection ≡ c → messages_of c (a ∷ others) ≡ a.message ∷ messages_of c others
+own_first c a others e = elim (eqb_tells a.connection c) [
   | inl same ↦ rw same.0 refl
   | inr other ↦ absurd (other.1 e)
 ]
 
-other_first : (c : ℕ) (a : Arrival) (others : List Arrival) → a.origin.conn ≢ c → messages_of c (a ∷ others) ≡ messages_of c others
-other_first c a others apart = elim (eqb_tells a.origin.conn c) [
+other_first : (c : ℕ) (a : Arrival) (others : List Arrival) → a.connection ≢ c → messages_of c (a ∷ others) ≡ messages_of c others
+other_first c a others apart = elim (eqb_tells a.connection c) [
   | inl same ↦ absurd (apart same.1)
   | inr other ↦ rw other.0 refl
 ]
@@ -46,9 +46,9 @@ no_cons x xs e = let n = ap (λ l. length l) e in omega (arith, n)
 
 -- the arrival of a connection's first message
 first_of : (P : Arrival → Type 0) (c : ℕ) (xs : List Arrival) (m : Message) (ms : List Message) → All P xs → messages_of c xs ≡ m ∷ ms
-    → (a : Arrival) × P a × (a.origin.conn ≡ c) × (a.message ≡ m)
+    → (a : Arrival) × P a × (a.connection ≡ c) × (a.message ≡ m)
 first_of P c [] m ms all e = absurd (no_cons m ms e)
-first_of P c (x ∷ xs) m ms all e = elim (eqb_tells x.origin.conn c) [
+first_of P c (x ∷ xs) m ms all e = elim (eqb_tells x.connection c) [
   | inl same ↦ (x, all 0 x (omega arith), same.1, head_same x.message m _ ms (sym (own_first c x xs same.1) ∙ e))
   | inr other ↦ first_of P c xs m ms (All-tail P x xs all) (sym (other_first c x xs other.1) ∙ e)
 ]
@@ -78,24 +78,24 @@ follows all n x xs h = λ k d lt. (h.with (suc k) d (omega (arith, lt)), h.order
 
 -- where a connection's first message in a list is this arrival's, the arrival is after the list's first
 first_after : (all : List Record) (n : ℕ) (x y : Arrival) (xs : List Arrival) (ms : List Message) → Stand all n (x ∷ xs) → ArrivesWith all y
-    → messages_of y.origin.conn xs ≡ y.message ∷ ms → Precedes x y
+    → messages_of y.connection xs ≡ y.message ∷ ms → Precedes x y
 first_after all n x y xs ms h with_y e =
-    let a = first_of (λ a. ArrivesWith all a × Precedes x a) y.origin.conn xs y.message ms (follows all n x xs h) e in
+    let a = first_of (λ a. ArrivesWith all a × Precedes x a) y.connection xs y.message ms (follows all n x xs h) e in
     subst (Precedes x) (same_arrival all a.0 y a.1.0 with_y a.2 a.3) a.1.1
 
 -- an arrival with an early piece ends in the text of the early records
-early_end : (all : List Record) (n : ℕ) (a : Arrival) → ArrivesWith all a → a.place < n → a.message.end ≤ length (text_of a.origin.conn (take n all))
+early_end : (all : List Record) (n : ℕ) (a : Arrival) → ArrivesWith all a → a.place < n → a.message.end ≤ length (text_of a.connection (take n all))
 early_end all n a h lt =
-    let past = text_past a.origin.conn a.origin.tick a.place n h.bytes all h.piece lt in
+    let past = text_past a.connection a.origin.tick a.place n h.bytes all h.piece lt in
     let within = h.within in
     omega (arith, past, within)
 
 -- an early arrival of the longer list is one of the shorter, and so after the shorter's first
 comes_again : (all : List Record) (n : ℕ) (x y : Arrival) (xs : List Arrival) (ns rest : List Message) → Stand all n (x ∷ xs) → ArrivesWith all y → y.place < n
-    → IsLate (length (text_of y.origin.conn (take n all))) rest → messages_of y.origin.conn xs ++ rest ≡ y.message ∷ ns → Precedes x y
-comes_again all n x y xs ns rest h with_y early late e = go (messages_of y.origin.conn xs) rest refl late e
+    → IsLate (length (text_of y.connection (take n all))) rest → messages_of y.connection xs ++ rest ≡ y.message ∷ ns → Precedes x y
+comes_again all n x y xs ns rest h with_y early late e = go (messages_of y.connection xs) rest refl late e
   where
-    go : (ms rest : List Message) → messages_of y.origin.conn xs ≡ ms → IsLate (length (text_of y.origin.conn (take n all))) rest → ms ++ rest ≡ y.message ∷ ns → Precedes x y
+    go : (ms rest : List Message) → messages_of y.connection xs ≡ ms → IsLate (length (text_of y.connection (take n all))) rest → ms ++ rest ≡ y.message ∷ ns → Precedes x y
     go [] [] f late e = absurd (no_cons y.message ns e)
     go [] (m ∷ rest) f late e =
         let same : m.end ≡ y.message.end = ap (λ x. x.end) (head_same m y.message rest ns e) in
@@ -108,22 +108,22 @@ same_first : (all : List Record) (n k : ℕ) (x y : Arrival) (xs ys : List Arriv
 same_first all n k x y xs ys g h goes =
     let with_x = g.with 0 x (omega arith) in
     let with_y = h.with 0 y (omega arith) in
-    elim (eqb_tells x.origin.conn y.origin.conn) [
+    elim (eqb_tells x.connection y.connection) [
       | inl same ↦
-          (let own = goes x.origin.conn in
-          let mine : messages_of x.origin.conn (x ∷ xs) ≡ x.message ∷ messages_of x.origin.conn xs = own_first x.origin.conn x xs refl in
-          let its : messages_of x.origin.conn (y ∷ ys) ≡ y.message ∷ messages_of x.origin.conn ys = own_first x.origin.conn y ys (sym same.1) in
-          let e : y.message ∷ messages_of x.origin.conn ys ≡ (x.message ∷ messages_of x.origin.conn xs) ++ own.0 = sym its ∙ own.1 ∙ ap (λ ms. ms ++ own.0) mine in
+          (let own = goes x.connection in
+          let mine : messages_of x.connection (x ∷ xs) ≡ x.message ∷ messages_of x.connection xs = own_first x.connection x xs refl in
+          let its : messages_of x.connection (y ∷ ys) ≡ y.message ∷ messages_of x.connection ys = own_first x.connection y ys (sym same.1) in
+          let e : y.message ∷ messages_of x.connection ys ≡ (x.message ∷ messages_of x.connection xs) ++ own.0 = sym its ∙ own.1 ∙ ap (λ ms. ms ++ own.0) mine in
           same_arrival all x y with_x with_y same.1 (sym (head_same y.message x.message _ _ e)))
       | inr other ↦
-          (let own = goes x.origin.conn in
-          let its = goes y.origin.conn in
-          let after : Precedes y x = first_after all k y x ys (messages_of x.origin.conn xs ++ own.0) h with_x
-          (sym (other_first x.origin.conn y ys (λ e. other.1 (sym e))) ∙ own.1 ∙ ap (λ ms. ms ++ own.0) (own_first x.origin.conn x xs refl)) in
+          (let own = goes x.connection in
+          let its = goes y.connection in
+          let after : Precedes y x = first_after all k y x ys (messages_of x.connection xs ++ own.0) h with_x
+          (sym (other_first x.connection y ys (λ e. other.1 (sym e))) ∙ own.1 ∙ ap (λ ms. ms ++ own.0) (own_first x.connection x xs refl)) in
           let first : x.place < n = g.before 0 x (omega arith) in
           let le = precedes_by y x after in
-          let before : Precedes x y = comes_again all n x y xs (messages_of y.origin.conn ys) its.0 g with_y (omega (arith, first, le)) its.2
-          (sym (ap (λ ms. ms ++ its.0) (other_first y.origin.conn x xs other.1)) ∙ sym its.1 ∙ own_first y.origin.conn y ys refl) in
+          let before : Precedes x y = comes_again all n x y xs (messages_of y.connection ys) its.0 g with_y (omega (arith, first, le)) its.2
+          (sym (ap (λ ms. ms ++ its.0) (other_first y.connection x xs other.1)) ∙ sym its.1 ∙ own_first y.connection y ys refl) in
           absurd (precedes_once x y before after))
     ]
 
@@ -131,8 +131,8 @@ same_first all n k x y xs ys g h goes =
 goes_rest : (all : List Record) (n : ℕ) (x y : Arrival) (xs ys : List Arrival) → x ≡ y → Goes all n (x ∷ xs) (y ∷ ys) → Goes all n xs ys
 goes_rest all n x y xs ys same goes c =
     let h = goes c in
-    let conn : x.origin.conn ≡ y.origin.conn = ap (λ a. a.origin.conn) same in
-    elim (eqb_tells x.origin.conn c) [
+    let conn : x.connection ≡ y.connection = ap (λ a. a.connection) same in
+    elim (eqb_tells x.connection c) [
       | inl own ↦
           (h.0, tail_same y.message x.message _ _ (sym (own_first c y ys (sym conn ∙ own.1)) ∙ h.1 ∙ ap (λ ms. ms ++ h.0) (own_first c x xs own.1)), h.2)
       | inr other ↦
@@ -143,8 +143,8 @@ goes_rest all n x y xs ys same goes c =
 begins : (all : List Record) (n k : ℕ) (xs ys : List Arrival) → Stand all n xs → Stand all k ys → Goes all n xs ys → (rest : List Arrival) × (ys ≡ xs ++ rest)
 begins all n k [] ys g h goes = (ys, refl)
 begins all n k (x ∷ xs) [] g h goes =
-    let own = goes x.origin.conn in
-    absurd (no_cons x.message (messages_of x.origin.conn xs ++ own.0) (own.1 ∙ ap (λ ms. ms ++ own.0) (own_first x.origin.conn x xs refl)))
+    let own = goes x.connection in
+    absurd (no_cons x.message (messages_of x.connection xs ++ own.0) (own.1 ∙ ap (λ ms. ms ++ own.0) (own_first x.connection x xs refl)))
 begins all n k (x ∷ xs) (y ∷ ys) g h goes =
     let same = same_first all n k x y xs ys g h goes in
     let more = begins all n k xs ys (stand_rest all n x xs g) (stand_rest all k y ys h) (goes_rest all n x y xs ys same goes) in
@@ -179,11 +179,12 @@ get_first (y ∷ xs) ys (suc i) x h = get_first xs ys i x h
 -- an arrival stays with its piece whatever follows
 stays : (records more : List Record) (a : Arrival) → ArrivesWith records a → ArrivesWith (records ++ more) a
 stays records more a h =
-    let below = slice_get_within records a.place (Piece a.origin.tick a.origin.conn h.bytes) h.piece in
+    let below = slice_get_within records a.place (Piece a.origin.tick a.connection h.bytes) h.piece in
     let front : take a.place (records ++ more) ≡ take a.place records = take-append-le a.place records more (omega (arith, below)) in
     record {
       bytes = h.bytes;
-      piece = get_first records more a.place (Piece a.origin.tick a.origin.conn h.bytes) h.piece;
+      piece = get_first records more a.place (Piece a.origin.tick a.connection h.bytes) h.piece;
+      number = h.number;
       tier = rw front h.tier;
       after = rw front h.after;
       within = rw front h.within;

@@ -17,7 +17,7 @@ use Rattle.arrivals.specs.Reference.{bytes_to, text_of, Arrival, messages_of, Ar
 use Rattle.arrivals.specs.Connections.{arrivals_with}
 use Rattle.arrivals.specs.Laws.{HasMessages, ArrivalsOfMessages}
 use Rattle.arrivals.proofs.ArrivalLaws.LateMessages.{IsLate, next_shorter, messages_late}
-use Rattle.arrivals.proofs.Arriving.{from_piece, text_more, own_bytes, other_bytes, messages_more, own_messages, other_messages, arrived_stays, arrives_none, arrive_with_piece}
+use Rattle.arrivals.proofs.Arriving.{from_piece, text_more, own_bytes, arrives_none, arrives_without, each_piece, arrive_with_piece}
 
 -- ---- texts
 
@@ -84,46 +84,13 @@ more_messages text bytes ms ns h g =
 
 -- ---- records
 
--- a record that brings no bytes
-arrives_without : (records : List Record) (came : List Arrival) (r : Record) → ((c : ℕ) → bytes_to c r ≡ []) → AreArrivals records came → AreArrivals (records ++ r ∷ []) came
-arrives_without records came r none are = record {
-  each = λ c. rw (text_more c records r, none c, append-nil (text_of c records)) (are.each c);
-  with = λ k d lt. arrived_stays records r _ (are.with k d lt);
-  order = are.order;
-}
-
-each_piece : (records : List Record) (came : List Arrival) (tier tick conn : ℕ) (bytes : List ℕ) (ms : List Message) → AreArrivals records came
-    → MessagesOf (text_of conn records ++ bytes) (messages_of conn came ++ ms)
-    → (c : ℕ) → MessagesOf (text_of c (records ++ Piece tick conn bytes ∷ [])) (messages_of c (came ++ arrivals_with (length records) (from_piece tier tick conn) ms))
-each_piece records came tier tick conn bytes ms are whole c = elim (eqb_tells c conn) [
-  | inl same ↦
-      rw (
-        same.1,
-        text_more conn records (Piece tick conn bytes),
-        own_bytes tick conn bytes,
-        messages_more conn came (arrivals_with (length records) (from_piece tier tick conn) ms),
-        own_messages (length records) tier tick conn ms,
-      )
-      whole
-  | inr other ↦
-      rw (
-        text_more c records (Piece tick conn bytes),
-        other_bytes c tick conn bytes other.1,
-        append-nil (text_of c records),
-        messages_more c came (arrivals_with (length records) (from_piece tier tick conn) ms),
-        other_messages c (length records) tier tick conn ms other.1,
-        append-nil (messages_of c came),
-      )
-      (are.each c)
-]
-
 -- one more record
 arrives_one : (records : List Record) (came : List Arrival) (r : Record) → AreArrivals records came → HasMessages (records ++ r ∷ []) → (arrivals : List Arrival) × AreArrivals (records ++ r ∷ []) arrivals
 arrives_one records came (Piece tick conn bytes) are has =
     let given = has conn in
     let longer : MessagesOf (text_of conn records ++ bytes) given.0 = rw (text_more conn records (Piece tick conn bytes), own_bytes tick conn bytes) at given.1 in
     let more = more_messages (text_of conn records) bytes (messages_of conn came) given.0 (are.each conn) longer in (
-      came ++ arrivals_with (length records) (from_piece (tier_of conn records) tick conn) more.0,
+      came ++ arrivals_with (length records) conn (from_piece (tier_of conn records) tick conn) more.0,
       arrive_with_piece records came (tier_of conn records) tick conn bytes more.0 refl are more.2
           (each_piece records came (tier_of conn records) tick conn bytes more.0 are more.1),
     )

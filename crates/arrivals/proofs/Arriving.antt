@@ -5,25 +5,26 @@ use Rattle.std.specs.List.{AllPairs, filter}
 use Rattle.std.proofs.lemmas.Bool.Decides.{eqb_tells}
 use Rattle.std.proofs.lemmas.Option.{slice_get_within}
 use Rattle.std.proofs.lemmas.List.{append_assoc, append-nil, map-append, take-append-le}
-use Rattle.std.proofs.lemmas.List.Elements.{All-push, All-cons, All-append, filter-append}
+use Rattle.std.proofs.lemmas.List.Elements.{All-head, All-tail, All-push, All-cons, All-append, filter-append}
 use Rattle.std.proofs.lemmas.List.Quantifiers.{all_pairs_push}
 use Rattle.std.proofs.lemmas.Grind.{flat_map-append}
 use Rattle.std.proofs.Math.Seq.{take-append_seam}
 use Rattle.captures.specs.declared.record.Record.{Record}
 use Rattle.captures.specs.declared.record.Record.TheVariants.{Piece, End, Tier}
-use Rattle.captures.specs.Reference.{tier_of}
+use Rattle.captures.specs.Reference.{connection_of, named_by, tier_of}
 use Rattle.http_requests.specs.declared.messages.Message.{Message}
 use Rattle.http_requests.specs.Reference.{MessagesOf}
 use Rattle.http_requests.specs.Cutting.{EndBetween}
 use Rattle.http_requests.proofs.FrontLemmas.{next_within}
 use Rattle.arrivals.specs.Reference.{bytes_to, text_of, Arrival, messages_of, ArrivesWith, Precedes, AreArrivals}
-use Rattle.arrivals.specs.Connections.{HasRead, ReadMore, HaveRead, connection_at, arrivals_with}
+use Rattle.arrivals.specs.Connections.{HasRead, arrivals_with}
 use Rattle.arrivals.specs.declared.incoming.Origin.{Origin}
 use Rattle.arrivals.specs.declared.connections.Connection.{Connection}
 use Rattle.arrivals.specs.declared.connections.Connection.TheVariants.{Silent, Open, Closed}
 
+-- the origin of a piece of a connection
 abbrev pub from_piece : ℕ → ℕ → ℕ → Origin
-from_piece tier tick conn = record { conn = conn; tick = tick; tier = tier }
+from_piece tier tick c = record { conn = named_by c; tick = tick; tier = tier }
 
 -- ---- texts
 
@@ -54,20 +55,20 @@ other_bytes c tick conn bytes apart = elim (eqb_tells conn c) [
 -- ---- messages of a connection
 
 pub messages_more : (c : ℕ) (came bs : List Arrival) → messages_of c (came ++ bs) ≡ messages_of c came ++ messages_of c bs
-messages_more c came bs = ap (map (λ a. a.message)) (filter-append (λ a. a.origin.conn == c) came bs) ∙ map-append (λ a. a.message) (filter (λ a. a.origin.conn == c) came) (filter (λ a. a.origin.conn == c) bs)
+messages_more c came bs = ap (map (λ a. a.message)) (filter-append (λ a. a.connection == c) came bs) ∙ map-append (λ a. a.message) (filter (λ a. a.connection == c) came) (filter (λ a. a.connection == c) bs)
 
-pub own_messages : (place tier tick conn : ℕ) (ms : List Message) → messages_of conn (arrivals_with place (from_piece tier tick conn) ms) ≡ ms
-own_messages place tier tick conn [] = refl
-own_messages place tier tick conn (m ∷ ms) = elim (eqb_tells conn conn) [
-  | inl same ↦ rw same.0 (ap (λ l. m ∷ l) (own_messages place tier tick conn ms))
+pub own_messages : (place c : ℕ) (o : Origin) (ms : List Message) → messages_of c (arrivals_with place c o ms) ≡ ms
+own_messages place c o [] = refl
+own_messages place c o (m ∷ ms) = elim (eqb_tells c c) [
+  | inl same ↦ rw same.0 (ap (λ l. m ∷ l) (own_messages place c o ms))
   | inr other ↦ absurd (other.1 refl)
 ]
 
-pub other_messages : (c place tier tick conn : ℕ) (ms : List Message) → c ≢ conn → messages_of c (arrivals_with place (from_piece tier tick conn) ms) ≡ []
-other_messages c place tier tick conn [] apart = refl
-other_messages c place tier tick conn (m ∷ ms) apart = elim (eqb_tells conn c) [
+pub other_messages : (d place c : ℕ) (o : Origin) (ms : List Message) → d ≢ c → messages_of d (arrivals_with place c o ms) ≡ []
+other_messages d place c o [] apart = refl
+other_messages d place c o (m ∷ ms) apart = elim (eqb_tells c d) [
   | inl same ↦ absurd (apart (sym same.1))
-  | inr other ↦ rw other.0 (other_messages c place tier tick conn ms apart)
+  | inr other ↦ rw other.0 (other_messages d place c o ms apart)
 ]
 
 -- ---- where messages arrive
@@ -84,11 +85,12 @@ get_seam (x ∷ xs) y = get_seam xs y
 -- a message that arrived stays with its piece
 pub arrived_stays : (records : List Record) (r : Record) (a : Arrival) → ArrivesWith records a → ArrivesWith (records ++ r ∷ []) a
 arrived_stays records r a h =
-    let below = slice_get_within records a.place (Piece a.origin.tick a.origin.conn h.bytes) h.piece in
+    let below = slice_get_within records a.place (Piece a.origin.tick a.connection h.bytes) h.piece in
     let front : take a.place (records ++ r ∷ []) ≡ take a.place records = take-append-le a.place records (r ∷ []) (omega (arith, below)) in
     record {
       bytes = h.bytes;
-      piece = get_front records (r ∷ []) a.place (Piece a.origin.tick a.origin.conn h.bytes) h.piece;
+      piece = get_front records (r ∷ []) a.place (Piece a.origin.tick a.connection h.bytes) h.piece;
+      number = h.number;
       tier = rw front h.tier;
       after = rw front h.after;
       within = rw front h.within;
@@ -96,12 +98,13 @@ arrived_stays records r a h =
 
 arrives_now : (records : List Record) (tier tick conn : ℕ) (bytes : List ℕ) (m : Message) → tier ≡ tier_of conn records → length (text_of conn records) < m.end
     → m.end ≤ length (text_of conn records) + length bytes
-    → ArrivesWith (records ++ Piece tick conn bytes ∷ []) (record { origin = from_piece tier tick conn; place = length records; message = m })
+    → ArrivesWith (records ++ Piece tick conn bytes ∷ []) (record { origin = from_piece tier tick conn; connection = conn; place = length records; message = m })
 arrives_now records tier tick conn bytes m own following within =
     let front : take (length records) (records ++ Piece tick conn bytes ∷ []) ≡ records = take-append_seam records (Piece tick conn bytes ∷ []) in
     record {
       bytes = bytes;
       piece = get_seam records (Piece tick conn bytes);
+      number = refl;
       tier = rw front own;
       after = rw front following;
       within = rw front within;
@@ -109,11 +112,11 @@ arrives_now records tier tick conn bytes m own following within =
 
 pub all_arrive : (records : List Record) (tier tick conn from : ℕ) (bytes : List ℕ) (ms : List Message) → tier ≡ tier_of conn records → length (text_of conn records) ≤ from
     → EndBetween from (length (text_of conn records) + length bytes) ms
-    → All (ArrivesWith (records ++ Piece tick conn bytes ∷ [])) (arrivals_with (length records) (from_piece tier tick conn) ms)
+    → All (ArrivesWith (records ++ Piece tick conn bytes ∷ [])) (arrivals_with (length records) conn (from_piece tier tick conn) ms)
 all_arrive records tier tick conn from bytes [] own le ends = λ k d lt. absurd (omega (arith, lt))
 all_arrive records tier tick conn from bytes (m ∷ ms) own le ends =
     let after = ends.0 in
-    All-cons (ArrivesWith (records ++ Piece tick conn bytes ∷ [])) (record { origin = from_piece tier tick conn; place = length records; message = m }) (arrivals_with (length records) (from_piece tier tick conn) ms)
+    All-cons (ArrivesWith (records ++ Piece tick conn bytes ∷ [])) (record { origin = from_piece tier tick conn; connection = conn; place = length records; message = m }) (arrivals_with (length records) conn (from_piece tier tick conn) ms)
     (arrives_now records tier tick conn bytes m own (omega (arith, le, after)) ends.1)
     (all_arrive records tier tick conn m.end bytes ms own (omega (arith, le, after)) ends.2)
 
@@ -132,17 +135,17 @@ not_later_more place from end a lt (inl h) = inl h
 not_later_more place from end a lt (inr h) = inr (h.0, (let k = h.1 in omega (arith, lt, k)))
 
 pub order_more : (place tier tick conn from to : ℕ) (came : List Arrival) (ms : List Message) → AllPairs Precedes came → All (NotLater place from) came
-    → EndBetween from to ms → AllPairs Precedes (came ++ arrivals_with place (from_piece tier tick conn) ms)
+    → EndBetween from to ms → AllPairs Precedes (came ++ arrivals_with place conn (from_piece tier tick conn) ms)
 order_more place tier tick conn from to came [] pairs early ends = rw (append-nil came) pairs
 order_more place tier tick conn from to came (m ∷ ms) pairs early ends =
-    let a : Arrival = record { origin = from_piece tier tick conn; place = place; message = m } in
+    let a : Arrival = record { origin = from_piece tier tick conn; connection = conn; place = place; message = m } in
     let lt = ends.0 in
     let pushed : AllPairs Precedes (came ++ a ∷ []) = all_pairs_push Precedes came a pairs (λ k d below. precedes_later place from m.end (get_or came k d) a refl refl lt (early k d below)) in
     let later : All (NotLater place m.end) (came ++ a ∷ []) = All-push (NotLater place m.end) came a (λ k d below. not_later_more place from m.end (get_or came k d) lt (early k d below)) (inr (refl, omega arith)) in
-    subst (AllPairs Precedes) (append_assoc came (a ∷ []) (arrivals_with place (from_piece tier tick conn) ms)) (order_more place tier tick conn m.end to (came ++ a ∷ []) ms pushed later ends.2)
+    subst (AllPairs Precedes) (append_assoc came (a ∷ []) (arrivals_with place conn (from_piece tier tick conn) ms)) (order_more place tier tick conn m.end to (came ++ a ∷ []) ms pushed later ends.2)
 
 pub arrived_before : (records : List Record) (from : ℕ) (a : Arrival) → ArrivesWith records a → NotLater (length records) from a
-arrived_before records from a h = inl (slice_get_within records a.place (Piece a.origin.tick a.origin.conn h.bytes) h.piece)
+arrived_before records from a h = inl (slice_get_within records a.place (Piece a.origin.tick a.connection h.bytes) h.piece)
 
 -- ---- one more record
 
@@ -151,10 +154,6 @@ has_messages Silent text ms h = rw (h.0, h.1) (λ what k next. (let w = next_wit
 has_messages (Open cutter) text ms h = h.messages
 has_messages Closed text ms h = rw (append-nil text) at (h [])
 
--- each connection has read its text
-pub reads_none : HaveRead [] [] []
-reads_none = record { each = λ c. (refl, refl) }
-
 pub arrives_none : AreArrivals [] []
 arrives_none = record {
   each = λ c. has_messages Silent [] [] (refl, refl);
@@ -162,75 +161,61 @@ arrives_none = record {
   order = λ i j d lt below. absurd (omega (arith, below));
 }
 
-pub reads_piece : (records : List Record) (came : List Arrival) (before after : List Connection) (tier tick conn : ℕ) (bytes : List ℕ) (ms : List Message)
-    → HaveRead records came before
-    → ((text : List ℕ) (sofar : List Message) → HasRead (connection_at before conn) text sofar → ReadMore text sofar (connection_at after conn) bytes ms)
-    → ((c : ℕ) → c ≢ conn → connection_at after c ≡ connection_at before c)
-    → HaveRead (records ++ Piece tick conn bytes ∷ []) (came ++ arrivals_with (length records) (from_piece tier tick conn) ms) after
-reads_piece records came before after tier tick conn bytes ms have own others = record { each = each }
-  where
-    new : List Arrival
-    new = arrivals_with (length records) (from_piece tier tick conn) ms
-
-    each : (c : ℕ) → HasRead (connection_at after c) (text_of c (records ++ Piece tick conn bytes ∷ [])) (messages_of c (came ++ new))
-    each c = elim (eqb_tells c conn) [
-      | inl same ↦
-          rw (same.1, text_more conn records (Piece tick conn bytes), own_bytes tick conn bytes, messages_more conn came new, own_messages (length records) tier tick conn ms)
-          ((own (text_of conn records) (messages_of conn came) (have.each conn)).has)
-      | inr other ↦
-          rw (
-            others c other.1,
-            text_more c records (Piece tick conn bytes),
-            other_bytes c tick conn bytes other.1,
-            append-nil (text_of c records),
-            messages_more c came new,
-            other_messages c (length records) tier tick conn ms other.1,
-            append-nil (messages_of c came),
-          )
-          (have.each c)
-    ]
-
-pub reads_end : (records : List Record) (came : List Arrival) (connections : List Connection) (tick conn : ℕ)
-    → HaveRead records came connections → HaveRead (records ++ End tick conn ∷ []) came connections
-reads_end records came connections tick conn have = record { each = λ c. rw (text_more c records (End tick conn), append-nil (text_of c records)) (have.each c) }
-
-pub reads_tier : (records : List Record) (came : List Arrival) (connections : List Connection) (conn tier : ℕ)
-    → HaveRead records came connections → HaveRead (records ++ Tier conn tier ∷ []) came connections
-reads_tier records came connections conn tier have = record { each = λ c. rw (text_more c records (Tier conn tier), append-nil (text_of c records)) (have.each c) }
-
 -- the messages that end in a piece arrive with it
 pub arrive_with_piece : (records : List Record) (came : List Arrival) (tier tick conn : ℕ) (bytes : List ℕ) (ms : List Message)
     → tier ≡ tier_of conn records → AreArrivals records came → EndBetween (length (text_of conn records)) (length (text_of conn records) + length bytes) ms
-    → ((c : ℕ) → MessagesOf (text_of c (records ++ Piece tick conn bytes ∷ [])) (messages_of c (came ++ arrivals_with (length records) (from_piece tier tick conn) ms)))
-    → AreArrivals (records ++ Piece tick conn bytes ∷ []) (came ++ arrivals_with (length records) (from_piece tier tick conn) ms)
+    → ((c : ℕ) → MessagesOf (text_of c (records ++ Piece tick conn bytes ∷ [])) (messages_of c (came ++ arrivals_with (length records) conn (from_piece tier tick conn) ms)))
+    → AreArrivals (records ++ Piece tick conn bytes ∷ []) (came ++ arrivals_with (length records) conn (from_piece tier tick conn) ms)
 arrive_with_piece records came tier tick conn bytes ms own are ends each = record {
   each = each;
-  with = All-append (ArrivesWith (records ++ Piece tick conn bytes ∷ [])) came (arrivals_with (length records) (from_piece tier tick conn) ms)
+  with = All-append (ArrivesWith (records ++ Piece tick conn bytes ∷ [])) came (arrivals_with (length records) conn (from_piece tier tick conn) ms)
       (λ k d lt. arrived_stays records (Piece tick conn bytes) _ (are.with k d lt))
       (all_arrive records tier tick conn (length (text_of conn records)) bytes ms own (omega arith) ends);
   order = order_more (length records) tier tick conn (length (text_of conn records)) (length (text_of conn records) + length bytes) came ms are.order
       (λ k d lt. arrived_before records (length (text_of conn records)) _ (are.with k d lt)) ends;
 }
 
-pub arrives_piece : (records : List Record) (came : List Arrival) (after : List Connection) (tier tick conn : ℕ) (bytes : List ℕ) (ms : List Message)
-    → tier ≡ tier_of conn records → AreArrivals records came → EndBetween (length (text_of conn records)) (length (text_of conn records) + length bytes) ms
-    → HaveRead (records ++ Piece tick conn bytes ∷ []) (came ++ arrivals_with (length records) (from_piece tier tick conn) ms) after
-    → AreArrivals (records ++ Piece tick conn bytes ∷ []) (came ++ arrivals_with (length records) (from_piece tier tick conn) ms)
-arrives_piece records came after tier tick conn bytes ms own are ends have =
-    arrive_with_piece records came tier tick conn bytes ms own are ends (λ c. has_messages (connection_at after c) _ _ (have.each c))
-
-pub arrives_end : (records : List Record) (came : List Arrival) (after : List Connection) (tick conn : ℕ)
-    → AreArrivals records came → HaveRead (records ++ End tick conn ∷ []) came after → AreArrivals (records ++ End tick conn ∷ []) came
-arrives_end records came after tick conn are have = record {
-  each = λ c. has_messages (connection_at after c) _ _ (have.each c);
-  with = λ k d lt. arrived_stays records (End tick conn) _ (are.with k d lt);
+-- a record that brings no bytes
+pub arrives_without : (records : List Record) (came : List Arrival) (r : Record) → ((c : ℕ) → bytes_to c r ≡ []) → AreArrivals records came → AreArrivals (records ++ r ∷ []) came
+arrives_without records came r none are = record {
+  each = λ c. rw (text_more c records r, none c, append-nil (text_of c records)) (are.each c);
+  with = λ k d lt. arrived_stays records r _ (are.with k d lt);
   order = are.order;
 }
 
-pub arrives_tier : (records : List Record) (came : List Arrival) (after : List Connection) (conn tier : ℕ)
-    → AreArrivals records came → HaveRead (records ++ Tier conn tier ∷ []) came after → AreArrivals (records ++ Tier conn tier ∷ []) came
-arrives_tier records came after conn tier are have = record {
-  each = λ c. has_messages (connection_at after c) _ _ (have.each c);
-  with = λ k d lt. arrived_stays records (Tier conn tier) _ (are.with k d lt);
-  order = are.order;
-}
+pub each_piece : (records : List Record) (came : List Arrival) (tier tick conn : ℕ) (bytes : List ℕ) (ms : List Message) → AreArrivals records came
+    → MessagesOf (text_of conn records ++ bytes) (messages_of conn came ++ ms)
+    → (c : ℕ) → MessagesOf (text_of c (records ++ Piece tick conn bytes ∷ [])) (messages_of c (came ++ arrivals_with (length records) conn (from_piece tier tick conn) ms))
+each_piece records came tier tick conn bytes ms are whole c = elim (eqb_tells c conn) [
+  | inl same ↦
+      rw (
+        same.1,
+        text_more conn records (Piece tick conn bytes),
+        own_bytes tick conn bytes,
+        messages_more conn came (arrivals_with (length records) conn (from_piece tier tick conn) ms),
+        own_messages (length records) conn (from_piece tier tick conn) ms,
+      )
+      whole
+  | inr other ↦
+      rw (
+        text_more c records (Piece tick conn bytes),
+        other_bytes c tick conn bytes other.1,
+        append-nil (text_of c records),
+        messages_more c came (arrivals_with (length records) conn (from_piece tier tick conn) ms),
+        other_messages c (length records) conn (from_piece tier tick conn) ms other.1,
+        append-nil (messages_of c came),
+      )
+      (are.each c)
+]
+
+-- a text without bytes has no messages
+pub no_messages : (ms : List Message) → MessagesOf [] ms → ms ≡ []
+no_messages [] h = refl
+no_messages (m ∷ ms) h = absurd (let w = next_within [] m.what h.0 h.1 in let a = w.0 in let b = w.1 in omega (arith, a, b))
+
+-- a connection that no record names has no text
+pub no_text : (c : ℕ) (records : List Record) → All (λ r. connection_of r ≢ c) records → text_of c records ≡ []
+no_text c [] all = refl
+no_text c (Piece tick conn bytes ∷ records) all = (λ i. other_bytes c tick conn bytes (λ e. All-head (λ r. connection_of r ≢ c) (Piece tick conn bytes) records all (sym e)) i ++ no_text c records (All-tail (λ r. connection_of r ≢ c) (Piece tick conn bytes) records all) i)
+no_text c (End tick conn ∷ records) all = no_text c records (All-tail (λ r. connection_of r ≢ c) (End tick conn) records all)
+no_text c (Tier conn tier ∷ records) all = no_text c records (All-tail (λ r. connection_of r ≢ c) (Tier conn tier) records all)

@@ -7,69 +7,72 @@ use Rattle.captures.specs.declared.record.Record.TheVariants.{Piece, End, Tier}
 use Rattle.captures.specs.declared.version.Version.{Version}
 use Rattle.captures.specs.declared.progress.Progress.{Progress}
 use Rattle.captures.specs.Readers.{ReaderAfter, Gave}
-use Rattle.arrivals.specs.Batches.{pieces_to, with_tier, tiers_of, origins_of}
+use Rattle.arrivals.specs.Batches.{sent_to, origin_now, origins_after}
 use Rattle.std.proofs.lemmas.List.Sums.{sum_by-append, sum_by-cons}
 use Rattle.captures.specs.Reference.{IsRecord, max_piece_bytes}
 use Rattle.captures.specs.Captures.{size_of, sizes_of}
-use Rattle.arrivals.specs.Gathering.{with_pieces, Adds, AddsOne, as_piece, piece_count}
-use Rattle.arrivals.specs.SeatStates.{SeatState, seat_at, with_piece}
+use Rattle.arrivals.specs.Gathering.{with_more, Adds, AddsOne, as_piece, piece_count}
+use Rattle.arrivals.specs.SeatStates.{SeatState, seat_at, with_next}
+use Rattle.arrivals.specs.declared.waiting.Waiting.{Waiting}
+use Rattle.arrivals.specs.declared.waiting.Waiting.TheVariants.{Piece as Comes, End as Ends}
 use Rattle.arrivals.proofs.Arriving.{if_true, if_false}
-use Rattle.arrivals.proofs.Merging.{tiers_piece, tiers_end, tiers_tier}
 
 -- what the reader's answer says
 pub gave_some : (v : Version) (text now : Option (List ℕ)) (start : ℕ) (records : List Record) (p : Progress) (x : Option Record) (r : Record) → x ≡ Some r
     → Gave v text start records (Ok x) p now → ReaderAfter v text start (records ++ r ∷ []) p now
 gave_some v text now start records p x r is h = subst (λ (o : Option Record). Gave v text start records (Ok o) p now) is h
 
-abbrev holding : SeatState → List (List ℕ) → SeatState
-holding p pieces = record { connection = p.connection; pieces = pieces; lists = p.lists }
+abbrev holding : SeatState → List Waiting → SeatState
+holding p waiting = record { connection = p.connection; waiting = waiting; lists = p.lists }
 
 pub adds_none : (places : List SeatState) → Adds [] places places
-adds_none places = λ c. sym (ap (holding (seat_at places c)) (append-nil (seat_at places c).pieces))
+adds_none places = λ c. sym (ap (holding (seat_at places c)) (append-nil (seat_at places c).waiting))
 
-pub adds_end : (tick conn : ℕ) (r : Record) (places : List SeatState) → r ≡ End tick conn → AddsOne r places places
-adds_end tick conn r places is = rw is (adds_none places)
+sent_one : (b : Bool) (w : Waiting) (longer shorter more : List Waiting) → longer ≡ shorter ++ more → (if b then w ∷ longer else longer) ≡ (if b then w ∷ shorter else shorter) ++ more
+sent_one true w longer shorter more e = ap (λ l. w ∷ l) e
+sent_one false w longer shorter more e = e
 
-pieces_push : (c : ℕ) (rs : List Record) (r : Record) → pieces_to c (rs ++ r ∷ []) ≡ pieces_to c rs ++ pieces_to c (r ∷ [])
-pieces_push c [] r = refl
-pieces_push c (Piece tick conn bytes ∷ rs) r = go (conn == c) (pieces_push c rs r)
-  where
-    go : (b : Bool) → pieces_to c (rs ++ r ∷ []) ≡ pieces_to c rs ++ pieces_to c (r ∷ []) → (if b then bytes ∷ pieces_to c (rs ++ r ∷ []) else pieces_to c (rs ++ r ∷ [])) ≡ (if b then bytes ∷ pieces_to c rs else pieces_to c rs) ++ pieces_to c (r ∷ [])
-    go true e = ap (λ l. bytes ∷ l) e
-    go false e = e
-pieces_push c (End tick conn ∷ rs) r = pieces_push c rs r
-pieces_push c (Tier conn tier ∷ rs) r = pieces_push c rs r
+sent_push : (c : ℕ) (rs : List Record) (r : Record) → sent_to c (rs ++ r ∷ []) ≡ sent_to c rs ++ sent_to c (r ∷ [])
+sent_push c [] r = refl
+sent_push c (Piece tick conn bytes ∷ rs) r = sent_one (conn == c) (Comes bytes) (sent_to c (rs ++ r ∷ [])) (sent_to c rs) (sent_to c (r ∷ [])) (sent_push c rs r)
+sent_push c (End tick conn ∷ rs) r = sent_one (conn == c) Ends (sent_to c (rs ++ r ∷ [])) (sent_to c rs) (sent_to c (r ∷ [])) (sent_push c rs r)
+sent_push c (Tier conn tier ∷ rs) r = sent_push c rs r
 
 pub adds_tier : (conn tier : ℕ) (r : Record) (places : List SeatState) → r ≡ Tier conn tier → AddsOne r places places
 adds_tier conn tier r places is = rw is (adds_none places)
 
-origins_from : (tiers : ℕ → ℕ) (records rs : List Record) (r : Record) → tiers ≡ tiers_of records
-    → origins_of tiers (rs ++ r ∷ []) ≡ origins_of tiers rs ++ origins_of (tiers_of (records ++ rs)) (r ∷ [])
-origins_from tiers records [] r are = ap (λ f. origins_of f (r ∷ [])) (are ∙ ap tiers_of (sym (append-nil records)))
-origins_from tiers records (Piece tick conn bytes ∷ rs) r are =
-    let rest = origins_from tiers (records ++ Piece tick conn bytes ∷ []) rs r (are ∙ sym (tiers_piece records tick conn bytes)) in
-    ap (λ os. record { conn = conn; tick = tick; tier = tiers conn } ∷ os) (rw (append_assoc records (Piece tick conn bytes ∷ []) rs) at rest)
-origins_from tiers records (End tick conn ∷ rs) r are =
-    let rest = origins_from tiers (records ++ End tick conn ∷ []) rs r (are ∙ sym (tiers_end records tick conn)) in
-    rw (append_assoc records (End tick conn ∷ []) rs) at rest
-origins_from tiers records (Tier conn tier ∷ rs) r are =
-    let rest = origins_from (with_tier conn tier tiers) (records ++ Tier conn tier ∷ []) rs r (ap (with_tier conn tier) are ∙ sym (tiers_tier records conn tier)) in
-    rw (append_assoc records (Tier conn tier ∷ []) rs) at rest
-
-pub origins_push : (records rs : List Record) (r : Record) → origins_of (tiers_of records) (rs ++ r ∷ []) ≡ origins_of (tiers_of records) rs ++ origins_of (tiers_of (records ++ rs)) (r ∷ [])
-origins_push records rs r = origins_from (tiers_of records) records rs r refl
+pub origins_push : (records rs : List Record) (r : Record) → origins_after records (rs ++ r ∷ []) ≡ origins_after records rs ++ origins_after (records ++ rs) (r ∷ [])
+origins_push records [] r = ap (λ w. origins_after w (r ∷ [])) (sym (append-nil records))
+origins_push records (Piece tick conn bytes ∷ rs) r =
+    ap (λ os. origin_now conn tick records ∷ os) (origins_push (records ++ Piece tick conn bytes ∷ []) rs r ∙ from (Piece tick conn bytes))
+  where
+    from : (q : Record) → origins_after (records ++ q ∷ []) rs ++ origins_after ((records ++ q ∷ []) ++ rs) (r ∷ []) ≡ origins_after (records ++ q ∷ []) rs ++ origins_after (records ++ q ∷ rs) (r ∷ [])
+    from q = ap (λ w. origins_after (records ++ q ∷ []) rs ++ origins_after w (r ∷ [])) (append_assoc records (q ∷ []) rs)
+origins_push records (End tick conn ∷ rs) r =
+    origins_push (records ++ End tick conn ∷ []) rs r ∙ ap (λ w. origins_after (records ++ End tick conn ∷ []) rs ++ origins_after w (r ∷ [])) (append_assoc records (End tick conn ∷ []) rs)
+origins_push records (Tier conn tier ∷ rs) r =
+    origins_push (records ++ Tier conn tier ∷ []) rs r ∙ ap (λ w. origins_after (records ++ Tier conn tier ∷ []) rs ++ origins_after w (r ∷ [])) (append_assoc records (Tier conn tier ∷ []) rs)
 
 pub adds_more : (rs : List Record) (r : Record) (old mid new : List SeatState) → Adds rs old mid → AddsOne r mid new → Adds (rs ++ r ∷ []) old new
 adds_more rs r old mid new first second = λ c.
-    second c ∙ ap (λ p. with_pieces p (pieces_to c (r ∷ []))) (first c)
-    ∙ ap (holding (seat_at old c)) (append_assoc (seat_at old c).pieces (pieces_to c rs) (pieces_to c (r ∷ [])) ∙ ap (λ xs. (seat_at old c).pieces ++ xs) (sym (pieces_push c rs r)))
+    second c ∙ ap (λ p. with_more p (sent_to c (r ∷ []))) (first c)
+    ∙ ap (holding (seat_at old c)) (append_assoc (seat_at old c).waiting (sent_to c rs) (sent_to c (r ∷ [])) ∙ ap (λ xs. (seat_at old c).waiting ++ xs) (sym (sent_push c rs r)))
+
+-- something came on a number
+adds_next : (conn n : ℕ) (next : Waiting) (r : Record) (old new : List SeatState) → ((c : ℕ) → sent_to c (r ∷ []) ≡ (if conn == c then next ∷ [] else [])) → n ≡ conn
+    → seat_at new n ≡ with_next next (seat_at old n) → ((c : ℕ) → c ≢ n → seat_at new c ≡ seat_at old c) → AddsOne r old new
+adds_next conn n next r old new sent named own others = λ c. rw (sent c) (elim (eqb_tells conn c) [
+  | inl e ↦ rw (if_true (conn == c) (next ∷ []) [] e.0, ← e.1) (rw named at own)
+  | inr e ↦ rw (if_false (conn == c) (next ∷ []) [] e.0, append-nil (seat_at old c).waiting) (others c (λ s. e.1 (sym (s ∙ named))))
+])
 
 pub adds_piece : (tick conn n : ℕ) (bytes piece : List ℕ) (r : Record) (old new : List SeatState) → r ≡ Piece tick conn bytes → n ≡ conn → piece ≡ bytes
-    → seat_at new n ≡ with_piece piece (seat_at old n) → ((c : ℕ) → c ≢ n → seat_at new c ≡ seat_at old c) → AddsOne r old new
-adds_piece tick conn n bytes piece r old new is named same own others = rw is (λ c. elim (eqb_tells conn c) [
-  | inl e ↦ rw (if_true (conn == c) (bytes ∷ []) [] e.0, ← e.1) (rw (named, same) at own)
-  | inr e ↦ rw (if_false (conn == c) (bytes ∷ []) [] e.0, append-nil (seat_at old c).pieces) (others c (λ s. e.1 (sym (s ∙ named))))
-])
+    → seat_at new n ≡ with_next (Comes piece) (seat_at old n) → ((c : ℕ) → c ≢ n → seat_at new c ≡ seat_at old c) → AddsOne r old new
+adds_piece tick conn n bytes piece r old new is named same own others = adds_next conn n (Comes bytes) r old new (λ c. rw is refl) named (rw same at own) others
+
+pub adds_end : (tick conn n : ℕ) (r : Record) (old new : List SeatState) → r ≡ End tick conn → n ≡ conn
+    → seat_at new n ≡ with_next Ends (seat_at old n) → ((c : ℕ) → c ≢ n → seat_at new c ≡ seat_at old c) → AddsOne r old new
+adds_end tick conn n r old new is named own others = adds_next conn n Ends r old new (λ c. rw is refl) named own others
 
 -- one more record: how many pieces there are then, and how many bytes of them
 pub count_push : (rs : List Record) (r : Record) → piece_count (rs ++ r ∷ []) ≡ piece_count rs + as_piece r

@@ -1,147 +1,234 @@
 -- The messages of each connection, merged in the order of the records, are the arrivals.
-use Rattle.std.proofs.Common.{◌≡◌, ◌≢◌, ℕ, ◌+◌, ◌==◌, inl, inr, List, [], ◌∷◌, ◌++◌, length, refl, sym, ap, ◌∙◌, subst, arith}
+use Rattle.std.proofs.Common.{◌≡◌, ◌≢◌, ℕ, ◌+◌, ◌*◌, ◌<◌, ◌%◌, ◌==◌, inl, inr, List, [], ◌∷◌, ◌++◌, length, get_or, refl, sym, ap, ◌∙◌, subst, arith, All}
 use Rattle.std.specs.Prelude.{if◌then◌else◌}
+use Rattle.std.proofs.Math.Seq.{get_or-append_seam}
 use Rattle.std.proofs.lemmas.Bool.Decides.{eqb_tells}
-use Rattle.std.proofs.lemmas.List.{append_assoc, append-nil, length-append}
-use Rattle.std.proofs.lemmas.List.Elements.{All-append}
+use Rattle.std.proofs.lemmas.List.{append_assoc, append-nil, length-append, get_or_append_left}
 use Rattle.captures.specs.declared.record.Record.{Record}
 use Rattle.captures.specs.declared.record.Record.TheVariants.{Piece, End, Tier}
-use Rattle.captures.specs.Reference.{tier_of}
-use Rattle.captures.proofs.Tiers.{tier_of_piece, tier_of_end, tier_of_tier}
+use Rattle.captures.specs.Reference.{connection_of, connection_now, named_by, used_once}
+use Rattle.captures.proofs.Lives.{ends_of, apart, same_connection, next_connection, once_push, once_length, unnamed}
 use Rattle.http_requests.specs.declared.messages.Message.{Message}
-use Rattle.arrivals.specs.Reference.{text_of, Arrival, messages_of, ArrivesWith}
-use Rattle.arrivals.specs.Connections.{HasRead, ReadMore, arrivals_with}
-use Rattle.arrivals.specs.Batches.{Reads, ReadsOn, pieces_to, with_tier, tiers_of, origins_of, lists_to, arrivals_in, Stand}
+use Rattle.arrivals.specs.Reference.{text_of, Arrival, messages_of, AreArrivals}
+use Rattle.arrivals.specs.Connections.{HasRead, ReadMore, HaveReadSo, HaveNumbers, IsNumber, text_now, messages_now, tier_now, arrivals_with}
+use Rattle.arrivals.specs.Batches.{Reads, ReadsOn, sent_to, origin_now, origins_after, lists_to, arrivals_in, Stand}
+use Rattle.arrivals.specs.declared.incoming.Origin.{Origin}
 use Rattle.arrivals.specs.declared.connections.Connection.{Connection}
-use Rattle.arrivals.proofs.Arriving.{from_piece, text_more, own_bytes, other_bytes, messages_more, own_messages, other_messages, all_arrive, order_more, arrived_before, has_messages, arrived_stays, if_true, if_false}
+use Rattle.arrivals.specs.declared.connections.Connection.TheVariants.{Silent}
+use Rattle.arrivals.specs.declared.waiting.Waiting.TheVariants.{Piece as Comes, End as Ends}
+use Rattle.arrivals.proofs.Arriving.{from_piece, text_more, own_bytes, other_bytes, messages_more, own_messages, other_messages, has_messages, arrives_none, arrives_without, each_piece, arrive_with_piece, no_messages, no_text, if_true, if_false}
+
+-- ---- numbers
+
+-- a connection's number is the one that names it
+pub named_back : (c n : ℕ) → IsNumber c → named_by (c + 65536 * n) ≡ c
+named_back c n low = omega (arith, low)
+
+-- connections of two numbers are two
+pub differ : (c d : ℕ) (rs ss : List Record) → IsNumber c → IsNumber d → c ≢ d → connection_now c rs ≢ connection_now d ss
+differ c d rs ss lc ld other e = other (apart c d (ends_of c rs) (ends_of d ss) lc ld e)
+
+numbers_front : (rs ss : List Record) → HaveNumbers (rs ++ ss) → HaveNumbers rs
+numbers_front rs ss all = λ k d lt. subst (λ (r : Record). IsNumber (connection_of r)) (get_or_append_left rs ss d k lt) (all k d (omega (arith, lt, length-append rs ss)))
+
+number_next : (rs ss : List Record) (r : Record) → HaveNumbers (rs ++ r ∷ ss) → IsNumber (connection_of r)
+number_next rs ss r all = subst (λ (q : Record). IsNumber (connection_of q)) (get_or-append_seam rs r ss r) (all (length rs) r (omega (arith, length-append rs (r ∷ ss))))
+
+-- ---- one more record
+
+-- nothing was read yet
+pub stand_none : (at : ℕ → Connection) → ((c : ℕ) → at c ≡ Silent) → Stand [] [] at
+stand_none at silent = record { each = λ c low. rw (silent c) (refl, refl); arrived = arrives_none }
 
 -- one more piece
-stand_piece : (records : List Record) (came : List Arrival) (at : ℕ → Connection) (mid : Connection) (tier tick conn : ℕ) (bytes : List ℕ) (ms : List Message)
-    → tier ≡ tier_of conn records → Stand records came at → Reads (at conn) bytes ms mid
-    → Stand (records ++ Piece tick conn bytes ∷ []) (came ++ arrivals_with (length records) (from_piece tier tick conn) ms) (λ c. if conn == c then mid else at c)
-stand_piece records came at mid tier tick conn bytes ms own stand reads = record {
+pub stand_piece : (records : List Record) (came : List Arrival) (before after : ℕ → Connection) (tick conn : ℕ) (bytes : List ℕ) (ms : List Message)
+    → IsNumber conn → Stand records came before → Reads (before conn) bytes ms (after conn) → ((c : ℕ) → c ≢ conn → after c ≡ before c)
+    → Stand (records ++ Piece tick conn bytes ∷ []) (came ++ arrivals_with (length records) (connection_now conn records) (origin_now conn tick records) ms) after
+stand_piece records came before after tick conn bytes ms number stand reads others = record { each = each; arrived = arrived }
+  where
+    id : ℕ
+    id = connection_now conn records
+
+    new : List Arrival
+    new = arrivals_with (length records) id (origin_now conn tick records) ms
+
+    more : ReadMore (text_now conn records) (messages_now conn records came) (after conn) bytes ms
+    more = reads (text_now conn records) (messages_now conn records came) (stand.each conn number)
+
+    push : used_once (records ++ Piece tick conn bytes ∷ []) ≡ used_once records ++ Piece tick id bytes ∷ []
+    push = once_push records (Piece tick conn bytes)
+
+    now : (c : ℕ) → connection_now c (records ++ Piece tick conn bytes ∷ []) ≡ connection_now c records
+    now c = same_connection c records (Piece tick conn bytes) refl
+
+    own : HasRead (after conn) (text_of id (used_once records ++ Piece tick id bytes ∷ [])) (messages_of id (came ++ new))
+    own = rw (text_more id (used_once records) (Piece tick id bytes), own_bytes tick id bytes, messages_more id came new, own_messages (length records) id (origin_now conn tick records) ms) more.has
+
+    other : (c : ℕ) → IsNumber c → c ≢ conn → HasRead (after c) (text_of (connection_now c records) (used_once records ++ Piece tick id bytes ∷ [])) (messages_of (connection_now c records) (came ++ new))
+    other c low apart =
+        let two = differ c conn records records low number apart in
+        rw (
+          others c apart,
+          text_more (connection_now c records) (used_once records) (Piece tick id bytes),
+          other_bytes (connection_now c records) tick id bytes two,
+          append-nil (text_now c records),
+          messages_more (connection_now c records) came new,
+          other_messages (connection_now c records) (length records) id (origin_now conn tick records) ms two,
+          append-nil (messages_now c records came),
+        )
+        (stand.each c low)
+
+    each : HaveReadSo (records ++ Piece tick conn bytes ∷ []) (came ++ new) after
+    each c low =
+        subst (λ (x : ℕ). HasRead (after c) (text_of x (used_once (records ++ Piece tick conn bytes ∷ []))) (messages_of x (came ++ new))) (sym (now c))
+        (subst (λ (rs : List Record). HasRead (after c) (text_of (connection_now c records) rs) (messages_of (connection_now c records) (came ++ new))) (sym push)
+        (elim (eqb_tells c conn) [
+          | inl same ↦ subst (λ (x : ℕ). HasRead (after x) (text_of (connection_now x records) (used_once records ++ Piece tick id bytes ∷ [])) (messages_of (connection_now x records) (came ++ new))) (sym same.1) own
+          | inr differs ↦ other c low differs.1
+        ]))
+
+    from : origin_now conn tick records ≡ from_piece (tier_now conn records) tick id
+    from = ap (λ (x : ℕ). record { conn = x; tick = tick; tier = tier_now conn records }) (sym (named_back conn (ends_of conn records) number))
+
+    joined : AreArrivals (used_once records ++ Piece tick id bytes ∷ []) (came ++ arrivals_with (length (used_once records)) id (from_piece (tier_now conn records) tick id) ms)
+    joined = arrive_with_piece (used_once records) came (tier_now conn records) tick id bytes ms refl stand.arrived more.in_piece
+        (each_piece (used_once records) came (tier_now conn records) tick id bytes ms stand.arrived (has_messages (after conn) _ _ more.has))
+
+    arrived : AreArrivals (used_once (records ++ Piece tick conn bytes ∷ [])) (came ++ new)
+    arrived =
+        subst (λ (rs : List Record). AreArrivals rs (came ++ new)) (sym push)
+        (subst (λ (o : Origin). AreArrivals (used_once records ++ Piece tick id bytes ∷ []) (came ++ arrivals_with (length records) id o ms)) (sym from)
+        (subst (λ (n : ℕ). AreArrivals (used_once records ++ Piece tick id bytes ∷ []) (came ++ arrivals_with n id (from_piece (tier_now conn records) tick id) ms)) (once_length records) joined))
+
+-- the end of a number's connection
+pub stand_end : (records : List Record) (came : List Arrival) (before after : ℕ → Connection) (tick conn : ℕ) → IsNumber conn → HaveNumbers records
+    → Stand records came before → after conn ≡ Silent → ((c : ℕ) → c ≢ conn → after c ≡ before c) → Stand (records ++ End tick conn ∷ []) came after
+stand_end records came before after tick conn number numbers stand silent others = record {
   each = each;
-  arrived = record {
-    each = λ c. has_messages (if conn == c then mid else at c) _ _ (each c);
-    with = All-append (ArrivesWith (records ++ Piece tick conn bytes ∷ [])) came new
-        (λ k d lt. arrived_stays records (Piece tick conn bytes) _ (stand.arrived.with k d lt))
-        (all_arrive records tier tick conn (length (text_of conn records)) bytes ms own (omega arith) more.in_piece);
-    order = order_more (length records) tier tick conn (length (text_of conn records)) (length (text_of conn records) + length bytes) came ms stand.arrived.order
-        (λ k d lt. arrived_before records (length (text_of conn records)) _ (stand.arrived.with k d lt)) more.in_piece;
-  };
+  arrived = subst (λ (rs : List Record). AreArrivals rs came) (sym push) (arrives_without (used_once records) came (End tick id) (λ c. refl) stand.arrived);
 }
   where
-    new : List Arrival
-    new = arrivals_with (length records) (from_piece tier tick conn) ms
+    id : ℕ
+    id = connection_now conn records
 
-    more : ReadMore (text_of conn records) (messages_of conn came) mid bytes ms
-    more = reads (text_of conn records) (messages_of conn came) (stand.each conn)
+    next : ℕ
+    next = conn + 65536 * (ends_of conn records + 1)
 
-    each : (c : ℕ) → HasRead (if conn == c then mid else at c) (text_of c (records ++ Piece tick conn bytes ∷ [])) (messages_of c (came ++ new))
-    each c = elim (eqb_tells conn c) [
+    push : used_once (records ++ End tick conn ∷ []) ≡ used_once records ++ End tick id ∷ []
+    push = once_push records (End tick conn)
+
+    text : (c : ℕ) → text_of c (used_once (records ++ End tick conn ∷ [])) ≡ text_of c (used_once records)
+    text c = ap (text_of c) push ∙ text_more c (used_once records) (End tick id) ∙ append-nil (text_of c (used_once records))
+
+    none : text_of next (used_once records) ≡ []
+    none = no_text next (used_once records) (unnamed conn records number numbers)
+
+    fresh : HasRead Silent (text_of next (used_once (records ++ End tick conn ∷ []))) (messages_of next came)
+    fresh = (text next ∙ none, no_messages (messages_of next came) (rw none at (stand.arrived.each next)))
+
+    each : HaveReadSo (records ++ End tick conn ∷ []) came after
+    each c low = elim (eqb_tells conn c) [
       | inl same ↦
-          rw (if_true (conn == c) mid (at c) same.0, ← same.1, text_more conn records (Piece tick conn bytes), own_bytes tick conn bytes, messages_more conn came new, own_messages (length records) tier tick conn ms)
-          more.has
+          subst (λ (x : ℕ). HasRead (after x) (text_now x (records ++ End tick conn ∷ [])) (messages_now x (records ++ End tick conn ∷ []) came)) same.1
+          (subst (λ (k : Connection). HasRead k (text_now conn (records ++ End tick conn ∷ [])) (messages_now conn (records ++ End tick conn ∷ []) came)) (sym silent)
+          (subst (λ (x : ℕ). HasRead Silent (text_of x (used_once (records ++ End tick conn ∷ []))) (messages_of x came)) (sym (next_connection conn tick records)) fresh))
       | inr other ↦
-          (let apart : c ≢ conn = λ e. other.1 (sym e) in
-          rw (
-            if_false (conn == c) mid (at c) other.0,
-            text_more c records (Piece tick conn bytes),
-            other_bytes c tick conn bytes apart,
-            append-nil (text_of c records),
-            messages_more c came new,
-            other_messages c (length records) tier tick conn ms apart,
-            append-nil (messages_of c came),
-          )
-          (stand.each c))
+          (let now : connection_now c (records ++ End tick conn ∷ []) ≡ connection_now c records = same_connection c records (End tick conn) other.0 in
+          subst (λ (x : ℕ). HasRead (after c) (text_of x (used_once (records ++ End tick conn ∷ []))) (messages_of x came)) (sym now)
+          (rw (others c (λ e. other.1 (sym e)), text (connection_now c records)) (stand.each c low)))
     ]
 
-stand_end : (records : List Record) (came : List Arrival) (at : ℕ → Connection) (tick conn : ℕ) → Stand records came at → Stand (records ++ End tick conn ∷ []) came at
-stand_end records came at tick conn stand = record {
-  each = each;
-  arrived = record {
-    each = λ c. has_messages (at c) _ _ (each c);
-    with = λ k d lt. arrived_stays records (End tick conn) _ (stand.arrived.with k d lt);
-    order = stand.arrived.order;
-  };
-}
-  where
-    each : (c : ℕ) → HasRead (at c) (text_of c (records ++ End tick conn ∷ [])) (messages_of c came)
-    each c = rw (text_more c records (End tick conn), append-nil (text_of c records)) (stand.each c)
-
-stand_tier : (records : List Record) (came : List Arrival) (at : ℕ → Connection) (conn tier : ℕ) → Stand records came at → Stand (records ++ Tier conn tier ∷ []) came at
+pub stand_tier : (records : List Record) (came : List Arrival) (at : ℕ → Connection) (conn tier : ℕ) → Stand records came at → Stand (records ++ Tier conn tier ∷ []) came at
 stand_tier records came at conn tier stand = record {
   each = each;
-  arrived = record {
-    each = λ c. has_messages (at c) _ _ (each c);
-    with = λ k d lt. arrived_stays records (Tier conn tier) _ (stand.arrived.with k d lt);
-    order = stand.arrived.order;
-  };
+  arrived = subst (λ (rs : List Record). AreArrivals rs came) (sym push) (arrives_without (used_once records) came (Tier id tier) (λ c. refl) stand.arrived);
 }
   where
-    each : (c : ℕ) → HasRead (at c) (text_of c (records ++ Tier conn tier ∷ [])) (messages_of c came)
-    each c = rw (text_more c records (Tier conn tier), append-nil (text_of c records)) (stand.each c)
+    id : ℕ
+    id = connection_now conn records
 
--- ---- tiers
+    push : used_once (records ++ Tier conn tier ∷ []) ≡ used_once records ++ Tier id tier ∷ []
+    push = once_push records (Tier conn tier)
 
-pub tiers_piece : (records : List Record) (tick conn : ℕ) (bytes : List ℕ) → tiers_of (records ++ Piece tick conn bytes ∷ []) ≡ tiers_of records
-tiers_piece records tick conn bytes = λ i c. tier_of_piece c records tick conn bytes i
+    text : (c : ℕ) → text_of c (used_once (records ++ Tier conn tier ∷ [])) ≡ text_of c (used_once records)
+    text c = ap (text_of c) push ∙ text_more c (used_once records) (Tier id tier) ∙ append-nil (text_of c (used_once records))
 
-pub tiers_end : (records : List Record) (tick conn : ℕ) → tiers_of (records ++ End tick conn ∷ []) ≡ tiers_of records
-tiers_end records tick conn = λ i c. tier_of_end c records tick conn i
+    each : HaveReadSo (records ++ Tier conn tier ∷ []) came at
+    each c low =
+        let now : connection_now c (records ++ Tier conn tier ∷ []) ≡ connection_now c records = same_connection c records (Tier conn tier) refl in
+        subst (λ (x : ℕ). HasRead (at c) (text_of x (used_once (records ++ Tier conn tier ∷ []))) (messages_of x came)) (sym now)
+        (rw (text (connection_now c records)) (stand.each c low))
 
-pub tiers_tier : (records : List Record) (conn tier : ℕ) → tiers_of (records ++ Tier conn tier ∷ []) ≡ with_tier conn tier (tiers_of records)
-tiers_tier records conn tier = λ i c. tier_of_tier c records conn tier i
+-- ---- a batch
 
--- what a connection reads of the rest, once a piece of some connection was read
-rest_of : (tiers : ℕ → ℕ) (conn c tick : ℕ) (bytes : List ℕ) (ms : List Message) (rs : List Record) (found : List (List Message)) (before mid after : Connection)
-    → (conn ≡ c → ReadsOn mid (pieces_to c rs) (lists_to c (origins_of tiers rs) found) after)
-    → ReadsOn before (pieces_to c (Piece tick conn bytes ∷ rs)) (lists_to c (origins_of tiers (Piece tick conn bytes ∷ rs)) (ms ∷ found)) after
-    → ReadsOn (if conn == c then mid else before) (pieces_to c rs) (lists_to c (origins_of tiers rs) found) after
-rest_of tiers conn c tick bytes ms rs found before mid after own all = elim (eqb_tells conn c) [
-  | inl same ↦ rw (if_true (conn == c) mid before same.0) (own same.1)
-  | inr other ↦ rw (if_false (conn == c) mid before other.0)
-      (rw (if_false (conn == c) (bytes ∷ pieces_to c rs) (pieces_to c rs) other.0, if_false (conn == c) (ms ∷ lists_to c (origins_of tiers rs) found) (lists_to c (origins_of tiers rs) found) other.0) at all)
+-- what a number's connection reads of the rest, once a record of some number was read
+rest_of : (conn c tick : ℕ) (bytes : List ℕ) (ms : List Message) (records rs : List Record) (found : List (List Message)) (before mid after : Connection)
+    → (conn ≡ c → ReadsOn mid (sent_to c rs) (lists_to c (origins_after (records ++ Piece tick conn bytes ∷ []) rs) found) after)
+    → ReadsOn before (sent_to c (Piece tick conn bytes ∷ rs)) (lists_to c (origins_after records (Piece tick conn bytes ∷ rs)) (ms ∷ found)) after
+    → ReadsOn (if conn == c then mid else before) (sent_to c rs) (lists_to c (origins_after (records ++ Piece tick conn bytes ∷ []) rs) found) after
+rest_of conn c tick bytes ms records rs found before mid after own all =
+    let os = origins_after (records ++ Piece tick conn bytes ∷ []) rs in
+    elim (eqb_tells conn c) [
+      | inl same ↦ rw (if_true (conn == c) mid before same.0) (own same.1)
+      | inr other ↦ rw (if_false (conn == c) mid before other.0)
+          (rw (if_false (conn == c) (Comes bytes ∷ sent_to c rs) (sent_to c rs) other.0, if_false (conn == c) (ms ∷ lists_to c os found) (lists_to c os found) other.0) at all)
+    ]
+
+own_rest : (conn tick : ℕ) (bytes : List ℕ) (ms : List Message) (records rs : List Record) (found : List (List Message)) (before after : Connection)
+    → ReadsOn before (sent_to conn (Piece tick conn bytes ∷ rs)) (lists_to conn (origins_after records (Piece tick conn bytes ∷ rs)) (ms ∷ found)) after
+    → ReadsOn before (Comes bytes ∷ sent_to conn rs) (ms ∷ lists_to conn (origins_after (records ++ Piece tick conn bytes ∷ []) rs) found) after
+own_rest conn tick bytes ms records rs found before after all =
+    let os = origins_after (records ++ Piece tick conn bytes ∷ []) rs in
+    elim (eqb_tells conn conn) [
+      | inl same ↦ rw (if_true (conn == conn) (Comes bytes ∷ sent_to conn rs) (sent_to conn rs) same.0, if_true (conn == conn) (ms ∷ lists_to conn os found) (lists_to conn os found) same.0) at all
+      | inr other ↦ absurd (other.1 refl)
+    ]
+
+rest_end : (conn c tick : ℕ) (rs : List Record) (lists : List (List Message)) (before after : Connection)
+    → ReadsOn before (sent_to c (End tick conn ∷ rs)) lists after → ReadsOn (if conn == c then Silent else before) (sent_to c rs) lists after
+rest_end conn c tick rs lists before after all = elim (eqb_tells conn c) [
+  | inl same ↦ rw (if_true (conn == c) Silent before same.0) (rw (if_true (conn == c) (Ends ∷ sent_to c rs) (sent_to c rs) same.0) at all)
+  | inr other ↦ rw (if_false (conn == c) Silent before other.0) (rw (if_false (conn == c) (Ends ∷ sent_to c rs) (sent_to c rs) other.0) at all)
 ]
 
-own_rest : (tiers : ℕ → ℕ) (conn tick : ℕ) (bytes : List ℕ) (ms : List Message) (rs : List Record) (found : List (List Message)) (before after : Connection)
-    → ReadsOn before (pieces_to conn (Piece tick conn bytes ∷ rs)) (lists_to conn (origins_of tiers (Piece tick conn bytes ∷ rs)) (ms ∷ found)) after
-    → ReadsOn before (bytes ∷ pieces_to conn rs) (ms ∷ lists_to conn (origins_of tiers rs) found) after
-own_rest tiers conn tick bytes ms rs found before after all = elim (eqb_tells conn conn) [
-  | inl same ↦ rw (if_true (conn == conn) (bytes ∷ pieces_to conn rs) (pieces_to conn rs) same.0, if_true (conn == conn) (ms ∷ lists_to conn (origins_of tiers rs) found) (lists_to conn (origins_of tiers rs) found) same.0) at all
-  | inr other ↦ absurd (other.1 refl)
-]
+-- the connections, with another in the place of one
+abbrev with_one : ℕ → Connection → (ℕ → Connection) → ℕ → Connection
+with_one conn k before c = if conn == c then k else before c
+
+one_own : (conn : ℕ) (k : Connection) (before : ℕ → Connection) → with_one conn k before conn ≡ k
+one_own conn k before = elim (eqb_tells conn conn) [ inl same ↦ if_true (conn == conn) k (before conn) same.0 | inr other ↦ absurd (other.1 refl) ]
+
+one_other : (conn : ℕ) (k : Connection) (before : ℕ → Connection) (c : ℕ) → c ≢ conn → with_one conn k before c ≡ before c
+one_other conn k before c apart = elim (eqb_tells conn c) [ inl same ↦ absurd (apart (sym same.1)) | inr other ↦ if_false (conn == c) k (before c) other.0 ]
 
 -- a whole batch: what each connection reads of it, merged in the order of the records
-pub stand_batch : (tiers : ℕ → ℕ) (rs : List Record) (found : List (List Message)) (records : List Record) (came : List Arrival) (before after : ℕ → Connection)
-    → tiers ≡ tiers_of records → length found ≡ length (origins_of tiers rs) → Stand records came before
-    → ((c : ℕ) → ReadsOn (before c) (pieces_to c rs) (lists_to c (origins_of tiers rs) found) (after c))
-    → Stand (records ++ rs) (came ++ arrivals_in tiers (length records) rs found) after
-stand_batch tiers [] found records came before after are count stand reads =
+pub stand_batch : (rs : List Record) (found : List (List Message)) (records : List Record) (came : List Arrival) (before after : ℕ → Connection)
+    → HaveNumbers (records ++ rs) → length found ≡ length (origins_after records rs) → Stand records came before
+    → ((c : ℕ) → ReadsOn (before c) (sent_to c rs) (lists_to c (origins_after records rs) found) (after c))
+    → Stand (records ++ rs) (came ++ arrivals_in records rs found) after
+stand_batch [] found records came before after numbers count stand reads =
     rw (append-nil records, append-nil came) (record {
-      each = λ c. rw (← reads c) (stand.each c);
+      each = λ c low. rw (← reads c) (stand.each c low);
       arrived = stand.arrived;
     })
-stand_batch tiers (End tick conn ∷ rs) found records came before after are count stand reads =
-    let one = stand_end records came before tick conn stand in
-    let all = stand_batch tiers rs found (records ++ End tick conn ∷ []) came before after (are ∙ sym (tiers_end records tick conn)) count one reads in
-    rw (append_assoc records (End tick conn ∷ []) rs, length-append records (End tick conn ∷ [])) at all
-stand_batch tiers (Tier conn tier ∷ rs) found records came before after are count stand reads =
+stand_batch (End tick conn ∷ rs) found records came before after numbers count stand reads =
+    let one = stand_end records came before (with_one conn Silent before) tick conn (number_next records rs (End tick conn) numbers) (numbers_front records (End tick conn ∷ rs) numbers) stand
+    (one_own conn Silent before) (one_other conn Silent before) in
+    let all = stand_batch rs found (records ++ End tick conn ∷ []) came (with_one conn Silent before) after (rw (append_assoc records (End tick conn ∷ []) rs) numbers) count one
+    (λ c. rest_end conn c tick rs (lists_to c (origins_after (records ++ End tick conn ∷ []) rs) found) (before c) (after c) (reads c)) in
+    rw (append_assoc records (End tick conn ∷ []) rs) at all
+stand_batch (Tier conn tier ∷ rs) found records came before after numbers count stand reads =
     let one = stand_tier records came before conn tier stand in
-    let given : with_tier conn tier tiers ≡ tiers_of (records ++ Tier conn tier ∷ []) = ap (with_tier conn tier) are ∙ sym (tiers_tier records conn tier) in
-    let all = stand_batch (with_tier conn tier tiers) rs found (records ++ Tier conn tier ∷ []) came before after given count one reads in
-    rw (append_assoc records (Tier conn tier ∷ []) rs, length-append records (Tier conn tier ∷ [])) at all
-stand_batch tiers (Piece tick conn bytes ∷ rs) [] records came before after are count stand reads = absurd (let z : ⊥ = omega (arith, count) in z)
-stand_batch tiers (Piece tick conn bytes ∷ rs) (ms ∷ found) records came before after are count stand reads =
-    let own = own_rest tiers conn tick bytes ms rs found (before conn) (after conn) (reads conn) in
+    let all = stand_batch rs found (records ++ Tier conn tier ∷ []) came before after (rw (append_assoc records (Tier conn tier ∷ []) rs) numbers) count one reads in
+    rw (append_assoc records (Tier conn tier ∷ []) rs) at all
+stand_batch (Piece tick conn bytes ∷ rs) [] records came before after numbers count stand reads = absurd (let z : ⊥ = omega (arith, count) in z)
+stand_batch (Piece tick conn bytes ∷ rs) (ms ∷ found) records came before after numbers count stand reads =
+    let own = own_rest conn tick bytes ms records rs found (before conn) (after conn) (reads conn) in
     let mid = own.0 in
-    let one = stand_piece records came before mid (tiers conn) tick conn bytes ms (ap (λ f. f conn) are) stand own.1 in
-    let counts : length found ≡ length (origins_of tiers rs) = omega (arith, count) in
-    let all = stand_batch tiers rs found (records ++ Piece tick conn bytes ∷ []) (came ++ arrivals_with (length records) (from_piece (tiers conn) tick conn) ms) (λ c. if conn == c then mid else before c) after
-    (are ∙ sym (tiers_piece records tick conn bytes)) counts one
-    (λ c. rest_of tiers conn c tick bytes ms rs found (before c) mid (after c) (λ e. subst (λ x. ReadsOn mid (pieces_to x rs) (lists_to x (origins_of tiers rs) found) (after x)) e own.2) (reads c)) in
-    rw (
-      append_assoc records (Piece tick conn bytes ∷ []) rs,
-      append_assoc came (arrivals_with (length records) (from_piece (tiers conn) tick conn) ms) (arrivals_in tiers (length (records ++ Piece tick conn bytes ∷ [])) rs found),
-      length-append records (Piece tick conn bytes ∷ []),
-    ) at all
+    let one = stand_piece records came before (with_one conn mid before) tick conn bytes ms (number_next records rs (Piece tick conn bytes) numbers) stand
+    (rw (one_own conn mid before) own.1) (one_other conn mid before) in
+    let counts : length found ≡ length (origins_after (records ++ Piece tick conn bytes ∷ []) rs) = omega (arith, count) in
+    let new = arrivals_with (length records) (connection_now conn records) (origin_now conn tick records) ms in
+    let all = stand_batch rs found (records ++ Piece tick conn bytes ∷ []) (came ++ new) (with_one conn mid before) after (rw (append_assoc records (Piece tick conn bytes ∷ []) rs) numbers) counts one
+    (λ c. rest_of conn c tick bytes ms records rs found (before c) mid (after c) (λ e. subst (λ x. ReadsOn mid (sent_to x rs) (lists_to x (origins_after (records ++ Piece tick conn bytes ∷ []) rs) found) (after x)) e own.2) (reads c)) in
+    rw (append_assoc records (Piece tick conn bytes ∷ []) rs, append_assoc came new (arrivals_in (records ++ Piece tick conn bytes ∷ []) rs found)) at all

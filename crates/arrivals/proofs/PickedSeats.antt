@@ -34,7 +34,7 @@ takes_none places = record {
   none = λ c h. absurd (contains_none c h);
 }
 
-takes_stay : (old now : List SeatState) (noted : List ℕ) (picked : List Picked) (k : ℕ) → length (seat_at now k).pieces ≡ 0
+takes_stay : (old now : List SeatState) (noted : List ℕ) (picked : List Picked) (k : ℕ) → length (seat_at now k).waiting ≡ 0
     → TakesOut old noted now picked → TakesOut old (noted ++ k ∷ []) now picked
 takes_stay old now noted picked k empty t = record {
   len = t.len;
@@ -45,12 +45,12 @@ takes_stay old now noted picked k empty t = record {
     | inl m ↦ t.none c m
     | inr e ↦ elim (t.rest c) [
       | inl m ↦ inl m
-      | inr same ↦ inr (ap (λ (p : SeatState). p.pieces) (sym same) ∙ no_items (seat_at now c).pieces (rw (← e) empty))
+      | inr same ↦ inr (ap (λ (p : SeatState). p.waiting) (sym same) ∙ no_items (seat_at now c).waiting (rw (← e) empty))
     ]
   ];
 }
 
-takes_one : (old now : List SeatState) (noted : List ℕ) (picked : List Picked) (k : ℕ) → k < length old → 0 < length (seat_at now k).pieces
+takes_one : (old now : List SeatState) (noted : List ℕ) (picked : List Picked) (k : ℕ) → k < length old → 0 < length (seat_at now k).waiting
     → TakesOut old noted now picked → TakesOut old (noted ++ k ∷ []) (set now k empty_seat) (picked ++ record { conn = k; seat = seat_at now k } ∷ [])
 takes_one old now noted picked k lt some t = record {
   len = length-set now k empty_seat ∙ t.len;
@@ -71,7 +71,7 @@ takes_one old now noted picked k lt some t = record {
 
     same : seat_at now k ≡ seat_at old k
     same = elim (t.rest k) [
-      | inl m ↦ absurd (let z : length (seat_at now k).pieces ≡ 0 = ap (λ (p : SeatState). length p.pieces) (t.out k m) in omega (arith, some, z))
+      | inl m ↦ absurd (let z : length (seat_at now k).waiting ≡ 0 = ap (λ (p : SeatState). length p.waiting) (t.out k m) in omega (arith, some, z))
       | inr e ↦ e
     ]
 
@@ -96,7 +96,7 @@ takes_one old now noted picked k lt some t = record {
       | inr e ↦ elim (t.rest c) [ inl m ↦ inl (more c m) | inr is ↦ inr (e.1 ∙ is) ]
     ]
 
-    none : (c : ℕ) → Contains (noted ++ k ∷ []) c → Contains (picks_of (picked ++ one ∷ [])) c ⊎ ((seat_at old c).pieces ≡ [])
+    none : (c : ℕ) → Contains (noted ++ k ∷ []) c → Contains (picks_of (picked ++ one ∷ [])) c ⊎ ((seat_at old c).waiting ≡ [])
     none c h = elim (Contains-push_cases noted k c h) [
       | inl m ↦ elim (t.none c m) [ inl m' ↦ inl (more c m') | inr e ↦ inr e ]
       | inr e ↦ inl (own c (sym e))
@@ -104,10 +104,10 @@ takes_one old now noted picked k lt some t = record {
 
 -- one more noted seat was looked at
 pub takes_next : (old now next : List SeatState) (noted : List ℕ) (picked further : List Picked) (k : ℕ) → k < length old
-    → (length (seat_at now k).pieces ≡ 0 → (next ≡ now) × (further ≡ picked))
-    → (0 < length (seat_at now k).pieces → (next ≡ set now k empty_seat) × (further ≡ picked ++ record { conn = k; seat = seat_at now k } ∷ []))
+    → (length (seat_at now k).waiting ≡ 0 → (next ≡ now) × (further ≡ picked))
+    → (0 < length (seat_at now k).waiting → (next ≡ set now k empty_seat) × (further ≡ picked ++ record { conn = k; seat = seat_at now k } ∷ []))
     → TakesOut old noted now picked → TakesOut old (noted ++ k ∷ []) next further
-takes_next old now next noted picked further k lt stays goes t = elim (cases_lt 0 (length (seat_at now k).pieces)) [
+takes_next old now next noted picked further k lt stays goes t = elim (cases_lt 0 (length (seat_at now k).waiting)) [
   | inl some ↦ (let is = goes some in rw (is.0, is.1) (takes_one old now noted picked k lt some t))
   | inr none ↦ (let is = stays (omega (arith, none)) in rw (is.0, is.1) (takes_stay old now noted picked k (omega (arith, none)) t))
 ]
@@ -181,7 +181,7 @@ all_back old new noted picked cuts are ready t h = zip_at old (with_picked new c
     taken : (c : ℕ) → Contains (picks_of picked) c → Contains (picks_of cuts) c
     taken c m = rw (same_picks picked cuts h) m
 
-    still : (c : ℕ) → seat_at new c ≡ seat_at old c → (seat_at old c).pieces ≡ [] → IsCutOf (seat_at old c) (seat_at new c)
+    still : (c : ℕ) → seat_at new c ≡ seat_at old c → (seat_at old c).waiting ≡ [] → IsCutOf (seat_at old c) (seat_at new c)
     still c same none = rw same (nothing_cut (seat_at old c) none (fresh_at old c ready))
 
     have : (c : ℕ) → IsCutOf (seat_at old c) (seat_at new c) ⊎ Contains (picks_of cuts) c
@@ -204,7 +204,7 @@ cut_list n old taken lent back rest last noted picked cuts len are ready t h giv
 
 -- ---- noting
 
-none_wait : (old cut : List SeatState) (c : ℕ) → AllZip IsCutOf old cut → (seat_at cut c).pieces ≡ []
+none_wait : (old cut : List SeatState) (c : ℕ) → AllZip IsCutOf old cut → (seat_at cut c).waiting ≡ []
 none_wait [] [] zero h = refl
 none_wait [] [] (suc c) h = refl
 none_wait [] (q ∷ cut) c h = absurd h
@@ -214,7 +214,7 @@ none_wait (p ∷ old) (q ∷ cut) (suc c) h = none_wait old cut c h.1
 
 -- pieces wait at a place
 abbrev Waits : List SeatState → ℕ → Type 0
-Waits places k = 0 < length (seat_at places k).pieces
+Waits places k = 0 < length (seat_at places k).waiting
 
 -- nothing waits at seats that were cut
 pub none_noted : (old cut : List SeatState) → AllZip IsCutOf old cut → AreNoted [] cut
@@ -229,32 +229,32 @@ pub noted_longer : (noted : List ℕ) (old new : List SeatState) → length old 
 noted_longer noted old new le same are = record {
   below = All-weaker (λ (k : ℕ). k < length old) (λ (k : ℕ). k < length new) (λ k lt. omega (arith, lt, le)) noted are.below;
   waits = All-weaker (Waits old) (Waits new) (λ k some. rw (same k) some) noted are.waits;
-  each = λ c. elim (are.each c) [ inl m ↦ inl m | inr none ↦ inr (ap (λ (p : SeatState). p.pieces) (same c) ∙ none) ];
+  each = λ c. elim (are.each c) [ inl m ↦ inl m | inr none ↦ inr (ap (λ (p : SeatState). p.waiting) (same c) ∙ none) ];
 }
 
 below_set : (noted : List ℕ) (places : List SeatState) (k : ℕ) (p : SeatState) → All (λ (i : ℕ). i < length places) noted → All (λ (i : ℕ). i < length (set places k p)) noted
 below_set noted places k p below =
     All-weaker (λ (i : ℕ). i < length places) (λ (i : ℕ). i < length (set places k p)) (λ i small. rw (length-set places k p) small) noted below
 
-waits_set : (noted : List ℕ) (places : List SeatState) (k : ℕ) (p : SeatState) → k < length places → 0 < length p.pieces → All (Waits places) noted → All (Waits (set places k p)) noted
+waits_set : (noted : List ℕ) (places : List SeatState) (k : ℕ) (p : SeatState) → k < length places → 0 < length p.waiting → All (Waits places) noted → All (Waits (set places k p)) noted
 waits_set noted places k p lt some waits = All-weaker (Waits places) (Waits (set places k p)) (λ c own. elim (at_set places k p c lt) [
   | inl e ↦ rw e.1 some
   | inr e ↦ rw e.1 own
 ]) noted waits
 
 -- a piece came to a seat that is noted
-pub noted_set : (noted : List ℕ) (places : List SeatState) (k : ℕ) (p : SeatState) → k < length places → 0 < length p.pieces → Contains noted k → AreNoted noted places → AreNoted noted (set places k p)
+pub noted_set : (noted : List ℕ) (places : List SeatState) (k : ℕ) (p : SeatState) → k < length places → 0 < length p.waiting → Contains noted k → AreNoted noted places → AreNoted noted (set places k p)
 noted_set noted places k p lt some m are = record {
   below = below_set noted places k p are.below;
   waits = waits_set noted places k p lt some are.waits;
   each = λ c. elim (at_set places k p c lt) [
     | inl e ↦ inl (rw e.0 m)
-    | inr e ↦ elim (are.each c) [ inl h ↦ inl h | inr none ↦ inr (ap (λ (q : SeatState). q.pieces) e.1 ∙ none) ]
+    | inr e ↦ elim (are.each c) [ inl h ↦ inl h | inr none ↦ inr (ap (λ (q : SeatState). q.waiting) e.1 ∙ none) ]
   ];
 }
 
 -- a piece came to a seat, which was noted then
-pub noted_new : (noted : List ℕ) (places : List SeatState) (k : ℕ) (p : SeatState) → k < length places → 0 < length p.pieces → AreNoted noted places → AreNoted (noted ++ k ∷ []) (set places k p)
+pub noted_new : (noted : List ℕ) (places : List SeatState) (k : ℕ) (p : SeatState) → k < length places → 0 < length p.waiting → AreNoted noted places → AreNoted (noted ++ k ∷ []) (set places k p)
 noted_new noted places k p lt some are = record {
   below = All-push (λ (i : ℕ). i < length (set places k p)) noted k (below_set noted places k p are.below) (rw (length-set places k p) lt);
   waits = All-push (Waits (set places k p)) noted k (waits_set noted places k p lt some are.waits) (rw (get_or-set_same places k p empty_seat lt) some);
@@ -262,22 +262,22 @@ noted_new noted places k p lt some are = record {
     | inl e ↦ inl (rw e.0 (Contains-push noted k))
     | inr e ↦ elim (are.each c) [
       | inl h ↦ inl (Contains-append_left noted (k ∷ []) c h)
-      | inr none ↦ inr (ap (λ (q : SeatState). q.pieces) e.1 ∙ none)
+      | inr none ↦ inr (ap (λ (q : SeatState). q.waiting) e.1 ∙ none)
     ]
   ];
 }
 
 -- the same pieces wait at a seat
-pub noted_kept : (noted : List ℕ) (places : List SeatState) (k : ℕ) (p : SeatState) → k < length places → (seat_at places k).pieces ≡ p.pieces → AreNoted noted places → AreNoted noted (set places k p)
+pub noted_kept : (noted : List ℕ) (places : List SeatState) (k : ℕ) (p : SeatState) → k < length places → (seat_at places k).waiting ≡ p.waiting → AreNoted noted places → AreNoted noted (set places k p)
 noted_kept noted places k p lt same are = record {
   below = below_set noted places k p are.below;
   waits = All-weaker (Waits places) (Waits (set places k p)) kept noted are.waits;
   each = λ c. elim (at_set places k p c lt) [
     | inl e ↦ elim (are.each c) [
       | inl h ↦ inl h
-      | inr none ↦ inr (ap (λ (q : SeatState). q.pieces) e.1 ∙ sym same ∙ ap (λ (i : ℕ). (seat_at places i).pieces) (sym e.0) ∙ none)
+      | inr none ↦ inr (ap (λ (q : SeatState). q.waiting) e.1 ∙ sym same ∙ ap (λ (i : ℕ). (seat_at places i).waiting) (sym e.0) ∙ none)
     ]
-    | inr e ↦ elim (are.each c) [ inl h ↦ inl h | inr none ↦ inr (ap (λ (q : SeatState). q.pieces) e.1 ∙ none) ]
+    | inr e ↦ elim (are.each c) [ inl h ↦ inl h | inr none ↦ inr (ap (λ (q : SeatState). q.waiting) e.1 ∙ none) ]
   ];
 }
   where
@@ -288,14 +288,14 @@ noted_kept noted places k p lt same are = record {
     ]
 
 -- a seat at which pieces wait is noted already
-pub is_noted : (noted : List ℕ) (places : List SeatState) (k : ℕ) → 0 < length (seat_at places k).pieces → AreNoted noted places → Contains noted k
+pub is_noted : (noted : List ℕ) (places : List SeatState) (k : ℕ) → 0 < length (seat_at places k).waiting → AreNoted noted places → Contains noted k
 is_noted noted places k some are = elim (are.each k) [
   | inl m ↦ m
-  | inr none ↦ absurd (let z : length (seat_at places k).pieces ≡ 0 = ap length none in omega (arith, some, z))
+  | inr none ↦ absurd (let z : length (seat_at places k).waiting ≡ 0 = ap length none in omega (arith, some, z))
 ]
 
 -- a piece came to a seat, which is noted from then on
-pub noted_piece : (noted : List ℕ) (places : List SeatState) (k : ℕ) (p : SeatState) (waited : Bool) → k < length places → 0 < length p.pieces
-    → (IsTrue waited ↔ (0 < length (seat_at places k).pieces)) → AreNoted noted places → AreNoted (with_noted k waited noted) (set places k p)
+pub noted_piece : (noted : List ℕ) (places : List SeatState) (k : ℕ) (p : SeatState) (waited : Bool) → k < length places → 0 < length p.waiting
+    → (IsTrue waited ↔ (0 < length (seat_at places k).waiting)) → AreNoted noted places → AreNoted (with_noted k waited noted) (set places k p)
 noted_piece noted places k p true lt some is are = noted_set noted places k p lt some (is_noted noted places k (is.0 refl) are) are
 noted_piece noted places k p false lt some is are = noted_new noted places k p lt some are

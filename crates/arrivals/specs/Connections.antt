@@ -1,11 +1,11 @@
--- What is kept of the connections of a capture between two of its records.
-use Rattle.std.specs.Prelude.{◌≡◌, ℕ, ◌+◌, ◌≤◌, Bool, List, [], ◌++◌, length, map, slice_index_or}
+-- What is kept of the connections between two records.
+use Rattle.std.specs.Prelude.{◌≡◌, ℕ, ◌+◌, ◌<◌, ◌≤◌, Bool, List, [], ◌++◌, length, map, slice_index_or, All}
 use Rattle.std.specs.List.{list_any}
-use Rattle.captures.specs.Reference.{max_text_bytes}
+use Rattle.captures.specs.Reference.{connection_now, connection_of, tier_of, used_once}
 use Rattle.captures.specs.declared.record.Record.{Record}
 use Rattle.http_requests.specs.declared.messages.Message.{Message}
 use Rattle.http_requests.specs.Reference.{MessagesOf, closes}
-use Rattle.http_requests.specs.Cutting.{CutterAfter, EndBetween}
+use Rattle.http_requests.specs.Cutting.{CutterAfter, EndBetween, max_text_bytes}
 use Rattle.arrivals.specs.Reference.{Arrival, text_of, messages_of}
 use Rattle.arrivals.specs.declared.incoming.Origin.{Origin}
 use Rattle.arrivals.specs.declared.connections.Connection.{Connection}
@@ -37,10 +37,31 @@ pub record ReadMore (text : List ℕ) (ms : List Message) (after : Connection) (
 abbrev pub connection_at : List Connection → ℕ → Connection
 connection_at connections c = slice_index_or connections c Silent
 
--- each connection has read its text of these records, and the arrivals are the messages of all
-pub record HaveRead (records : List Record) (arrivals : List Arrival) (connections : List Connection) : Type 0 where
-  pub each : (c : ℕ) → HasRead (connection_at connections c) (text_of c records) (messages_of c arrivals)
+-- the text, the messages and the tier of the connection that a number names after these records
+abbrev pub text_now : ℕ → List Record → List ℕ
+text_now c records = text_of (connection_now c records) (used_once records)
 
--- the arrivals of these messages with the piece at this place
-abbrev pub arrivals_with : ℕ → Origin → List Message → List Arrival
-arrivals_with place origin ms = map (λ m. record { origin = origin; place = place; message = m }) ms
+abbrev pub messages_now : ℕ → List Record → List Arrival → List Message
+messages_now c records arrivals = messages_of (connection_now c records) arrivals
+
+abbrev pub tier_now : ℕ → List Record → ℕ
+tier_now c records = tier_of (connection_now c records) (used_once records)
+
+-- a number of 16 bits; the records have such
+abbrev pub IsNumber : ℕ → Type 0
+IsNumber c = c < 65536
+
+abbrev pub HaveNumbers : List Record → Type 0
+HaveNumbers records = All (λ r. IsNumber (connection_of r)) records
+
+-- each connection that a number names has read its text of these records
+abbrev pub HaveReadSo : List Record → List Arrival → (ℕ → Connection) → Type 0
+HaveReadSo records arrivals at = (c : ℕ) → IsNumber c
+    → HasRead (at c) (text_now c records) (messages_now c records arrivals)
+
+pub record HaveRead (records : List Record) (arrivals : List Arrival) (connections : List Connection) : Type 0 where
+  pub each : HaveReadSo records arrivals (connection_at connections)
+
+-- the arrivals of these messages of a connection with the piece at this place
+abbrev pub arrivals_with : ℕ → ℕ → Origin → List Message → List Arrival
+arrivals_with place c origin ms = map (λ m. record { origin = origin; connection = c; place = place; message = m }) ms

@@ -1,4 +1,4 @@
--- How a batch of records is read: its pieces wait at the seats of their connections.
+-- How a batch of records is read: its pieces wait at the seats of their numbers.
 use Rattle.std.specs.Prelude.{◌≡◌, ℕ, ◌+◌, ◌<◌, ◌≤◌, ◌⊎◌, List, [], ◌∷◌, ◌++◌, Option, None, Ok, Err, sum_by}
 use Rattle.captures.specs.declared.record.Record.{Record}
 use Rattle.captures.specs.declared.record.Record.TheVariants.{Piece, End as Ends, Tier}
@@ -8,18 +8,19 @@ use Rattle.captures.specs.Reference.{max_piece_bytes}
 use Rattle.captures.specs.Captures.{sizes_of}
 use Rattle.captures.specs.CaptureFaults.{failures_of}
 use Rattle.captures.specs.Readers.{ReaderAfter, Gave, FailsNext}
-use Rattle.arrivals.specs.Batches.{pieces_to}
+use Rattle.arrivals.specs.Batches.{sent_to}
 use Rattle.arrivals.specs.SeatStates.{SeatState, seat_at}
+use Rattle.arrivals.specs.declared.waiting.Waiting.{Waiting}
 use Rattle.arrivals.specs.declared.batch.Ending.{Ending}
 use Rattle.arrivals.specs.declared.batch.Ending.TheVariants.{More, End, Fault}
 
--- a seat with more pieces after those that wait
-abbrev pub with_pieces : SeatState → List (List ℕ) → SeatState
-with_pieces p pieces = record { connection = p.connection; pieces = p.pieces ++ pieces; lists = p.lists }
+-- a seat with more after what waits there
+abbrev pub with_more : SeatState → List Waiting → SeatState
+with_more p more = record { connection = p.connection; waiting = p.waiting ++ more; lists = p.lists }
 
--- these records, in a batch: each seat has the pieces that they bring to its connection after its own
+-- these records, in a batch: at each seat what they bring to its number waits after what waited there
 abbrev pub Adds : List Record → List SeatState → List SeatState → Type 0
-Adds rs old new = (c : ℕ) → seat_at new c ≡ with_pieces (seat_at old c) (pieces_to c rs)
+Adds rs old new = (c : ℕ) → seat_at new c ≡ with_more (seat_at old c) (sent_to c rs)
 
 abbrev pub AddsOne : Record → List SeatState → List SeatState → Type 0
 AddsOne r old new = Adds (r ∷ []) old new

@@ -19,7 +19,7 @@ pub record TakesOut (old : List SeatState) (noted : List ℕ) (new : List SeatSt
   pub each : All (IsPickedOf old) picked
   pub out : (c : ℕ) → Contains (picks_of picked) c → seat_at new c ≡ empty_seat
   pub rest : (c : ℕ) → Contains (picks_of picked) c ⊎ (seat_at new c ≡ seat_at old c)
-  pub none : (c : ℕ) → Contains noted c → Contains (picks_of picked) c ⊎ ((seat_at old c).pieces ≡ [])
+  pub none : (c : ℕ) → Contains noted c → Contains (picks_of picked) c ⊎ ((seat_at old c).waiting ≡ [])
 
 -- the same seat, cut
 pub record IsCut (p : Picked) (cut : Picked) : Type 0 where

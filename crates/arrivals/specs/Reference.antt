@@ -4,12 +4,13 @@ use Rattle.std.specs.Prelude.{Some, slice_get, if◌then◌else◌}
 use Rattle.std.specs.List.{AllPairs}
 use Rattle.captures.specs.declared.record.Record.{Record}
 use Rattle.captures.specs.declared.record.Record.TheVariants.{Piece, End, Tier}
-use Rattle.captures.specs.Reference.{tier_of}
+use Rattle.captures.specs.Reference.{named_by, tier_of}
 use Rattle.http_requests.specs.declared.messages.Message.{Message}
 use Rattle.http_requests.specs.Reference.{MessagesOf}
 use Rattle.arrivals.specs.declared.incoming.Origin.{Origin}
 
--- The messages of a capture, in the order of their arrival.
+-- The messages that arrive with records whose connections have numbers that are used once, in the order of their
+-- arrival.
 
 -- the bytes that a record brings to a connection
 abbrev pub bytes_to : ℕ → Record → List ℕ
@@ -21,23 +22,26 @@ bytes_to c (Tier conn tier) = []
 abbrev pub text_of : ℕ → List Record → List ℕ
 text_of c records = flat_map (bytes_to c) records
 
--- a message, its connection, its tick and its tier, and the place of the record that it arrived with, counted from 0
+-- a message, where it came from (the number that named its connection, its tick and its tier), its connection, and the
+-- place of the record that it arrived with, counted from 0
 pub record Arrival : Type 0 where
   pub origin : Origin
+  pub connection : ℕ
   pub place : ℕ
   pub message : Message
 
 -- the messages of one connection
 abbrev pub messages_of : ℕ → List Arrival → List Message
-messages_of c arrivals = map (λ a. a.message) (filter (λ a. a.origin.conn == c) arrivals)
+messages_of c arrivals = map (λ a. a.message) (filter (λ a. a.connection == c) arrivals)
 
 -- the message arrived with the piece that holds its last byte, in the tier that its connection had there
 pub record ArrivesWith (records : List Record) (a : Arrival) : Type 0 where
   pub bytes : List ℕ
-  pub piece : slice_get records a.place ≡ Some (Piece a.origin.tick a.origin.conn bytes)
-  pub tier : a.origin.tier ≡ tier_of a.origin.conn (take a.place records)
-  pub after : length (text_of a.origin.conn (take a.place records)) < a.message.end
-  pub within : a.message.end ≤ length (text_of a.origin.conn (take a.place records)) + length bytes
+  pub piece : slice_get records a.place ≡ Some (Piece a.origin.tick a.connection bytes)
+  pub number : a.origin.conn ≡ named_by a.connection
+  pub tier : a.origin.tier ≡ tier_of a.connection (take a.place records)
+  pub after : length (text_of a.connection (take a.place records)) < a.message.end
+  pub within : a.message.end ≤ length (text_of a.connection (take a.place records)) + length bytes
 
 -- the first arrives before the second: with an earlier record, or earlier in the same
 abbrev pub Precedes : Arrival → Arrival → Type 0

@@ -1,4 +1,4 @@
-//! The next pieces of a capture, each laid at the seat of its connection.
+//! The next pieces of a capture, each laid at the seat of its number.
 
 ghost use Rattle.std.specs.Prelude.{◌≡◌, ◌<◌, ◌≤◌, ◌-◌, ◌^◌, ◌++◌, ◌∷◌, [], ℕ, List, Option, length, vec_len, ◌+◌};
 ghost use Rattle.std.specs.Prelude.{IfOk, IfErr, OnOk, MatchResult};
@@ -10,7 +10,7 @@ ghost use Rattle.captures.specs.Readers.{ReaderAfter};
 ghost use Rattle.captures.specs.Shown.{progress_of, device_of, loan_of};
 ghost use Rattle.captures.specs.declared.record.Record.{Record as ARecord};
 ghost use Rattle.captures.specs.declared.progress.ReaderState.TheVariants.{Reading};
-ghost use Rattle.arrivals.specs.Batches.{origins_of, tiers_of};
+ghost use Rattle.arrivals.specs.Batches.{origins_after};
 ghost use Rattle.arrivals.specs.Tiers.{AreTiers};
 ghost use Rattle.arrivals.specs.Gathering.{AddsOne, Adds, ReadOn, CountsEnding, IfMore, HasSize, as_piece};
 
@@ -52,8 +52,8 @@ fn bytes_of(next: &Record) -> usize
     }
 }
 
-/// Takes a record into a batch: the bytes of a piece wait at the seat of its connection, which has the tier that it was
-/// given.
+/// Takes a record into a batch: the bytes of a piece, and an end, wait at the seat of their number. The tier of its
+/// connection is the one that it was given.
 fn take_record(
     alloc: Global,
     next: Record,
@@ -66,11 +66,14 @@ fn take_record(
     ensures tiers { OnOk result ((records : List ARecord) → AreTiers records tiers.old
         → AreTiers (records ++ next ∷ []) tiers.new) }
     ensures origins { OnOk result ((records : List ARecord) → AreTiers records tiers.old
-        → origins.new.items ≡ origins.old.items ++ origins_of (tiers_of records) (next ∷ [])) }
+        → origins.new.items ≡ origins.old.items ++ origins_after records (next ∷ [])) }
     ensures len { OnOk result (vec_len origins.new ≡ vec_len origins.old + as_piece next) }
 {
     match next {
-        Record::End { .. } => Ok(()),
+        Record::End { conn, .. } => {
+            tiers.end(conn);
+            seats.end(alloc, usize::from(conn))
+        }
         Record::Tier { conn, tier } => tiers.give(conn, tier),
         Record::Piece { tick, conn, bytes } => {
             seats.add(alloc, usize::from(conn), bytes)?;
@@ -94,7 +97,7 @@ pub fn read_batch<'a, R: Read>(
     requires stage { (progress_of capture.old).stage ≡ Reading }
     ensures batch { IfOk result (λ batch. (rs : List ARecord) × Adds rs seats.old seats.new
         × ((records : List ARecord) → AreTiers records tiers.old
-        → (batch.origins.items ≡ origins_of (tiers_of records) rs) × AreTiers (records ++ rs) tiers.new)
+        → (batch.origins.items ≡ origins_after records rs) × AreTiers (records ++ rs) tiers.new)
         × ((version : AVersion) (text : Option (List ℕ)) (start : ℕ) (records : List ARecord)
         → ReaderAfter version text start records (progress_of capture.old) (device_of capture.old).bytes
         → ReadOn version text start (records ++ rs) batch.ending

@@ -1,11 +1,10 @@
-//! All connections of a capture, read piece by piece.
+//! The connections that numbers name, read piece by piece.
 
 ghost use Rattle.std.specs.Prelude.{◌≡◌, ◌≢◌, ◌<◌, ◌≤◌, [], ℕ, List, length, ◌+◌, OnOk, IfOk, IfSome, IfNone};
-ghost use Rattle.captures.specs.Reference.{max_text_bytes};
 ghost use Rattle.http_requests.specs.declared.messages.Message.{Message as AMessage};
-ghost use Rattle.http_requests.specs.Cutting.{CutterAfter};
+ghost use Rattle.http_requests.specs.Cutting.{CutterAfter, max_text_bytes};
 ghost use Rattle.arrivals.specs.Connections.{HasRead, HasRoom, ReadMore, connection_at, some_closes};
-ghost use Rattle.arrivals.specs.declared.connections.Connection.TheVariants.{Closed};
+ghost use Rattle.arrivals.specs.declared.connections.Connection.TheVariants.{Closed, Silent};
 
 use http_requests::{Cutter, Message};
 use std::alloc::{AllocError, Global};
@@ -19,7 +18,7 @@ pub fn some_closes(messages: &[Message]) -> bool
     messages.iter().any(|message| message.what.closes())
 }
 
-/// A connection of a capture.
+/// A connection.
 #[derive(Drop)]
 pub enum Connection {
     /// No byte of it came yet.
@@ -70,8 +69,8 @@ impl Connection {
     }
 }
 
-/// The connections of a capture, by their numbers. A cutter is kept for each that is open: for none that is silent yet,
-/// and for none that a message has closed.
+/// The connections that numbers name, each the last one of its number. A cutter is kept for each that is open: for none
+/// that is silent yet, and for none that a message has closed, or that has ended.
 #[derive(Drop)]
 pub struct Connections {
     list: Vec<Connection>,
@@ -128,5 +127,15 @@ impl Connections {
         let before = mem::replace(&mut self.list[conn], Connection::Closed);
         self.list[conn] = before.read(alloc, piece, out)?;
         Ok(())
+    }
+
+    /// The connection of a number has ended: a further one comes after it. An unfinished message of it is gone.
+    pub fn end(&mut self, conn: usize)
+        ensures own { connection_at self.new conn ≡ Silent }
+        ensures others { (c : ℕ) → c ≢ conn → connection_at self.new c ≡ connection_at self.old c }
+    {
+        if let Some(connection) = self.list.get_mut(conn) {
+            *connection = Connection::Silent;
+        }
     }
 }

@@ -1,5 +1,5 @@
-//! The messages of a capture, in the order of their arrival: the text of each connection is cut into messages, and each
-//! message arrives with the piece that holds its last byte.
+//! The messages of recorded traffic, in the order of their arrival: the text of each connection is cut into messages,
+//! and each message arrives with the piece that holds its last byte. After its end a number names a further connection.
 #![tactic(auto)]
 
 mod batch;
@@ -13,6 +13,7 @@ mod seat;
 mod seats;
 mod series;
 mod tiers;
+mod waiting;
 
 pub use batch::{Batch, Ending, read_batch};
 pub use connections::{Connections, some_closes};

@@ -1,4 +1,4 @@
-//! The seats at which pieces wait: taken out of the list to be cut, and put back.
+//! The seats at which something waits: taken out of the list to be cut, and put back.
 
 ghost use Rattle.std.specs.Prelude.{◌≡◌, ◌<◌, ◌++◌, ◌∷◌, [], length, slice_set, All, IfOk, OnOk};
 ghost use Rattle.std.specs.List.{AllZip};
@@ -11,7 +11,7 @@ use std::alloc::{AllocError, Global};
 use std::mem;
 use std::thread::Threads;
 
-/// A seat that was taken out, and the number of its connection.
+/// A seat that was taken out, and its number.
 #[derive(Drop)]
 pub(crate) struct Picked {
     conn: usize,
@@ -19,7 +19,7 @@ pub(crate) struct Picked {
 }
 
 impl Picked {
-    /// Cuts the pieces.
+    /// Cuts what waits.
     fn cut(self, alloc: Global) -> Result<Picked, AllocError>
         requires { IsReady self.seat }
         ensures { IfOk result (IsCut self) }
@@ -30,12 +30,12 @@ impl Picked {
     }
 }
 
-/// Takes a seat out of the list where pieces wait at it.
+/// Takes a seat out of the list where something waits at it.
 fn pick_one(list: &mut [Seat], conn: usize, picked: &mut Vec<Picked>) -> Result<(), AllocError>
     requires { conn < length list.old }
-    ensures stays { OnOk result (length (seat_at list.old conn).pieces ≡ 0
+    ensures stays { OnOk result (length (seat_at list.old conn).waiting ≡ 0
         → (list.new ≡ list.old) × (picked.new.items ≡ picked.old.items)) }
-    ensures goes { OnOk result (0 < length (seat_at list.old conn).pieces
+    ensures goes { OnOk result (0 < length (seat_at list.old conn).waiting
         → (list.new ≡ slice_set list.old conn empty_seat)
         × (picked.new.items ≡ picked.old.items ++ record { conn = conn; seat = seat_at list.old conn } ∷ [])) }
 {
@@ -46,7 +46,7 @@ fn pick_one(list: &mut [Seat], conn: usize, picked: &mut Vec<Picked>) -> Result<
     Ok(())
 }
 
-/// Takes the seats out of the list at which pieces wait, of those that are noted.
+/// Takes the seats out of the list at which something waits, of those that are noted.
 pub(crate) fn pick(
     alloc: Global,
     list: &mut [Seat],
@@ -72,7 +72,7 @@ fn part_len(seats: usize, threads: usize) -> usize {
     }
 }
 
-/// Cuts the pieces of each seat, in about so many parts, each of which has a thread; the calling thread cuts one.
+/// Cuts what waits at each seat, in about so many parts, each of which has a thread; the calling thread cuts one.
 pub(crate) fn cut_all<R: Threads + Sync>(
     rt: &R,
     alloc: Global,

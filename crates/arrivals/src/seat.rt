@@ -1,24 +1,25 @@
-//! The pieces of one connection in a batch, and their cutting into messages.
+//! What comes on one number in a batch, and its cutting into messages.
 
-ghost use Rattle.std.specs.Prelude.{◌≡◌, ◌<◌, ◌↔◌, [], ◌∷◌, length, IsTrue, IfOk, OnOk, OnErr};
+ghost use Rattle.std.specs.Prelude.{◌≡◌, ◌<◌, ◌↔◌, [], ◌∷◌, length, true, IsTrue, IfOk, OnOk, OnErr};
 ghost use Rattle.arrivals.specs.Batches.{ReadsOn};
-ghost use Rattle.arrivals.specs.SeatStates.{empty_seat, with_piece, with_lists, CanRead, IsReady, IsCutOf};
+ghost use Rattle.arrivals.specs.SeatStates.{empty_seat, with_next, with_lists, CanRead, IsReady, IsCutOf};
+ghost use Rattle.arrivals.specs.SeatStates.{MayTake, TakesNext};
 
 use crate::Series;
 use crate::connections::Connection;
 use crate::fifo::Fifo;
-use devices::Bytes;
+use crate::waiting::Waiting;
 use http_requests::Message;
 use std::alloc::{AllocError, Global};
 use std::marker::Model;
 use std::mem;
 
-/// What is kept of a connection that sent something: itself, the pieces that wait to be cut, and for each piece that
-/// was cut the messages that end in it.
+/// What is kept of a number on which something came: its connection, what waits to be cut, and for each piece that was
+/// cut the messages that end in it.
 #[derive(Drop)]
 struct Taken {
     connection: Connection,
-    pieces: Fifo<Bytes>,
+    waiting: Fifo<Waiting>,
     lists: Fifo<Series<Message>>,
 }
 
@@ -27,7 +28,7 @@ impl Model for Taken {
 
     ghost Value = { SeatState };
 
-    ghost view = { λ s. record { connection = s.connection; pieces = s.pieces; lists = s.lists } };
+    ghost view = { λ s. record { connection = s.connection; waiting = s.waiting; lists = s.lists } };
 }
 
 impl Taken {
@@ -37,33 +38,42 @@ impl Taken {
     {
         Taken {
             connection: Connection::Silent,
-            pieces: Fifo::new(),
+            waiting: Fifo::new(),
             lists: Fifo::new(),
         }
     }
 
-    /// A piece came.
-    fn add(&mut self, alloc: Global, piece: Bytes) -> Result<(), AllocError>
-        ensures ok { OnOk result (self.new ≡ with_piece piece self.old) }
+    /// A piece or an end came.
+    fn add(&mut self, alloc: Global, next: Waiting) -> Result<(), AllocError>
+        ensures ok { OnOk result (self.new ≡ with_next next self.old) }
         ensures err { OnErr result (self.new ≡ self.old) }
     {
-        self.pieces.push(alloc, piece)
+        self.waiting.push(alloc, next)
     }
 
-    /// Whether pieces wait to be cut.
+    /// Whether something waits to be cut.
     fn waits(&self) -> bool
-        ensures { IsTrue result ↔ (0 < length self.now.pieces) }
+        ensures { IsTrue result ↔ (0 < length self.now.waiting) }
     {
-        !self.pieces.is_empty()
+        !self.waiting.is_empty()
     }
 
-    /// Cuts the pieces.
+    /// Whether nothing is kept any more.
+    fn holds_nothing(&self) -> bool
+        ensures { result ≡ true → self.now ≡ empty_seat }
+    {
+        matches!(self.connection, Connection::Silent)
+            && self.waiting.is_empty()
+            && self.lists.is_empty()
+    }
+
+    /// Cuts what waits.
     fn cut(&mut self, alloc: Global) -> Result<(), AllocError>
         requires { IsReady self.old }
         ensures { OnOk result (IsCutOf self.old self.new) }
     {
         let connection = mem::replace(&mut self.connection, Connection::Closed);
-        self.connection = cut_pieces(alloc, connection, &mut self.pieces, &mut self.lists)?;
+        self.connection = cut_waiting(alloc, connection, &mut self.waiting, &mut self.lists)?;
         Ok(())
     }
 
@@ -76,28 +86,47 @@ impl Taken {
     }
 }
 
-/// Cuts the pieces of a connection, with a list for each of the messages that end in it.
-fn cut_pieces(
+/// Cuts the piece that waited next, with a list of the messages that end in it, or ends the connection.
+fn take_next(
     alloc: Global,
     connection: Connection,
-    pieces: &mut Fifo<Bytes>,
+    next: Waiting,
     lists: &mut Fifo<Series<Message>>,
 ) -> Result<Connection, AllocError>
-    requires can { CanRead connection pieces.old }
+    requires { MayTake connection next }
+    ensures { IfOk result (TakesNext connection next lists.old lists.new) }
+{
+    match next {
+        Waiting::Piece(piece) => {
+            let mut more = Vec::new(alloc);
+            let after = connection.read(alloc, piece.as_slice(), &mut more)?;
+            lists.push(alloc, Series::from_vec(more))?;
+            Ok(after)
+        }
+        Waiting::End => Ok(Connection::Silent),
+    }
+}
+
+/// Cuts what waits at a seat, with a list for each piece of the messages that end in it.
+fn cut_waiting(
+    alloc: Global,
+    connection: Connection,
+    waiting: &mut Fifo<Waiting>,
+    lists: &mut Fifo<Series<Message>>,
+) -> Result<Connection, AllocError>
+    requires can { 0 < length waiting.old → CanRead connection waiting.old }
     requires fresh { lists.old ≡ [] }
-    ensures reads { IfOk result (ReadsOn connection pieces.old lists.new) }
-    ensures done { OnOk result (pieces.new ≡ []) }
+    ensures reads { IfOk result (ReadsOn connection waiting.old lists.new) }
+    ensures done { OnOk result (waiting.new ≡ []) }
 {
     let mut connection = connection;
-    while let Some(piece) = pieces.pop() {
-        let mut more = Vec::new(alloc);
-        connection = connection.read(alloc, piece.as_slice(), &mut more)?;
-        lists.push(alloc, Series::from_vec(more))?;
+    while let Some(next) = waiting.pop() {
+        connection = take_next(alloc, connection, next, lists)?;
     }
     Ok(connection)
 }
 
-/// The seat of a connection. It takes no more than a pointer until something comes.
+/// The seat of a number. It takes no more than a pointer until something comes, and again once nothing is kept of it.
 #[derive(Drop)]
 pub struct Seat {
     taken: Option<Box<Taken>>,
@@ -120,25 +149,25 @@ impl Seat {
         Seat { taken: None }
     }
 
-    /// A piece came.
-    pub(crate) fn add(&mut self, alloc: Global, piece: Bytes) -> Result<(), AllocError>
-        ensures ok { OnOk result (self.new ≡ with_piece piece self.old) }
+    /// A piece or an end came.
+    pub(crate) fn add(&mut self, alloc: Global, next: Waiting) -> Result<(), AllocError>
+        ensures ok { OnOk result (self.new ≡ with_next next self.old) }
         ensures err { OnErr result (self.new ≡ self.old) }
     {
         match &mut self.taken {
-            Some(taken) => taken.add(alloc, piece),
+            Some(taken) => taken.add(alloc, next),
             None => {
                 let mut taken = Taken::new();
-                taken.add(alloc, piece)?;
+                taken.add(alloc, next)?;
                 self.taken = Some(Box::new(alloc, taken)?);
                 Ok(())
             }
         }
     }
 
-    /// Whether pieces wait to be cut.
+    /// Whether something waits to be cut.
     pub(crate) fn waits(&self) -> bool
-        ensures { IsTrue result ↔ (0 < length self.now.pieces) }
+        ensures { IsTrue result ↔ (0 < length self.now.waiting) }
     {
         match &self.taken {
             Some(taken) => taken.waits(),
@@ -146,14 +175,34 @@ impl Seat {
         }
     }
 
-    /// Cuts the pieces.
+    /// Cuts what waits.
     pub(crate) fn cut(&mut self, alloc: Global) -> Result<(), AllocError>
         requires { IsReady self.old }
         ensures { OnOk result (IsCutOf self.old self.new) }
     {
-        match &mut self.taken {
-            Some(taken) => taken.cut(alloc),
-            None => Ok(()),
+        if let Some(taken) = &mut self.taken {
+            taken.cut(alloc)?;
+        }
+        self.give_back();
+        Ok(())
+    }
+
+    /// Gives the memory back where nothing is kept any more.
+    fn give_back(&mut self)
+        ensures { self.new ≡ self.old }
+    {
+        if self.holds_nothing() {
+            self.taken = None;
+        }
+    }
+
+    /// Whether nothing is kept.
+    fn holds_nothing(&self) -> bool
+        ensures { result ≡ true → self.now ≡ empty_seat }
+    {
+        match &self.taken {
+            Some(taken) => taken.holds_nothing(),
+            None => true,
         }
     }
 
@@ -162,9 +211,11 @@ impl Seat {
         requires { 0 < length self.old.lists }
         ensures { self.old ≡ with_lists (result ∷ self.new.lists) self.new }
     {
-        match &mut self.taken {
+        let messages = match &mut self.taken {
             Some(taken) => taken.next(),
             None => unreachable!(),
-        }
+        };
+        self.give_back();
+        messages
     }
 }

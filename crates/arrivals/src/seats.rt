@@ -1,16 +1,18 @@
-//! All seats of a batch, cut side by side, and their messages merged in the order of the pieces.
+//! The seats of all numbers, cut side by side, and their messages merged in the order of the pieces.
 
 ghost use Rattle.std.specs.Prelude.{◌≡◌, ◌≢◌, ◌<◌, ◌≤◌, ◌∷◌, [], ℕ, length, map, All, IfOk, OnOk, OnErr};
 ghost use Rattle.std.specs.Prelude.{vec_len, vec_capacity};
 ghost use Rattle.std.specs.List.{AllZip};
 ghost use Rattle.arrivals.specs.Batches.{lists_to};
 ghost use Rattle.arrivals.specs.Noted.{with_noted};
-ghost use Rattle.arrivals.specs.SeatStates.{seat_at, with_piece, with_lists, IsReady, IsCutOf, count_to};
+ghost use Rattle.arrivals.specs.SeatStates.{seat_at, with_next, with_lists, IsReady, IsCutOf, count_to};
+ghost use Rattle.arrivals.specs.declared.waiting.Waiting.TheVariants.{Piece as Comes, End as Ends};
 
 use crate::Series;
 use crate::incoming::{Origin, PieceMessages};
 use crate::picked::{cut_all, pick, put_back};
 use crate::seat::Seat;
+use crate::waiting::Waiting;
 use devices::Bytes;
 use http_requests::Message;
 use rayon::current_num_threads;
@@ -25,7 +27,7 @@ const WORTH: usize = 1_048_576;
 /// How many bytes of a piece don't count: to give a piece to another thread takes about as long as to cut so many.
 const HANDING: usize = 1024;
 
-/// The connections of a capture, by their numbers, and which of them have pieces that wait to be cut.
+/// The seats of numbers, and at which of them something waits to be cut.
 #[derive(Drop)]
 pub struct Seats {
     list: Vec<Seat>,
@@ -48,7 +50,7 @@ impl Model for Seats {
     ghost invariant = { λ s. AreNoted s.noted.items s.list.items };
 }
 
-/// Makes a place for a connection.
+/// Makes a place for a number.
 fn reach(list: &mut Vec<Seat>, conn: usize) -> Result<(), AllocError>
     ensures place { OnOk result (conn < length list.new.items) }
     ensures longer { length list.old.items ≤ length list.new.items }
@@ -60,7 +62,7 @@ fn reach(list: &mut Vec<Seat>, conn: usize) -> Result<(), AllocError>
     Ok(())
 }
 
-/// Notes a seat, where no piece waited at it before.
+/// Notes a seat, where nothing waited at it before.
 fn note(noted: &mut Vec<usize>, conn: usize, waited: bool)
     requires { vec_len noted.old < vec_capacity noted.old }
     ensures { noted.new.items ≡ with_noted conn waited noted.old.items }
@@ -83,25 +85,48 @@ impl Seats {
         }
     }
 
-    /// A piece came on a connection. It is noted once the piece waits there.
-    pub fn add(&mut self, alloc: Global, conn: usize, piece: Bytes) -> Result<(), AllocError>
+    /// Something came on a number. Its seat is noted once that waits there.
+    fn take(&mut self, alloc: Global, conn: usize, next: Waiting) -> Result<(), AllocError>
         ensures own { OnOk result
-            (seat_at self.new conn ≡ with_piece piece (seat_at self.old conn)) }
+            (seat_at self.new conn ≡ with_next next (seat_at self.old conn)) }
         ensures others { OnOk result
             ((c : ℕ) → c ≢ conn → seat_at self.new c ≡ seat_at self.old c) }
         ensures err { OnErr result ((c : ℕ) → seat_at self.new c ≡ seat_at self.old c) }
     {
         reach(&mut self.list, conn)?;
         self.noted.reserve(1)?;
-        let bytes = piece.as_slice().len().saturating_sub(HANDING);
         let waited = self.list[conn].waits();
-        self.list[conn].add(alloc, piece)?;
+        self.list[conn].add(alloc, next)?;
         note(&mut self.noted, conn, waited);
+        Ok(())
+    }
+
+    /// A piece came on a number.
+    pub fn add(&mut self, alloc: Global, conn: usize, piece: Bytes) -> Result<(), AllocError>
+        ensures own { OnOk result
+            (seat_at self.new conn ≡ with_next (Comes piece) (seat_at self.old conn)) }
+        ensures others { OnOk result
+            ((c : ℕ) → c ≢ conn → seat_at self.new c ≡ seat_at self.old c) }
+        ensures err { OnErr result ((c : ℕ) → seat_at self.new c ≡ seat_at self.old c) }
+    {
+        let bytes = piece.as_slice().len().saturating_sub(HANDING);
+        self.take(alloc, conn, Waiting::Piece(piece))?;
         self.waiting = self.waiting.saturating_add(bytes);
         Ok(())
     }
 
-    /// Cuts the pieces of each connection, the connections in parallel where the pieces are worth it.
+    /// The connection of a number has ended. It is kept until what came before its end was cut.
+    pub fn end(&mut self, alloc: Global, conn: usize) -> Result<(), AllocError>
+        ensures own { OnOk result
+            (seat_at self.new conn ≡ with_next Ends (seat_at self.old conn)) }
+        ensures others { OnOk result
+            ((c : ℕ) → c ≢ conn → seat_at self.new c ≡ seat_at self.old c) }
+        ensures err { OnErr result ((c : ℕ) → seat_at self.new c ≡ seat_at self.old c) }
+    {
+        self.take(alloc, conn, Waiting::End)
+    }
+
+    /// Cuts what waits at each seat, the seats in parallel where the pieces are worth it.
     pub fn cut<R: Threads + Sync>(self, rt: &R, alloc: Global) -> Result<Seats, AllocError>
         requires ready { All IsReady self }
         ensures { IfOk result (λ cut. AllZip IsCutOf self cut) }

@@ -1,13 +1,12 @@
-//! The tier of each connection.
+//! The tier of each number's connection.
 
 ghost use Rattle.std.specs.Prelude.{◌≡◌, ◌<◌, [], ℕ, length, OnOk};
-ghost use Rattle.arrivals.specs.Tiers.{tier_at};
-ghost use Rattle.arrivals.specs.Batches.{with_tier};
+ghost use Rattle.arrivals.specs.Tiers.{tier_at, with_tier};
 
 use std::alloc::{AllocError, Global};
 use std::marker::Model;
 
-/// The tiers of the connections of a capture, by their numbers: 0 for each that no record gave another.
+/// The tiers of the connections that numbers name: 0 for each that no record gave another.
 #[derive(Drop)]
 pub struct Tiers {
     list: Vec<u8>,
@@ -65,5 +64,14 @@ impl Tiers {
         self.reach(place)?;
         self.list[place] = tier;
         Ok(())
+    }
+
+    /// The connection of a number has ended: a further one has no tier yet.
+    pub fn end(&mut self, conn: u16)
+        ensures { (c : ℕ) → tier_at self.new c ≡ with_tier conn 0 (tier_at self.old) c }
+    {
+        if let Some(tier) = self.list.get_mut(usize::from(conn)) {
+            *tier = 0;
+        }
     }
 }

@@ -1,7 +1,7 @@
 -- A capture of version 1 is answered as before there were tiers, and its upgraded text as it is.
-use Rattle.std.proofs.Common.{◌≡◌, ℕ, suc, ◌+◌, ◌-◌, ◌≤◌, ◌==◌, ◌||◌, Bool, true, false, cond, List, [], ◌∷◌, ◌++◌, length, map, take, get_or, Option, Some, unwrap_or, refl, sym, ap, ◌∙◌, subst, arith, All, append-nil, append_assoc}
+use Rattle.std.proofs.Common.{◌≡◌, ℕ, suc, ◌+◌, ◌-◌, ◌<◌, ◌≤◌, ◌%◌, ◌==◌, ◌||◌, Bool, true, false, cond, List, [], ◌∷◌, ◌++◌, length, map, take, get_or, Option, Some, unwrap_or, refl, sym, ap, ◌∙◌, subst, arith, All, append-nil, append_assoc}
 use Rattle.std.specs.List.{list_any, filter, range_with_len, AllPairs}
-use Rattle.std.specs.Prelude.{count_by, nat_le}
+use Rattle.std.specs.Prelude.{count_by, nat_le, slice_get}
 use Rattle.std.specs.Io.KnownBytes.{Appends}
 use Rattle.std.proofs.Math.Nat.{zero-div}
 use Rattle.std.proofs.lemmas.Grind.{flat_map-append}
@@ -12,12 +12,15 @@ use Rattle.std.proofs.lemmas.List.Elements.{All-nil, All-head, All-tail, All-tak
 use Rattle.http_requests.specs.declared.messages.Meaning.{Meaning}
 use Rattle.http_requests.specs.declared.messages.Meaning.TheVariants.{Request, Bad}
 use Rattle.captures.specs.declared.record.Record.{Record}
+use Rattle.captures.specs.declared.record.Record.TheVariants.{Piece}
 use Rattle.captures.specs.declared.version.Version.{Version}
 use Rattle.captures.specs.declared.version.Version.TheVariants.{One, Two}
-use Rattle.captures.specs.Reference.{IsRecord, IsCapture, IsCaptureText}
+use Rattle.captures.specs.Reference.{format_of, named_by, used_once, IsRecord, IsCapture, IsCaptureText}
+use Rattle.captures.specs.Upgrades.{later, upgraded}
+use Rattle.captures.proofs.Lives.{all_low, piece_low}
 use Rattle.captures.proofs.Agree.{one_list}
 use Rattle.captures.proofs.Tiers.{tiers_of_version_one}
-use Rattle.captures.proofs.UpgradeLaws.{upgrade_is}
+use Rattle.captures.proofs.UpgradeLaws.{upgrade_is, numbers_once, more_messages}
 use Rattle.http_requests.specs.Reference.{MessagesOf}
 use Rattle.admission.specs.declared.policy.PolicyNumbers.{PolicyNumbers}
 use Rattle.admission.specs.declared.control.Control.{Control}
@@ -33,9 +36,9 @@ use Rattle.reference.specs.declared.summary.Summary.{Summary}
 use Rattle.arrivals.specs.Reference.{Arrival, text_of, messages_of, ArrivesWith, Precedes, AreArrivals}
 use Rattle.responses.specs.Reference.{statuses}
 use Rattle.reference.proofs.OneAnswer.{same_outcome}
-use Rattle.reference.specs.Reference.{outcome_of, Terms, given, Handled, offer_at, offers_of, rejects, is_turned_away, handled_next, handled_after, handled, reply_of, replies_of, replies_text, status_for, counts_of, bypassed_of, breaks_a_rule, rejected_of, samples_of, tally_of, tallies_of, summary_of, Answers, max_messages}
+use Rattle.reference.specs.Reference.{outcome_of, Terms, given, Handled, offer_at, offers_of, rejects, is_turned_away, handled_next, handled_after, handled, reply_of, replies_of, replies_text, status_for, counts_of, bypassed_of, breaks_a_rule, rejected_of, samples_of, tally_of, tallies_of, summary_of, Answers}
 use Rattle.reference.specs.Former.{FormerTerms, ArrivedWith, WereArrivals, former_offer, former_offers, formerly_rejects, was_turned_away, handled_next_alone, handled_after_alone, former_handled, formerly_given, former_reply, former_replies, former_status, former_counts, former_samples, former_controls, FormerOutcome, former_outcome}
-use Rattle.reference.specs.Laws.{former_terms, no_requests, all_requests, in_tiers, SameInVersionOne, FormerAnswersHold, UpgradeKeepsAnswers}
+use Rattle.reference.specs.Laws.{former_terms, no_requests, all_requests, in_tiers, told_in, SameInVersionOne, FormerAnswersHold, UpgradeKeepsAnswers, UpgradeKeepsReplies}
 
 -- ---- offers of tier 0
 
@@ -305,17 +308,26 @@ lowest_of : (records : List Record) (arrivals : List Arrival) → All (IsRecord 
 lowest_of records arrivals each arrived k d lt =
     let a = get_or arrivals k d in
     (arrived.with k d lt).tier
-    ∙ tiers_of_version_one a.origin.conn (take a.place records) (All-take (IsRecord One) a.place records each)
+    ∙ tiers_of_version_one a.connection (take a.place records) (All-take (IsRecord One) a.place records each)
 
-was_with : (records : List Record) (a : Arrival) → ArrivesWith records a → ArrivedWith records a
-was_with records a with =
-    record { bytes = with.bytes; piece = with.piece; after = with.after; within = with.within }
+-- in a capture of version 1 a connection is its number
+number_is : (records : List Record) (i tick c : ℕ) (bytes : List ℕ) → All (IsRecord One) records → slice_get records i ≡ Some (Piece tick c bytes) → named_by c ≡ c
+number_is records i tick c bytes each piece = let low = piece_low records i tick c bytes (all_low One records each) piece in omega (arith, low)
 
-were_arrivals : (records : List Record) (arrivals : List Arrival) → AreArrivals records arrivals
-    → WereArrivals records arrivals
-were_arrivals records arrivals arrived = record {
+was_with : (records : List Record) (a : Arrival) → All (IsRecord One) records → ArrivesWith records a → ArrivedWith records a
+was_with records a each with = record {
+  bytes = with.bytes;
+  piece = with.piece;
+  number = with.number ∙ number_is records a.place a.origin.tick a.connection with.bytes each with.piece;
+  after = with.after;
+  within = with.within;
+}
+
+were_arrivals : (records : List Record) (arrivals : List Arrival) → All (IsRecord One) records
+    → AreArrivals records arrivals → WereArrivals records arrivals
+were_arrivals records arrivals each arrived = record {
   each = arrived.each;
-  with = λ k d lt. was_with records (get_or arrivals k d) (arrived.with k d lt);
+  with = λ k d lt. was_with records (get_or arrivals k d) each (arrived.with k d lt);
   order = arrived.order;
 }
 
@@ -323,7 +335,11 @@ pub same_in_version_one : SameInVersionOne
 same_in_version_one terms input old new outcome a one =
     let c = a.read.capture in
     let rules : IsCapture One c.start c.records = subst (λ v. IsCapture v c.start c.records) one c.rules in
-    let lowest : AreLowest a.read.arrivals = lowest_of c.records a.read.arrivals rules.each a.read.are in
+    let are : AreArrivals c.records a.read.arrivals =
+    subst (λ rs. AreArrivals rs a.read.arrivals) (numbers_once One c.start c.records refl rules) a.read.are in
+    let few = a.read.few in
+    let most = ap (λ v. (format_of v).max_messages) one in
+    let lowest : AreLowest a.read.arrivals = lowest_of c.records a.read.arrivals rules.each are in
     let former : FormerOutcome = former_outcome (former_terms terms) a.read.arrivals in (
       former,
       record {
@@ -332,13 +348,13 @@ same_in_version_one terms input old new outcome a one =
         arrivals = a.read.arrivals;
         rules = rules;
         capture = λ known. subst (λ v. IsCaptureText v (unwrap_or input []) c.start c.records) one (c.text known);
-        arrived = were_arrivals c.records a.read.arrivals a.read.are;
-        few = a.read.few;
+        arrived = were_arrivals c.records a.read.arrivals rules.each are;
+        few = omega (arith, few, most);
         written =
             subst (λ rs. Appends old new (replies_text rs)) (text_same terms c.start a.read.arrivals lowest) a.written;
         outcome = refl;
       },
-      a.outcome_is ∙ same_outcome (outcome_of terms a.read.arrivals) (in_tiers former)
+      a.outcome_is ∙ same_outcome (outcome_of c.version terms a.read.arrivals) (in_tiers former) one
           (rejected_same terms a.read.arrivals lowest) (summary_same terms a.read.arrivals lowest),
     )
 
@@ -372,12 +388,15 @@ summary_shared terms other arrivals lowest same =
 carried : (terms other : Terms) (text later : List ℕ) (old new : Option (List ℕ)) (outcome : Outcome) (v : Version)
     (start : ℕ) (records : List Record)
     → (a : Answers terms (Some text) old new outcome) → a.read.capture.start ≡ start → a.read.capture.records ≡ records
-    → All (IsRecord One) records → IsCaptureText v later start records
-    → former_terms terms ≡ former_terms other → Answers other (Some later) old new outcome
-carried terms other text later old new outcome v start records a begin all each capture same =
+    → All (IsRecord One) records → IsCaptureText v later start records → (format_of v).used_again ≡ false
+    → (format_of a.read.capture.version).max_messages ≤ (format_of v).max_messages
+    → former_terms terms ≡ former_terms other → Answers other (Some later) old new (told_in v outcome)
+carried terms other text later old new outcome v start records a begin all each capture once most same =
     let arrivals = a.read.arrivals in
-    let arrived : AreArrivals records arrivals = subst (λ rs. AreArrivals rs arrivals) all a.read.are in
-    let lowest : AreLowest arrivals = lowest_of records arrivals each arrived in
+    let few = a.read.few in
+    let arrived : AreArrivals (used_once records) arrivals = subst (λ rs. AreArrivals (used_once rs) arrivals) all a.read.are in
+    let are : AreArrivals records arrivals = subst (λ rs. AreArrivals rs arrivals) (numbers_once v start records once capture.rules) arrived in
+    let lowest : AreLowest arrivals = lowest_of records arrivals each are in
     record {
       read = record {
         capture = record {
@@ -389,13 +408,14 @@ carried terms other text later old new outcome v start records a begin all each 
         };
         arrivals = arrivals;
         are = arrived;
-        few = a.read.few;
+        few = omega (arith, few, most);
       };
       written = subst (λ rs. Appends old new (replies_text rs))
           (ap (λ s. replies_of terms s (handled terms arrivals)) begin
           ∙ text_shared terms other start arrivals lowest same) a.written;
-      outcome_is = a.outcome_is ∙ same_outcome (outcome_of terms arrivals) (outcome_of other arrivals)
-          (rejected_shared terms other arrivals lowest same) (summary_shared terms other arrivals lowest same);
+      outcome_is = same_outcome (told_in v outcome) (outcome_of v other arrivals) refl
+          (ap (λ (o : Outcome). o.rejected) a.outcome_is ∙ rejected_shared terms other arrivals lowest same)
+          (ap (λ (o : Outcome). o.summary) a.outcome_is ∙ summary_shared terms other arrivals lowest same);
     }
 
 pub upgrade_keeps_answers : UpgradeKeepsAnswers
@@ -403,18 +423,46 @@ upgrade_keeps_answers terms other text later old new outcome u one same =
     let first : IsCaptureText One text u.start u.records =
     subst (λ v. IsCaptureText v text u.start u.records) one u.capture in
     let second : IsCaptureText Two later u.start u.records =
-    subst (λ w. IsCaptureText Two w u.start u.records) (sym u.text) (upgrade_is One text u.start u.records first) in (
+    subst (λ w. IsCaptureText Two w u.start u.records) (sym (u.text ∙ ap (λ v. upgraded Two v u.start u.records) one)) (upgrade_is Two One text u.start u.records first) in (
       (λ a.
           (let both = one_list text a.read.capture.version One a.read.capture.start u.start a.read.capture.records u.records
           (a.read.capture.text refl) first in
           carried terms other text later old new outcome Two u.start u.records a both.1 both.2
-          first.rules.each second same)),
+          first.rules.each second refl (let m = ap (λ v. (format_of v).max_messages) both.0 in omega (arith, m)) same)),
       (λ a.
           (let both = one_list later a.read.capture.version Two a.read.capture.start u.start a.read.capture.records u.records
           (a.read.capture.text refl) second in
           carried terms other later text old new outcome One u.start u.records a both.1 both.2
-          first.rules.each first same)),
+          first.rules.each first refl (let m = ap (λ v. (format_of v).max_messages) both.0 in omega (arith, m)) same)),
     )
+
+-- the answer to the same records in a later format
+pub upgrade_keeps_replies : UpgradeKeepsReplies
+upgrade_keeps_replies terms to text upgraded old new outcome u a =
+    let both = one_list text a.read.capture.version u.version a.read.capture.start u.start a.read.capture.records u.records
+    (a.read.capture.text refl) u.capture in
+    let few = a.read.few in
+    let most = ap (λ v. (format_of v).max_messages) both.0 in
+    let wider = more_messages to u.version in
+    let capture : IsCaptureText (later to u.version) upgraded u.start u.records =
+    subst (λ w. IsCaptureText (later to u.version) w u.start u.records) (sym u.text) (upgrade_is to u.version text u.start u.records u.capture) in
+    record {
+      read = record {
+        capture = record {
+          version = later to u.version;
+          start = u.start;
+          records = u.records;
+          rules = capture.rules;
+          text = λ known. capture;
+        };
+        arrivals = a.read.arrivals;
+        are = subst (λ rs. AreArrivals (used_once rs) a.read.arrivals) both.2 a.read.are;
+        few = omega (arith, few, most, wider);
+      };
+      written = subst (λ s. Appends old new (replies_text (replies_of terms s (handled terms a.read.arrivals)))) both.1 a.written;
+      outcome_is = same_outcome (told_in (later to u.version) outcome) (outcome_of (later to u.version) terms a.read.arrivals) refl
+          (ap (λ (o : Outcome). o.rejected) a.outcome_is) (ap (λ (o : Outcome). o.summary) a.outcome_is);
+    }
 
 -- ---- a former answer holds
 
@@ -422,6 +470,7 @@ upgrade_keeps_answers terms other text later old new outcome u one same =
 lowered : Arrival → Arrival
 lowered a = record {
   origin = record { conn = a.origin.conn; tick = a.origin.tick; tier = 0 };
+  connection = a.connection;
   place = a.place;
   message = a.message;
 }
@@ -432,9 +481,9 @@ with_lowered h = record { number = h.number; arrival = lowered h.arrival; turned
 lowered_messages : (c : ℕ) (arrivals : List Arrival) → messages_of c (map lowered arrivals) ≡ messages_of c arrivals
 unfolding lowered
 lowered_messages c [] = refl
-lowered_messages c (a ∷ arrivals) = go (a.origin.conn == c) refl (lowered_messages c arrivals)
+lowered_messages c (a ∷ arrivals) = go (a.connection == c) refl (lowered_messages c arrivals)
   where
-    go : (own : Bool) → (a.origin.conn == c) ≡ own → messages_of c (map lowered arrivals) ≡ messages_of c arrivals
+    go : (own : Bool) → (a.connection == c) ≡ own → messages_of c (map lowered arrivals) ≡ messages_of c arrivals
         → messages_of c (map lowered (a ∷ arrivals)) ≡ messages_of c (a ∷ arrivals)
     go true e rest = rw e (ap (λ ms. a.message ∷ ms) rest)
     go false e rest = rw e rest
@@ -456,7 +505,8 @@ unfolding lowered
 lowered_with records a each with = record {
   bytes = with.bytes;
   piece = with.piece;
-  tier = sym (tiers_of_version_one a.origin.conn (take a.place records) (All-take (IsRecord One) a.place records each));
+  number = with.number ∙ sym (number_is records a.place a.origin.tick a.connection with.bytes each with.piece);
+  tier = sym (tiers_of_version_one a.connection (take a.place records) (All-take (IsRecord One) a.place records each));
   after = with.after;
   within = with.within;
 }
@@ -577,11 +627,11 @@ former_answers_hold terms input old new former f =
             text = f.capture;
           };
           arrivals = arrivals;
-          are = lowered_arrivals f.records f.arrivals f.rules.each f.arrived;
-          few = subst (λ n. n ≤ max_messages) (sym (length-map f.arrivals lowered)) f.few;
+          are = subst (λ rs. AreArrivals rs arrivals) (sym (numbers_once One f.start f.records refl f.rules)) (lowered_arrivals f.records f.arrivals f.rules.each f.arrived);
+          few = subst (λ n. n ≤ 1048576) (sym (length-map f.arrivals lowered)) f.few;
         };
         written = subst (λ rs. Appends old new (replies_text rs)) text f.written;
-        outcome_is = same_outcome (in_tiers former) (outcome_of terms arrivals)
+        outcome_is = same_outcome (in_tiers former) (outcome_of One terms arrivals) refl
             (sym (ap (λ (o : FormerOutcome). o.rejected) reported) ∙ sym (rejected_same terms arrivals lowest))
             (sym (ap (λ (o : FormerOutcome). (in_tiers o).summary) reported) ∙ sym (summary_same terms arrivals lowest));
       },

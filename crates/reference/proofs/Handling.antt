@@ -1,8 +1,11 @@
 -- What becomes of messages follows from the terms and the messages before them.
-use Rattle.std.proofs.Common.{◌≡◌, ℕ, zero, suc, List, [], ◌∷◌, ◌++◌, map, take, refl, ap, ◌∙◌}
+use Rattle.std.proofs.Common.{◌≡◌, ℕ, zero, suc, List, [], ◌∷◌, ◌++◌, map, take, refl, ap, ◌∙◌, subst}
 use Rattle.std.proofs.lemmas.List.{map-append}
+use Rattle.captures.specs.Reference.{format_of, used_once, used_once_after}
+use Rattle.captures.proofs.Lives.{once_append}
+use Rattle.arrivals.specs.Reference.{AreArrivals}
 use Rattle.arrivals.proofs.ArrivalLaws.{arrivals_begin}
-use Rattle.reference.specs.Reference.{handled, handled_after, max_messages, reply_of, replies_of}
+use Rattle.reference.specs.Reference.{handled, handled_after, reply_of, replies_of}
 use Rattle.reference.specs.Laws.{FloorsChangeNothing, HandledBegin, DueBegin}
 use Rattle.reference.proofs.Offering.{handled_more}
 
@@ -19,13 +22,14 @@ take_begins (suc n) [] ys = (take (suc n) ys, refl)
 take_begins (suc n) (x ∷ xs) ys = let r = take_begins n xs ys in (r.0, ap (λ l. x ∷ l) r.1)
 
 pub due_begins : DueBegin
-due_begins terms start records more xs ys a b =
-    let longer = arrivals_begin records more xs ys a b in
-    let within = take_begins max_messages xs longer.0 in
-    let both = handled_begin terms (take max_messages xs) within.0 in (
+due_begins v terms start records more xs ys a b =
+    let most = (format_of v).max_messages in
+    let longer = arrivals_begin (used_once records) (used_once_after records more) xs ys a (subst (λ rs. AreArrivals rs ys) (once_append records more) b) in
+    let within = take_begins most xs longer.0 in
+    let both = handled_begin terms (take most xs) within.0 in (
       map (reply_of terms start) both.0,
-      ap (λ l. replies_of terms start (handled terms (take max_messages l))) longer.1
+      ap (λ l. replies_of terms start (handled terms (take most l))) longer.1
           ∙ ap (λ l. replies_of terms start (handled terms l)) within.1
           ∙ ap (λ l. replies_of terms start l) both.1
-          ∙ map-append (reply_of terms start) (handled terms (take max_messages xs)) both.0,
+          ∙ map-append (reply_of terms start) (handled terms (take most xs)) both.0,
     )

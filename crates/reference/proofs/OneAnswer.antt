@@ -1,11 +1,13 @@
 -- A capture has one answer.
-use Rattle.std.proofs.Common.{◌≡◌, ◌∙◌, ℕ, List, ◌++◌, Option, Some, None, true, false, is_some, unwrap_or, [], refl, sym, ap}
+use Rattle.std.proofs.Common.{◌≡◌, ◌∙◌, ℕ, List, ◌++◌, Option, Some, None, true, false, is_some, unwrap_or, [], refl, sym, ap, subst}
 use Rattle.std.specs.Io.KnownBytes.{Appends}
 use Rattle.captures.proofs.Agree.{one_list}
 use Rattle.reference.specs.Reference.{outcome_of, handled, replies_of, replies_text}
 use Rattle.reference.specs.Laws.{OneAnswer}
 use Rattle.reference.specs.declared.summary.Outcome.{Outcome}
 use Rattle.arrivals.proofs.ArrivalLaws.{one_list_of_arrivals}
+use Rattle.arrivals.specs.Reference.{AreArrivals}
+use Rattle.captures.specs.Reference.{used_once}
 
 -- known bytes grow by the same text in one way
 pub grows_once : (old new other : Option (List ℕ)) (xs ys : List ℕ) → is_some old ≡ true → xs ≡ ys → Appends old new xs → Appends old other ys → new ≡ other
@@ -14,16 +16,17 @@ grows_once (Some before) None other xs ys known same h g = absurd h
 grows_once (Some before) (Some x) None xs ys known same h g = absurd g
 grows_once (Some before) (Some x) (Some y) xs ys known same h g = ap Some (h ∙ (ap (λ w. before ++ w) same ∙ sym g))
 
-pub same_outcome : (a b : Outcome) → a.rejected ≡ b.rejected → a.summary ≡ b.summary → a ≡ b
-same_outcome a b rejected summary = rw (rejected, summary) refl
+pub same_outcome : (a b : Outcome) → a.version ≡ b.version → a.rejected ≡ b.rejected → a.summary ≡ b.summary → a ≡ b
+same_outcome a b version rejected summary = rw (version, rejected, summary) refl
 
 pub one_answer : OneAnswer
 one_answer terms input old new other outcome another given known a b =
     let c = a.read.capture in
     let d = b.read.capture in
     let capture = one_list (unwrap_or input []) c.version d.version c.start d.start c.records d.records (c.text given) (d.text given) in
-    let arrivals : a.read.arrivals ≡ b.read.arrivals = one_list_of_arrivals d.records a.read.arrivals b.read.arrivals (rw (← capture.2) a.read.are) b.read.are in
+    let arrivals : a.read.arrivals ≡ b.read.arrivals = one_list_of_arrivals (used_once d.records) a.read.arrivals b.read.arrivals (subst (λ rs. AreArrivals (used_once rs) a.read.arrivals) capture.2 a.read.are) b.read.are in
     let text = ap (λ start. replies_text (replies_of terms start (handled terms a.read.arrivals))) capture.1 ∙ ap (λ xs. replies_text (replies_of terms d.start (handled terms xs))) arrivals in (
       grows_once old new other _ _ known text a.written b.written,
-      a.outcome_is ∙ (ap (outcome_of terms) arrivals ∙ sym b.outcome_is),
+      a.outcome_is ∙ (ap (outcome_of c.version terms) arrivals
+          ∙ (ap (λ v. outcome_of v terms b.read.arrivals) capture.0 ∙ sym b.outcome_is)),
     )

@@ -4,12 +4,13 @@ use Rattle.std.proofs.lemmas.List.{append-nil, length-append, take-append-le, ni
 use Rattle.captures.specs.declared.record.Record.{Record}
 use Rattle.captures.specs.declared.version.Version.{Version}
 use Rattle.captures.specs.declared.capture_fault.CaptureFault.{CaptureFault}
-use Rattle.captures.specs.Reference.{record_text, max_text_bytes, IsCapture, text_before_stop as records_text}
+use Rattle.captures.specs.Reference.{format_of, used_once, used_once_after, record_text, IsCapture, text_before_stop as records_text}
 use Rattle.captures.specs.CaptureFaults.{is_unforeseen_kind, IsFirstFault, FaultsAfter}
 use Rattle.captures.proofs.Records.{stop_text}
 use Rattle.captures.proofs.Agree.{Agrees, no_fault, few_records, one_fault as one_first_fault, agree_on, no_last_line, no_header_fault, no_fault_among}
+use Rattle.captures.proofs.Lives.{once_append}
 use Rattle.arrivals.specs.Reference.{Arrival, AreArrivals}
-use Rattle.reference.specs.Reference.{Terms, handled, max_messages, first_line, text_before_stop, replies_of}
+use Rattle.reference.specs.Reference.{Terms, handled, first_line, text_before_stop, replies_of}
 use Rattle.reference.specs.Texts.{reply_texts}
 use Rattle.captures.specs.Passes.{RecordsRead, FaultsNext}
 use Rattle.reference.specs.Outcomes.{WritesAll, Stops, StopsFull}
@@ -20,16 +21,16 @@ use Rattle.reference.proofs.OneAnswer.{grows_once}
 -- ---- arrivals of the first records
 
 -- they are no more than those of all
-no_fewer : (rs ss more : List Record) (xs ys : List Arrival) → ss ≡ rs ++ more → AreArrivals rs xs → AreArrivals ss ys → length xs ≤ length ys
+no_fewer : (rs ss more : List Record) (xs ys : List Arrival) → ss ≡ rs ++ more → AreArrivals (used_once rs) xs → AreArrivals (used_once ss) ys → length xs ≤ length ys
 no_fewer rs ss more xs ys is a b =
-    let rest = arrivals_begin rs more xs ys a (subst (λ (l : List Record). AreArrivals l ys) is b) in
+    let rest = arrivals_begin (used_once rs) (used_once_after rs more) xs ys a (subst (λ (l : List Record). AreArrivals l ys) (ap used_once is ∙ once_append rs more) b) in
     let n = ap (λ (l : List Arrival). length l) rest.1 in
     omega (arith, n, length-append xs rest.0)
 
 -- and where there are more than n, the first n are the same
-same_first : (n : ℕ) (rs ss more : List Record) (xs ys : List Arrival) → ss ≡ rs ++ more → AreArrivals rs xs → AreArrivals ss ys → n < length xs → take n ys ≡ take n xs
+same_first : (n : ℕ) (rs ss more : List Record) (xs ys : List Arrival) → ss ≡ rs ++ more → AreArrivals (used_once rs) xs → AreArrivals (used_once ss) ys → n < length xs → take n ys ≡ take n xs
 same_first n rs ss more xs ys is a b lt =
-    let rest = arrivals_begin rs more xs ys a (subst (λ (l : List Record). AreArrivals l ys) is b) in
+    let rest = arrivals_begin (used_once rs) (used_once_after rs more) xs ys a (subst (λ (l : List Record). AreArrivals l ys) (ap used_once is ∙ once_append rs more) b) in
     ap (take n) rest.1 ∙ take-append-le n xs rest.0 (omega (arith, lt))
 
 none_more : (rs ss : List Record) → ss ≡ rs ++ [] → ss ≡ rs
@@ -63,23 +64,26 @@ answered_not_full terms others input old new before after outcome number known a
           (let le = no_fewer t.records c.records longer.0 full.taken.arrivals a.read.arrivals longer.1 full.taken.arrived a.read.are in
           let few = a.read.few in
           let beyond = full.beyond in
-          omega (arith, le, few, beyond))
+          let is = full.is_number in
+          let most = ap (λ u. (format_of u).max_messages) both.0 in
+          omega (arith, le, few, beyond, is, most))
       | inr shorter ↦ no_last_line (length c.records) shorter.0 _ shorter.3
     ]
 
 -- records that go on after a fault
 go_on : (v w : Version) (bytes : List ℕ) (s t : ℕ) (rs ss : List Record) (f : CaptureFault) (x y : List ℕ) (xs ys : List Arrival) (more : List Record) → FaultsAfter v bytes s rs f x
-    → AreArrivals rs xs → length xs ≤ max_messages → AreArrivals ss ys → max_messages < length ys → IsCapture w t ss → length (records_text w t ss) ≤ max_text_bytes
+    → AreArrivals (used_once rs) xs → length xs ≤ (format_of v).max_messages → AreArrivals (used_once ss) ys → (format_of w).max_messages < length ys → IsCapture w t ss → length (records_text w t ss) ≤ (format_of w).max_text_bytes
     → v ≡ w → s ≡ t → ss ≡ rs ++ more → x ≡ flat_map record_text more ++ y → ⊥
 go_on v w bytes s t rs ss f x y xs ys [] fault a few b beyond rules size same start is rest =
-    let one = one_list_of_arrivals rs xs ys a (subst (λ (l : List Record). AreArrivals l ys) (none_more rs ss is) b) in
+    let one = one_list_of_arrivals (used_once rs) xs ys a (subst (λ (l : List Record). AreArrivals (used_once l) ys) (none_more rs ss is) b) in
     let n = ap (λ (l : List Arrival). length l) one in
-    omega (arith, n, few, beyond)
+    let most = ap (λ u. (format_of u).max_messages) same in
+    omega (arith, n, few, beyond, most)
 go_on v w bytes s t rs ss f x y xs ys (q ∷ more) fault a few b beyond rules size same start is rest =
-    no_fault_among v w bytes s t rs ss f x y q more fault rules size same start is rest
+    no_fault_among v w bytes s t rs ss f x y q more fault rules (let most = ap (λ u. (format_of u).max_text_bytes) same in omega (arith, size, most)) same start is rest
 
 after_not_full : (terms others : Terms) (input ahead old new before after : Option (List ℕ)) (f : CaptureFault) (number : ℕ) → is_some input ≡ true → is_unforeseen_kind f.kind ≡ false
-    → (r : RecordsRead input) → FaultsNext input ahead r f → WritesAll (reply_texts terms) r.start r.records old new → StopsFull others input before after number → ⊥
+    → (r : RecordsRead input) → FaultsNext input ahead r f → WritesAll (reply_texts terms) r.version r.start r.records old new → StopsFull others input before after number → ⊥
 after_not_full terms others input ahead old new before after f number known foreseen r faults reported full =
     let bytes = unwrap_or input [] in
     let t = full.taken.read in
@@ -88,12 +92,14 @@ after_not_full terms others input ahead old new before after f number known fore
     let both = agree_on bytes r.version t.version r.start t.start r.records t.records at.0 t.rest fault.rules t.rules fault.whole (t.begins known) in
     elim both.2 [
       | inl longer ↦
-          go_on r.version t.version bytes r.start t.start r.records t.records f at.0 t.rest reported.arrivals full.taken.arrivals longer.0 fault reported.arrived reported.few full.taken.arrived full.beyond t.rules (t.size known) both.0 both.1 longer.1 longer.2
+          go_on r.version t.version bytes r.start t.start r.records t.records f at.0 t.rest reported.arrivals full.taken.arrivals longer.0 fault reported.arrived reported.few full.taken.arrived (let beyond = full.beyond in let is = full.is_number in omega (arith, beyond, is)) t.rules (t.size known) both.0 both.1 longer.1 longer.2
       | inr shorter ↦
           (let le = no_fewer t.records r.records (shorter.0 ∷ shorter.1) full.taken.arrivals reported.arrivals shorter.2 full.taken.arrived reported.arrived in
           let few = reported.few in
           let beyond = full.beyond in
-          omega (arith, le, few, beyond))
+          let is = full.is_number in
+          let most = ap (λ u. (format_of u).max_messages) both.0 in
+          omega (arith, le, few, beyond, is, most))
     ]
 
 pub faulty_not_full : FaultyNotFull
@@ -116,7 +122,7 @@ same_records rs ss x y e (inr b) =
     absurd (omega (arith, n, e, length-append ss (b.0 ∷ b.1)))
 
 -- of two lists of records before the same bytes, with messages beyond the limit, those within it are the same
-same_limit : (n : ℕ) (rs ss : List Record) (x y : List ℕ) (xs ys : List Arrival) → AreArrivals rs xs → AreArrivals ss ys → n < length xs → n < length ys → Agrees rs x ss y
+same_limit : (n : ℕ) (rs ss : List Record) (x y : List ℕ) (xs ys : List Arrival) → AreArrivals (used_once rs) xs → AreArrivals (used_once ss) ys → n < length xs → n < length ys → Agrees rs x ss y
     → take n xs ≡ take n ys
 same_limit n rs ss x y xs ys a b g h (inl c) = sym (same_first n rs ss c.0 xs ys c.1 a b g)
 same_limit n rs ss x y xs ys a b g h (inr c) = same_first n ss rs (c.0 ∷ c.1) ys xs c.2 b a h
@@ -130,21 +136,25 @@ one_limit terms input old new other number another known given a b =
     let r = a.taken.read in
     let t = b.taken.read in
     let both = agree_on (unwrap_or input []) r.version t.version r.start t.start r.records t.records r.rest t.rest r.rules t.rules (r.begins known) (t.begins known) in
-    let first : take max_messages a.taken.arrivals ≡ take max_messages b.taken.arrivals = same_limit max_messages r.records t.records r.rest t.rest a.taken.arrivals b.taken.arrivals a.taken.arrived b.taken.arrived a.beyond b.beyond both.2 in (
-      grows_once old new other _ _ given (same_text terms r.start t.start _ _ both.1 first) a.written b.written,
-      a.is_number ∙ sym b.is_number,
+    let same : number ≡ another = a.is_number ∙ ap (λ v. (format_of v).max_messages) both.0 ∙ sym b.is_number in
+    let beyond = b.beyond in
+    let first : take number a.taken.arrivals ≡ take number b.taken.arrivals =
+    same_limit number r.records t.records r.rest t.rest a.taken.arrivals b.taken.arrivals a.taken.arrived b.taken.arrived a.beyond (omega (arith, beyond, same)) both.2 in
+    let both_first : take number a.taken.arrivals ≡ take another b.taken.arrivals = first ∙ ap (λ n. take n b.taken.arrivals) same in (
+      grows_once old new other _ _ given (same_text terms r.start t.start _ _ both.1 both_first) a.written b.written,
+      same,
     )
 
 same_after : (terms : Terms) (input ahead following old new other : Option (List ℕ)) (f g : CaptureFault) → is_some input ≡ true → is_some old ≡ true → f ≡ g
     → (r t : RecordsRead input) → FaultsNext input ahead r f → FaultsNext input following t g
-    → WritesAll (reply_texts terms) r.start r.records old new → WritesAll (reply_texts terms) t.start t.records old other → new ≡ other
+    → WritesAll (reply_texts terms) r.version r.start r.records old new → WritesAll (reply_texts terms) t.version t.start t.records old other → new ≡ other
 same_after terms input ahead following old new other f g known given same r t at after a b =
     let both = agree_on (unwrap_or input []) r.version t.version r.start t.start r.records t.records r.rest t.rest r.rules t.rules (r.begins known) (t.begins known) in
     let place = ap (λ (k : CaptureFault). k.at) same in
     let i = at.at in
     let j = after.at in
     let records = same_records r.records t.records r.rest t.rest (omega (arith, place, i, j)) both.2 in
-    let arrivals = one_list_of_arrivals t.records a.arrivals b.arrivals (subst (λ (l : List Record). AreArrivals l a.arrivals) records a.arrived) b.arrived in
+    let arrivals = one_list_of_arrivals (used_once t.records) a.arrivals b.arrivals (subst (λ (l : List Record). AreArrivals (used_once l) a.arrivals) records a.arrived) b.arrived in
     grows_once old new other _ _ given (same_text terms r.start t.start a.arrivals b.arrivals both.1 arrivals) a.written b.written
 
 same_written : (terms : Terms) (input ahead following old new other : Option (List ℕ)) (f g : CaptureFault) → is_some input ≡ true → is_some old ≡ true → f ≡ g

@@ -73,4 +73,4 @@ row_texts terms = record {
 pub record Explains (terms : Terms) (input old new : Option (List ℕ)) (outcome : Outcome) : Type 0 where
   pub read : ArrivedCapture input
   pub written : Appends old new (table terms read.arrivals)
-  pub outcome_is : outcome ≡ outcome_of terms read.arrivals
+  pub outcome_is : outcome ≡ outcome_of read.capture.version terms read.arrivals

@@ -7,7 +7,7 @@ use Rattle.std.specs.Io.KnownBytes.{Appends}
 use Rattle.captures.specs.declared.record.Record.{Record}
 use Rattle.captures.specs.declared.record.Record.TheVariants.{Piece}
 use Rattle.captures.specs.declared.version.Version.TheVariants.{One}
-use Rattle.captures.specs.Reference.{IsCapture, IsCaptureText}
+use Rattle.captures.specs.Reference.{IsCapture, IsCaptureText, format_of}
 use Rattle.paths.specs.Reference.{asked, outcome}
 use Rattle.devices.specs.Reference.{WhereKnown}
 use Rattle.paths.specs.declared.file.File.{File}
@@ -29,7 +29,7 @@ use Rattle.reference.specs.declared.summary.Counts.{Counts}
 use Rattle.arrivals.specs.Reference.{Arrival, Precedes, text_of, messages_of}
 use Rattle.reference.specs.Reference.{is_head, answers_head, persistence_of, answer, Handled, length_given}
 use Rattle.reference.specs.Reference.{is_unmodified_file}
-use Rattle.reference.specs.Reference.{bypassed_of, rejected_of, max_messages, replies_text}
+use Rattle.reference.specs.Reference.{bypassed_of, rejected_of, replies_text}
 
 -- what an answer depended on besides its capture: the rules are those of the one policy
 pub record FormerTerms : Type 0 where
@@ -40,12 +40,13 @@ pub record FormerTerms : Type 0 where
 
 -- ---- the arrivals
 
--- the message arrived with the piece that holds its last byte
+-- the message arrived with the piece that holds its last byte, on the connection of its number
 pub record ArrivedWith (records : List Record) (a : Arrival) : Type 0 where
   pub bytes : List ℕ
-  pub piece : slice_get records a.place ≡ Some (Piece a.origin.tick a.origin.conn bytes)
-  pub after : length (text_of a.origin.conn (take a.place records)) < a.message.end
-  pub within : a.message.end ≤ length (text_of a.origin.conn (take a.place records)) + length bytes
+  pub piece : slice_get records a.place ≡ Some (Piece a.origin.tick a.connection bytes)
+  pub number : a.origin.conn ≡ a.connection
+  pub after : length (text_of a.connection (take a.place records)) < a.message.end
+  pub within : a.message.end ≤ length (text_of a.connection (take a.place records)) + length bytes
 
 -- the messages of each connection's text, each with the piece that holds its last byte, in the order of their pieces
 -- and of their places in a piece
@@ -173,6 +174,6 @@ pub record FormerAnswers (terms : FormerTerms) (input old new : Option (List ℕ
   pub rules : IsCapture One start records
   pub capture : WhereKnown input (λ bytes. IsCaptureText One bytes start records)
   pub arrived : WereArrivals records arrivals
-  pub few : length arrivals ≤ max_messages
+  pub few : length arrivals ≤ (format_of One).max_messages
   pub written : Appends old new (replies_text (former_replies terms start (former_handled terms arrivals)))
   pub outcome : result ≡ former_outcome terms arrivals

@@ -2,10 +2,12 @@
 use Rattle.std.specs.Prelude.{◌≡◌, ℕ, ◌+◌, ◌-◌, Bool, List, [], ◌∷◌, ◌++◌, length, take, Option, Some, None, true}
 use Rattle.std.specs.Prelude.{false, is_some, map, filter, ◌==◌}
 use Rattle.captures.specs.declared.record.Record.{Record}
-use Rattle.captures.specs.declared.version.Version.TheVariants.{One}
+use Rattle.captures.specs.declared.version.Version.{Version}
+use Rattle.captures.specs.declared.version.Version.TheVariants.{One, Two}
+use Rattle.captures.specs.Reference.{format_of, used_once}
 use Rattle.captures.specs.declared.capture_fault.CaptureFault.{CaptureFault}
 use Rattle.captures.specs.CaptureFaults.{is_unforeseen_kind}
-use Rattle.captures.specs.Upgrades.{IsUpgrade}
+use Rattle.captures.specs.Upgrades.{later, IsUpgrade}
 use Rattle.admission.specs.Reference.{rules_of, Offer, is_rejected}
 use Rattle.admission.specs.declared.control.Decision.TheVariants.{Admitted}
 use Rattle.decision_table.specs.declared.row.Offered.{Offered}
@@ -13,8 +15,9 @@ use Rattle.paths.specs.declared.file.File.{File}
 use Rattle.reference.specs.declared.summary.Outcome.{Outcome}
 use Rattle.reference.specs.declared.summary.Tally.{Tally}
 use Rattle.arrivals.specs.Reference.{Arrival, AreArrivals, text_of}
+use Rattle.arrivals.specs.Connections.{IsNumber}
 use Rattle.http_requests.specs.Reference.{MessagesOf}
-use Rattle.reference.specs.Reference.{Choice, Terms, terms_of, Handled, handled, handled_next, Answers, max_messages}
+use Rattle.reference.specs.Reference.{Choice, Terms, terms_of, Handled, handled, handled_next, Answers}
 use Rattle.reference.specs.Reference.{replies_of}
 use Rattle.reference.specs.Explaining.{offered_after, row_of}
 use Rattle.reference.specs.Outcomes.{Stops, StopsFull}
@@ -61,30 +64,37 @@ OneLimit = (terms : Terms) (input old new other : Option (List ℕ)) (number ano
     → StopsFull terms input old new number → StopsFull terms input old other another
     → (new ≡ other) × (number ≡ another)
 
--- The replies of a connection, in the order of the text, are those to messages that are, in their order, the messages
--- of its text.
+-- the messages of a connection, and what became of each
+abbrev pub handled_on : ℕ → List Handled → List Handled
+handled_on c messages = filter (λ h. h.arrival.connection == c) messages
+
+-- The messages of a connection are answered in their order: those that were handled on it are, in this order, the
+-- messages of its text. Where numbers are used once, the replies of a number are those to the messages of its
+-- connection.
 abbrev pub RepliesInRequestOrder : Type 0
 RepliesInRequestOrder = (terms : Terms) (input old new : Option (List ℕ)) (outcome : Outcome)
-    → (answers : Answers terms input old new outcome) → (conn : ℕ) → (own : List Handled)
-    × (filter (λ reply. reply.1 == conn)
+    → (answers : Answers terms input old new outcome) → (c : ℕ)
+    → MessagesOf (text_of c (used_once answers.read.capture.records))
+    (map (λ h. h.arrival.message) (handled_on c (handled terms answers.read.arrivals)))
+    × (IsNumber c → (format_of answers.read.capture.version).used_again ≡ false
+    → filter (λ reply. reply.1 == c)
     (replies_of terms answers.read.capture.start (handled terms answers.read.arrivals))
-    ≡ replies_of terms answers.read.capture.start own)
-    × MessagesOf (text_of conn answers.read.capture.records) (map (λ h. h.arrival.message) own)
+    ≡ replies_of terms answers.read.capture.start (handled_on c (handled terms answers.read.arrivals)))
 
 -- more arrivals change nothing of the numbers and the rejections of those before
 abbrev pub HandledBegin : Type 0
 HandledBegin = (terms : Terms) (arrivals more : List Arrival) → (rest : List Handled)
     × (handled terms (arrivals ++ more) ≡ handled terms arrivals ++ rest)
 
--- the replies that are due for messages that arrived: to those within the limit
-abbrev pub due : Terms → ℕ → List Arrival → List (ℕ × ℕ × List ℕ)
-due terms start arrivals = replies_of terms start (handled terms (take max_messages arrivals))
+-- the replies that are due for messages that arrived: to those within the limit of the format
+abbrev pub due : Version → Terms → ℕ → List Arrival → List (ℕ × ℕ × List ℕ)
+due v terms start arrivals = replies_of terms start (handled terms (take (format_of v).max_messages arrivals))
 
 -- more records add replies that are due at the end: those due for the first records are the first of those due for all
 abbrev pub DueBegin : Type 0
-DueBegin = (terms : Terms) (start : ℕ) (records more : List Record) (xs ys : List Arrival)
-    → AreArrivals records xs → AreArrivals (records ++ more) ys
-    → (rest : List (ℕ × ℕ × List ℕ)) × (due terms start ys ≡ due terms start xs ++ rest)
+DueBegin = (v : Version) (terms : Terms) (start : ℕ) (records more : List Record) (xs ys : List Arrival)
+    → AreArrivals (used_once records) xs → AreArrivals (used_once (records ++ more)) ys
+    → (rest : List (ℕ × ℕ × List ℕ)) × (due v terms start ys ≡ due v terms start xs ++ rest)
 
 -- ---- rows and replies
 
@@ -126,9 +136,10 @@ all_requests former = record {
   controls = former.controls;
 }
 
--- a former outcome, told by tiers: all requests came in tier 0
+-- a former outcome, told by tiers: all requests came in tier 0, and captures were of version 1
 abbrev pub in_tiers : FormerOutcome → Outcome
 in_tiers former = record {
+  version = One;
   rejected = former.rejected;
   summary = record {
     counts = former.counts;
@@ -150,9 +161,23 @@ FormerAnswersHold = (terms : Terms) (input old new : Option (List ℕ)) (former 
     → FormerAnswers (former_terms terms) input old new former
     → (answers : Answers terms input old new (in_tiers former)) × (answers.read.capture.version ≡ One)
 
--- a capture of version 1 and its upgraded text have the same answers, whatever the policies of tiers 1 to 3
+-- the outcome of the same records in another format
+abbrev pub told_in : Version → Outcome → Outcome
+told_in version outcome =
+    record { version = version; rejected = outcome.rejected; summary = outcome.summary }
+
+-- a capture of version 1 and its upgraded text have the same answers but for their format, whatever the policies of
+-- tiers 1 to 3
 abbrev pub UpgradeKeepsAnswers : Type 0
 UpgradeKeepsAnswers = (terms other : Terms) (text upgraded : List ℕ) (old new : Option (List ℕ)) (outcome : Outcome)
-    → (upgrade : IsUpgrade text upgraded) → upgrade.version ≡ One → former_terms terms ≡ former_terms other
-    → (Answers terms (Some text) old new outcome → Answers other (Some upgraded) old new outcome)
-    × (Answers terms (Some upgraded) old new outcome → Answers other (Some text) old new outcome)
+    → (upgrade : IsUpgrade Two text upgraded) → upgrade.version ≡ One → former_terms terms ≡ former_terms other
+    → (Answers terms (Some text) old new outcome → Answers other (Some upgraded) old new (told_in Two outcome))
+    × (Answers terms (Some upgraded) old new outcome → Answers other (Some text) old new (told_in One outcome))
+
+-- a text of recorded traffic and its upgraded one have the same answers but for their format: so have a capture and the
+-- same traffic in the format that is days long
+abbrev pub UpgradeKeepsReplies : Type 0
+UpgradeKeepsReplies = (terms : Terms) (to : Version) (text upgraded : List ℕ) (old new : Option (List ℕ))
+    (outcome : Outcome) → (upgrade : IsUpgrade to text upgraded)
+    → Answers terms (Some text) old new outcome
+    → Answers terms (Some upgraded) old new (told_in (later to upgrade.version) outcome)

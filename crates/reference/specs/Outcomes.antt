@@ -2,13 +2,15 @@
 use Rattle.std.specs.Prelude.{◌≡◌, ℕ, ◌<◌, ◌≤◌, ◌⊎◌, false, List, length, take, Option}
 use Rattle.std.specs.Io.KnownBytes.{Appends}
 use Rattle.devices.specs.Devices.{AppendsPrefix}
+use Rattle.captures.specs.declared.version.Version.{Version}
 use Rattle.captures.specs.declared.record.Record.{Record}
+use Rattle.captures.specs.Reference.{format_of, used_once}
 use Rattle.captures.specs.declared.capture_fault.CaptureFault.{CaptureFault}
 use Rattle.captures.specs.Passes.{is_memory, LeavesBy, RecordsRead, StopsAt}
 use Rattle.captures.specs.declared.pass_fault.PassFault.{PassFault}
 use Rattle.captures.specs.declared.pass_fault.PassFault.TheVariants.{Capture, TooMany, Memory, Write as Unwritten}
 use Rattle.arrivals.specs.Reference.{Arrival, AreArrivals}
-use Rattle.reference.specs.Reference.{Terms, max_messages, ArrivedCapture}
+use Rattle.reference.specs.Reference.{Terms, ArrivedCapture}
 use Rattle.reference.specs.Texts.{Texts, reply_texts}
 
 -- what a capture's fault has to say; it is never that of a reader which is out of memory, and the other faults say it
@@ -37,13 +39,14 @@ IsOwn other = Unit {0}
 pub record Taken (input : Option (List ℕ)) : Type 0 where
   pub read : RecordsRead input
   pub arrivals : List Arrival
-  pub arrived : AreArrivals read.records arrivals
+  pub arrived : AreArrivals (used_once read.records) arrivals
 
 -- the messages that arrived with these records are within the limit, and their text was written
-pub record WritesAll (t : Texts) (start : ℕ) (records : List Record) (old new : Option (List ℕ)) : Type 0 where
+pub record WritesAll (t : Texts) (v : Version) (start : ℕ) (records : List Record)
+    (old new : Option (List ℕ)) : Type 0 where
   pub arrivals : List Arrival
-  pub arrived : AreArrivals records arrivals
-  pub few : length arrivals ≤ max_messages
+  pub arrived : AreArrivals (used_once records) arrivals
+  pub few : length arrivals ≤ (format_of v).max_messages
   pub written : Appends old new (t.so_far start arrivals)
 
 -- The replay stopped at a fault of the capture: it has written the first line, and the text of the messages that
@@ -52,7 +55,7 @@ pub record WritesAll (t : Texts) (start : ℕ) (records : List Record) (old new 
 abbrev pub StopsWriting : Texts → Option (List ℕ) → Option (List ℕ) → Option (List ℕ) → Option (List ℕ) → CaptureFault
     → Type 0
 StopsWriting t input ahead old new f =
-    StopsAt input ahead (Appends old new t.first) (λ read. WritesAll t read.start read.records old new) f
+    StopsAt input ahead (Appends old new t.first) (λ read. WritesAll t read.version read.start read.records old new) f
 
 abbrev pub Stops : Terms → Option (List ℕ) → Option (List ℕ) → Option (List ℕ) → Option (List ℕ) → CaptureFault → Type 0
 Stops terms input ahead old new f = StopsWriting (reply_texts terms) input ahead old new f
@@ -61,9 +64,9 @@ Stops terms input ahead old new f = StopsWriting (reply_texts terms) input ahead
 -- and no last line. The number is that of the first beyond it.
 pub record StopsBeyond (t : Texts) (input old new : Option (List ℕ)) (number : ℕ) : Type 0 where
   pub taken : Taken input
-  pub beyond : max_messages < length taken.arrivals
-  pub is_number : number ≡ max_messages
-  pub written : Appends old new (t.so_far taken.read.start (take max_messages taken.arrivals))
+  pub is_number : number ≡ (format_of taken.read.version).max_messages
+  pub beyond : number < length taken.arrivals
+  pub written : Appends old new (t.so_far taken.read.start (take number taken.arrivals))
 
 abbrev pub StopsFull : Terms → Option (List ℕ) → Option (List ℕ) → Option (List ℕ) → ℕ → Type 0
 StopsFull terms input old new number = StopsBeyond (reply_texts terms) input old new number
@@ -73,7 +76,7 @@ StopsFull terms input old new number = StopsBeyond (reply_texts terms) input old
 pub record StopsAmong (t : Texts) (input old new : Option (List ℕ)) : Type 0 where
   pub taken : Taken input
   pub within : ℕ
-  pub few : within ≤ max_messages
+  pub few : within ≤ (format_of taken.read.version).max_messages
   pub written : AppendsPrefix old new (t.so_far taken.read.start (take within taken.arrivals))
 
 -- the input is a capture's text, and a prefix of all its text was written
@@ -88,5 +91,5 @@ IsCutOff t input old new = AppendsPrefix old new t.first ⊎ (StopsAmong t input
 -- What stands where a replay stopped, by its fault.
 abbrev pub Leaves : Texts → Option (List ℕ) → Option (List ℕ) → Option (List ℕ) → Option (List ℕ) → PassFault → Type 0
 Leaves t input ahead old new f = LeavesBy input ahead
-    (Appends old new t.first) (λ read. WritesAll t read.start read.records old new)
+    (Appends old new t.first) (λ read. WritesAll t read.version read.start read.records old new)
     (StopsBeyond t input old new) (IsCutOff t input old new) f

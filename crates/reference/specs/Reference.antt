@@ -33,7 +33,8 @@ use Rattle.responses.specs.Reference.{reply_text, record_text, status_of, status
 use Rattle.reference.specs.declared.summary.Counts.{Counts}
 use Rattle.reference.specs.declared.summary.Summary.{Summary}
 use Rattle.reference.specs.declared.summary.Tally.{Tally}
-use Rattle.captures.specs.Reference.{WholeCapture}
+use Rattle.captures.specs.declared.version.Version.{Version}
+use Rattle.captures.specs.Reference.{WholeCapture, format_of, used_once}
 use Rattle.reference.specs.declared.summary.Outcome.{Outcome}
 use Rattle.paths.specs.declared.resolution.Outcome.TheVariants as outcomes
 
@@ -274,24 +275,25 @@ summary_of terms arrivals = record {
 
 -- What a replay comes to: its outcome, or a fault, and what it has written.
 
-abbrev pub max_messages : ℕ
-max_messages = 1048576
-
--- the input is a capture's text, and these are the messages that arrive with its records: no more than the limit
+-- the input is a text of recorded traffic, and these are the messages that arrive with its records: no more than its
+-- format allows
 pub record ArrivedCapture (input : Option (List ℕ)) : Type 0 where
   pub capture : WholeCapture input
   pub arrivals : List Arrival
-  pub are : AreArrivals capture.records arrivals
-  pub few : length arrivals ≤ max_messages
+  pub are : AreArrivals (used_once capture.records) arrivals
+  pub few : length arrivals ≤ (format_of capture.version).max_messages
 
--- which of these messages were turned away, and what became of all
-abbrev pub outcome_of : Terms → List Arrival → Outcome
-outcome_of terms arrivals =
-    record { rejected = rejected_of (handled terms arrivals); summary = summary_of terms arrivals }
+-- the format of the text, which of its messages were turned away, and what became of all
+abbrev pub outcome_of : Version → Terms → List Arrival → Outcome
+outcome_of version terms arrivals = record {
+  version = version;
+  rejected = rejected_of (handled terms arrivals);
+  summary = summary_of terms arrivals;
+}
 
 -- The answer of the reference server to a capture: each message was answered, in their order, and this is what became
 -- of them.
 pub record Answers (terms : Terms) (input old new : Option (List ℕ)) (outcome : Outcome) : Type 0 where
   pub read : ArrivedCapture input
   pub written : Appends old new (replies_text (replies_of terms read.capture.start (handled terms read.arrivals)))
-  pub outcome_is : outcome ≡ outcome_of terms read.arrivals
+  pub outcome_is : outcome ≡ outcome_of read.capture.version terms read.arrivals

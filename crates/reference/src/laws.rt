@@ -2,7 +2,7 @@
 
 ghost use Rattle.reference.specs.Laws.{AnsweredNotFaulty, AnsweredNotFull, DueBegin, FaultyNotFull, OneFault, OneLimit};
 ghost use Rattle.reference.specs.Laws.{FloorsChangeNothing, FormerAnswersHold, HandledBegin, OneAnswer};
-ghost use Rattle.reference.specs.Laws.{SameInVersionOne};
+ghost use Rattle.reference.specs.Laws.{SameInVersionOne, UpgradeKeepsReplies};
 ghost use Rattle.reference.specs.Laws.{RepliesInRequestOrder, RowsAgree, StartsOnceFree, UpgradeKeepsAnswers};
 
 /// The graphs of the floors, the records of a batch and the bytes of the cache change no answer.
@@ -62,6 +62,12 @@ pub fn former_answers_hold()
 /// A capture of version 1 and its upgraded text have the same answers, whatever the policies of tiers 1 to 3.
 pub fn upgrade_keeps_answers()
     ensures { UpgradeKeepsAnswers }
+{}
+
+/// A text and its upgraded one have the same answers: a capture has the replies of the same traffic in the format for
+/// recordings that are days long.
+pub fn upgrade_keeps_replies()
+    ensures { UpgradeKeepsReplies }
 {}
 
 /// A row of the table of decisions says that a request was rejected exactly where its reply turns it away.

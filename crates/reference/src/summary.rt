@@ -2,6 +2,7 @@
 
 use admission::Control;
 use arrivals::Series;
+use captures::Version;
 
 /// How many messages were answered with each status.
 #[derive(Clone, Copy, Debug, PartialEq, Eq)]
@@ -36,6 +37,8 @@ pub struct Summary {
 /// What a replay has come to.
 #[derive(Debug, Drop)]
 pub struct Outcome {
+    /// The format of the text that was replayed.
+    pub version: Version,
     /// The numbers of the requests that were turned away, rising.
     pub rejected: Series<usize>,
     pub summary: Summary,

@@ -19,13 +19,14 @@ use Rattle.captures.specs.declared.capture_fault.CaptureFaultKind.{CaptureFaultK
 use Rattle.captures.specs.declared.capture_fault.CaptureFaultKind.TheVariants as kinds
 use Rattle.captures.specs.CaptureFaults.{IsForeseen, IsHeaderFault, IsFaultAfter, failures_of}
 use Rattle.captures.specs.declared.version.Version.{Version}
-use Rattle.captures.specs.Reference.{tier_of, IsCapture, IsRecord, IsCaptureText, tick_of, ticks_of}
+use Rattle.captures.specs.Reference.{format_of, connection_of, connection_now, of_connection, used_once, used_once_after, IsCapture, IsRecord, IsCaptureText, tick_of, ticks_of}
+use Rattle.captures.specs.CaptureFaults.{longest_text}
+use Rattle.captures.proofs.Lines.{within_longest}
 use Rattle.captures.specs.Captures.{size_of, sizes_of}
 use Rattle.captures.specs.Readers.{ReaderAfter, Gave, FailsFirst, FailsNext}
 use Rattle.captures.proofs.PassLemmas.{reads_of}
-use Rattle.captures.proofs.Tiers.{tier_of_none, tier_of_piece, tier_of_end, tier_of_tier}
-use Rattle.arrivals.specs.Tiers.{tier_at, AreTiers}
-use Rattle.arrivals.specs.Batches.{with_tier}
+use Rattle.arrivals.specs.Tiers.{AreTiers}
+use Rattle.arrivals.specs.Batches.{Reads, Stand, origin_now}
 use Rattle.http_requests.specs.declared.messages.Message.{Message}
 use Rattle.arrivals.specs.declared.incoming.Origin.{Origin}
 use Rattle.replay.specs.declared.desk.Desk.{Desk}
@@ -36,14 +37,15 @@ use Rattle.captures.specs.declared.pass_fault.PassFault.{PassFault}
 use Rattle.captures.specs.declared.pass_fault.PassFault.TheVariants as faults
 use Rattle.reference.specs.Reference.{Terms, handled, replies_of, first_line, last_line, text_before_stop, summary_of, outcome_of, Answers}
 use Rattle.arrivals.specs.Reference.{Arrival, AreArrivals, bytes_to, text_of, messages_of}
-use Rattle.arrivals.specs.Connections.{HasRead, HasRoom, ReadMore, HaveRead, connection_at, arrivals_with}
+use Rattle.arrivals.specs.Connections.{HasRead, HasRoom, ReadMore, HaveRead, IsNumber, connection_at, text_now, messages_now, arrivals_with}
 use Rattle.replay.specs.Serving.{DeskAfter, AreBy, IsLater, Serves, Written, ServesFull, ServesInPart, WritesMore, WritesFull, WritesInPart, WritesWhole}
 use Rattle.reference.specs.Texts.{Texts, AreTexts, Wrote, WroteInPart, reply_texts}
 use Rattle.devices.specs.Reference.{WhereKnown}
 use Rattle.reference.specs.Outcomes.{IfTooMany, IfCutShort, IsOwn, IsCutOff, StopsBeyond, StopsFull, StopsWriting, Stops, Taken, Leaves}
 use Rattle.captures.specs.Passes.{pass_fault, IsWriteOrMemory, leaves_reads_untold, reader_failures}
 use Rattle.captures.proofs.PassLemmas.{leaves_by, leaves_part, reported_reads, reported_writes}
-use Rattle.arrivals.proofs.Arriving.{from_piece, reads_none, arrives_none, reads_piece, reads_end, reads_tier, arrives_piece, arrives_end, arrives_tier}
+use Rattle.arrivals.proofs.CutBatches.{room_of}
+use Rattle.arrivals.proofs.Merging.{stand_none, stand_piece, stand_end, stand_tier}
 use Rattle.replay.proofs.Writing.{replies_laws}
 use Rattle.replay.proofs.Texts.{wrote_none, text_begun, text_wrote, text_part, text_ended, text_ended_part}
 use Rattle.replay.proofs.Judging.{answered_is}
@@ -63,16 +65,30 @@ pub text_below : (c : ℕ) (records : List Record) → length (text_of c records
 text_below c [] = omega arith
 text_below c (r ∷ records) = omega (arith, text_below c records, bytes_below c r, sum_by-cons size_of r records, length-append (bytes_to c r) (text_of c records))
 
-room_of : (k : Connection) (text : List ℕ) (ms : List Message) (n : ℕ) → HasRead k text ms → length text + n ≤ 1073741824 → HasRoom k n
-room_of Silent text ms n h room = omega (arith, room)
-room_of (Open cutter) text ms n h room = let e = h.read in omega (arith, room, e)
-room_of Closed text ms n h room = tt
+-- records read as records of connections bring the same bytes
+sizes_once : (records : List Record) → sizes_of (used_once records) ≡ sizes_of records
+sizes_once records = go [] records
+  where
+    one : (c : ℕ) (r : Record) → size_of (of_connection c r) ≡ size_of r
+    one c (Piece tick conn bytes) = refl
+    one c (End tick conn) = refl
+    one c (Tier conn tier) = refl
 
-pub has_room : (terms : Terms) (records : List Record) (arrivals : List Arrival) (connections : List Connection) (desk : Desk) (c n : ℕ)
-    → Serves terms records arrivals connections desk → sizes_of records + n ≤ 1073741824 → HasRoom (connection_at connections c) n
-has_room terms records arrivals connections desk c n serves room =
-    let below = text_below c records in
-    room_of (connection_at connections c) (text_of c records) (messages_of c arrivals) n (serves.reads.each c) (omega (arith, below, room))
+    go : (earlier records : List Record) → sizes_of (used_once_after earlier records) ≡ sizes_of records
+    go earlier [] = refl
+    go earlier (r ∷ records) =
+        let id = connection_now (connection_of r) earlier in
+        let rest = go (earlier ++ r ∷ []) records in
+        omega (arith, one id r, rest, sum_by-cons size_of (of_connection id r) (used_once_after (earlier ++ r ∷ []) records), sum_by-cons size_of r records)
+
+pub now_below : (c : ℕ) (records : List Record) → length (text_now c records) ≤ sizes_of records
+now_below c records = omega (arith, text_below (connection_now c records) (used_once records), sizes_once records)
+
+pub has_room : (terms : Terms) (records : List Record) (arrivals : List Arrival) (connections : List Connection) (desk : Desk) (c n : ℕ) → IsNumber c
+    → Serves terms records arrivals connections desk → sizes_of records + n ≤ longest_text → HasRoom (connection_at connections c) n
+has_room terms records arrivals connections desk c n low serves room =
+    let below = now_below c records in
+    room_of (connection_at connections c) (text_now c records) (messages_now c records arrivals) n (serves.reads.each c low) (omega (arith, below, room))
 
 -- ---- ticks
 
@@ -126,60 +142,62 @@ last_latest ticks last i tick rising h =
     let le = rising i (length ticks) 0 lt (omega (arith, len)) in
     rw (here, there) at le
 
+-- records read as records of connections have the same ticks
+pub ticks_once : (records : List Record) → ticks_of (used_once records) ≡ ticks_of records
+ticks_once records = go [] records
+  where
+    one : (c : ℕ) (r : Record) → tick_of (of_connection c r) ≡ tick_of r
+    one c (Piece tick conn bytes) = refl
+    one c (End tick conn) = refl
+    one c (Tier conn tier) = refl
+
+    go : (earlier records : List Record) → ticks_of (used_once_after earlier records) ≡ ticks_of records
+    go earlier [] = refl
+    go earlier (r ∷ records) = λ i. one (connection_now (connection_of r) earlier) r i ++ go (earlier ++ r ∷ []) records i
+
 by_last : (records : List Record) (arrivals : List Arrival) (last : ℕ) → AllPairs (λ s t. s ≤ t) (ticks_of records ++ last ∷ []) → AreArrivals records arrivals → AreBy last arrivals
 by_last records arrivals last rising arrived = λ k d lt.
     let a = get_or arrivals k d in
     let with = arrived.with k d lt in
-    last_latest (ticks_of records) last (ticks_before records a.place) a.origin.tick rising (tick_at records a.place a.origin.tick a.origin.conn with.bytes with.piece)
+    last_latest (ticks_of records) last (ticks_before records a.place) a.origin.tick rising (tick_at records a.place a.origin.tick a.connection with.bytes with.piece)
 
 -- a record that comes after others is no earlier than all that arrived with them
-pub is_later : (v : Version) (start : ℕ) (records : List Record) (arrivals : List Arrival) (r : Record) → IsCapture v start (records ++ r ∷ []) → AreArrivals records arrivals → IsLater r arrivals
+pub is_later : (v : Version) (start : ℕ) (records : List Record) (arrivals : List Arrival) (r : Record) → IsCapture v start (records ++ r ∷ []) → AreArrivals (used_once records) arrivals → IsLater r arrivals
 is_later v start records arrivals (Piece tick conn bytes) rules arrived =
-    by_last records arrivals tick (subst (λ (ts : List ℕ). AllPairs (λ s t. s ≤ t) ts) (flat_map-append tick_of records (Piece tick conn bytes ∷ [])) rules.rising) arrived
+    by_last (used_once records) arrivals tick (subst (λ (ts : List ℕ). AllPairs (λ s t. s ≤ t) ts) (flat_map-append tick_of records (Piece tick conn bytes ∷ []) ∙ ap (λ ts. ts ++ tick ∷ []) (sym (ticks_once records))) rules.rising) arrived
 is_later v start records arrivals (End tick conn) rules arrived = tt
 is_later v start records arrivals (Tier conn tier) rules arrived = tt
 
 -- ---- one more record
 
+-- a silent connection for each number
+none_kept : (connections : List Connection) → connections ≡ [] → (c : ℕ) → connection_at connections c ≡ Silent
+none_kept connections none zero = rw none refl
+none_kept connections none (suc c) = rw none refl
+
 pub serves_none : (terms : Terms) (connections : List Connection) (desk : Desk) → connections ≡ [] → DeskAfter terms [] desk → Serves terms [] [] connections desk
-serves_none terms connections desk none stands = record { reads = rw none reads_none; arrived = arrives_none; stands = stands }
+serves_none terms connections desk none stands =
+    let first = stand_none (connection_at connections) (none_kept connections none) in
+    record { reads = record { each = first.each }; arrived = first.arrived; stands = stands }
 
--- a piece and an end leave the tiers as they are
-pub tiers_after_piece : (tick conn : ℕ) (bytes : List ℕ) (r : Record) (records : List Record) (tiers : List ℕ) → r ≡ Piece tick conn bytes → AreTiers records tiers → AreTiers (records ++ r ∷ []) tiers
-tiers_after_piece tick conn bytes r records tiers is are = λ c. are c ∙ sym (ap (λ x. tier_of c (records ++ x ∷ [])) is ∙ tier_of_piece c records tick conn bytes)
+-- what was served, seen by the connections
+stand_of : (terms : Terms) (records : List Record) (arrivals : List Arrival) (connections : List Connection) (desk : Desk) → Serves terms records arrivals connections desk → Stand records arrivals (connection_at connections)
+stand_of terms records arrivals connections desk serves = record { each = serves.reads.each; arrived = serves.arrived }
 
-pub tiers_after_end : (tick conn : ℕ) (r : Record) (records : List Record) (tiers : List ℕ) → r ≡ End tick conn → AreTiers records tiers → AreTiers (records ++ r ∷ []) tiers
-tiers_after_end tick conn r records tiers is are = λ c. are c ∙ sym (ap (λ x. tier_of c (records ++ x ∷ [])) is ∙ tier_of_end c records tick conn)
-
-pub tiers_after_tier : (conn tier : ℕ) (r : Record) (records : List Record) (old new : List ℕ) → r ≡ Tier conn tier → ((c : ℕ) → tier_at new c ≡ with_tier conn tier (tier_at old) c)
-    → AreTiers records old → AreTiers (records ++ r ∷ []) new
-tiers_after_tier conn tier r records old new is given are = λ c.
-    given c ∙ ap (λ t. if conn == c then tier else t) (are c) ∙ sym (ap (λ x. tier_of c (records ++ x ∷ [])) is ∙ tier_of_tier c records conn tier)
-
--- no connection was given a tier
-pub no_tiers : (tiers : List ℕ) → tiers ≡ [] → AreTiers [] tiers
-no_tiers tiers none = λ c. rw none (sym (tier_of_none c))
-
-pub serves_end : (t : Texts) (terms : Terms) (tick conn : ℕ) (records : List Record) (arrivals : List Arrival) (r : Record) (connections : List Connection) (desk : Desk) (old : Option (List ℕ))
-    → AreTexts t → r ≡ End tick conn → Serves terms records arrivals connections desk → WritesMore t terms records arrivals (r ∷ []) connections desk old old
-serves_end t terms tick conn records arrivals r connections desk old laws is serves =
-    let reads = reads_end records arrivals connections tick conn serves.reads in
-    let more : Serves terms (records ++ End tick conn ∷ []) arrivals connections desk = record {
-      reads = reads;
-      arrived = arrives_end records arrivals connections tick conn serves.arrived reads;
-      stands = serves.stands;
-    } in
+pub serves_end : (t : Texts) (terms : Terms) (tick conn n : ℕ) (records : List Record) (arrivals : List Arrival) (r : Record) (before after : List Connection) (tiers : List ℕ) (desk : Desk) (old : Option (List ℕ))
+    → AreTexts t → r ≡ End tick conn → n ≡ conn → IsNumber conn → connection_at after n ≡ Silent → ((c : ℕ) → c ≢ n → connection_at after c ≡ connection_at before c)
+    → AreTiers records tiers → Serves terms records arrivals before desk → WritesMore t terms records arrivals (r ∷ []) after desk old old
+serves_end t terms tick conn n records arrivals r before after tiers desk old laws is named low silent others are serves =
+    let apart : (c : ℕ) → c ≢ conn → connection_at after c ≡ connection_at before c = rw named at others in
+    let stand = stand_end records arrivals (connection_at before) (connection_at after) tick conn low are.numbers (stand_of terms records arrivals before desk serves) (rw named at silent) apart in
+    let more : Serves terms (records ++ End tick conn ∷ []) arrivals after desk = record { reads = record { each = stand.each }; arrived = stand.arrived; stands = serves.stands } in
     rw is (record { more = []; serves = rw (append-nil arrivals) more; written = wrote_none t desk.start arrivals old laws })
 
 pub serves_tier : (t : Texts) (terms : Terms) (conn tier : ℕ) (records : List Record) (arrivals : List Arrival) (r : Record) (connections : List Connection) (desk : Desk) (old : Option (List ℕ))
     → AreTexts t → r ≡ Tier conn tier → Serves terms records arrivals connections desk → WritesMore t terms records arrivals (r ∷ []) connections desk old old
 serves_tier t terms conn tier records arrivals r connections desk old laws is serves =
-    let reads = reads_tier records arrivals connections conn tier serves.reads in
-    let more : Serves terms (records ++ Tier conn tier ∷ []) arrivals connections desk = record {
-      reads = reads;
-      arrived = arrives_tier records arrivals connections conn tier serves.arrived reads;
-      stands = serves.stands;
-    } in
+    let stand = stand_tier records arrivals (connection_at connections) conn tier (stand_of terms records arrivals connections desk serves) in
+    let more : Serves terms (records ++ Tier conn tier ∷ []) arrivals connections desk = record { reads = record { each = stand.each }; arrived = stand.arrived; stands = serves.stands } in
     rw is (record { more = []; serves = rw (append-nil arrivals) more; written = wrote_none t desk.start arrivals old laws })
 
 -- what a piece has brought
@@ -190,24 +208,23 @@ pub record Took (n : ℕ) (before after : List Connection) (piece : List ℕ) (o
 -- the arrivals of a piece that was taken
 pub record Brought (records : List Record) (arrivals : List Arrival) (r : Record) (connections : List Connection) (more : List Arrival) : Type 0 where
   pub reads : HaveRead (records ++ r ∷ []) (arrivals ++ more) connections
-  pub arrived : AreArrivals (records ++ r ∷ []) (arrivals ++ more)
+  pub arrived : AreArrivals (used_once (records ++ r ∷ [])) (arrivals ++ more)
 
-pub brought : (terms : Terms) (tier tick conn n : ℕ) (bytes piece : List ℕ) (ms out : List Message) (records : List Record) (arrivals : List Arrival) (r : Record) (before after : List Connection) (desk : Desk)
-    → tier ≡ tier_of conn records → r ≡ Piece tick conn bytes → n ≡ conn → piece ≡ bytes → ms ≡ out → Took n before after piece out → Serves terms records arrivals before desk
-    → Brought records arrivals r after (arrivals_with (length records) (from_piece tier tick conn) ms)
-brought terms tier tick conn n bytes piece ms out records arrivals r before after desk own is named shown same took serves =
-    let reading : (text : List ℕ) (sofar : List Message) → HasRead (connection_at before conn) text sofar → ReadMore text sofar (connection_at after conn) bytes ms = rw (named, shown, ← same) at took.own in
+pub brought : (terms : Terms) (tick conn n : ℕ) (o : Origin) (bytes piece : List ℕ) (ms out : List Message) (records : List Record) (arrivals : List Arrival) (r : Record) (before after : List Connection) (desk : Desk)
+    → o ≡ origin_now conn tick records → IsNumber conn → r ≡ Piece tick conn bytes → n ≡ conn → piece ≡ bytes → ms ≡ out → Took n before after piece out → Serves terms records arrivals before desk
+    → Brought records arrivals r after (arrivals_with (length records) (connection_now conn records) o ms)
+brought terms tick conn n o bytes piece ms out records arrivals r before after desk own low is named shown same took serves =
+    let reading : Reads (connection_at before conn) bytes ms (connection_at after conn) = rw (named, shown, ← same) at took.own in
     let apart : (c : ℕ) → c ≢ conn → connection_at after c ≡ connection_at before c = rw named at took.others in
-    let reads = reads_piece records arrivals before after tier tick conn bytes ms serves.reads reading apart in
-    let ends = (reading (text_of conn records) (messages_of conn arrivals) (serves.reads.each conn)).in_piece in
-    rw is (record { reads = reads; arrived = arrives_piece records arrivals after tier tick conn bytes ms own serves.arrived ends reads })
+    let stand = stand_piece records arrivals (connection_at before) (connection_at after) tick conn bytes ms low (stand_of terms records arrivals before desk serves) reading apart in
+    rw (is, own) (record { reads = record { each = stand.each }; arrived = stand.arrived })
 
-pub serves_piece : (t : Texts) (terms : Terms) (tier tick conn : ℕ) (ms : List Message) (records : List Record) (arrivals : List Arrival) (r : Record) (after : List Connection) (desk now : Desk) (old new : Option (List ℕ))
-    → Brought records arrivals r after (arrivals_with (length records) (from_piece tier tick conn) ms) → now.start ≡ desk.start
-    → DeskAfter terms (arrivals ++ arrivals_with (length records) (from_piece tier tick conn) ms) now
-    → Wrote t desk.start arrivals (arrivals_with (length records) (from_piece tier tick conn) ms) old new → WritesMore t terms records arrivals (r ∷ []) after now old new
-serves_piece t terms tier tick conn ms records arrivals r after desk now old new brings start stands written = record {
-  more = arrivals_with (length records) (from_piece tier tick conn) ms;
+pub serves_piece : (t : Texts) (terms : Terms) (id : ℕ) (o : Origin) (ms : List Message) (records : List Record) (arrivals : List Arrival) (r : Record) (after : List Connection) (desk now : Desk) (old new : Option (List ℕ))
+    → Brought records arrivals r after (arrivals_with (length records) id o ms) → now.start ≡ desk.start
+    → DeskAfter terms (arrivals ++ arrivals_with (length records) id o ms) now
+    → Wrote t desk.start arrivals (arrivals_with (length records) id o ms) old new → WritesMore t terms records arrivals (r ∷ []) after now old new
+serves_piece t terms id o ms records arrivals r after desk now old new brings start stands written = record {
+  more = arrivals_with (length records) id o ms;
   serves = record { reads = brings.reads; arrived = brings.arrived; stands = stands };
   written = rw start written;
 }
@@ -217,39 +234,39 @@ map_take f zero xs = refl
 map_take f (suc i) [] = refl
 map_take f (suc i) (x ∷ xs) = ap (λ ys. f x ∷ ys) (map_take f i xs)
 
-take_with : (place : ℕ) (origin : Origin) (i : ℕ) (ms : List Message) → arrivals_with place origin (take i ms) ≡ take i (arrivals_with place origin ms)
-take_with place origin i ms = map_take (λ m. record { origin = origin; place = place; message = m }) i ms
+take_with : (place id : ℕ) (origin : Origin) (i : ℕ) (ms : List Message) → arrivals_with place id origin (take i ms) ≡ take i (arrivals_with place id origin ms)
+take_with place id origin i ms = map_take (λ m. record { origin = origin; connection = id; place = place; message = m }) i ms
 
-pub serves_full : (t : Texts) (terms : Terms) (tier tick conn i : ℕ) (ms : List Message) (records : List Record) (arrivals : List Arrival) (r : Record) (after : List Connection) (before : List Connection) (desk : Desk) (old new : Option (List ℕ))
-    → Brought records arrivals r after (arrivals_with (length records) (from_piece tier tick conn) ms) → Serves terms records arrivals before desk
-    → i < length ms → desk.totals.answered + i ≡ 1048576 → Wrote t desk.start arrivals (arrivals_with (length records) (from_piece tier tick conn) (take i ms)) old new
-    → WritesFull t desk.start records arrivals (r ∷ []) old new
-serves_full t terms tier tick conn i ms records arrivals r after before desk old new brings serves lt full written =
+pub serves_full : (t : Texts) (terms : Terms) (most id : ℕ) (o : Origin) (i : ℕ) (ms : List Message) (records : List Record) (arrivals : List Arrival) (r : Record) (after : List Connection) (before : List Connection) (desk : Desk) (old new : Option (List ℕ))
+    → Brought records arrivals r after (arrivals_with (length records) id o ms) → Serves terms records arrivals before desk
+    → i < length ms → desk.totals.answered + i ≡ most → Wrote t desk.start arrivals (arrivals_with (length records) id o (take i ms)) old new
+    → WritesFull t most desk.start records arrivals (r ∷ []) old new
+serves_full t terms most id o i ms records arrivals r after before desk old new brings serves lt full written =
     let place = length records in
     let is = answered_is terms arrivals desk serves.stands in
-    let len : length (arrivals_with place (from_piece tier tick conn) ms) ≡ length ms = length-map ms _ in
+    let len : length (arrivals_with place id o ms) ≡ length ms = length-map ms _ in
     record {
-      more = arrivals_with place (from_piece tier tick conn) ms;
+      more = arrivals_with place id o ms;
       arrived = brings.arrived;
       within = i;
       full = omega (arith, is, full);
       beyond = omega (arith, len, lt);
-      written = rw (take_with place (from_piece tier tick conn) i ms) at written;
+      written = rw (take_with place id o i ms) at written;
     }
 
-pub serves_part : (t : Texts) (terms : Terms) (tier tick conn i : ℕ) (ms : List Message) (records : List Record) (arrivals : List Arrival) (r : Record) (after : List Connection) (before : List Connection) (desk : Desk) (old new : Option (List ℕ))
-    → Brought records arrivals r after (arrivals_with (length records) (from_piece tier tick conn) ms) → Serves terms records arrivals before desk
-    → desk.totals.answered + i ≤ 1048576 → WroteInPart t desk.start arrivals (arrivals_with (length records) (from_piece tier tick conn) (take i ms)) old new
-    → WritesInPart t desk.start records arrivals (r ∷ []) old new
-serves_part t terms tier tick conn i ms records arrivals r after before desk old new brings serves few written =
+pub serves_part : (t : Texts) (terms : Terms) (most id : ℕ) (o : Origin) (i : ℕ) (ms : List Message) (records : List Record) (arrivals : List Arrival) (r : Record) (after : List Connection) (before : List Connection) (desk : Desk) (old new : Option (List ℕ))
+    → Brought records arrivals r after (arrivals_with (length records) id o ms) → Serves terms records arrivals before desk
+    → desk.totals.answered + i ≤ most → WroteInPart t desk.start arrivals (arrivals_with (length records) id o (take i ms)) old new
+    → WritesInPart t most desk.start records arrivals (r ∷ []) old new
+serves_part t terms most id o i ms records arrivals r after before desk old new brings serves few written =
     let place = length records in
     let is = answered_is terms arrivals desk serves.stands in
     record {
-      more = arrivals_with place (from_piece tier tick conn) ms;
+      more = arrivals_with place id o ms;
       arrived = brings.arrived;
       within = i;
       few = omega (arith, is, few);
-      written = rw (take_with place (from_piece tier tick conn) i ms) at written;
+      written = rw (take_with place id o i ms) at written;
     }
 
 pub on_ok : {T E : Type 0} (r : Result T E) (A B C D : Type 0) → OnOk r A → OnOk r B → OnOk r C → (A → B → C → D) → OnOk r D
@@ -280,8 +297,8 @@ record_is v text now start records p r h =
     rw (get_or-append_seam records r [] r) at (h.rules.each (length records) r lt)
 
 pub sizes_left : (v : Version) (text now : Option (List ℕ)) (start room : ℕ) (records : List Record) (p : Progress) (r : Record) → ReaderAfter v text start records p now
-    → size_of r + 1 + room ≡ p.room → sizes_of records + size_of r ≤ 1073741824
-sizes_left v text now start room records p r fits e = let h = fits.room in omega (arith, h, e)
+    → size_of r + 1 + room ≡ p.room → sizes_of records + size_of r ≤ longest_text
+sizes_left v text now start room records p r fits e = let h = fits.room in omega (arith, h, e, within_longest v)
 
 -- what the reader's answer says
 pub gave_end : (v : Version) (text now : Option (List ℕ)) (start : ℕ) (records : List Record) (p : Progress) (x : Option Record) → x ≡ None → Gave v text start records (Ok x) p now
@@ -290,36 +307,47 @@ gave_end v text now start records p x is h = subst (λ (o : Option Record). Gave
 
 -- ---- the end
 
+-- the limit is that of the capture's format
+pub limit_of : {v w : Version} {most : ℕ} → w ≡ v → most ≡ (format_of w).max_messages → most ≡ (format_of v).max_messages
+limit_of {v} {w} {most} same is = is ∙ ap (λ u. (format_of u).max_messages) same
+
+pub most_of : {v w : Version} {most answered : ℕ} → w ≡ v → most ≡ (format_of w).max_messages → answered ≤ most → answered ≤ (format_of v).max_messages
+most_of {v} {w} {most} {answered} same is within = let limit = limit_of same is in omega (arith, limit, within)
+
+-- the messages that were answered are no more than the format allows
+within_most : (terms : Terms) (v : Version) (arrivals : List Arrival) (desk : Desk) → DeskAfter terms arrivals desk → desk.totals.answered ≤ (format_of v).max_messages → length arrivals ≤ (format_of v).max_messages
+within_most terms v arrivals desk stands most = let is = answered_is terms arrivals desk stands in omega (arith, is, most)
+
 -- the whole capture was told of
 pub all_written : (t : Texts) (terms : Terms) (v : Version) (start count : ℕ) (records : List Record) (arrivals : List Arrival) (connections : List Connection) (desk : Desk)
     (input old mid new : Option (List ℕ)) (outcome : Outcome) → AreTexts t → IsCapture v start records → WhereKnown input (λ bytes. IsCaptureText v bytes start records)
     → Serves terms records arrivals connections desk
     → Appends old mid (t.so_far start arrivals) → Appends mid new (t.last count) → count ≡ desk.totals.answered
-    → outcome.rejected ≡ desk.totals.rejected → outcome.summary ≡ summary_of terms arrivals → WritesWhole t terms input old new outcome
-all_written t terms v start count records arrivals connections desk input old mid new outcome laws rules capture serves before last counted rejected given_by = record {
+    → desk.totals.answered ≤ (format_of v).max_messages → outcome.version ≡ v → outcome.rejected ≡ desk.totals.rejected → outcome.summary ≡ summary_of terms arrivals → WritesWhole t terms input old new outcome
+all_written t terms v start count records arrivals connections desk input old mid new outcome laws rules capture serves before last counted most version rejected given_by = record {
   read = record {
     capture = record { version = v; start = start; records = records; rules = rules; text = capture };
     arrivals = arrivals;
     are = serves.arrived;
-    few = serves.stands.few;
+    few = within_most terms v arrivals desk serves.stands most;
   };
   written = text_ended t start count arrivals old mid new laws (counted ∙ answered_is terms arrivals desk serves.stands) before last;
-  outcome_is = same_outcome outcome (outcome_of terms arrivals) (rejected ∙ ap (λ t. t.rejected) serves.stands.totals) given_by;
+  outcome_is = same_outcome outcome (outcome_of v terms arrivals) version (rejected ∙ ap (λ t. t.rejected) serves.stands.totals) given_by;
 }
 
 -- the last line was not
 pub ends_short : (t : Texts) (terms : Terms) (v : Version) (start count : ℕ) (records : List Record) (arrivals : List Arrival) (connections : List Connection) (desk : Desk)
     (input old mid new : Option (List ℕ)) → AreTexts t → IsCapture v start records → WhereKnown input (λ bytes. IsCaptureText v bytes start records)
     → Serves terms records arrivals connections desk
-    → Appends old mid (t.so_far start arrivals) → AppendsPrefix mid new (t.last count) → count ≡ desk.totals.answered
+    → Appends old mid (t.so_far start arrivals) → AppendsPrefix mid new (t.last count) → count ≡ desk.totals.answered → desk.totals.answered ≤ (format_of v).max_messages
     → IsCutOff t input old new
-ends_short t terms v start count records arrivals connections desk input old mid new laws rules capture serves before last counted =
+ends_short t terms v start count records arrivals connections desk input old mid new laws rules capture serves before last counted most =
     inr (inr (
       record {
         capture = record { version = v; start = start; records = records; rules = rules; text = capture };
         arrivals = arrivals;
         are = serves.arrived;
-        few = serves.stands.few;
+        few = within_most terms v arrivals desk serves.stands most;
       },
       text_ended_part t start count arrivals old mid new laws (counted ∙ answered_is terms arrivals desk serves.stands) before last,
     ))
@@ -348,7 +376,7 @@ halts_first t input ahead old new f written at fault failed = inl (record { at =
 
 -- the records that a reader has given
 abbrev pub taken : (v : Version) (input now : Option (List ℕ)) (start : ℕ) (records : List Record) (arrivals : List Arrival) (p : Progress)
-    → ReaderAfter v input start records p now → AreArrivals records arrivals → Taken input
+    → ReaderAfter v input start records p now → AreArrivals (used_once records) arrivals → Taken input
 taken v input now start records arrivals p fits arrived = record {
   read = reads_of v input now start records p fits;
   arrivals = arrivals;
@@ -358,15 +386,15 @@ taken v input now start records arrivals p fits arrived = record {
 pub halts_after : (t : Texts) (terms : Terms) (v : Version) (input now ahead left old new : Option (List ℕ)) (start : ℕ) (records : List Record) (arrivals : List Arrival) (p : Progress) (connections : List Connection) (desk : Desk)
     (f : CaptureFault) → ReaderAfter v input start records p now → Serves terms records arrivals connections desk → Appends old new (t.so_far start arrivals)
     → (f.at ≡ length records + 1) × IsForeseen (λ bytes. IsFaultAfter v bytes start records) input f → FailsNext v input start records (Err f) left
-    → ahead ≡ left → StopsWriting t input ahead old new f
-halts_after t terms v input now ahead left old new start records arrivals p connections desk f fits serves written fault failed same = inr (
+    → ahead ≡ left → desk.totals.answered ≤ (format_of v).max_messages → StopsWriting t input ahead old new f
+halts_after t terms v input now ahead left old new start records arrivals p connections desk f fits serves written fault failed same most = inr (
   reads_of v input now start records p fits,
   record {
     at = fault.0;
     fault = λ foreseen known. fault.1 known foreseen;
     failed = subst (λ w. FailsNext v input start records (Err f) w) (sym same) failed;
   },
-  record { arrivals = arrivals; arrived = serves.arrived; few = serves.stands.few; written = written },
+  record { arrivals = arrivals; arrived = serves.arrived; few = within_most terms v arrivals desk serves.stands most; written = written },
 )
 
 take_all : {A : Type 0} (xs : List A) → take (length xs) xs ≡ xs
@@ -374,12 +402,12 @@ take_all xs = grind (arith, common_steps)
 
 -- all of the messages so far were answered, and nothing of the next
 pub cut_among : (t : Texts) (terms : Terms) (v : Version) (input now old new : Option (List ℕ)) (start : ℕ) (records : List Record) (arrivals : List Arrival) (p : Progress) (connections : List Connection) (desk : Desk)
-    → ReaderAfter v input start records p now → Serves terms records arrivals connections desk → Appends old new (t.so_far start arrivals)
+    → ReaderAfter v input start records p now → Serves terms records arrivals connections desk → Appends old new (t.so_far start arrivals) → desk.totals.answered ≤ (format_of v).max_messages
     → IsCutOff t input old new
-cut_among t terms v input now old new start records arrivals p connections desk fits serves written = inr (inl (record {
+cut_among t terms v input now old new start records arrivals p connections desk fits serves written most = inr (inl (record {
   taken = taken v input now start records arrivals p fits serves.arrived;
   within = length arrivals;
-  few = serves.stands.few;
+  few = within_most terms v arrivals desk serves.stands most;
   written = rw (take_all arrivals) (prefix_all old new _ written);
 }))
 
@@ -388,34 +416,36 @@ pub halts_written : (t : Texts) (terms : Terms) (v : Version) (input now ahead l
     (f : CaptureFault) (r : PassFault) → r ≡ pass_fault f
     → ReaderAfter v input start records p now → Serves terms records arrivals connections desk → Appends old new (t.so_far start arrivals)
     → (f.at ≡ length records + 1) × IsForeseen (λ bytes. IsFaultAfter v bytes start records) input f → FailsNext v input start records (Err f) left
-    → ahead ≡ left → Leaves t input ahead old new r
-halts_written t terms v input now ahead left old new start records arrivals p connections desk f r is fits serves written fault failed same =
+    → ahead ≡ left → desk.totals.answered ≤ (format_of v).max_messages → Leaves t input ahead old new r
+halts_written t terms v input now ahead left old new start records arrivals p connections desk f r is fits serves written fault failed same most =
     rw is
     (leaves_reported t input ahead old new f
-    (halts_after t terms v input now ahead left old new start records arrivals p connections desk f fits serves written fault failed same)
-    (cut_among t terms v input now old new start records arrivals p connections desk fits serves written))
+    (halts_after t terms v input now ahead left old new start records arrivals p connections desk f fits serves written fault failed same most)
+    (cut_among t terms v input now old new start records arrivals p connections desk fits serves written most))
 
-pub halts_full : (t : Texts) (v : Version) (input now old mid new : Option (List ℕ)) (start n : ℕ) (records : List Record) (arrivals : List Arrival) (rs : List Record) (p : Progress)
-    → AreTexts t → ReaderAfter v input start (records ++ rs) p now → Appends old mid (t.so_far start arrivals) → n ≡ 1048576
-    → WritesFull t start records arrivals rs mid new → StopsBeyond t input old new n
-halts_full t v input now old mid new start n records arrivals rs p laws fits written number full =
-    let here : take 1048576 (arrivals ++ full.more) ≡ arrivals ++ take full.within full.more = rw (← full.full) (take-append-add arrivals full.more full.within) in
+pub halts_full : (t : Texts) (v : Version) (input now old mid new : Option (List ℕ)) (start n most : ℕ) (records : List Record) (arrivals : List Arrival) (rs : List Record) (p : Progress)
+    → AreTexts t → ReaderAfter v input start (records ++ rs) p now → Appends old mid (t.so_far start arrivals) → n ≡ most → most ≡ (format_of v).max_messages
+    → WritesFull t most start records arrivals rs mid new → StopsBeyond t input old new n
+halts_full t v input now old mid new start n most records arrivals rs p laws fits written number limit full =
+    let all = full.full in
+    let reaches : n ≡ length arrivals + full.within = omega (arith, number, all) in
+    let here : take n (arrivals ++ full.more) ≡ arrivals ++ take full.within full.more = rw reaches (take-append-add arrivals full.more full.within) in
     record {
       taken = taken v input now start (records ++ rs) (arrivals ++ full.more) p fits full.arrived;
-      beyond = let all = full.full in let more = full.beyond in let len = length-append arrivals full.more in omega (arith, all, more, len);
-      is_number = number;
+      is_number = number ∙ limit;
+      beyond = let more = full.beyond in let len = length-append arrivals full.more in omega (arith, reaches, more, len);
       written = rw here (text_wrote t start arrivals (take full.within full.more) old mid new laws written full.written);
     }
 
-pub cut_part : (t : Texts) (v : Version) (input now old mid new : Option (List ℕ)) (start : ℕ) (records : List Record) (arrivals : List Arrival) (rs : List Record) (p : Progress)
+pub cut_part : (t : Texts) (v : Version) (input now old mid new : Option (List ℕ)) (start most : ℕ) (records : List Record) (arrivals : List Arrival) (rs : List Record) (p : Progress)
     → AreTexts t → ReaderAfter v input start (records ++ rs) p now → Appends old mid (t.so_far start arrivals)
-    → WritesInPart t start records arrivals rs mid new → IsCutOff t input old new
-cut_part t v input now old mid new start records arrivals rs p laws fits written part =
+    → most ≡ (format_of v).max_messages → WritesInPart t most start records arrivals rs mid new → IsCutOff t input old new
+cut_part t v input now old mid new start most records arrivals rs p laws fits written limit part =
     let here : take (length arrivals + part.within) (arrivals ++ part.more) ≡ arrivals ++ take part.within part.more = take-append-add arrivals part.more part.within in
     inr (inl (record {
       taken = taken v input now start (records ++ rs) (arrivals ++ part.more) p fits part.arrived;
       within = length arrivals + part.within;
-      few = part.few;
+      few = (let few = part.few in omega (arith, few, limit));
       written = rw here (text_part t start arrivals (take part.within part.more) old mid new laws written part.written);
     }))
 
@@ -443,18 +473,18 @@ pub answers_all : (terms : Terms) (v : Version) (start count : ℕ) (records : L
     (input old mid new : Option (List ℕ)) (outcome : Outcome) → IsCapture v start records → WhereKnown input (λ bytes. IsCaptureText v bytes start records)
     → Serves terms records arrivals connections desk
     → Appends old mid (text_before_stop (replies_of terms start (handled terms arrivals))) → Appends mid new (last_line count) → count ≡ desk.totals.answered
-    → outcome.rejected ≡ desk.totals.rejected → outcome.summary ≡ summary_of terms arrivals → Answers terms input old new outcome
-answers_all terms v start count records arrivals connections desk input old mid new outcome rules capture serves before last counted rejected given_by =
+    → desk.totals.answered ≤ (format_of v).max_messages → outcome.version ≡ v → outcome.rejected ≡ desk.totals.rejected → outcome.summary ≡ summary_of terms arrivals → Answers terms input old new outcome
+answers_all terms v start count records arrivals connections desk input old mid new outcome rules capture serves before last counted most version rejected given_by =
     has_answered terms input old new outcome
-    (all_written (reply_texts terms) terms v start count records arrivals connections desk input old mid new outcome (replies_laws terms) rules capture serves before last counted rejected given_by)
+    (all_written (reply_texts terms) terms v start count records arrivals connections desk input old mid new outcome (replies_laws terms) rules capture serves before last counted most version rejected given_by)
 
 pub ends_in_part : (terms : Terms) (v : Version) (start count : ℕ) (records : List Record) (arrivals : List Arrival) (connections : List Connection) (desk : Desk)
     (input old mid new : Option (List ℕ)) → IsCapture v start records → WhereKnown input (λ bytes. IsCaptureText v bytes start records)
     → Serves terms records arrivals connections desk
-    → Appends old mid (text_before_stop (replies_of terms start (handled terms arrivals))) → AppendsPrefix mid new (last_line count) → count ≡ desk.totals.answered
+    → Appends old mid (text_before_stop (replies_of terms start (handled terms arrivals))) → AppendsPrefix mid new (last_line count) → count ≡ desk.totals.answered → desk.totals.answered ≤ (format_of v).max_messages
     → IsCutOff (reply_texts terms) input old new
-ends_in_part terms v start count records arrivals connections desk input old mid new rules capture serves before last counted =
-    ends_short (reply_texts terms) terms v start count records arrivals connections desk input old mid new (replies_laws terms) rules capture serves before last counted
+ends_in_part terms v start count records arrivals connections desk input old mid new rules capture serves before last counted most =
+    ends_short (reply_texts terms) terms v start count records arrivals connections desk input old mid new (replies_laws terms) rules capture serves before last counted most
 
 pub stops_first : (terms : Terms) (input ahead old new : Option (List ℕ)) (f : CaptureFault) → Appends old new first_line → f.at ≡ 0 → IsForeseen IsHeaderFault input f
     → FailsFirst input f ahead → Stops terms input ahead old new f
@@ -464,9 +494,9 @@ pub stops_reported : (terms : Terms) (v : Version) (input now ahead left old new
     (f : CaptureFault) (r : PassFault) → r ≡ pass_fault f
     → ReaderAfter v input start records p now → Serves terms records arrivals connections desk → Appends old new (text_before_stop (replies_of terms start (handled terms arrivals)))
     → (f.at ≡ length records + 1) × IsForeseen (λ bytes. IsFaultAfter v bytes start records) input f → FailsNext v input start records (Err f) left
-    → ahead ≡ left → Leaves (reply_texts terms) input ahead old new r
-stops_reported terms v input now ahead left old new start records arrivals p connections desk f r is fits serves written fault failed same =
-    halts_written (reply_texts terms) terms v input now ahead left old new start records arrivals p connections desk f r is fits serves written fault failed same
+    → ahead ≡ left → desk.totals.answered ≤ (format_of v).max_messages → Leaves (reply_texts terms) input ahead old new r
+stops_reported terms v input now ahead left old new start records arrivals p connections desk f r is fits serves written fault failed same most =
+    halts_written (reply_texts terms) terms v input now ahead left old new start records arrivals p connections desk f r is fits serves written fault failed same most
 
 -- what is left of the input, found before the rest is in sight
 pub left_first : (terms : Terms) (input ahead left old new : Option (List ℕ)) (r : PassFault) → ahead ≡ left
@@ -474,19 +504,19 @@ pub left_first : (terms : Terms) (input ahead left old new : Option (List ℕ)) 
 left_first terms input ahead left old new r same rest = rest same
 
 pub short_among : (terms : Terms) (v : Version) (input now old new : Option (List ℕ)) (start : ℕ) (records : List Record) (arrivals : List Arrival) (p : Progress) (connections : List Connection) (desk : Desk)
-    → ReaderAfter v input start records p now → Serves terms records arrivals connections desk → Appends old new (text_before_stop (replies_of terms start (handled terms arrivals)))
+    → ReaderAfter v input start records p now → Serves terms records arrivals connections desk → Appends old new (text_before_stop (replies_of terms start (handled terms arrivals))) → desk.totals.answered ≤ (format_of v).max_messages
     → IsCutOff (reply_texts terms) input old new
-short_among terms v input now old new start records arrivals p connections desk fits serves written =
-    cut_among (reply_texts terms) terms v input now old new start records arrivals p connections desk fits serves written
+short_among terms v input now old new start records arrivals p connections desk fits serves written most =
+    cut_among (reply_texts terms) terms v input now old new start records arrivals p connections desk fits serves written most
 
-pub stops_full : (terms : Terms) (v : Version) (input now old mid new : Option (List ℕ)) (start n : ℕ) (records : List Record) (arrivals : List Arrival) (rs : List Record) (p : Progress)
-    → ReaderAfter v input start (records ++ rs) p now → Appends old mid (text_before_stop (replies_of terms start (handled terms arrivals))) → n ≡ 1048576
-    → ServesFull terms start records arrivals rs mid new → StopsFull terms input old new n
-stops_full terms v input now old mid new start n records arrivals rs p fits written number full =
-    halts_full (reply_texts terms) v input now old mid new start n records arrivals rs p (replies_laws terms) fits written number full
+pub stops_full : (terms : Terms) (v : Version) (input now old mid new : Option (List ℕ)) (start n most : ℕ) (records : List Record) (arrivals : List Arrival) (rs : List Record) (p : Progress)
+    → ReaderAfter v input start (records ++ rs) p now → Appends old mid (text_before_stop (replies_of terms start (handled terms arrivals))) → n ≡ most → most ≡ (format_of v).max_messages
+    → ServesFull terms most start records arrivals rs mid new → StopsFull terms input old new n
+stops_full terms v input now old mid new start n most records arrivals rs p fits written number limit full =
+    halts_full (reply_texts terms) v input now old mid new start n most records arrivals rs p (replies_laws terms) fits written number limit full
 
-pub short_part : (terms : Terms) (v : Version) (input now old mid new : Option (List ℕ)) (start : ℕ) (records : List Record) (arrivals : List Arrival) (rs : List Record) (p : Progress)
+pub short_part : (terms : Terms) (v : Version) (input now old mid new : Option (List ℕ)) (start most : ℕ) (records : List Record) (arrivals : List Arrival) (rs : List Record) (p : Progress)
     → ReaderAfter v input start (records ++ rs) p now → Appends old mid (text_before_stop (replies_of terms start (handled terms arrivals)))
-    → ServesInPart terms start records arrivals rs mid new → IsCutOff (reply_texts terms) input old new
-short_part terms v input now old mid new start records arrivals rs p fits written part =
-    cut_part (reply_texts terms) v input now old mid new start records arrivals rs p (replies_laws terms) fits written part
+    → most ≡ (format_of v).max_messages → ServesInPart terms most start records arrivals rs mid new → IsCutOff (reply_texts terms) input old new
+short_part terms v input now old mid new start most records arrivals rs p fits written limit part =
+    cut_part (reply_texts terms) v input now old mid new start most records arrivals rs p (replies_laws terms) fits written limit part

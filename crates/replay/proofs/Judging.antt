@@ -12,7 +12,7 @@ use Rattle.admission.specs.After.{ControllerAfter}
 use Rattle.responses.specs.declared.slip.Persistence.{Persistence}
 use Rattle.responses.specs.declared.slip.Slip.{Slip}
 use Rattle.responses.specs.Reference.{status_of, reply_text, record_text}
-use Rattle.reference.specs.Reference.{Choice, Terms, terms_of, given, answers_head, is_head, persistence_of, outcome_answer, slip_of, is_unmodified_file, length_given, offer_at, offers_of, is_turned_away, handled_next, handled_after, handled, bypassed_of, samples_of, tally_of, breaks_a_rule}
+use Rattle.reference.specs.Reference.{Choice, Terms, terms_of, given, answers_head, is_head, persistence_of, outcome_answer, slip_of, is_unmodified_file, length_given, offer_at, offers_of, is_turned_away, handled_next, handled_after, handled, bypassed_of, samples_of, breaks_a_rule}
 use Rattle.arrivals.specs.Reference.{Arrival}
 use Rattle.paths.specs.Reference.{asked, outcome}
 use Rattle.paths.specs.declared.file.File.{File}
@@ -36,7 +36,6 @@ use Rattle.http_requests.specs.declared.messages.Message.{Message}
 use Rattle.arrivals.specs.Connections.{arrivals_with}
 use Rattle.std.proofs.lemmas.List.Elements.{All-nil, All-cons, All-append}
 use Rattle.replay.specs.declared.totals.Totals.{Totals}
-use Rattle.reference.specs.declared.summary.Tally.{Tally}
 use Rattle.replay.specs.declared.desk.Desk.{Desk}
 use Rattle.reference.proofs.Offering.{offers_more, handled_push, handled_count, samples_admitted, samples_rejected, is_admitted_one, is_rejected_one}
 use Rattle.reference.proofs.SameAnswer.{status_same, reply_is}
@@ -153,7 +152,7 @@ pub stands_more : (terms : Terms) (arrivals : List Arrival) (a : Arrival) (away 
     → Decides (offers_of terms arrivals) (offer_at terms a.origin a.message.what) old mid away
     → status ≡ status_of (given {X = Unit {0}} terms away a.message.what)
     → new.controller ≡ mid.controller → new.totals ≡ noted mid.totals status (breaks_a_rule a.message.what)
-    → length arrivals < 1048576 → DeskAfter terms (arrivals ++ a ∷ []) new
+    → length arrivals < 536870912 → DeskAfter terms (arrivals ++ a ∷ []) new
 stands_more terms arrivals a away old mid new status stands decides given_by same counted few =
     let away_is : away ≡ is_turned_away terms arrivals a = rw stands.policies at decides.is_away in
     record {
@@ -187,17 +186,7 @@ bypassed_room terms arrivals desk n stands lt =
     let few = bypassed_few arrivals in
     omega (arith, is, few, lt)
 
--- what became of the requests of a tier
-pub tally_is : (terms : Terms) (arrivals : List Arrival) (desk : Desk) (tally : Tally) (tier : ℕ) → DeskAfter terms arrivals desk
-    → ((offers : List Offer) → ControllerAfter offers desk.controller → tally ≡ tally_of (policies_of desk.controller) offers tier)
-    → tally ≡ tally_of terms.policies (offers_of terms arrivals) tier
-tally_is terms arrivals desk tally tier stands given_by = rw stands.policies at (given_by (offers_of terms arrivals) stands.fits)
-
 -- ---- one message at the desk
-
--- the message may still be counted
-pub room_left : (terms : Terms) (arrivals : List Arrival) (desk : Desk) → DeskAfter terms arrivals desk → desk.totals.answered ≢ 1048576 → desk.totals.answered < 1048576
-room_left terms arrivals desk stands full = let e = answered_is terms arrivals desk stands in let few = stands.few in omega (arith, e, few, full)
 
 -- what the desk has made of a message that is told this
 abbrev pub Judged : {X : Type 0} → Terms → List Offer → Origin → Meaning → Desk → Desk → Given X → Type 0
@@ -213,7 +202,7 @@ counts_kept X terms arrivals origin what old mid given_by n stands judged lt =
     )
 
 pub stands_after : (X : Type 0) (terms : Terms) (arrivals : List Arrival) (a : Arrival) (origin : Origin) (what : Meaning) (old mid : Desk) (totals : Totals) (given_by : Given X) → DeskAfter terms arrivals old
-    → a.origin ≡ origin → a.message.what ≡ what → old.totals.answered < 1048576 → Judged terms (offers_of terms arrivals) origin what old mid given_by
+    → a.origin ≡ origin → a.message.what ≡ what → old.totals.answered < 536870912 → Judged terms (offers_of terms arrivals) origin what old mid given_by
     → totals ≡ noted mid.totals (status_of given_by) (breaks_a_rule what)
     → DeskAfter terms (arrivals ++ a ∷ []) (record { start = mid.start; controller = mid.controller; totals = totals })
 stands_after X terms arrivals a origin what old mid totals given_by stands from meaning room judged counted =
@@ -277,12 +266,12 @@ own_cut Memory P own h = h
 
 -- ---- the messages of a piece
 
-by_with : (place : ℕ) (origin : Origin) (ms : List Message) → AreBy origin.tick (arrivals_with place origin ms)
-by_with place origin [] = All-nil (λ a. a.origin.tick ≤ origin.tick)
-by_with place origin (m ∷ ms) = All-cons (λ a. a.origin.tick ≤ origin.tick) _ (arrivals_with place origin ms) (omega arith) (by_with place origin ms)
+by_with : (place id : ℕ) (origin : Origin) (ms : List Message) → AreBy origin.tick (arrivals_with place id origin ms)
+by_with place id origin [] = All-nil (λ a. a.origin.tick ≤ origin.tick)
+by_with place id origin (m ∷ ms) = All-cons (λ a. a.origin.tick ≤ origin.tick) _ (arrivals_with place id origin ms) (omega arith) (by_with place id origin ms)
 
-pub by_more : (place : ℕ) (origin : Origin) (ms : List Message) (arrivals : List Arrival) → AreBy origin.tick arrivals → AreBy origin.tick (arrivals ++ arrivals_with place origin ms)
-by_more place origin ms arrivals by = All-append (λ a. a.origin.tick ≤ origin.tick) arrivals (arrivals_with place origin ms) by (by_with place origin ms)
+pub by_more : (place id : ℕ) (origin : Origin) (ms : List Message) (arrivals : List Arrival) → AreBy origin.tick arrivals → AreBy origin.tick (arrivals ++ arrivals_with place id origin ms)
+by_more place id origin ms arrivals by = All-append (λ a. a.origin.tick ≤ origin.tick) arrivals (arrivals_with place id origin ms) by (by_with place id origin ms)
 
 -- what holds at any fault
 pub on_err : {T : Type 0} (r : Result T PassFault) (P : Type 0) → P → OnErr r P

@@ -10,3 +10,4 @@ pub mod PendingReplies
 pub mod Upcoming
 pub mod Grouping
 pub mod ByBatch
+pub mod Tallies

@@ -75,11 +75,11 @@ pub record Next (terms : Terms) (desk : Desk) (message : Incoming) : Type 0 wher
   pub by : AreBy message.origin.tick arrivals
   pub tick : message.origin.tick ≤ 1000000000000000
   pub tier : message.origin.tier < 4
-  pub few : desk.totals.answered < 1048576
+  pub few : desk.totals.answered < 536870912
 
 pub next_is : {X : Type 0} (files : List File) (terms : Terms) (costs : CostTable) (lookups : List LookedUp) (old now : Desk) (rest after : List LookedUp) (pending_replies : List (PendingReply X)) (k : ℕ)
     (arrivals more : List Arrival) (s : LookedUp) → Settled files terms costs lookups old now rest pending_replies k → rest ≡ s ∷ after
-    → DeskAfter terms arrivals old → AreLookedUp files costs more lookups → InTime arrivals more → length arrivals + length more ≤ 1048576
+    → DeskAfter terms arrivals old → AreLookedUp files costs more lookups → InTime arrivals more → length arrivals + length more ≤ 536870912
     → Next terms now s.message × (s ≡ front_value files costs s.message) × (s.lookup ≡ lookup_of files costs s.message.what)
 next_is files terms costs lookups old now rest after pending_replies k arrivals more s settled steps stands looked_up timely few =
     let here = at_place (λ a. front_value files costs (incoming_of a)) more k s after (sym steps ∙ settled.rest_is ∙ ap (drop k) looked_up) in

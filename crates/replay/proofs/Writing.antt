@@ -16,11 +16,11 @@ use Rattle.reference.proofs.Offering.{handled_more, handled_one, handled_count}
 
 -- ---- messages
 
-pub arrivals_step : (place : ℕ) (origin : Origin) (ms : List Message) (i : ℕ) (d : Message) → i < length ms
-    → arrivals_with place origin (take (i + 1) ms) ≡ arrivals_with place origin (take i ms) ++ record { origin = origin; place = place; message = get_or ms i d } ∷ []
-arrivals_step place origin ms i d lt =
+pub arrivals_step : (place id : ℕ) (origin : Origin) (ms : List Message) (i : ℕ) (d : Message) → i < length ms
+    → arrivals_with place id origin (take (i + 1) ms) ≡ arrivals_with place id origin (take i ms) ++ record { origin = origin; connection = id; place = place; message = get_or ms i d } ∷ []
+arrivals_step place id origin ms i d lt =
     let e : i + 1 ≡ suc i = omega arith in
-    rw (e, take-suc ms i d lt) (map-append (λ m. record { origin = origin; place = place; message = m }) (take i ms) (get_or ms i d ∷ []))
+    rw (e, take-suc ms i d lt) (map-append (λ m. record { origin = origin; connection = id; place = place; message = m }) (take i ms) (get_or ms i d ∷ []))
 
 pub records_more : (terms : Terms) (start : ℕ) (earlier first more : List Arrival)
     → records_after terms start earlier (first ++ more) ≡ records_after terms start earlier first ++ records_after terms start (earlier ++ first) more

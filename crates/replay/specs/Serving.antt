@@ -7,7 +7,8 @@ use Rattle.captures.specs.declared.record.Record.TheVariants.{Piece, End, Tier}
 use Rattle.responses.specs.Reference.{record_text}
 use Rattle.admission.specs.After.{ControllerAfter}
 use Rattle.admission.specs.Standing.{policies_of}
-use Rattle.reference.specs.Reference.{Terms, ArrivedCapture, offers_of, handled_after, max_messages, replies_of}
+use Rattle.captures.specs.Reference.{used_once}
+use Rattle.reference.specs.Reference.{Terms, ArrivedCapture, offers_of, handled_after, replies_of}
 use Rattle.reference.specs.Reference.{outcome_of}
 use Rattle.arrivals.specs.Reference.{Arrival, AreArrivals}
 use Rattle.arrivals.specs.Connections.{HaveRead}
@@ -17,12 +18,16 @@ use Rattle.arrivals.specs.declared.connections.Connection.{Connection}
 use Rattle.replay.specs.declared.desk.Desk.{Desk}
 use Rattle.reference.specs.declared.summary.Outcome.{Outcome}
 
+-- the most messages that are answered, in any format
+abbrev pub most_messages : ℕ
+most_messages = 536870912
+
 -- these messages were decided on and counted
 pub record DeskAfter (terms : Terms) (arrivals : List Arrival) (desk : Desk) : Type 0 where
   pub policies : policies_of desk.controller ≡ terms.policies
   pub fits : ControllerAfter (offers_of terms arrivals) desk.controller
   pub totals : desk.totals ≡ totals_of terms arrivals
-  pub few : length arrivals ≤ max_messages
+  pub few : length arrivals ≤ most_messages
 
 -- none of them came later than this tick
 abbrev pub AreBy : ℕ → List Arrival → Type 0
@@ -50,12 +55,12 @@ WrittenInPart terms start earlier arrivals old new = AppendsPrefix old new (reco
 pub record Serves (terms : Terms) (records : List Record) (arrivals : List Arrival) (connections : List Connection)
     (desk : Desk) : Type 0 where
   pub reads : HaveRead records arrivals connections
-  pub arrived : AreArrivals records arrivals
+  pub arrived : AreArrivals (used_once records) arrivals
   pub stands : DeskAfter terms arrivals desk
 
 -- these messages arrive with the records that come next
 abbrev pub ArriveNext : List Record → List Arrival → List Record → List Arrival → Type 0
-ArriveNext records arrivals rs more = AreArrivals (records ++ rs) (arrivals ++ more)
+ArriveNext records arrivals rs more = AreArrivals (used_once (records ++ rs)) (arrivals ++ more)
 
 -- more records were read, and the messages that arrived with them were decided on and written
 pub record WritesMore (t : Texts) (terms : Terms) (records : List Record) (arrivals : List Arrival) (rs : List Record)
@@ -65,23 +70,23 @@ pub record WritesMore (t : Texts) (terms : Terms) (records : List Record) (arriv
   pub serves : Serves terms (records ++ rs) (arrivals ++ more) connections desk
   pub written : Wrote t desk.start arrivals more old new
 
--- the messages of the next records reach beyond the limit: those within it were written
-pub record WritesFull (t : Texts) (start : ℕ) (records : List Record) (arrivals : List Arrival) (rs : List Record)
+-- the messages of the next records are more than the most that are answered: those within it were written
+pub record WritesFull (t : Texts) (most start : ℕ) (records : List Record) (arrivals : List Arrival) (rs : List Record)
     (old new : Option (List ℕ)) : Type 0 where
   pub more : List Arrival
   pub arrived : ArriveNext records arrivals rs more
   pub within : ℕ
-  pub full : length arrivals + within ≡ max_messages
+  pub full : length arrivals + within ≡ most
   pub beyond : within < length more
   pub written : Wrote t start arrivals (take within more) old new
 
 -- a prefix was written of the text of the messages of the next records within the limit
-pub record WritesInPart (t : Texts) (start : ℕ) (records : List Record) (arrivals : List Arrival) (rs : List Record)
-    (old new : Option (List ℕ)) : Type 0 where
+pub record WritesInPart (t : Texts) (most start : ℕ) (records : List Record) (arrivals : List Arrival)
+    (rs : List Record) (old new : Option (List ℕ)) : Type 0 where
   pub more : List Arrival
   pub arrived : ArriveNext records arrivals rs more
   pub within : ℕ
-  pub few : length arrivals + within ≤ max_messages
+  pub few : length arrivals + within ≤ most
   pub written : WroteInPart t start arrivals (take within more) old new
 
 -- the same, where a reply is written of each message
@@ -90,17 +95,18 @@ abbrev pub ServesMore : Terms → List Record → List Arrival → List Record �
 ServesMore terms records arrivals rs connections desk old new =
     WritesMore (reply_texts terms) terms records arrivals rs connections desk old new
 
-abbrev pub ServesFull : Terms → ℕ → List Record → List Arrival → List Record → Option (List ℕ) → Option (List ℕ)
-    → Type 0
-ServesFull terms start records arrivals rs old new = WritesFull (reply_texts terms) start records arrivals rs old new
+abbrev pub ServesFull : Terms → (most start : ℕ) → List Record → List Arrival → List Record
+    → (old new : Option (List ℕ)) → Type 0
+ServesFull terms most start records arrivals rs old new =
+    WritesFull (reply_texts terms) most start records arrivals rs old new
 
-abbrev pub ServesInPart : Terms → ℕ → List Record → List Arrival → List Record → Option (List ℕ) → Option (List ℕ)
-    → Type 0
-ServesInPart terms start records arrivals rs old new =
-    WritesInPart (reply_texts terms) start records arrivals rs old new
+abbrev pub ServesInPart : Terms → (most start : ℕ) → List Record → List Arrival → List Record
+    → (old new : Option (List ℕ)) → Type 0
+ServesInPart terms most start records arrivals rs old new =
+    WritesInPart (reply_texts terms) most start records arrivals rs old new
 
 -- a whole capture was written: as `Answers`, whatever is written of a message
 pub record WritesWhole (t : Texts) (terms : Terms) (input old new : Option (List ℕ)) (outcome : Outcome) : Type 0 where
   pub read : ArrivedCapture input
   pub written : Appends old new (t.whole read.capture.start read.arrivals)
-  pub outcome_is : outcome ≡ outcome_of terms read.arrivals
+  pub outcome_is : outcome ≡ outcome_of read.capture.version terms read.arrivals

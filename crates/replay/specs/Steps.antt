@@ -45,18 +45,18 @@ WritesNextInPart t terms origin what desk old new = (arrivals : List Arrival) (a
 
 -- the messages of a piece from this origin were decided on
 abbrev pub DecidesPiece : Terms → Origin → List Message → Desk → Desk → Type 0
-DecidesPiece terms origin messages before after = (arrivals : List Arrival) (place : ℕ)
-    → DeskAfter terms arrivals before → DeskAfter terms (arrivals ++ arrivals_with place origin messages) after
+DecidesPiece terms origin messages before after = (arrivals : List Arrival) (place id : ℕ)
+    → DeskAfter terms arrivals before → DeskAfter terms (arrivals ++ arrivals_with place id origin messages) after
 
 -- their text was written, and a prefix of that was
 abbrev pub WritesPiece : Texts → Terms → Origin → List Message → Desk → Option (List ℕ) → Option (List ℕ) → Type 0
-WritesPiece t terms origin messages desk old new = (arrivals : List Arrival) (place : ℕ)
-    → DeskAfter terms arrivals desk → Wrote t desk.start arrivals (arrivals_with place origin messages) old new
+WritesPiece t terms origin messages desk old new = (arrivals : List Arrival) (place id : ℕ)
+    → DeskAfter terms arrivals desk → Wrote t desk.start arrivals (arrivals_with place id origin messages) old new
 
 abbrev pub WritesPieceInPart : Texts → Terms → Origin → List Message → Desk → Option (List ℕ) → Option (List ℕ)
     → Type 0
-WritesPieceInPart t terms origin messages desk old new = (arrivals : List Arrival) (place : ℕ)
-    → DeskAfter terms arrivals desk → WroteInPart t desk.start arrivals (arrivals_with place origin messages) old new
+WritesPieceInPart t terms origin messages desk old new = (arrivals : List Arrival) (place id : ℕ)
+    → DeskAfter terms arrivals desk → WroteInPart t desk.start arrivals (arrivals_with place id origin messages) old new
 
 -- the next record was read, and the messages that arrived with it were decided on and written
 abbrev pub AnswersRecord : Texts → Terms → Record → List ℕ → List Connection → Desk → List Connection → Desk
@@ -66,18 +66,19 @@ AnswersRecord t terms next tiers connections desk connections-after desk-after o
     → Serves terms records arrivals connections desk
     → WritesMore t terms records arrivals (next ∷ []) connections-after desk-after old new
 
--- they reach beyond the limit, and those within it were written; a prefix of the text of those within was written
-abbrev pub FillsWithRecord : Texts → Terms → Record → List ℕ → List Connection → Desk → Option (List ℕ)
+-- they are more than the most that are answered, and those within it were written; a prefix of the text of those
+-- within was written
+abbrev pub FillsWithRecord : ℕ → Texts → Terms → Record → List ℕ → List Connection → Desk → Option (List ℕ)
     → Option (List ℕ) → Type 0
-FillsWithRecord t terms next tiers connections desk old new = (records : List Record) (arrivals : List Arrival)
+FillsWithRecord most t terms next tiers connections desk old new = (records : List Record) (arrivals : List Arrival)
     → AreTiers records tiers → Serves terms records arrivals connections desk
-    → WritesFull t desk.start records arrivals (next ∷ []) old new
+    → WritesFull t most desk.start records arrivals (next ∷ []) old new
 
-abbrev pub AnswersRecordInPart : Texts → Terms → Record → List ℕ → List Connection → Desk → Option (List ℕ)
+abbrev pub AnswersRecordInPart : ℕ → Texts → Terms → Record → List ℕ → List Connection → Desk → Option (List ℕ)
     → Option (List ℕ) → Type 0
-AnswersRecordInPart t terms next tiers connections desk old new = (records : List Record) (arrivals : List Arrival)
+AnswersRecordInPart most t terms next tiers connections desk old new = (records : List Record) (arrivals : List Arrival)
     → AreTiers records tiers → Serves terms records arrivals connections desk
-    → WritesInPart t desk.start records arrivals (next ∷ []) old new
+    → WritesInPart t most desk.start records arrivals (next ∷ []) old new
 
 -- the messages that come next in a batch were decided on
 abbrev pub DecidesComing : Terms → List Incoming → Desk → Desk → Type 0
@@ -108,11 +109,15 @@ AnswersBatch terms seats origins desk seats-after desk-after old new = (records 
     (arrivals : List Arrival) → ComeNext terms records rs arrivals seats origins desk
     → ServesMore terms records arrivals rs (connections_of seats-after) desk-after old new
 
--- they reach beyond the limit, and those within it were answered; a prefix of the replies to those within was written
-abbrev pub FillsWithBatch : Terms → List SeatState → List Origin → Desk → Option (List ℕ) → Option (List ℕ) → Type 0
-FillsWithBatch terms seats origins desk old new = (records rs : List Record) (arrivals : List Arrival)
-    → ComeNext terms records rs arrivals seats origins desk → ServesFull terms desk.start records arrivals rs old new
+-- they are more than the most that are answered, and those within it were; a prefix of the replies to those within
+-- was written
+abbrev pub FillsWithBatch : ℕ → Terms → List SeatState → List Origin → Desk → Option (List ℕ) → Option (List ℕ) → Type 0
+FillsWithBatch most terms seats origins desk old new = (records rs : List Record) (arrivals : List Arrival)
+    → ComeNext terms records rs arrivals seats origins desk
+    → ServesFull terms most desk.start records arrivals rs old new
 
-abbrev pub AnswersBatchInPart : Terms → List SeatState → List Origin → Desk → Option (List ℕ) → Option (List ℕ) → Type 0
-AnswersBatchInPart terms seats origins desk old new = (records rs : List Record) (arrivals : List Arrival)
-    → ComeNext terms records rs arrivals seats origins desk → ServesInPart terms desk.start records arrivals rs old new
+abbrev pub AnswersBatchInPart : ℕ → Terms → List SeatState → List Origin → Desk → Option (List ℕ) → Option (List ℕ)
+    → Type 0
+AnswersBatchInPart most terms seats origins desk old new = (records rs : List Record) (arrivals : List Arrival)
+    → ComeNext terms records rs arrivals seats origins desk
+    → ServesInPart terms most desk.start records arrivals rs old new

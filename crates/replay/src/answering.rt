@@ -284,7 +284,7 @@ pub(crate) fn answer_pending<F: Tree, W: Write>(
     }
 }
 
-/// Answers the messages that ended in a piece, in their order.
+/// Answers the messages that ended in a piece, in their order, so many in all at most.
 pub(crate) fn answer_all<T: Format, F: Tree, W: Write>(
     server: &Server<'_, F>,
     heads: &mut HeadRenderer,
@@ -292,11 +292,13 @@ pub(crate) fn answer_all<T: Format, F: Tree, W: Write>(
     messages: &[Message],
     desk: &mut Desk,
     writer: &mut Output<W>,
+    most: usize,
 ) -> Result<(), ReplayFault>
     requires texts { (terms : Terms) → AreTexts (T.texts terms) }
     requires start { desk.old.start ≤ max_start }
     requires tick { origin.tick ≤ max_tick }
     requires tier { origin.tier < 4 }
+    requires limit { (desk.old.totals.answered ≤ most) × (most ≤ MAX_MESSAGES) }
     requires stands { (arrivals : List Arrival)
         × DeskAfter (terms_of F.files server.now) arrivals desk.old
         × AreBy origin.tick arrivals }
@@ -307,21 +309,22 @@ pub(crate) fn answer_all<T: Format, F: Tree, W: Write>(
         (WritesPiece (T.texts (terms_of F.files server.now)) (terms_of F.files server.now)
         origin messages.now desk.old writer.old.bytes writer.new.bytes) }
     ensures start { OnOk result (desk.new.start ≡ desk.old.start) }
+    ensures within { OnOk result (desk.new.totals.answered ≤ most) }
     ensures many { IfErr result
-        (λ f. IfTooMany f (λ n. (n ≡ MAX_MESSAGES) × (i : ℕ) × (i < length messages.now)
-        × (desk.old.totals.answered + i ≡ MAX_MESSAGES)
+        (λ f. IfTooMany f (λ n. (n ≡ most) × (i : ℕ) × (i < length messages.now)
+        × (desk.old.totals.answered + i ≡ most)
         × WritesPiece (T.texts (terms_of F.files server.now)) (terms_of F.files server.now)
         origin (take i messages.now) desk.old writer.old.bytes writer.new.bytes)) }
     ensures part { IfErr result (λ f. IfCutShort f ((i : ℕ) × (i ≤ length messages.now)
-        × (desk.old.totals.answered + i ≤ MAX_MESSAGES)
+        × (desk.old.totals.answered + i ≤ most)
         × WritesPieceInPart (T.texts (terms_of F.files server.now)) (terms_of F.files server.now)
         origin (take i messages.now) desk.old writer.old.bytes writer.new.bytes)) }
     ensures failures { CountsBy writer_failures writer.old.failures writer.new.failures result }
     ensures own { IfErr result IsOwn }
 {
     for message in messages {
-        if desk.totals.answered == MAX_MESSAGES {
-            return Err(ReplayFault::TooMany(MAX_MESSAGES));
+        if desk.totals.answered == most {
+            return Err(ReplayFault::TooMany(most));
         }
         T::write_message::<F, W>(server, heads, origin, &message.what, desk, writer)?;
     }

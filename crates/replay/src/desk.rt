@@ -6,7 +6,7 @@ ghost use Rattle.admission.specs.After.{ControllerAfter};
 ghost use Rattle.admission.specs.Standing.{policies_of};
 ghost use Rattle.reference.specs.Reference.{terms_of, answers_head, given, offer_at, samples_of, handled_next};
 ghost use Rattle.reference.specs.Reference.{handled_after};
-ghost use Rattle.reference.specs.Reference.{max_messages, slip_of};
+ghost use Rattle.reference.specs.Reference.{slip_of};
 ghost use Rattle.replay.specs.Deciding.{Decides};
 ghost use Rattle.replay.specs.Fronts.{lookup_of};
 ghost use Rattle.replay.specs.Backs.{given_by, only_head, has_location, is_due, is_back, slip_of_pending};
@@ -165,7 +165,7 @@ pub(crate) fn decide_all<F: Tree>(
     requires arrived { (arrivals : List Arrival) × (more : List Arrival)
         × DeskAfter (terms_of F.files server.now) arrivals desk.old
         × AreLookedUp F.files server.now.costs more lookups.items × InTime arrivals more
-        × (length arrivals + length more ≤ max_messages) }
+        × (length arrivals + length more ≤ MAX_MESSAGES) }
     ensures stands { OnOk result ((arrivals more : List Arrival)
         → DeskAfter (terms_of F.files server.now) arrivals desk.old
         → AreLookedUp F.files server.now.costs more lookups.items

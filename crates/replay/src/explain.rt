@@ -22,9 +22,9 @@ use std::io::{Read, Write};
 ///
 /// # Errors
 ///
-/// As [`crate::plain_replay`]: `Capture` with the capture's first fault, or where its reader failed; `TooMany` at
-/// message 1,048,576, counted from 0; `Write` where the writer failed; `Memory`. The rows of the messages of earlier
-/// records stand.
+/// As [`crate::plain_replay`]: `Capture` with the capture's first fault, or where its reader failed; `TooMany` at the
+/// first message beyond those that its format allows; `Write` where the writer failed; `Memory`. The rows of the
+/// messages of earlier records stand.
 pub fn explain_replay<F: Tree, R: Read, W: Write>(
     alloc: Global,
     snapshot: &Snapshot,

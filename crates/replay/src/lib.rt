@@ -27,5 +27,5 @@ pub use reference::{
 };
 pub use staged::staged_replay;
 
-/// The most messages that a capture may have.
-pub const MAX_MESSAGES: usize = 1_048_576;
+/// The most messages that are answered, in any format ([`captures::Version::max_messages`] says how many in each).
+pub const MAX_MESSAGES: usize = 536_870_912;

@@ -9,7 +9,7 @@ ghost use Rattle.captures.specs.Reference.{max_start};
 ghost use Rattle.responses.specs.Reference.{record_text};
 ghost use Rattle.arrivals.specs.Reference.{Arrival};
 ghost use Rattle.arrivals.specs.Batches.{joined};
-ghost use Rattle.reference.specs.Reference.{terms_of, max_messages};
+ghost use Rattle.reference.specs.Reference.{terms_of};
 ghost use Rattle.reference.specs.Outcomes.{IsOwn, IfTooMany, IfCutShort};
 ghost use Rattle.captures.specs.Passes.{writer_failures, IsWriteOrMemory};
 ghost use Rattle.replay.specs.Steps.{DecidesComing, WritesComing, WritesComingInPart, WritesFirst, WritesFirstInPart};
@@ -52,6 +52,8 @@ pub(crate) struct Floors<'a, F: Tree, G, T> {
     pub threads: usize,
     pub pages: Pages<F>,
     pub gate: &'a G,
+    /// How many messages are answered at most.
+    pub most: usize,
 }
 
 /// How much work it is to look messages up, in bytes of targets.
@@ -173,7 +175,7 @@ fn serve_few<F: Tree + Send + Sync, G: Gate + Sync, T: Threads + Wait + Sync, W:
     requires start { desk.old.start ≤ max_start }
     requires next { (arrivals : List Arrival) × (more : List Arrival)
         × Upcoming (terms_of F.files server.now) arrivals more messages.items desk.old
-        × (length arrivals + length more ≤ max_messages) }
+        × (length arrivals + length more ≤ MAX_MESSAGES) }
     requires failures { CanFail writer.old }
     ensures stands { OnOk result
         (DecidesComing (terms_of F.files server.now) messages.items desk.old desk.new) }
@@ -220,31 +222,33 @@ fn serve_part<F: Tree + Send + Sync, G: Gate + Sync, T: Threads + Wait + Sync, W
     requires start { desk.old.start ≤ max_start }
     requires next { (arrivals : List Arrival) × (more : List Arrival)
         × Upcoming (terms_of F.files server.now) arrivals more messages.items desk.old }
+    requires limit { (desk.old.totals.answered ≤ floors.now.most) × (floors.now.most ≤ MAX_MESSAGES) }
     requires failures { CanFail writer.old }
     ensures stands { OnOk result
         (DecidesComing (terms_of F.files server.now) messages.items desk.old desk.new) }
     ensures written { OnOk result
         (WritesComing (terms_of F.files server.now) messages.items desk.old writer.old.bytes writer.new.bytes) }
     ensures many { IfErr result
-        (λ f. IfTooMany f (λ n. (n ≡ MAX_MESSAGES) × (i : ℕ) × (i < length messages.items)
-        × (desk.old.totals.answered + i ≡ MAX_MESSAGES)
+        (λ f. IfTooMany f (λ n. (n ≡ floors.now.most) × (i : ℕ) × (i < length messages.items)
+        × (desk.old.totals.answered + i ≡ floors.now.most)
         × WritesFirst i (terms_of F.files server.now) messages.items desk.old writer.old.bytes writer.new.bytes)) }
     ensures part { IfErr result (λ f. IfCutShort f ((i : ℕ) × (i ≤ length messages.items)
-        × (desk.old.totals.answered + i ≤ MAX_MESSAGES)
+        × (desk.old.totals.answered + i ≤ floors.now.most)
         × WritesFirstInPart i (terms_of F.files server.now) messages.items desk.old
         writer.old.bytes writer.new.bytes)) }
     ensures start { OnOk result (desk.new.start ≡ desk.old.start) }
+    ensures within { OnOk result (desk.new.totals.answered ≤ floors.now.most) }
     ensures failures { CountsBy writer_failures writer.old.failures writer.new.failures result }
     ensures own { IfErr result IsOwn }
 {
-    let room = MAX_MESSAGES - desk.totals.answered;
+    let room = floors.most - desk.totals.answered;
     if messages.len() <= room {
         return serve_few(server, floors, messages, desk, writer);
     }
     let mut within = messages;
     within.truncate(room);
     serve_few(server, floors, within, desk, writer)?;
-    Err(ReplayFault::TooMany(MAX_MESSAGES))
+    Err(ReplayFault::TooMany(floors.most))
 }
 
 /// Serves the messages of a batch, part after part.
@@ -263,20 +267,22 @@ pub(crate) fn serve_parts<
     requires start { desk.old.start ≤ max_start }
     requires next { (arrivals : List Arrival) × (more : List Arrival)
         × Upcoming (terms_of F.files server.now) arrivals more (joined parts.items) desk.old }
+    requires limit { (desk.old.totals.answered ≤ floors.now.most) × (floors.now.most ≤ MAX_MESSAGES) }
     requires failures { CanFail writer.old }
     ensures stands { OnOk result
         (DecidesComing (terms_of F.files server.now) (joined parts.items) desk.old desk.new) }
     ensures written { OnOk result
         (WritesComing (terms_of F.files server.now) (joined parts.items) desk.old writer.old.bytes writer.new.bytes) }
-    ensures many { IfErr result (λ f. IfTooMany f (λ n. (n ≡ MAX_MESSAGES) × (i : ℕ)
-        × (i < length (joined parts.items)) × (desk.old.totals.answered + i ≡ MAX_MESSAGES)
+    ensures many { IfErr result (λ f. IfTooMany f (λ n. (n ≡ floors.now.most) × (i : ℕ)
+        × (i < length (joined parts.items)) × (desk.old.totals.answered + i ≡ floors.now.most)
         × WritesFirst i (terms_of F.files server.now) (joined parts.items) desk.old
         writer.old.bytes writer.new.bytes)) }
     ensures part { IfErr result (λ f. IfCutShort f ((i : ℕ) × (i ≤ length (joined parts.items))
-        × (desk.old.totals.answered + i ≤ MAX_MESSAGES)
+        × (desk.old.totals.answered + i ≤ floors.now.most)
         × WritesFirstInPart i (terms_of F.files server.now) (joined parts.items) desk.old
         writer.old.bytes writer.new.bytes)) }
     ensures start { OnOk result (desk.new.start ≡ desk.old.start) }
+    ensures within { OnOk result (desk.new.totals.answered ≤ floors.now.most) }
     ensures failures { CountsBy writer_failures writer.old.failures writer.new.failures result }
     ensures own { IfErr result IsOwn }
 {

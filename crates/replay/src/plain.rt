@@ -3,10 +3,11 @@
 ghost use Rattle.std.specs.Prelude.{◌≡◌, ◌+◌, ◌≤◌, ◌<◌, ◌-◌, ◌^◌, ◌⊎◌, ◌∷◌, [], List, ◌++◌, IfOk, IfErr, OnOk};
 ghost use Rattle.devices.specs.Devices.{CanFail, CountsBy};
 ghost use Rattle.captures.specs.declared.version.Version.{Version as AVersion};
-ghost use Rattle.captures.specs.Reference.{IsRecord, max_start, max_text_bytes};
+ghost use Rattle.captures.specs.Reference.{IsRecord, max_start};
+ghost use Rattle.captures.specs.CaptureFaults.{longest_text};
 ghost use Rattle.captures.specs.Captures.{size_of, sizes_of};
 ghost use Rattle.captures.specs.declared.record.Record.{Record as ARecord};
-ghost use Rattle.reference.specs.Reference.{Terms, terms_of, summary_of, tally_of, Answers};
+ghost use Rattle.reference.specs.Reference.{Terms, terms_of, summary_of, tallies_of, tally_of, Answers};
 ghost use Rattle.arrivals.specs.Reference.{Arrival};
 ghost use Rattle.reference.specs.Texts.{AreTexts, reply_texts};
 ghost use Rattle.reference.specs.Outcomes.{IfTooMany, IfCutShort, IsOwn, Leaves};
@@ -26,57 +27,79 @@ use crate::replies::Replies;
 use crate::server::Server;
 use crate::totals::Totals;
 use crate::{MAX_MESSAGES, ReplayFault, Settings, Summary, Tally};
-use admission::Controller;
+use admission::{Control, Controller};
 use arrivals::{Connections, Origin, Series, Tiers};
-use captures::{CaptureReader, Record};
+use captures::{CaptureReader, Record, Version};
 use devices::{Input, Output};
 use http_requests::Message;
 use paths::{Snapshot, Tree};
 use reference::Outcome;
 use responses::HeadRenderer;
-use std::alloc::{AllocError, Global};
+use std::alloc::Global;
 use std::io::{Read, Write};
 use std::marker::PhantomData;
 
-/// What became of the requests of a tier.
-fn tally_of(alloc: Global, controller: &Controller, tier: u8) -> Result<Tally, AllocError>
+/// How many requests of a tier were admitted, and how many rejected.
+fn counted(controller: &Controller, tier: u8) -> (u64, u64)
     requires { tier < 4 }
-    ensures { IfOk result (λ tally. (offers : List Offer) → ControllerAfter offers controller.now
-        → tally ≡ tally_of (policies_of controller.now) offers tier) }
+    ensures { (offers : List Offer) → ControllerAfter offers controller.now
+        → (result.0 ≡ (tally_of (policies_of controller.now) offers tier).admitted)
+        × (result.1 ≡ (tally_of (policies_of controller.now) offers tier).rejected) }
 {
-    let controls = Vec::from_slice(alloc, controller.controls(tier))?;
-    Ok(Tally {
-        admitted: controller.admitted(tier),
-        rejected: controller.rejected(tier),
+    (controller.admitted(tier), controller.rejected(tier))
+}
+
+/// A tier's counts with its controls.
+fn tally(counted: (u64, u64), controls: Vec<Control>) -> Tally
+    ensures { result ≡ record { admitted = counted.0; rejected = counted.1; controls = controls.items } }
+{
+    Tally {
+        admitted: counted.0,
+        rejected: counted.1,
         controls: Series::from_vec(controls),
-    })
+    }
+}
+
+/// What became of the requests of each tier. Its controls are taken, and not copied.
+fn tallies_of(controller: Controller) -> [Tally; 4]
+    ensures { (offers : List Offer) → ControllerAfter offers controller
+        → result ≡ tallies_of (policies_of controller) offers }
+{
+    let of_zero = counted(&controller, 0);
+    let of_one = counted(&controller, 1);
+    let of_two = counted(&controller, 2);
+    let of_three = counted(&controller, 3);
+    let [zero, one, two, three] = controller.into_controls();
+    [
+        tally(of_zero, zero),
+        tally(of_one, one),
+        tally(of_two, two),
+        tally(of_three, three),
+    ]
 }
 
 /// What the replay has come to.
-pub(crate) fn outcome_of(alloc: Global, desk: Desk) -> Result<Outcome, AllocError>
-    ensures rejected { IfOk result (λ outcome. outcome.rejected ≡ desk.totals.rejected) }
-    ensures summary { IfOk result (λ outcome. (terms : Terms) (arrivals : List Arrival)
-        → DeskAfter terms arrivals desk → outcome.summary ≡ summary_of terms arrivals) }
+pub(crate) fn outcome_of(version: Version, desk: Desk) -> Outcome
+    ensures version { result.version ≡ version }
+    ensures rejected { result.rejected ≡ desk.totals.rejected }
+    ensures summary { (terms : Terms) (arrivals : List Arrival)
+        → DeskAfter terms arrivals desk → result.summary ≡ summary_of terms arrivals }
 {
-    let tiers = [
-        tally_of(alloc, &desk.controller, 0)?,
-        tally_of(alloc, &desk.controller, 1)?,
-        tally_of(alloc, &desk.controller, 2)?,
-        tally_of(alloc, &desk.controller, 3)?,
-    ];
     let totals = desk.totals;
-    Ok(Outcome {
+    Outcome {
+        version,
         rejected: totals.rejected,
         summary: Summary {
             counts: totals.counts,
             bypassed: totals.bypassed,
             samples: totals.samples,
-            tiers,
+            tiers: tallies_of(desk.controller),
         },
-    })
+    }
 }
 
-/// Reads one more record: answers the messages that arrive with it. `messages` is room for them.
+/// Reads one more record: answers the messages that arrive with it, so many in all at most. `messages` is room for
+/// them.
 fn answer_record<T: Format, F: Tree, W: Write>(
     server: &Server<'_, F>,
     heads: &mut HeadRenderer,
@@ -86,13 +109,15 @@ fn answer_record<T: Format, F: Tree, W: Write>(
     tiers: &mut Tiers,
     desk: &mut Desk,
     writer: &mut Output<W>,
+    most: usize,
 ) -> Result<(), ReplayFault>
     requires texts { (terms : Terms) → AreTexts (T.texts terms) }
     requires start { desk.old.start ≤ max_start }
+    requires limit { (desk.old.totals.answered ≤ most) × (most ≤ MAX_MESSAGES) }
     requires record { (version : AVersion) × IsRecord version next.now }
     requires room { (records : List ARecord) × (arrivals : List Arrival)
         × Serves (terms_of F.files server.now) records arrivals connections.old desk.old
-        × (sizes_of records + size_of next.now ≤ max_text_bytes) × IsLater next.now arrivals }
+        × (sizes_of records + size_of next.now ≤ longest_text) × IsLater next.now arrivals }
     requires failures { CanFail writer.old }
     ensures tiers { OnOk result ((records : List ARecord) → AreTiers records tiers.old
         → AreTiers (records ++ next.now ∷ []) tiers.new) }
@@ -100,17 +125,22 @@ fn answer_record<T: Format, F: Tree, W: Write>(
         (AnswersRecord (T.texts (terms_of F.files server.now)) (terms_of F.files server.now)
         next.now tiers.old connections.old desk.old connections.new desk.new writer.old.bytes writer.new.bytes) }
     ensures start { OnOk result (desk.new.start ≡ desk.old.start) }
-    ensures many { IfErr result (λ f. IfTooMany f (λ n. (n ≡ MAX_MESSAGES)
-        × FillsWithRecord (T.texts (terms_of F.files server.now)) (terms_of F.files server.now)
+    ensures within { OnOk result (desk.new.totals.answered ≤ most) }
+    ensures many { IfErr result (λ f. IfTooMany f (λ n. (n ≡ most)
+        × FillsWithRecord most (T.texts (terms_of F.files server.now)) (terms_of F.files server.now)
         next.now tiers.old connections.old desk.old writer.old.bytes writer.new.bytes)) }
     ensures part { IfErr result (λ f. IfCutShort f ((writer.new.bytes ≡ writer.old.bytes)
-        ⊎ AnswersRecordInPart (T.texts (terms_of F.files server.now)) (terms_of F.files server.now)
+        ⊎ AnswersRecordInPart most (T.texts (terms_of F.files server.now)) (terms_of F.files server.now)
         next.now tiers.old connections.old desk.old writer.old.bytes writer.new.bytes)) }
     ensures failures { CountsBy writer_failures writer.old.failures writer.new.failures result }
     ensures own { IfErr result IsOwn }
 {
     match next {
-        Record::End { .. } => Ok(()),
+        Record::End { conn, .. } => {
+            connections.end(usize::from(*conn));
+            tiers.end(*conn);
+            Ok(())
+        }
         Record::Tier { conn, tier } => {
             tiers.give(*conn, *tier)?;
             Ok(())
@@ -123,7 +153,7 @@ fn answer_record<T: Format, F: Tree, W: Write>(
                 tick: *tick,
                 tier: tiers.of(*conn),
             };
-            answer_all::<T, F, W>(server, heads, origin, messages, desk, writer)
+            answer_all::<T, F, W>(server, heads, origin, messages, desk, writer, most)
         }
     }
 }
@@ -162,6 +192,8 @@ pub(crate) fn replay_writing<T: Format, F: Tree, R: Read, W: Write>(
     let mut messages = Vec::new(alloc);
     let mut connections = Connections::new(alloc);
     let mut tiers = Tiers::new(alloc);
+    let version = capture.version();
+    let most = version.max_messages();
     let mut desk = Desk {
         start: capture.start(),
         controller: Controller::new(alloc, settings.policies())?,
@@ -182,10 +214,11 @@ pub(crate) fn replay_writing<T: Format, F: Tree, R: Read, W: Write>(
             &mut tiers,
             &mut desk,
             writer,
+            most,
         )?;
     }
     let answered = desk.totals.answered;
-    let outcome = outcome_of(alloc, desk)?;
+    let outcome = outcome_of(version, desk);
     T::finish(alloc, writer, answered)?;
     Ok(outcome)
 }
@@ -195,8 +228,9 @@ pub(crate) fn replay_writing<T: Format, F: Tree, R: Read, W: Write>(
 ///
 /// # Errors
 ///
-/// `Capture` with the capture's first fault, or where its reader failed; `TooMany` at message 1,048,576, counted from
-/// 0; `Write` where the writer failed; `Memory`. The replies to the messages of earlier records stand.
+/// `Capture` with the capture's first fault, or where its reader failed; `TooMany` at the first message beyond those
+/// that its format allows (1,048,576 in a capture); `Write` where the writer failed; `Memory`. The replies to the
+/// messages of earlier records stand.
 pub fn plain_replay<F: Tree, R: Read, W: Write>(
     alloc: Global,
     snapshot: &Snapshot,

@@ -47,17 +47,19 @@ fn serve_batch<F: Tree + Send + Sync, G: Gate + Sync, T: Threads + Wait + Sync, 
     requires start { desk.old.start ≤ max_start }
     requires next { (records : List ARecord) × (rs : List ARecord) × (arrivals : List Arrival)
         × ComeNext (terms_of F.files server.now) records rs arrivals seats origins.now desk.old }
+    requires limit { (desk.old.totals.answered ≤ floors.now.most) × (floors.now.most ≤ MAX_MESSAGES) }
     requires failures { CanFail writer.old }
     ensures serves { IfOk result
         (λ after. AnswersBatch (terms_of F.files server.now) seats origins.now desk.old
         after desk.new writer.old.bytes writer.new.bytes) }
     ensures idle { IfOk result (Waiting []) }
     ensures start { OnOk result (desk.new.start ≡ desk.old.start) }
-    ensures many { IfErr result (λ f. IfTooMany f (λ n. (n ≡ MAX_MESSAGES)
-        × FillsWithBatch (terms_of F.files server.now) seats origins.now desk.old
+    ensures within { OnOk result (desk.new.totals.answered ≤ floors.now.most) }
+    ensures many { IfErr result (λ f. IfTooMany f (λ n. (n ≡ floors.now.most)
+        × FillsWithBatch floors.now.most (terms_of F.files server.now) seats origins.now desk.old
         writer.old.bytes writer.new.bytes)) }
     ensures part { IfErr result (λ f. IfCutShort f ((writer.new.bytes ≡ writer.old.bytes)
-        ⊎ AnswersBatchInPart (terms_of F.files server.now) seats origins.now desk.old
+        ⊎ AnswersBatchInPart floors.now.most (terms_of F.files server.now) seats origins.now desk.old
         writer.old.bytes writer.new.bytes)) }
     ensures failures { CountsBy writer_failures writer.old.failures writer.new.failures result }
     ensures own { IfErr result IsOwn }
@@ -123,6 +125,7 @@ pub fn staged_replay<
     };
     let mut seats = Seats::new(alloc);
     let mut tiers = Tiers::new(alloc);
+    let version = capture.version();
     let mut desk = Desk {
         start: capture.start(),
         controller: Controller::new(alloc, settings.policies())?,
@@ -143,6 +146,7 @@ pub fn staged_replay<
         threads: processors(rt),
         pages,
         gate,
+        most: version.max_messages(),
     };
     loop {
         let batch = read_batch(
@@ -160,7 +164,7 @@ pub fn staged_replay<
         }
     }
     let answered = desk.totals.answered;
-    let outcome = outcome_of(alloc, desk)?;
+    let outcome = outcome_of(version, desk);
     write_last_line(alloc, writer, answered)?;
     Ok(outcome)
 }

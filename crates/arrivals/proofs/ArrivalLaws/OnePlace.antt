@@ -7,7 +7,7 @@ use Rattle.std.proofs.lemmas.Option.{none-some, same_Some}
 use Rattle.std.proofs.lemmas.List.{length-append}
 use Rattle.captures.specs.declared.record.Record.{Record}
 use Rattle.captures.specs.declared.record.Record.TheVariants.{Piece, End, Tier}
-use Rattle.captures.specs.Reference.{tier_of}
+use Rattle.captures.specs.Reference.{named_by, tier_of}
 use Rattle.arrivals.specs.Reference.{bytes_to, text_of, Arrival, ArrivesWith, Precedes}
 
 own_bytes : (tick c : ℕ) (bytes : List ℕ) → bytes_to c (Piece tick c bytes) ≡ bytes
@@ -34,11 +34,11 @@ text_past c tick (suc i) (suc j) bytes (r ∷ records) h lt = omega (
 )
 
 -- a connection's message has one place
-not_earlier : (all : List Record) (a b : Arrival) → ArrivesWith all a → ArrivesWith all b → a.origin.conn ≡ b.origin.conn → a.message ≡ b.message → a.place < b.place → ⊥
+not_earlier : (all : List Record) (a b : Arrival) → ArrivesWith all a → ArrivesWith all b → a.connection ≡ b.connection → a.message ≡ b.message → a.place < b.place → ⊥
 not_earlier all a b g h c m lt =
-    let past = text_past a.origin.conn a.origin.tick a.place b.place g.bytes all g.piece lt in
+    let past = text_past a.connection a.origin.tick a.place b.place g.bytes all g.piece lt in
     let within = g.within in
-    let following : length (text_of a.origin.conn (take b.place all)) < b.message.end = rw c h.after in
+    let following : length (text_of a.connection (take b.place all)) < b.message.end = rw c h.after in
     let e = ap (λ x. x.end) m in
     omega (arith, past, within, following, e)
 
@@ -51,11 +51,11 @@ one_tick : (all : List Record) (i j s t c d : ℕ) (xs ys : List ℕ) → i ≡ 
 unfolding tick_or
 one_tick all i j s t c d xs ys e g h = ap (tick_or s) (same_Some _ _ (sym g ∙ ap (slice_get all) e ∙ h))
 
-arrival_from : (a b : Arrival) → a.origin.conn ≡ b.origin.conn → a.origin.tick ≡ b.origin.tick → a.origin.tier ≡ b.origin.tier → a.place ≡ b.place → a.message ≡ b.message → a ≡ b
-arrival_from a b c t r p m = λ i. record { origin = record { conn = c i; tick = t i; tier = r i }; place = p i; message = m i }
+arrival_from : (a b : Arrival) → a.connection ≡ b.connection → a.origin.conn ≡ b.origin.conn → a.origin.tick ≡ b.origin.tick → a.origin.tier ≡ b.origin.tier → a.place ≡ b.place → a.message ≡ b.message → a ≡ b
+arrival_from a b c n t r p m = λ i. record { origin = record { conn = n i; tick = t i; tier = r i }; connection = c i; place = p i; message = m i }
 
 -- a connection's message arrives once
-pub same_arrival : (all : List Record) (a b : Arrival) → ArrivesWith all a → ArrivesWith all b → a.origin.conn ≡ b.origin.conn → a.message ≡ b.message → a ≡ b
+pub same_arrival : (all : List Record) (a b : Arrival) → ArrivesWith all a → ArrivesWith all b → a.connection ≡ b.connection → a.message ≡ b.message → a ≡ b
 same_arrival all a b g h c m =
     let not_before : a.place < b.place → ⊥ = not_earlier all a b g h c m in
     let not_after : b.place < a.place → ⊥ = not_earlier all b a h g (sym c) (sym m) in
@@ -64,7 +64,7 @@ same_arrival all a b g h c m =
       | inr ge ↦ elim (cases_lt b.place a.place) [ inl gt ↦ absurd (not_after gt) | inr le ↦ omega (arith, ge, le) ]
     ] in
     let tier : a.origin.tier ≡ b.origin.tier = g.tier ∙ (λ i. tier_of (c i) (take (place i) all)) ∙ sym h.tier in
-    arrival_from a b c (one_tick all a.place b.place _ _ _ _ g.bytes h.bytes place g.piece h.piece) tier place m
+    arrival_from a b c (g.number ∙ ap named_by c ∙ sym h.number) (one_tick all a.place b.place _ _ _ _ g.bytes h.bytes place g.piece h.piece) tier place m
 
 pub precedes_once : (a b : Arrival) → Precedes a b → Precedes b a → ⊥
 precedes_once a b (inl g) (inl h) = omega (arith, g, h)

@@ -1,6 +1,6 @@
 use Rattle.std.proofs.Common.{◌≤◌, ◌⊎◌, ◌∷◌, ◌++◌, [], ◌∙◌, inl, inr, refl, sym, ap, arith, append_assoc, append-nil}
 use Rattle.captures.specs.Captures.{sizes_of}
-use Rattle.arrivals.specs.Batches.{origins_of, tiers_of}
+use Rattle.arrivals.specs.Batches.{origins_after}
 use Rattle.arrivals.specs.Gathering.{piece_count, enough_bytes}
 use Rattle.arrivals.proofs.Gathering.{adds_none, adds_more, origins_push, gave_some, count_push, sizes_push, one_piece, one_size}
 use Rattle.arrivals.proofs.batch.read_batch.Goals as goal
@@ -77,7 +77,7 @@ loop-alloc-preserved g c =
         adds_more inv.0.0 r _ _ _ inv.0.1 took.seats,
         λ records tiers.
             (let own = inv.0.2 records tiers in (
-              took.origins (records ++ inv.0.0) own.1 ∙ ap (λ os. os ++ origins_of (tiers_of (records ++ inv.0.0)) (r ∷ [])) own.0 ∙ sym (origins_push records inv.0.0 r),
+              took.origins (records ++ inv.0.0) own.1 ∙ ap (λ os. os ++ origins_after (records ++ inv.0.0) (r ∷ [])) own.0 ∙ sym (origins_push records inv.0.0 r),
               rw (append_assoc records inv.0.0 (r ∷ [])) at (took.tiers (records ++ inv.0.0) own.1),
             )),
         λ v text start records fits.

@@ -3,7 +3,7 @@ use Rattle.captures.specs.declared.version.Version.{Version}
 use Rattle.captures.specs.Readers.{ReaderAfter}
 use Rattle.captures.specs.declared.record.Record.{Record}
 use Rattle.captures.specs.declared.progress.ReaderState.TheVariants.{Reading}
-use Rattle.arrivals.specs.Batches.{origins_of, tiers_of}
+use Rattle.arrivals.specs.Batches.{origins_after}
 use Rattle.arrivals.specs.Tiers.{AreTiers}
 use Rattle.captures.specs.Reference.{max_piece_bytes}
 use Rattle.captures.specs.Captures.{sizes_of}
@@ -14,7 +14,7 @@ use Rattle.arrivals.proofs.batch.read_batch.Given as goal
 abbrev pub invariant-loop-alloc : goal.invariant-loop-alloc
 invariant-loop-alloc g l =
     ((rs : List Record) × Adds rs l.fn.seats l.seats
-    × ((records : List Record) → AreTiers records l.fn.tiers → (l.origins.items ≡ origins_of (tiers_of records) rs) × AreTiers (records ++ rs) l.tiers)
+    × ((records : List Record) → AreTiers records l.fn.tiers → (l.origins.items ≡ origins_after records rs) × AreTiers (records ++ rs) l.tiers)
     × ((v : Version) (text : Option (List ℕ)) (start : ℕ) (records : List Record) → ReaderAfter v text start records l.fn.capture.progress l.fn.capture.input.now.bytes
     → ReaderAfter v text start (records ++ rs) l.capture.progress l.capture.input.now.bytes)
     × (vec_len l.origins ≡ piece_count rs) × (l.bytes ≡ sizes_of rs) × (piece_count rs ≤ l.fn.pieces) × (sizes_of rs < enough_bytes + max_piece_bytes))

@@ -6,7 +6,7 @@ use Rattle.replay.proofs.Upcoming.{served_none, next_come_as, answered_now, serv
 use Rattle.replay.proofs.parts.serve_parts.Goals as goal
 
 pub loop-part-init : goal.loop-part-init
-loop-part-init g c = (served_none _ _ _ _ _ (search rules), refl)
+loop-part-init g c = (served_none _ _ _ _ _ (search rules), refl, c.requires.limit.0)
 
 pub serve_part-requires-clause-next : goal.serve_part-requires-clause-next
 serve_part-requires-clause-next g c = λ κs lives.
@@ -19,6 +19,7 @@ loop-part-preserved g c =
     let one = c.in_ok-serve_part.ensures in (
       served_more _ _ c.in-Some.part _ _ _ _ _ _ _ _ c.loop-part.invariant.0 c.in-Some.ensures.steps.0 one.start (rw c.into_vec.ensures at one.stands) (rw c.into_vec.ensures at one.written),
       one.failures ∙ c.loop-part.invariant.1,
+      one.within,
     )
 
 pub returns-in_err-serve_part-clause-many : goal.returns-in_err-serve_part-clause-many

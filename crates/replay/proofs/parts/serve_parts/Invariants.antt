@@ -1,4 +1,4 @@
-use Rattle.std.proofs.Common.{◌≡◌}
+use Rattle.std.proofs.Common.{◌≡◌, ◌≤◌}
 use Rattle.std.specs.Vec.Iter.{into_iter_items}
 use Rattle.arrivals.specs.Batches.{joined}
 use Rattle.reference.specs.Reference.{terms_of}
@@ -9,3 +9,4 @@ use Rattle.replay.proofs.parts.serve_parts.Given as goal
 abbrev pub invariant-loop-part : goal.invariant-loop-part
 invariant-loop-part g l =
     Served (terms_of g.F.Tree.files l.server) (joined l.fn.parts.items) l.fn.desk l.desk l.fn.writer.bytes l.writer.bytes (into_iter_items l.part-iterator) × (l.writer.failures ≡ l.fn.writer.failures)
+    × (l.desk.totals.answered ≤ l.floors.most)
