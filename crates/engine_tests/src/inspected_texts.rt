@@ -10,7 +10,7 @@ pub fn inspect_bytes(alloc: Global, bytes: &[u8]) -> Result<Inspection, InspectF
     inspect(alloc, &mut reader)
 }
 
-/// A capture, and the text of what it holds.
+/// A capture or a text of traffic, and the text of what it holds.
 struct Row {
     capture: &'static str,
     text: &'static str,
@@ -52,9 +52,31 @@ static FAULTS: Row = Row {
         fault Length 1\nfault BodySize 1\nafter-close 4 1\nunfinished 0 0\nbusiest 1 4\nend\n",
 };
 
+/// Number 5 names three connections: one that sends a request that closes it and 3 bytes more, one that sends nothing,
+/// and one that sends such a request. Number 6 names two that send 4 and 2 bytes, and 7 one that sends a byte. The
+/// first of 6, the last of 5 and that of 7 are open at once.
+static TRAFFIC: Row = Row {
+    capture: "haboob-traffic 1 7\ntier 5 2\npiece 10 5 18\nGET / HTTP/1.0\r\n\r\n\npiece 11 5 3\nabc\n\
+        piece 12 6 4\nGET \nend 13 5\nend 14 5\npiece 15 5 18\nGET / HTTP/1.0\r\n\r\n\npiece 16 7 1\nx\n\
+        end 17 6\nend 18 5\npiece 19 6 2\n/ \nstop 11\n",
+    text: "haboob-inspection 1\nversion traffic\nstart 7\nrecords 11\npieces 6\nends 4\ntiers 1\nfirst 10\nlast 19\n\
+        connections 5\nopen 3\nbytes 46\nmessages 2\nrequests 2\nmethod GET 2\nmethod HEAD 0\nmethod other 0\n\
+        protocol HTTP/1.0 2\nprotocol HTTP/1.1 0\nfault TooLong 0\nfault Block 0\nfault Host 0\nfault Coding 0\n\
+        fault Length 0\nfault BodySize 0\nafter-close 3 1\nunfinished 7 3\nbusiest 0 2\nend\n",
+};
+
+/// Nothing but an end, of a number that has nothing open.
+static ONLY_AN_END: Row = Row {
+    capture: "haboob-traffic 1 0\nend 3 65535\nstop 1\n",
+    text: "haboob-inspection 1\nversion traffic\nstart 0\nrecords 1\npieces 0\nends 1\ntiers 0\nfirst 3\nlast 3\n\
+        connections 0\nopen 0\nbytes 0\nmessages 0\nrequests 0\nmethod GET 0\nmethod HEAD 0\nmethod other 0\n\
+        protocol HTTP/1.0 0\nprotocol HTTP/1.1 0\nfault TooLong 0\nfault Block 0\nfault Host 0\nfault Coding 0\n\
+        fault Length 0\nfault BodySize 0\nafter-close 0 0\nunfinished 0 0\nbusiest 0 0\nend\n",
+};
+
 #[test]
 fn whole_texts(rt: HostRuntime) {
-    for row in [&EMPTY, &MIXED, &FAULTS] {
+    for row in [&EMPTY, &MIXED, &FAULTS, &TRAFFIC, &ONLY_AN_END] {
         let inspection = inspect_bytes(rt.alloc(), row.capture.as_bytes()).expect(&rt, "a capture");
         let text = inspection_text(rt.alloc(), &inspection).expect(&rt, "memory");
         assert_eq!(rt; text.as_str(), row.text);

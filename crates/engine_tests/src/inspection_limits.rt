@@ -72,3 +72,25 @@ fn longest_block(rt: HostRuntime) {
         }
     );
 }
+
+/// More connections than there are numbers, one after the other with one number.
+#[test]
+fn more_connections_than_numbers(rt: HostRuntime) {
+    let mut traffic = Vec::from_slice(rt.alloc(), b"haboob-traffic 1 0\n").expect(&rt, "memory");
+    for _ in 0..70_000 {
+        traffic
+            .extend_from_slice(b"piece 0 9 1\nG\nend 0 9\n")
+            .expect(&rt, "memory");
+    }
+    traffic
+        .extend_from_slice(b"stop 140000\n")
+        .expect(&rt, "memory");
+    let inspection = inspect_bytes(rt.alloc(), &traffic).expect(&rt, "traffic");
+    let every = Share {
+        bytes: 70_000,
+        connections: 70_000,
+    };
+    assert_eq!(rt; inspection.received, every);
+    assert_eq!(rt; inspection.unfinished, every);
+    assert_eq!(rt; inspection.most_open, 1);
+}

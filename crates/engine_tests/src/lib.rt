@@ -17,6 +17,10 @@ mod inspected_texts;
 #[cfg(test)]
 mod inspection_limits;
 #[cfg(test)]
+mod lives;
+#[cfg(test)]
+mod lives_apart;
+#[cfg(test)]
 mod many_replies;
 #[cfg(test)]
 mod many_rows;

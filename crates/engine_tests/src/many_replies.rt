@@ -11,9 +11,9 @@ use std::test::Fail;
 use std::thread::Threads;
 use test_support::{A, Counted, SNAPSHOT};
 
-/// A capture of pieces of 2,048 requests each.
-fn pipelined(alloc: Global, pieces: usize) -> Result<String, AllocError> {
-    let mut capture = String::from_str(alloc, "haboob-capture 1 784111777\n")?;
+/// A text that begins so, of pieces of 2,048 requests each.
+fn pipelined(alloc: Global, first: &str, pieces: usize) -> Result<String, AllocError> {
+    let mut capture = format!(in alloc; "haboob-{first} 784111777\n")?;
     let mut block = String::new(alloc);
     for _ in 0..2048usize {
         block.push_str(A)?;
@@ -24,9 +24,9 @@ fn pipelined(alloc: Global, pieces: usize) -> Result<String, AllocError> {
     Ok(capture)
 }
 
-/// A capture of 512 such pieces, and of one request more.
-pub fn one_too_many(alloc: Global) -> Result<String, AllocError> {
-    let mut capture = pipelined(alloc, 512)?;
+/// A text of 512 such pieces, and of one request more: in a capture, one more than may be.
+pub fn one_too_many(alloc: Global, first: &str) -> Result<String, AllocError> {
+    let mut capture = pipelined(alloc, first, 512)?;
     write!(capture, "piece 0 0 32\n{A}\nstop 513\n")?;
     Ok(capture)
 }
@@ -35,7 +35,7 @@ pub fn one_too_many(alloc: Global) -> Result<String, AllocError> {
 /// 6,044 of 159.
 #[test]
 fn several_parts(rt: HostRuntime) -> Result<(), Fail> {
-    let mut capture = pipelined(rt.alloc(), 3)?;
+    let mut capture = pipelined(rt.alloc(), "capture 1", 3)?;
     capture.push_str("stop 3\n")?;
     let ran = run(&rt, rt.alloc(), SNAPSHOT, &capture).expect(&rt, "a snapshot");
     let text = String::from_utf8_lossy(rt.alloc(), &ran.text)?;
@@ -52,7 +52,7 @@ fn several_parts(rt: HostRuntime) -> Result<(), Fail> {
     Ok(())
 }
 
-/// Runs 1,048,577 requests on an engine, and returns what it answered and how many bytes it wrote.
+/// Runs a text of 1,048,577 requests on an engine, and returns what it answered and how many bytes it wrote.
 fn run_too_many<T: Abort + AllocGlobal + Threads + Wait + Sync>(
     rt: &T,
     engine: Engine,
@@ -73,21 +73,39 @@ fn run_too_many<T: Abort + AllocGlobal + Threads + Wait + Sync>(
     (answer.expect(rt, "a snapshot").err(), counted.bytes)
 }
 
-/// One message more than a replay may have: the replies to all others are written, and no last line.
-#[test]
-fn too_many_messages(rt: HostRuntime) -> Result<(), Fail> {
-    let capture = one_too_many(rt.alloc())?;
+/// A replay of 1,048,577 requests on each engine answers this, and writes so many bytes.
+fn check_many<T: Abort + AllocGlobal + Threads + Wait + Sync>(
+    rt: &T,
+    first: &str,
+    want: Option<ReplayFault>,
+    size: usize,
+) -> Result<(), Fail> {
+    let capture = one_too_many(rt.alloc(), first)?;
     let shape = Shape {
         batch: 16,
         ..DEFAULT_SHAPE
     };
-    let costs = default_costs().expect(&rt, "costs");
-    let policy = default_policy().expect(&rt, "a policy");
-    let settings = shaped(rt.alloc(), shape, costs, policy).expect(&rt, "settings");
+    let costs = default_costs().expect(rt, "costs");
+    let policy = default_policy().expect(rt, "a policy");
+    let settings = shaped(rt.alloc(), shape, costs, policy).expect(rt, "settings");
     for engine in [Engine::Plain, Engine::Staged] {
-        let (fault, bytes) = run_too_many(&rt, engine, &settings, &capture);
-        assert_eq!(rt; fault, Some(ReplayFault::TooMany(1_048_576)));
-        assert_eq!(rt; bytes, 187_631_687);
+        let (fault, bytes) = run_too_many(rt, engine, &settings, &capture);
+        assert_eq!(rt; fault, want);
+        assert_eq!(rt; bytes, size);
     }
     Ok(())
+}
+
+/// One message more than a replay of a capture may have: the replies to all others are written, and no last line.
+#[test]
+fn too_many_messages(rt: HostRuntime) -> Result<(), Fail> {
+    let fault = Some(ReplayFault::TooMany(1_048_576));
+    check_many(&rt, "capture 2", fault, 187_631_687)
+}
+
+/// In traffic that message is answered as the others are. Its reply has 159 bytes, the line before it 20, a line feed
+/// follows it, and the last line has 13.
+#[test]
+fn more_than_in_a_capture(rt: HostRuntime) -> Result<(), Fail> {
+    check_many(&rt, "traffic 1", None, 187_631_687 + 180 + 13)
 }

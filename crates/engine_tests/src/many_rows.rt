@@ -34,7 +34,7 @@ fn too_many_messages(rt: HostRuntime) -> Result<(), Fail> {
     let costs = default_costs().expect(&rt, "costs");
     let policy = default_policy().expect(&rt, "a policy");
     let settings = settings(alloc, costs, [policy; 4]).expect(&rt, "settings");
-    let capture = one_too_many(alloc)?;
+    let capture = one_too_many(alloc, "capture 1")?;
     let mut lines = Lines { count: 0 };
     let mut reader = Input::new(capture.as_bytes());
     let mut writer = Output::new(&mut lines);

@@ -1,5 +1,6 @@
 //! Outcomes that are put together from their parts.
 use admission::Control;
+use captures::Version;
 use replay::{Counts, Outcome, Series, Summary, Tally};
 use std::alloc::{AllocError, Global};
 use test_support::A;
@@ -35,7 +36,7 @@ pub fn idle(alloc: Global) -> Tally {
     }
 }
 
-/// The outcome of these parts.
+/// The outcome of a capture of version 1, of these parts.
 pub fn outcome(
     alloc: Global,
     counts: Counts,
@@ -45,6 +46,7 @@ pub fn outcome(
     rejected: &[usize],
 ) -> Result<Outcome, AllocError> {
     Ok(Outcome {
+        version: Version::One,
         rejected: Series::from_vec(Vec::from_slice(alloc, rejected)?),
         summary: Summary {
             counts,
@@ -53,6 +55,33 @@ pub fn outcome(
             tiers,
         },
     })
+}
+
+/// An outcome in this format: 100,000 requests that took 100,000 ticks down to 1, 100,000 that were turned away, and
+/// two tiers that have 100,000 controls each, at the ticks from 0 on.
+pub fn many(alloc: Global, version: Version) -> Result<Outcome, AllocError> {
+    let mut samples = Vec::new(alloc);
+    let mut rejected = Vec::new(alloc);
+    let mut controls = Vec::new(alloc);
+    for instant in 0..100_000u64 {
+        samples.push(100_000 - instant)?;
+        rejected.push(instant as usize)?;
+        controls.push(Control {
+            instant,
+            percentile: 3,
+            smoothed: 2,
+            rate: 1,
+        })?;
+    }
+    let tiers = [
+        tally(alloc, 50_000, 50_000, &controls)?,
+        tally(alloc, 50_000, 50_000, &controls)?,
+        idle(alloc),
+        idle(alloc),
+    ];
+    let mut outcome = outcome(alloc, NONE, 0, &samples, tiers, &rejected)?;
+    outcome.version = version;
+    Ok(outcome)
 }
 
 /// A request at once, two that find no token, and one when a token is there again, each with a service of 201 ticks.

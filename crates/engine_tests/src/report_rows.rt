@@ -1,16 +1,18 @@
 //! Reports byte for byte.
 use crate::report_outcomes::{
-    EACH_TIER, FIRST, NONE, SECOND, each_tier, idle, outcome, tally, tier_0, tight_bucket,
+    EACH_TIER, FIRST, NONE, SECOND, each_tier, idle, many, outcome, tally, tier_0, tight_bucket,
     two_buckets,
 };
+use captures::Version;
 use replay::Counts;
 use report::report;
+use std::test::Fail;
 use test_support::{TIGHT_REPORT, TWO_TIERS_REPORT};
 
 #[test]
 fn of_a_tight_bucket(rt: HostRuntime) {
     let outcome = tight_bucket(rt.alloc()).expect(&rt, "memory");
-    let text = report(rt.alloc(), &outcome).expect(&rt, "memory");
+    let text = report(rt.alloc(), outcome).expect(&rt, "memory");
     assert_eq!(rt; text.as_str(), TIGHT_REPORT);
 }
 
@@ -18,7 +20,7 @@ fn of_a_tight_bucket(rt: HostRuntime) {
 fn of_no_message(rt: HostRuntime) {
     let tiers = tier_0(rt.alloc(), idle(rt.alloc()));
     let outcome = outcome(rt.alloc(), NONE, 0, &[], tiers, &[]).expect(&rt, "memory");
-    let text = report(rt.alloc(), &outcome).expect(&rt, "memory");
+    let text = report(rt.alloc(), outcome).expect(&rt, "memory");
     assert_eq!(rt;
         text.as_str(),
         "haboob-report 1\n\
@@ -59,7 +61,7 @@ fn of_each_status(rt: HostRuntime) {
         &[3, 44],
     )
     .expect(&rt, "memory");
-    let text = report(rt.alloc(), &outcome).expect(&rt, "memory");
+    let text = report(rt.alloc(), outcome).expect(&rt, "memory");
     assert_eq!(rt;
         text.as_str(),
         "haboob-report 1\n\
@@ -91,14 +93,14 @@ fn of_each_status(rt: HostRuntime) {
 #[test]
 fn of_two_buckets(rt: HostRuntime) {
     let outcome = two_buckets(rt.alloc()).expect(&rt, "memory");
-    let text = report(rt.alloc(), &outcome).expect(&rt, "memory");
+    let text = report(rt.alloc(), outcome).expect(&rt, "memory");
     assert_eq!(rt; text.as_str(), TWO_TIERS_REPORT);
 }
 
 #[test]
 fn of_each_tier(rt: HostRuntime) {
     let outcome = each_tier(rt.alloc()).expect(&rt, "memory");
-    let text = report(rt.alloc(), &outcome).expect(&rt, "memory");
+    let text = report(rt.alloc(), outcome).expect(&rt, "memory");
     assert_eq!(rt; text.as_str(), EACH_TIER);
 }
 
@@ -113,7 +115,7 @@ fn ranks(rt: HostRuntime) {
     ] {
         let tiers = tier_0(rt.alloc(), idle(rt.alloc()));
         let outcome = outcome(rt.alloc(), NONE, 0, samples, tiers, &[]).expect(&rt, "memory");
-        let text = report(rt.alloc(), &outcome).expect(&rt, "memory");
+        let text = report(rt.alloc(), outcome).expect(&rt, "memory");
         assert!(rt;
             text.as_str().contains(want),
             "of {} samples",
@@ -122,13 +124,60 @@ fn ranks(rt: HostRuntime) {
     }
 }
 
+/// A capture's report lists all controls of each tier, that of a text of traffic the last 1,000, with their numbers.
+#[test]
+fn of_many(rt: HostRuntime) {
+    for (version, first) in [
+        (Version::One, "control 1 0 3 2 1\n"),
+        (Version::Two, "control 1 0 3 2 1\n"),
+        (Version::Traffic, "control 99001 99000 3 2 1\n"),
+    ] {
+        let outcome = many(rt.alloc(), version).expect(&rt, "memory");
+        let text = report(rt.alloc(), outcome).expect(&rt, "memory");
+        let text = text.as_str();
+        let front =
+            "haboob-report 1\nmessages 200000\nbypassed 0\nadmitted 100000\nrejected 100000\n";
+        assert!(rt; text.starts_with(front), "{version:?}");
+        let percentiles = "\np50 50000\np90 90000\np99 99000\ncontrols 100000\n";
+        let begin = format!(in rt.alloc(); "{percentiles}{first}").expect(&rt, "memory");
+        assert!(rt; text.contains(begin.as_str()), "{version:?}");
+        let last = "control 100000 99999 3 2 1\n";
+        let tier = "tier 1 50000 50000 100000\n";
+        let next = format!(in rt.alloc(); "{last}{tier}{first}").expect(&rt, "memory");
+        assert!(rt; text.contains(next.as_str()), "{version:?}");
+        let end = format!(in rt.alloc(); "{last}reject 0\nreject 1\n").expect(&rt, "memory");
+        assert!(rt; text.contains(end.as_str()), "{version:?}");
+        assert!(rt; text.ends_with("\nreject 99999\nend\n"), "{version:?}");
+    }
+}
+
+/// A traffic text's report lists all of up to 1,000 controls, and of 1,001 all but the first.
+#[test]
+fn around_a_thousand(rt: HostRuntime) -> Result<(), Fail> {
+    for (count, first) in [(999usize, 1), (1000, 1), (1001, 2)] {
+        let controls = vec![in rt.alloc(); FIRST; count]?;
+        let some = tally(rt.alloc(), 4, 5, &controls)?;
+        let tiers = [idle(rt.alloc()), idle(rt.alloc()), some, idle(rt.alloc())];
+        let mut outcome = outcome(rt.alloc(), NONE, 0, &[], tiers, &[])?;
+        outcome.version = Version::Traffic;
+        let text = report(rt.alloc(), outcome)?;
+        let mut want = format!(in rt.alloc(); "\ncontrols 0\ntier 2 4 5 {count}\n")?;
+        for number in first..count.wrapping_add(1) {
+            write!(want, "control {number} 5000 5000 1500 833\n")?;
+        }
+        want.push_str("end\n")?;
+        assert!(rt; text.as_str().ends_with(want.as_str()), "{count}");
+    }
+    Ok(())
+}
+
 /// `checks/refuse_growths.py` refuses each growth in turn: then there is no report, and one that comes is whole.
 #[test]
 fn each_growth_refused(rt: HostRuntime) {
     let Ok(outcome) = each_tier(rt.alloc()) else {
         return;
     };
-    let Ok(text) = report(rt.alloc(), &outcome) else {
+    let Ok(text) = report(rt.alloc(), outcome) else {
         return;
     };
     assert_eq!(rt; text.as_str(), EACH_TIER);

@@ -1,7 +1,9 @@
 -- How an inspection goes on, and how it ends.
-use Rattle.std.proofs.Common.{◌≡◌, ℕ, ◌≤◌, List, [], ◌∷◌, ◌++◌, Option, None, Ok, Err, refl, sym, ◌∙◌, subst, arith, unwrap_or}
+use Rattle.std.proofs.Common.{◌≡◌, ℕ, zero, suc, ◌<◌, ◌≤◌, List, [], ◌∷◌, ◌++◌, length, Option, None, Ok, Err, refl, sym, ◌∙◌, subst, arith}
 use Rattle.std.specs.List.{AllPairs}
 use Rattle.std.proofs.lemmas.Grind.{flat_map-append}
+use Rattle.std.proofs.lemmas.List.{length-append}
+use Rattle.std.proofs.Math.Seq.{get_or-append_seam}
 use Rattle.captures.specs.declared.record.Record.{Record}
 use Rattle.captures.specs.declared.record.Record.TheVariants.{Piece, End, Tier}
 use Rattle.captures.specs.declared.progress.Progress.{Progress}
@@ -9,13 +11,16 @@ use Rattle.captures.specs.declared.version.Version.{Version}
 use Rattle.captures.specs.declared.capture_fault.CaptureFault.{CaptureFault}
 use Rattle.captures.specs.declared.capture_fault.CaptureFaultKind.{CaptureFaultKind}
 use Rattle.captures.specs.declared.capture_fault.CaptureFaultKind.TheVariants as kinds
-use Rattle.captures.specs.Reference.{IsCapture, tick_of, ticks_of}
+use Rattle.captures.specs.Reference.{IsCapture, connection_of, tick_of, ticks_of}
 use Rattle.captures.specs.Readers.{ReaderAfter, Gave, FailsNext}
 use Rattle.captures.proofs.PassLemmas.{reads_of, faults_next}
 use Rattle.captures.proofs.UpgradeLemmas.{all_read}
+use Rattle.captures.proofs.Lives.{is_low}
 use Rattle.arrivals.specs.Reference.{Arrival}
 use Rattle.arrivals.specs.declared.connections.Connection.{Connection}
-use Rattle.arrivals.proofs.Arriving.{reads_none, arrives_none}
+use Rattle.arrivals.specs.Connections.{IsNumber, connection_at}
+use Rattle.arrivals.specs.declared.connections.Connection.TheVariants.{Silent}
+use Rattle.arrivals.proofs.Merging.{stand_none}
 use Rattle.inspection.specs.declared.inspection.Inspection.{Inspection}
 use Rattle.inspection.specs.declared.found.Found.{Found}
 use Rattle.inspection.specs.Figures.{AreFigures}
@@ -23,8 +28,21 @@ use Rattle.inspection.specs.Running.{IsFound, Holds, IsNoEarlier}
 use Rattle.inspection.specs.Inspections.{HoldsAll, HoldsBefore, Stops, reported_as, stop_of}
 use Rattle.inspection.proofs.Holding.{last_le}
 
+-- a silent connection for each number
+none_kept : (connections : List Connection) → connections ≡ [] → (c : ℕ) → connection_at connections c ≡ Silent
+none_kept connections none zero = rw none refl
+none_kept connections none (suc c) = rw none refl
+
 pub holds_none : (connections : List Connection) (f : Found) → connections ≡ [] → IsFound [] [] f → Holds [] [] connections f
-holds_none connections f none is = record { reads = rw none reads_none; arrived = arrives_none; found = is }
+holds_none connections f none is =
+    let first = stand_none (connection_at connections) (none_kept connections none) in
+    record { reads = record { each = first.each }; arrived = first.arrived; found = is }
+
+-- the record that came names a number of 16 bits
+pub number_of_next : (v : Version) (start : ℕ) (records : List Record) (r : Record) → IsCapture v start (records ++ r ∷ []) → IsNumber (connection_of r)
+number_of_next v start records r rules =
+    let lt : length records < length (records ++ r ∷ []) = let l = length-append records (r ∷ []) in omega (arith, l) in
+    is_low v r (rw (get_or-append_seam records r [] r) at (rules.each (length records) r lt))
 
 -- a record that keeps the rules comes no earlier than those before it
 pub no_earlier : (v : Version) (start : ℕ) (records : List Record) (r : Record) → IsCapture v start (records ++ r ∷ []) → IsNoEarlier records r

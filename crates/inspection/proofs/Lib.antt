@@ -2,8 +2,12 @@ pub mod Seconds
 pub mod Counted
 pub mod Sharing
 pub mod Lines
+pub mod Named
 pub mod Everyone
+pub mod Ended
+pub mod OpenNow
 pub mod Holding
 pub mod Endings
 pub mod OneInspection
 pub mod Totals
+pub mod UsedOnce

@@ -1,11 +1,11 @@
--- What a capture holds: figures of its records, of the texts of its connections and of the messages that arrive.
-use Rattle.std.specs.Prelude.{◌≡◌, ℕ, ◌+◌, ◌-◌, ◌/◌, ◌≤◌, ◌==◌, Bool, true, false, not, List, length, map, count_by}
-use Rattle.std.specs.Prelude.{sum_by, slice_get, nat_lt, bytes_eq, codes, if◌then◌else◌}
+-- What recorded traffic holds: figures of its records, of the texts of its connections and of the messages that arrive.
+use Rattle.std.specs.Prelude.{◌≡◌, ℕ, ◌+◌, ◌-◌, ◌/◌, ◌≤◌, ◌==◌, Bool, true, false, not, List, [], ◌∷◌, ◌++◌, length}
+use Rattle.std.specs.Prelude.{map, count_by, sum_by, flat_map, take, slice_get, nat_lt, bytes_eq, codes, if◌then◌else◌}
 use Rattle.std.specs.List.{range_with_len}
-use Rattle.captures.specs.declared.version.Version.TheVariants.{Two}
+use Rattle.captures.specs.declared.version.Version.TheVariants.{Traffic}
 use Rattle.captures.specs.declared.record.Record.{Record}
 use Rattle.captures.specs.declared.record.Record.TheVariants.{Piece, End, Tier}
-use Rattle.captures.specs.Reference.{last_connection, last_of, ticks_of}
+use Rattle.captures.specs.Reference.{format_of, connection_now, used_once, last_of, ticks_of}
 use Rattle.http_requests.specs.declared.messages.Message.{Message}
 use Rattle.http_requests.specs.declared.messages.Meaning.{Meaning}
 use Rattle.http_requests.specs.declared.messages.Meaning.TheVariants.{Request, Bad}
@@ -14,7 +14,7 @@ use Rattle.http_requests.specs.declared.messages.MessageFault.TheVariants.{TooLo
 use Rattle.http_requests.specs.declared.messages.MessageFault.TheVariants.{Length, BodySize}
 use Rattle.http_requests.specs.Reference.{is_get_or_head}
 use Rattle.arrivals.specs.Reference.{Arrival, text_of, messages_of}
-use Rattle.arrivals.specs.Connections.{some_closes}
+use Rattle.arrivals.specs.Connections.{some_closes, text_now}
 use Rattle.inspection.specs.declared.counts.RecordCounts.{RecordCounts}
 use Rattle.inspection.specs.declared.counts.MethodCounts.{MethodCounts}
 use Rattle.inspection.specs.declared.counts.VersionCounts.{VersionCounts}
@@ -152,21 +152,55 @@ share_over bytes_on xs = record {
 
 -- how many numbers connections may have, and these numbers, from 0 on
 unfoldable pub connection_numbers : ℕ
-connection_numbers = last_connection Two + 1
+connection_numbers = (format_of Traffic).last_connection + 1
 
-abbrev pub every_connection : List ℕ
-every_connection = range_with_len 0 connection_numbers
+abbrev pub every_number : List ℕ
+every_number = range_with_len 0 connection_numbers
 
+-- the connection that a record ends, and the connections that have ended
+abbrev pub ended_by : Record → List ℕ
+ended_by (Piece tick conn bytes) = []
+ended_by (End tick conn) = conn ∷ []
+ended_by (Tier conn tier) = []
+
+abbrev pub ended : List Record → List ℕ
+ended records = flat_map ended_by (used_once records)
+
+-- the connections that there have been: those that have ended, and the one that each number names now
+abbrev pub every_connection : List Record → List ℕ
+every_connection records = ended records ++ map (λ c. connection_now c records) every_number
+
+-- how many bytes came on a connection; those after a message that closes it, and those of one that none closes
+abbrev pub received_on : List Record → ℕ → ℕ
+received_on records c = length (text_of c (used_once records))
+
+abbrev pub after_close_on : List Record → List Arrival → ℕ → ℕ
+after_close_on records arrivals c = bytes_after_close (text_of c (used_once records)) (messages_of c arrivals)
+
+abbrev pub unfinished_on : List Record → List Arrival → ℕ → ℕ
+unfinished_on records arrivals c = bytes_unfinished (text_of c (used_once records)) (messages_of c arrivals)
+
+-- the shares over all connections
 abbrev pub received : List Record → Share
-received records = share_over (λ c. length (text_of c records)) every_connection
+received records = share_over (received_on records) (every_connection records)
 
 abbrev pub after_close : List Record → List Arrival → Share
-after_close records arrivals =
-    share_over (λ c. bytes_after_close (text_of c records) (messages_of c arrivals)) every_connection
+after_close records arrivals = share_over (after_close_on records arrivals) (every_connection records)
 
 abbrev pub unfinished : List Record → List Arrival → Share
-unfinished records arrivals =
-    share_over (λ c. bytes_unfinished (text_of c records) (messages_of c arrivals)) every_connection
+unfinished records arrivals = share_over (unfinished_on records arrivals) (every_connection records)
+
+-- a number's connection is open once a piece of it came, until its end; how many connections are open
+abbrev pub is_open : ℕ → List Record → Bool
+is_open c records = nat_lt 0 (length (text_now c records))
+
+abbrev pub open_count : List Record → ℕ
+open_count records = count_by (λ c. is_open c records) every_number
+
+-- the most connections that were open at once: so many were open after some of the records, and never more
+pub record IsMostOpen (records : List Record) (n : ℕ) : Type 0 where
+  pub is : (k : ℕ) × (k ≤ length records) × (n ≡ open_count (take k records))
+  pub most : (k : ℕ) → k ≤ length records → open_count (take k records) ≤ n
 
 -- a second has n ticks
 abbrev pub ticks_of_a_second : ℕ
@@ -192,6 +226,7 @@ pub record AreFigures (records : List Record) (arrivals : List Arrival) (i : Ins
   pub first_tick : i.first_tick ≡ slice_get (ticks_of records) 0
   pub last_tick : i.last_tick ≡ slice_get (ticks_of records) (length (ticks_of records) - 1)
   pub received : i.received ≡ received records
+  pub most_open : IsMostOpen records i.most_open
   pub messages : i.messages ≡ messages_by_kind (whats_of arrivals)
   pub after_close : i.after_close ≡ after_close records arrivals
   pub unfinished : i.unfinished ≡ unfinished records arrivals

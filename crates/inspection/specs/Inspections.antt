@@ -3,7 +3,7 @@ use Rattle.std.specs.Prelude.{◌≡◌, ◌≢◌, ℕ, List, Option}
 use Rattle.captures.specs.declared.capture_fault.CaptureFault.{CaptureFault}
 use Rattle.captures.specs.declared.capture_fault.CaptureFaultKind.{CaptureFaultKind}
 use Rattle.captures.specs.declared.capture_fault.CaptureFaultKind.TheVariants as kinds
-use Rattle.captures.specs.Reference.{WholeCapture}
+use Rattle.captures.specs.Reference.{WholeCapture, used_once}
 use Rattle.captures.specs.CaptureFaults.{failures_of}
 use Rattle.captures.specs.Passes.{RecordsRead, FaultsAtOnce, FaultsNext}
 use Rattle.arrivals.specs.Reference.{Arrival, AreArrivals}
@@ -12,11 +12,12 @@ use Rattle.inspection.specs.declared.inspect_fault.InspectFault.{InspectFault}
 use Rattle.inspection.specs.declared.inspect_fault.InspectFault.TheVariants.{FirstLine, Stopped, Memory}
 use Rattle.inspection.specs.Figures.{AreFigures}
 
--- The input is a capture's text, with this version and start, and the figures are those of its records and arrivals.
+-- The input is the text of a capture or of traffic, in this format and with this start, and the figures are those of
+-- its records and arrivals.
 pub record HoldsAll (input : Option (List ℕ)) (i : Inspection) : Type 0 where
   pub capture : WholeCapture input
   pub arrivals : List Arrival
-  pub arrived : AreArrivals capture.records arrivals
+  pub arrived : AreArrivals (used_once capture.records) arrivals
   pub version : i.version ≡ capture.version
   pub start : i.start ≡ capture.start
   pub figures : AreFigures capture.records arrivals i
@@ -26,7 +27,7 @@ pub record HoldsBefore (input ahead : Option (List ℕ)) (i : Inspection) (f : C
   pub read : RecordsRead input
   pub faults : FaultsNext input ahead read f
   pub arrivals : List Arrival
-  pub arrived : AreArrivals read.records arrivals
+  pub arrived : AreArrivals (used_once read.records) arrivals
   pub version : i.version ≡ read.version
   pub start : i.start ≡ read.start
   pub figures : AreFigures read.records arrivals i

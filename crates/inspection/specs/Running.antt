@@ -1,9 +1,11 @@
 -- What is kept of a capture while its records are read.
-use Rattle.std.specs.Prelude.{◌≡◌, ◌≢◌, ℕ, ◌+◌, ◌-◌, ◌/◌, ◌<◌, ◌≤◌, false, List, [], ◌∷◌, ◌++◌, length, map, replicate}
-use Rattle.std.specs.Prelude.{slice_get, slice_index_or, codes, bytes_eq, nat_lt, if◌then◌else◌, Some, unwrap_or}
+use Rattle.std.specs.Prelude.{◌≡◌, ◌≢◌, ℕ, ◌+◌, ◌-◌, ◌/◌, ◌^◌, ◌<◌, ◌≤◌, false, List, [], ◌∷◌, ◌++◌, length, map}
+use Rattle.std.specs.Prelude.{replicate, sum_by, slice_get, slice_index_or, codes, bytes_eq, nat_lt, if◌then◌else◌}
+use Rattle.std.specs.Prelude.{Some, unwrap_or}
 use Rattle.captures.specs.declared.record.Record.{Record}
 use Rattle.captures.specs.declared.record.Record.TheVariants.{Piece, End, Tier}
-use Rattle.captures.specs.Reference.{last_of, ticks_of, max_text_bytes}
+use Rattle.captures.specs.Reference.{last_of, ticks_of, used_once}
+use Rattle.captures.specs.CaptureFaults.{longest_text}
 use Rattle.captures.specs.Captures.{sizes_of, size_of}
 use Rattle.http_requests.specs.declared.messages.Message.{Message}
 use Rattle.http_requests.specs.declared.messages.Meaning.{Meaning}
@@ -13,8 +15,8 @@ use Rattle.http_requests.specs.declared.messages.HttpVersion.TheVariants.{Http10
 use Rattle.http_requests.specs.declared.messages.MessageFault.{MessageFault}
 use Rattle.http_requests.specs.declared.messages.MessageFault.TheVariants.{TooLong, Block, Host, Coding}
 use Rattle.http_requests.specs.declared.messages.MessageFault.TheVariants.{Length, BodySize}
-use Rattle.arrivals.specs.Reference.{Arrival, AreArrivals, text_of, messages_of}
-use Rattle.arrivals.specs.Connections.{HaveRead, some_closes}
+use Rattle.arrivals.specs.Reference.{Arrival, AreArrivals}
+use Rattle.arrivals.specs.Connections.{HaveRead, HaveNumbers, IsNumber, some_closes, text_now, messages_now}
 use Rattle.arrivals.specs.declared.connections.Connection.{Connection}
 use Rattle.inspection.specs.declared.counts.RecordCounts.{RecordCounts}
 use Rattle.inspection.specs.declared.counts.MethodCounts.{MethodCounts}
@@ -24,9 +26,12 @@ use Rattle.inspection.specs.declared.counts.MessageCounts.{MessageCounts}
 use Rattle.inspection.specs.declared.inspection.Share.{Share}
 use Rattle.inspection.specs.declared.busy.Busy.{Busy}
 use Rattle.inspection.specs.declared.tails.Tail.{Tail}
+use Rattle.inspection.specs.declared.shares.Shares.{Shares}
+use Rattle.inspection.specs.declared.opened.OpenCount.{OpenCount}
 use Rattle.inspection.specs.declared.found.Found.{Found}
 use Rattle.inspection.specs.Figures.{records_by_kind, messages_by_kind, whats_of, end_of, seconds_of, ticks_of_a_second}
-use Rattle.inspection.specs.Figures.{count_in, IsBusiest}
+use Rattle.inspection.specs.Figures.{count_in, IsBusiest, share_over, received_on, after_close_on, unfinished_on, ended}
+use Rattle.inspection.specs.Figures.{open_count, IsMostOpen}
 
 -- ---- counts
 
@@ -139,24 +144,75 @@ rest_after_close t = if t.closed then rest_of t else 0
 abbrev pub rest_unfinished : Tail → ℕ
 rest_unfinished t = if t.closed then 0 else rest_of t
 
--- no more bytes came on it than a capture's text has
-abbrev pub FewBytes : Tail → Type 0
-FewBytes t = t.bytes ≤ max_text_bytes
-
--- a share with n bytes of one more connection
+-- a share with n bytes of one more connection, and two shares together
 abbrev pub with_bytes : Share → ℕ → Share
 with_bytes share bytes = record {
   bytes = share.bytes + bytes;
   connections = share.connections + (if nat_lt 0 bytes then 1 else 0);
 }
 
+abbrev pub joined : Share → Share → Share
+joined a b = record { bytes = a.bytes + b.bytes; connections = a.connections + b.connections }
+
+-- the shares, with those of one more connection
+abbrev pub with_tail : Shares → Tail → Shares
+with_tail shares tail = record {
+  received = with_bytes shares.received tail.bytes;
+  after_close = with_bytes shares.after_close (rest_after_close tail);
+  unfinished = with_bytes shares.unfinished (rest_unfinished tail);
+}
+
+-- the bytes on these connections, and how many they are, can be added to the share of others
+pub record CanAdd (share : Share) (bytes_on : Tail → ℕ) (tails : List Tail) : Type 0 where
+  pub bytes : share.bytes + sum_by bytes_on tails < 2 ^ 64
+  pub connections : share.connections + length tails < 2 ^ 64
+
+pub record CanAddAll (shares : Shares) (tails : List Tail) : Type 0 where
+  pub received : CanAdd shares.received (λ t. t.bytes) tails
+  pub after_close : CanAdd shares.after_close rest_after_close tails
+  pub unfinished : CanAdd shares.unfinished rest_unfinished tails
+
 -- no more connections are kept than there are numbers for (`connection_numbers`)
 abbrev pub most_connections : ℕ
 most_connections = 65536
 
+-- what is kept of the connection that each number names now
 pub record AreTails (records : List Record) (arrivals : List Arrival) (tails : List Tail) : Type 0 where
   pub few : length tails ≤ most_connections
-  pub each : (c : ℕ) → tail_at tails c ≡ tail_of (text_of c records) (messages_of c arrivals)
+  pub each : (c : ℕ) → IsNumber c
+      → tail_at tails c ≡ tail_of (text_now c records) (messages_now c records arrivals)
+
+-- the shares of the connections that have ended
+pub record AreShares (records : List Record) (arrivals : List Arrival)
+    (shares : Shares) : Type 0 where
+  pub received : shares.received ≡ share_over (received_on records) (ended records)
+  pub after_close : shares.after_close ≡ share_over (after_close_on records arrivals) (ended records)
+  pub unfinished : shares.unfinished ≡ share_over (unfinished_on records arrivals) (ended records)
+
+-- ---- open connections
+
+-- how many are open, and the most that were
+pub record IsOpenCount (records : List Record) (o : OpenCount) : Type 0 where
+  pub now : o.now ≡ open_count records
+  pub most : IsMostOpen records o.most
+
+-- one more is open, or one fewer
+abbrev pub with_opened : OpenCount → OpenCount
+with_opened o = record {
+  now = o.now + 1;
+  most = if nat_lt o.most (o.now + 1) then o.now + 1 else o.most;
+}
+
+abbrev pub with_ended : OpenCount → OpenCount
+with_ended o = record { now = o.now - 1; most = o.most }
+
+-- once n bytes came on a connection of which this was kept, and once such a connection has ended
+abbrev pub opened_after_piece : Tail → ℕ → OpenCount → OpenCount
+opened_after_piece tail bytes o =
+    if nat_lt 0 tail.bytes then o else if nat_lt 0 bytes then with_opened o else o
+
+abbrev pub opened_after_end : Tail → OpenCount → OpenCount
+opened_after_end tail o = if nat_lt 0 tail.bytes then with_ended o else o
 
 -- ---- all of it
 
@@ -169,6 +225,9 @@ pub record IsFound (records : List Record) (arrivals : List Arrival) (f : Found)
   pub busy : IsBusy (seconds_of arrivals) f.busy
   pub past : f.busy.now.number ≤ last_of (ticks_of records) / ticks_of_a_second
   pub tails : AreTails records arrivals f.tails
+  pub ended : AreShares records arrivals f.ended
+  pub opened : IsOpenCount records f.opened
+  pub numbers : HaveNumbers records
   pub few : length arrivals ≤ sizes_of records
 
 -- a piece of n bytes was taken, in which these messages end
@@ -185,10 +244,25 @@ pub record TookPiece (tick conn bytes : ℕ) (ms : List Message) (old new : Foun
   pub own : (text piece : List ℕ) (sofar : List Message) → tail_at old.tails conn ≡ tail_of text sofar
       → length piece ≡ bytes → tail_at new.tails conn ≡ tail_of (text ++ piece) (sofar ++ ms)
   pub others : (c : ℕ) → c ≢ conn → tail_at new.tails c ≡ tail_at old.tails c
+  pub ended : new.ended ≡ old.ended
+  pub opened : new.opened ≡ opened_after_piece (tail_at old.tails conn) bytes old.opened
 
 -- a record gave a tick
 abbrev pub with_tick : Found → ℕ → Found
 with_tick f tick = record f { first_tick = Some (unwrap_or f.first_tick tick); last_tick = Some tick }
+
+-- the connection of a number ended
+pub record TookEnd (tick conn : ℕ) (old new : Found) : Type 0 where
+  pub counts : new.records ≡ with_end old.records
+  pub first_tick : new.first_tick ≡ Some (unwrap_or old.first_tick tick)
+  pub last_tick : new.last_tick ≡ Some tick
+  pub messages : new.messages ≡ old.messages
+  pub busy : new.busy ≡ old.busy
+  pub few : length new.tails ≤ length old.tails
+  pub own : tail_at new.tails conn ≡ empty_tail
+  pub others : (c : ℕ) → c ≢ conn → tail_at new.tails c ≡ tail_at old.tails c
+  pub ended : new.ended ≡ with_tail old.ended (tail_at old.tails conn)
+  pub opened : new.opened ≡ opened_after_end (tail_at old.tails conn) old.opened
 
 -- the record comes no earlier than these
 abbrev pub IsNoEarlier : List Record → Record → Type 0
@@ -198,13 +272,13 @@ IsNoEarlier records (Tier conn tier) = Unit {0}
 
 -- there is room for the record after these
 abbrev pub HasRoomFor : List Record → Record → Type 0
-HasRoomFor records r = length records + sizes_of records + (size_of r + 1) ≤ max_text_bytes
+HasRoomFor records r = length records + sizes_of records + (size_of r + 1) ≤ longest_text
 
 -- these records were read, and what they hold is kept
 pub record Holds (records : List Record) (arrivals : List Arrival) (connections : List Connection)
     (f : Found) : Type 0 where
   pub reads : HaveRead records arrivals connections
-  pub arrived : AreArrivals records arrivals
+  pub arrived : AreArrivals (used_once records) arrivals
   pub found : IsFound records arrivals f
 
 -- so it is with one more record, and with the messages that arrive with it

@@ -1,7 +1,7 @@
 -- The text of an inspection (docs/FORMATS.md, "Inspection").
-use Rattle.std.specs.Prelude.{ℕ, List, ◌++◌, Option, Some, None, codes, decimal}
+use Rattle.std.specs.Prelude.{ℕ, List, [], ◌++◌, Option, Some, None, codes, decimal}
 use Rattle.captures.specs.declared.version.Version.{Version}
-use Rattle.captures.specs.declared.version.Version.TheVariants.{One, Two}
+use Rattle.captures.specs.declared.version.Version.TheVariants.{One, Two, Traffic}
 use Rattle.inspection.specs.declared.counts.RecordCounts.{RecordCounts}
 use Rattle.inspection.specs.declared.counts.MethodCounts.{MethodCounts}
 use Rattle.inspection.specs.declared.counts.VersionCounts.{VersionCounts}
@@ -16,14 +16,15 @@ line name number = name ++ codes " " ++ decimal number ++ codes "\n"
 abbrev pub line_of_two : List ℕ → ℕ → ℕ → List ℕ
 line_of_two name first second = name ++ codes " " ++ decimal first ++ codes " " ++ decimal second ++ codes "\n"
 
--- the number of a version
-abbrev pub version_number : Version → ℕ
-version_number One = 1
-version_number Two = 2
+-- what a format is called: the number of a capture's version, or the word for traffic
+abbrev pub version_name : Version → List ℕ
+version_name One = codes "1"
+version_name Two = codes "2"
+version_name Traffic = codes "traffic"
 
 abbrev pub capture_lines : Version → ℕ → List ℕ
 capture_lines version start =
-    line (codes "version") (version_number version)
+    (codes "version " ++ version_name version ++ codes "\n")
     ++ line (codes "start") start
 
 abbrev pub record_lines : RecordCounts → List ℕ
@@ -38,9 +39,16 @@ abbrev pub tick_line : List ℕ → Option ℕ → List ℕ
 tick_line name (Some tick) = line name tick
 tick_line name None = name ++ codes " -\n"
 
-abbrev pub received_lines : Share → List ℕ
-received_lines share =
+-- the most connections that were open at once, which is told of traffic, where a number names one after the other
+abbrev pub open_line : Version → ℕ → List ℕ
+open_line One most = []
+open_line Two most = []
+open_line Traffic most = line (codes "open") most
+
+abbrev pub received_lines : Version → Share → ℕ → List ℕ
+received_lines version share most_open =
     line (codes "connections") share.connections
+    ++ open_line version most_open
     ++ line (codes "bytes") share.bytes
 
 abbrev pub method_lines : MethodCounts → List ℕ
@@ -63,7 +71,7 @@ fault_lines counts =
     ++ line (codes "fault Length") counts.length
     ++ line (codes "fault BodySize") counts.body_size
 
--- the text of what a capture holds
+-- the text of what recorded traffic holds
 unfoldable pub inspection_text : Inspection → List ℕ
 inspection_text i =
     codes "haboob-inspection 1\n"
@@ -71,7 +79,7 @@ inspection_text i =
     ++ record_lines i.records
     ++ tick_line (codes "first") i.first_tick
     ++ tick_line (codes "last") i.last_tick
-    ++ received_lines i.received
+    ++ received_lines i.version i.received i.most_open
     ++ line (codes "messages") i.messages.all
     ++ line (codes "requests") i.messages.requests
     ++ method_lines i.messages.methods

@@ -1,19 +1,20 @@
 //! What was found in the records so far.
 
-ghost use Rattle.std.specs.Prelude.{◌≡◌, ℕ, ◌+◌, ◌-◌, ◌<◌, ◌≤◌, ◌^◌, [], List, length, OnOk};
+ghost use Rattle.std.specs.Prelude.{◌≡◌, ℕ, ◌+◌, ◌-◌, ◌<◌, ◌≤◌, ◌^◌, [], ◌∷◌, List, length, OnOk};
 ghost use Rattle.http_requests.specs.declared.messages.Meaning.{Meaning as AMeaning};
 ghost use Rattle.captures.specs.declared.record.Record.{Record as ARecord};
-ghost use Rattle.captures.specs.Reference.{max_text_bytes};
+ghost use Rattle.captures.specs.CaptureFaults.{longest_text};
 ghost use Rattle.captures.specs.Captures.{sizes_of};
 ghost use Rattle.arrivals.specs.Reference.{Arrival};
 ghost use Rattle.inspection.specs.Figures.{AreFigures, messages_by_kind};
-ghost use Rattle.inspection.specs.Running.{FewRecords, most_connections, tail_at, IsFound, TookPiece, with_tick};
-ghost use Rattle.inspection.specs.Running.{with_end, with_tier};
+ghost use Rattle.inspection.specs.Running.{FewRecords, CanAddAll, most_connections, tail_at, IsFound, TookPiece};
+ghost use Rattle.inspection.specs.Running.{TookEnd, with_tick, with_tier};
 
 use crate::busy::Busy;
 use crate::counts::{FaultCounts, MessageCounts, MethodCounts, RecordCounts, VersionCounts};
 use crate::inspection::{Inspection, Second};
-use crate::shares::shares_of;
+use crate::opened::OpenCount;
+use crate::shares::{NO_SHARES, Shares};
 use crate::tails::Tails;
 use captures::Version;
 use http_requests::Message;
@@ -67,7 +68,12 @@ pub struct Found {
     pub last_tick: Option<u64>,
     pub messages: MessageCounts,
     pub busy: Busy,
+    /// The connections that numbers name now.
     pub tails: Tails,
+    /// The shares of those that have ended.
+    pub ended: Shares,
+    /// How many connections are open.
+    pub opened: OpenCount,
 }
 
 impl Found {
@@ -85,6 +91,8 @@ impl Found {
                 busiest: FIRST_SECOND,
             },
             tails: Tails::new(alloc),
+            ended: NO_SHARES,
+            opened: OpenCount { now: 0, most: 0 },
         }
     }
 
@@ -96,12 +104,17 @@ impl Found {
         self.last_tick = Some(tick);
     }
 
-    /// An end came at this tick.
-    pub(crate) fn take_end(&mut self, tick: u64)
-        requires { FewRecords (2 ^ 64 - 1) self.old.records }
-        ensures { self.new
-            ≡ record (with_tick self.old tick) { records = with_end self.old.records } }
+    /// The connection of a number ended at this tick.
+    pub(crate) fn take_end(&mut self, tick: u64, conn: u16)
+        requires counts { FewRecords (2 ^ 64 - 1) self.old.records }
+        requires shares { CanAddAll self.old.ended (tail_at self.old.tails conn ∷ []) }
+        requires opened { 0 < (tail_at self.old.tails conn).bytes → 0 < self.old.opened.now }
+        ensures { TookEnd tick conn self.old self.new }
     {
+        if self.tails.is_open(conn) {
+            self.opened.note_ended();
+        }
+        self.ended = self.ended.with(self.tails.end(conn));
         self.note_tick(tick);
         self.records.note_end();
     }
@@ -128,8 +141,12 @@ impl Found {
         requires busy { self.old.busy.now.messages + length messages.now < 2 ^ 64 }
         requires few { length self.old.tails ≤ most_connections }
         requires room { (tail_at self.old.tails conn).bytes + bytes < 2 ^ 64 }
+        requires opened { self.old.opened.now + 1 < 2 ^ 64 }
         ensures { OnOk result (TookPiece tick conn bytes messages.now self.old self.new) }
     {
+        if bytes > 0 && !self.tails.is_open(conn) {
+            self.opened.note_opened();
+        }
         self.tails.take(conn, bytes, messages)?;
         self.note_tick(tick);
         self.records.note_piece();
@@ -144,14 +161,15 @@ impl Found {
 pub(crate) fn inspection_of(version: Version, start: u64, found: &Found) -> Inspection
     requires { (records : List ARecord) × (arrivals : List Arrival)
         × IsFound records arrivals found.now
-        × (sizes_of records ≤ max_text_bytes) }
+        × (sizes_of records ≤ longest_text)
+        × (length records ≤ longest_text) }
     ensures version { result.version ≡ version }
     ensures start { result.start ≡ start }
     ensures figures { (records : List ARecord) (arrivals : List Arrival)
         → IsFound records arrivals found.now
         → AreFigures records arrivals result }
 {
-    let shares = shares_of(found.tails.as_slice());
+    let shares = found.ended.with_all(found.tails.as_slice());
     Inspection {
         version,
         start,
@@ -159,6 +177,7 @@ pub(crate) fn inspection_of(version: Version, start: u64, found: &Found) -> Insp
         first_tick: found.first_tick,
         last_tick: found.last_tick,
         received: shares.received,
+        most_open: found.opened.most,
         messages: found.messages,
         after_close: shares.after_close,
         unfinished: shares.unfinished,

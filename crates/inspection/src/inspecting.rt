@@ -1,8 +1,10 @@
-//! Reading a capture to its end, and counting what it holds.
+//! Reading recorded traffic to its end, and counting what it holds.
 
 ghost use Rattle.std.specs.Prelude.{◌≡◌, ◌-◌, ◌<◌, ◌^◌, List, OnOk, IfOk, IfErr};
 ghost use Rattle.devices.specs.Devices.{CanFail, CountsBy};
+ghost use Rattle.captures.specs.Reference.{connection_of};
 ghost use Rattle.captures.specs.declared.record.Record.{Record as ARecord};
+ghost use Rattle.arrivals.specs.Connections.{IsNumber};
 ghost use Rattle.arrivals.specs.Reference.{Arrival};
 ghost use Rattle.inspection.specs.Running.{Holds, HoldsMore, HasRoomFor, IsNoEarlier};
 ghost use Rattle.inspection.specs.Inspections.{HoldsAll, Stops, reader_failures, stop_of};
@@ -22,15 +24,17 @@ fn take_record(
     connections: &mut Connections,
     found: &mut Found,
 ) -> Result<(), AllocError>
-    requires { (records : List ARecord) × (arrivals : List Arrival)
+    requires room { (records : List ARecord) × (arrivals : List Arrival)
         × Holds records arrivals connections.old found.old × HasRoomFor records next.now }
+    requires number { IsNumber (connection_of next.now) }
     ensures { OnOk result ((records : List ARecord) (arrivals : List Arrival)
         → Holds records arrivals connections.old found.old → IsNoEarlier records next.now
         → HoldsMore records arrivals next.now connections.new found.new) }
 {
     match next {
-        Record::End { tick, .. } => {
-            found.take_end(*tick);
+        Record::End { tick, conn } => {
+            connections.end(usize::from(*conn));
+            found.take_end(*tick, *conn);
             Ok(())
         }
         Record::Tier { .. } => {
@@ -56,8 +60,8 @@ fn stopped(held: Inspection, fault: CaptureFault) -> InspectFault
     }
 }
 
-/// Reads a capture, record by record, and answers what it holds. It keeps what the open connections need, and 24 bytes
-/// for each number of a connection.
+/// Reads a capture or a text of traffic, record by record, and answers what it holds. It keeps what the open
+/// connections need, and 24 bytes for each number, however many connections it names one after the other.
 ///
 /// # Errors
 ///

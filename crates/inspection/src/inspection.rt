@@ -1,4 +1,4 @@
-//! What a capture holds.
+//! What recorded traffic holds.
 
 use crate::{MessageCounts, RecordCounts};
 use captures::Version;
@@ -10,7 +10,7 @@ pub struct Share {
     pub connections: u64,
 }
 
-/// A second of a capture.
+/// A second of the recording.
 #[derive(Clone, Copy, Debug, PartialEq, Eq)]
 pub struct Second {
     /// Its number: its ticks divided by 1,000,000.
@@ -19,10 +19,10 @@ pub struct Second {
     pub messages: u64,
 }
 
-/// What a capture holds.
+/// What a capture or a text of traffic holds.
 #[derive(Clone, Copy, Debug, PartialEq, Eq)]
 pub struct Inspection {
-    /// The version of its format.
+    /// Its format.
     pub version: Version,
     /// When it starts, in seconds since 1970-01-01.
     pub start: u64,
@@ -31,8 +31,10 @@ pub struct Inspection {
     pub first_tick: Option<u64>,
     /// The last one.
     pub last_tick: Option<u64>,
-    /// The bytes of all pieces.
+    /// The bytes of all pieces. Where a number names one connection after the other, each counts for itself.
     pub received: Share,
+    /// The most connections that were open at once, each from its first piece to its end.
+    pub most_open: u64,
     pub messages: MessageCounts,
     /// The bytes after the messages that closed their connections. They are ignored.
     pub after_close: Share,

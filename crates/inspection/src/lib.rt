@@ -1,4 +1,4 @@
-//! What a capture holds: figures of its records, its connections and the messages that arrive on them.
+//! What recorded traffic holds: figures of its records, its connections and the messages that arrive on them.
 #![tactic(auto)]
 
 mod busy;
@@ -9,6 +9,7 @@ mod inspect_fault;
 mod inspecting;
 mod inspection;
 mod laws;
+mod opened;
 mod shares;
 mod tails;
 mod texts;
@@ -17,5 +18,8 @@ pub use counts::{FaultCounts, MessageCounts, MethodCounts, RecordCounts, Version
 pub use inspect_fault::InspectFault;
 pub use inspecting::inspect;
 pub use inspection::{Inspection, Second, Share};
-pub use laws::{bytes_of_all_pieces, messages_of_one_kind, one_inspection, requests_by_kind};
+pub use laws::{
+    bytes_of_all_pieces, messages_of_one_kind, one_connection_of_each_number, one_inspection,
+    requests_by_kind,
+};
 pub use texts::inspection_text;

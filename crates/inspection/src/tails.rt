@@ -1,15 +1,16 @@
 //! The bytes of each connection that belong to no message.
 
-ghost use Rattle.std.specs.Prelude.{◌≡◌, ◌≢◌, ℕ, ◌+◌, ◌<◌, ◌≤◌, ◌^◌, ◌++◌, [], List, length, OnOk};
+ghost use Rattle.std.specs.Prelude.{◌≡◌, ◌≢◌, ℕ, ◌+◌, ◌<◌, ◌≤◌, ◌^◌, ◌++◌, [], List, length, nat_lt, OnOk};
 ghost use Rattle.http_requests.specs.declared.messages.Message.{Message as AMessage};
 ghost use Rattle.inspection.specs.Figures.{end_of};
-ghost use Rattle.inspection.specs.Running.{tail_of, tail_at, rest_of, rest_after_close, rest_unfinished};
+ghost use Rattle.inspection.specs.Running.{tail_of, tail_at, empty_tail, rest_of, rest_after_close, rest_unfinished};
 ghost use Rattle.inspection.specs.Running.{most_connections};
 
 use arrivals::some_closes;
 use http_requests::Message;
 use std::alloc::{AllocError, Global};
 use std::marker::Model;
+use std::mem;
 
 /// What is kept of a connection.
 #[derive(Clone, Copy)]
@@ -21,6 +22,13 @@ pub struct Tail {
     /// Whether a message has closed it.
     pub closed: bool,
 }
+
+/// Nothing came yet.
+const NO_TAIL: Tail = Tail {
+    bytes: 0,
+    end: 0,
+    closed: false,
+};
 
 /// Where the last message ends, once these came after others.
 fn end_of(before: u64, messages: &[Message]) -> u64
@@ -69,7 +77,7 @@ impl Tail {
     }
 }
 
-/// What is kept of the connections of a capture, by their numbers.
+/// What is kept of the connections that numbers name, each the last one of its number.
 #[derive(Drop)]
 pub struct Tails {
     list: Vec<Tail>,
@@ -110,11 +118,7 @@ impl Tails {
         ensures same { (c : ℕ) → tail_at self.new c ≡ tail_at self.old c }
     {
         while self.list.len() <= conn {
-            self.list.push(Tail {
-                bytes: 0,
-                end: 0,
-                closed: false,
-            })?;
+            self.list.push(NO_TAIL)?;
         }
         Ok(())
     }
@@ -139,5 +143,28 @@ impl Tails {
         self.reach(place)?;
         self.list[place] = self.list[place].after(bytes, messages);
         Ok(())
+    }
+
+    /// Whether bytes came on the connection that a number names.
+    pub(crate) fn is_open(&self, conn: u16) -> bool
+        ensures { result ≡ nat_lt 0 (tail_at self.now conn).bytes }
+    {
+        match self.list.get(usize::from(conn)) {
+            Some(tail) => tail.bytes > 0,
+            None => false,
+        }
+    }
+
+    /// The connection of a number has ended: answers what was kept of it. Nothing came yet on the one after it.
+    pub(crate) fn end(&mut self, conn: u16) -> Tail
+        ensures kept { result ≡ tail_at self.old conn }
+        ensures few { length self.new ≤ length self.old }
+        ensures own { tail_at self.new conn ≡ empty_tail }
+        ensures others { (c : ℕ) → c ≢ conn → tail_at self.new c ≡ tail_at self.old c }
+    {
+        match self.list.get_mut(usize::from(conn)) {
+            Some(tail) => mem::replace(tail, NO_TAIL),
+            None => NO_TAIL,
+        }
     }
 }

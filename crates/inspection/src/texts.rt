@@ -2,20 +2,23 @@
 
 ghost use Rattle.std.specs.Prelude.{◌≡◌, ◌++◌, OnOk, IfOk};
 ghost use Rattle.std.specs.String.{string_bytes};
-ghost use Rattle.inspection.specs.Texts.{version_number, line, line_of_two, capture_lines, record_lines, tick_line};
-ghost use Rattle.inspection.specs.Texts.{received_lines, method_lines, version_lines, fault_lines, inspection_text};
+ghost use Rattle.std.specs.Prelude.{codes};
+ghost use Rattle.inspection.specs.Texts.{version_name, line, line_of_two, capture_lines, record_lines, tick_line};
+ghost use Rattle.inspection.specs.Texts.{open_line, received_lines, method_lines, version_lines, fault_lines};
+ghost use Rattle.inspection.specs.Texts.{inspection_text};
 
 use crate::{FaultCounts, Inspection, MethodCounts, RecordCounts, Share, VersionCounts};
 use captures::Version;
 use std::alloc::{AllocError, Global};
 
-/// The number of a version.
-fn version_number(version: Version) -> u8
-    ensures { result ≡ version_number version }
+/// What a format is called.
+fn version_name(version: Version) -> &'static str
+    ensures { result.now ≡ version_name version }
 {
     match version {
-        Version::One => 1,
-        Version::Two => 2,
+        Version::One => "1",
+        Version::Two => "2",
+        Version::Traffic => "traffic",
     }
 }
 
@@ -39,13 +42,13 @@ fn write_line_of_two(
     writeln!(text, "{name} {first} {second}")
 }
 
-/// Writes the version and the start.
+/// Writes the format and the start.
 fn write_capture(text: &mut String, version: Version, start: u64) -> Result<(), AllocError>
     ensures { OnOk result
         (string_bytes text.new ≡ string_bytes text.old ++ capture_lines version start) }
 {
-    let number = version_number(version);
-    writeln!(text, "version {number}")?;
+    let name = version_name(version);
+    writeln!(text, "version {name}")?;
     writeln!(text, "start {start}")
 }
 
@@ -71,11 +74,29 @@ fn write_tick(text: &mut String, name: &str, tick: Option<u64>) -> Result<(), Al
     }
 }
 
+/// Writes the most connections that were open at once, where traffic is told of.
+fn write_open(text: &mut String, version: Version, most: u64) -> Result<(), AllocError>
+    ensures { OnOk result
+        (string_bytes text.new ≡ string_bytes text.old ++ open_line version most) }
+{
+    match version {
+        Version::One | Version::Two => Ok(()),
+        Version::Traffic => write_line(text, "open", most),
+    }
+}
+
 /// Writes how many connections sent something, and how many bytes.
-fn write_received(text: &mut String, share: Share) -> Result<(), AllocError>
-    ensures { OnOk result (string_bytes text.new ≡ string_bytes text.old ++ received_lines share) }
+fn write_received(
+    text: &mut String,
+    version: Version,
+    share: Share,
+    most_open: u64,
+) -> Result<(), AllocError>
+    ensures { OnOk result
+        (string_bytes text.new ≡ string_bytes text.old ++ received_lines version share most_open) }
 {
     write_line(text, "connections", share.connections)?;
+    write_open(text, version, most_open)?;
     write_line(text, "bytes", share.bytes)
 }
 
@@ -108,7 +129,7 @@ fn write_faults(text: &mut String, counts: FaultCounts) -> Result<(), AllocError
     writeln!(text, "fault BodySize {}", counts.body_size)
 }
 
-/// The text of what a capture holds. docs/FORMATS.md has its format.
+/// The text of what a capture or a text of traffic holds. docs/FORMATS.md has its format.
 ///
 /// # Errors
 ///
@@ -122,7 +143,12 @@ pub fn inspection_text(alloc: Global, inspection: &Inspection) -> Result<String,
     write_records(&mut text, &inspection.records)?;
     write_tick(&mut text, "first", inspection.first_tick)?;
     write_tick(&mut text, "last", inspection.last_tick)?;
-    write_received(&mut text, inspection.received)?;
+    write_received(
+        &mut text,
+        inspection.version,
+        inspection.received,
+        inspection.most_open,
+    )?;
     write_line(&mut text, "messages", inspection.messages.all)?;
     write_line(&mut text, "requests", inspection.messages.requests)?;
     write_methods(&mut text, inspection.messages.methods)?;

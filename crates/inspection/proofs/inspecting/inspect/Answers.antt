@@ -1,7 +1,7 @@
 use Rattle.std.proofs.Common.{◌∙◌, [], ◌∷◌, ◌++◌, ℕ, List, Option, refl, rules}
 use Rattle.captures.proofs.UpgradeLemmas.{fits_own, gave_more, moved}
 use Rattle.inspection.specs.Inspections.{Stops, stop_of}
-use Rattle.inspection.proofs.Endings.{holds_none, no_earlier, holds_all, holds_before, reported}
+use Rattle.inspection.proofs.Endings.{holds_none, no_earlier, number_of_next, holds_all, holds_before, reported}
 use Rattle.inspection.proofs.inspecting.inspect.Goals as goal
 
 pub loop-next-init : goal.loop-next-init
@@ -19,6 +19,11 @@ returns-in-Err-next_record-clause-stops g c =
     (holds_before _ _ _ _ inv.0 inv.1 c.loop-next.connections c.loop-next.found _ c.next_record.new.self.progress _ fault held inv.2 (stays.next _ _ _ _ inv.2).0 (stays.next _ _ _ _ inv.2).1 inv.3
     (c.inspection_of-held.ensures.version ∙ c.version.ensures ∙ stays.stands.0.version) (c.inspection_of-held.ensures.start ∙ c.start.ensures ∙ stays.stands.0.start) (c.inspection_of-held.ensures.figures inv.0 inv.1 inv.3.found)))
     (search rules))
+
+pub take_record-requires-clause-number : goal.take_record-requires-clause-number
+take_record-requires-clause-number g c =
+    let own = c.loop-next.invariant.0 in
+    number_of_next _ _ own.0 c.in-Ok-Some.next (gave_more _ _ _ _ own.0 _ _ _ c.in-Ok-Some.field-0-is (c.in-Ok-Some.ensures.next _ _ _ _ own.2).0).rules
 
 pub loop-next-preserved-in_ok-take_record : goal.loop-next-preserved-in_ok-take_record
 loop-next-preserved-in_ok-take_record g c =
