@@ -1,13 +1,15 @@
 #!/usr/bin/env python3
-"""Checks the floor's sleeping and waking on a model of it, for small floors: no hang and no lost wake-up.
+"""Checks sleeping and waking on models of a floor and of a pool, for small floors: no hang and no lost wake-up.
 
     checks/waiting.py [--mirrored]
 
-The model is crates/stage_graph/model/waiting.pml, of `run_floor`, for SPIN (Debian's `spin`, with `gcc`). Each floor of FLOORS is
-explored in all its interleavings: it has no state in which a thread sleeps for good. Each fault of FAULTS, a bug put
-into the model, hangs there, so that the model can tell; those of HARMLESS don't. The functions that the model mirrors
-are known by a hash: where one has changed, the model has to be looked at first, and then MIRRORED be set to what
---mirrored prints. Exits with 1 where something is otherwise. It takes about a minute.
+The models, for SPIN (Debian's `spin`, with `gcc`), are waiting.pml and pool.pml in crates/stage_graph/model/: of
+`run_floor`, and of the pool of threads by which `run_through` runs a floor of lots. Each floor of FLOORS, and each pool
+of POOLS, is explored in all its interleavings: it has no state in which a thread sleeps for good, and at its end all
+items are done, or it was stopped with every hand empty. Each fault of FAULTS and POOL_FAULTS, a bug put into the model,
+breaks this there, so that the model can tell; those of HARMLESS don't. The functions that the models mirror are known
+by a hash: where one has changed, the models have to be looked at first, and then MIRRORED be set to what --mirrored
+prints. Exits with 1 where something is otherwise. It takes about half a minute on four cores.
 """
 import argparse
 import concurrent.futures
@@ -20,9 +22,10 @@ import tempfile
 
 TOP = os.path.dirname(os.path.dirname(os.path.abspath(__file__)))
 CRATE = os.path.join(TOP, "crates", "stage_graph")
-MODEL = os.path.join(CRATE, "model", "waiting.pml")
-SOURCES = ["run.rt", "run/locked.rt", "run/shared.rt", "run/sleepers.rt", "floor/causes.rt", "floor/events.rt"]
-MIRRORED = "0a38f1ba4922850a"
+FLOOR, POOL = "waiting.pml", "pool.pml"
+SOURCES = ["run.rt", "run/locked.rt", "run/pool.rt", "run/shared.rt", "run/sleepers.rt", "run/visit.rt",
+           "floor/causes.rt", "floor/events.rt"]
+MIRRORED = "c7bbbd7e794395ba"
 FLOORS = [
     "S=1 W0=2 C0=1 N=3 SPUR=1",
     "S=1 W0=3 C0=2 N=3 COUNTS",
@@ -48,6 +51,34 @@ FAULTS = [
     ("BACK_SILENT", "S=2 W0=1 W1=1 C0=1 C1=1 N=3 REFUSE"),
     ("HALT_SILENT", "S=1 W0=2 C0=1 N=2 NOSTART"),
 ]
+POOLS = [
+    "S=1 W0=2 C0=1 N=3 T=2 SPUR=1 REFUSE NOSTART",
+    "S=1 W0=4 C0=3 N=4 T=4 STOP NOSTART",
+    "S=2 W0=1 W1=1 C0=1 C1=1 N=3 T=2 SPUR=2 REFUSE NOSTART",
+    "S=2 W0=2 W1=1 C0=2 C1=1 N=5 T=3 SPUR=1 REFUSE",
+    "S=2 W0=3 W1=1 C0=3 C1=2 N=5 T=4 REFUSE NOSTART",
+    "S=2 W0=1 W1=2 C0=1 C1=2 N=4 T=3 STOP NOSTART",
+    "S=2 W0=2 W1=2 C0=4 C1=3 N=5 T=4 STOP",
+    "S=3 W0=1 W1=1 W2=1 C0=1 C1=1 C2=1 N=4 T=3 SPUR=1 REFUSE NOSTART",
+    "S=3 W0=1 W1=2 W2=1 C0=1 C1=2 C2=4 N=5 T=4 NOSTART",
+    "S=3 W0=2 W1=1 W2=2 C0=2 C1=1 C2=3 N=5 T=4 REFUSE",
+    "S=3 W0=2 W1=2 W2=1 C0=4 C1=3 C2=2 N=5 T=3 SPUR=1 STOP",
+]
+POOL_FAULTS = [
+    ("NO_ROOM_WOKEN", "S=2 W0=2 W1=1 C0=2 C1=1 N=4 T=3"),
+    ("ROOM_BELOW_HALF", "S=2 W0=2 W1=1 C0=2 C1=1 N=4 T=3"),
+    ("ROOM_ONE", "S=2 W0=3 W1=1 C0=3 C1=2 N=5 T=4"),
+    ("FIRST_STAGE", "S=2 W0=2 W1=1 C0=2 C1=1 N=4 T=2"),
+    ("UNFED", "S=2 W0=2 W1=1 C0=2 C1=1 N=4 T=3"),
+    ("ENDS_HOLDING", "S=2 W0=2 W1=1 C0=2 C1=1 N=4 T=3"),
+    ("SLEEPS_STOPPED", "S=2 W0=2 W1=1 C0=2 C1=1 N=4 T=3 REFUSE"),
+    ("ONE_LESS", "S=2 W0=2 W1=1 C0=2 C1=1 N=4 T=3"),
+    ("UNCOUNTED", "S=2 W0=2 W1=1 C0=2 C1=1 N=4 T=3"),
+    ("OVERCOUNT", "S=2 W0=2 W1=1 C0=2 C1=1 N=4 T=3"),
+    ("LATE_WAIT", "S=2 W0=2 W1=1 C0=2 C1=1 N=4 T=3"),
+    ("BACK_SILENT", "S=2 W0=2 W1=1 C0=2 C1=1 N=4 T=3 REFUSE"),
+    ("HALT_SILENT", "S=2 W0=2 W1=1 C0=2 C1=1 N=4 T=4 NOSTART"),
+]
 HARMLESS = [("DRAINED_AT_GIVE", "S=1 W0=2 C0=1 N=3"), ("DRAINED_WITH_NEXT", "S=1 W0=2 C0=1 N=3")]
 SECONDS = 120
 FUNCTION = re.compile(r"^( *)(?:pub(?:\([a-z]+\))? )?fn \w+.*?^\1}$", re.MULTILINE | re.DOTALL)
@@ -55,7 +86,7 @@ CLAUSE = re.compile(r"^ *(?:requires|ensures)\*? .*?\}$(?=\n *(?:requires|ensure
 
 
 def mirrored():
-    """A hash of the functions that the model mirrors, without comments and contracts."""
+    """A hash of the functions that the models mirror, without comments and contracts."""
     text = ""
     for name in SOURCES:
         with open(os.path.join(CRATE, "src", name), encoding="utf-8") as file:
@@ -64,14 +95,14 @@ def mirrored():
     return hashlib.sha256("".join(text.split()).encode()).hexdigest()[:16]
 
 
-def explore(floor, fault=None):
-    """Whether the model of this floor, with this fault, has no hang; None where it wasn't explored to its end."""
+def explore(model, floor, fault=None):
+    """Whether a model of this floor, with this fault, has no hang; None where it wasn't explored to its end."""
     words = ["-D" + word for word in floor.split()] + (["-DM_" + fault] if fault else [])
     with tempfile.TemporaryDirectory() as folder:
         def run(*command):
             return subprocess.run(command, cwd=folder, capture_output=True, text=True, timeout=SECONDS)
 
-        if run("spin", *words, "-a", MODEL).returncode:
+        if run("spin", *words, "-a", os.path.join(CRATE, "model", model)).returncode:
             return None
         if run("gcc", "-O2", "-DSAFETY", "-DCOLLAPSE", "-DNOREDUCE", "-DMEMLIM=2000", "-o", "pan", "pan.c").returncode:
             return None
@@ -90,17 +121,20 @@ def main():
         return 0
     wrong = []
     if mirrored() != MIRRORED:
-        wrong.append("the functions that the model mirrors have changed: look at %s" % os.path.relpath(MODEL, TOP))
-    wanted = [(floor, None, True) for floor in FLOORS]
-    wanted += [(floor, fault, False) for fault, floor in FAULTS] + [(floor, fault, True) for fault, floor in HARMLESS]
+        wrong.append("the functions that the models mirror have changed: look at crates/stage_graph/model/")
+    wanted = [(FLOOR, floor, None, True) for floor in FLOORS] + [(POOL, pool, None, True) for pool in POOLS]
+    wanted += [(FLOOR, floor, fault, False) for fault, floor in FAULTS]
+    wanted += [(POOL, pool, fault, False) for fault, pool in POOL_FAULTS]
+    wanted += [(FLOOR, floor, fault, True) for fault, floor in HARMLESS]
     with concurrent.futures.ThreadPoolExecutor(os.cpu_count()) as pool:
-        found = list(pool.map(lambda case: explore(case[0], case[1]), wanted))
-    for (floor, fault, good), is_good in zip(wanted, found):
+        found = list(pool.map(lambda case: explore(*case[:3]), wanted))
+    for (model, floor, fault, good), is_good in zip(wanted, found):
         if is_good != good:
             said = {True: "no hang", False: "a hang", None: "not explored to its end"}[is_good]
-            wrong.append("%s%s: %s" % (floor, " with " + fault if fault else "", said))
-    faults = len(FAULTS) + len(HARMLESS)
-    print("\n".join(wrong + ["%d floors, %d faults, %d wrong" % (len(FLOORS), faults, len(wrong))]))
+            wrong.append("%s %s%s: %s" % (model, floor, " with " + fault if fault else "", said))
+    faults = len(FAULTS) + len(POOL_FAULTS) + len(HARMLESS)
+    print("\n".join(wrong + ["%d floors, %d pools, %d faults, %d wrong"
+                             % (len(FLOORS), len(POOLS), faults, len(wrong))]))
     return int(bool(wrong))
 
 

@@ -300,7 +300,7 @@ inline take_section(t, s) {
   check_counts()
 }
 
-/* shared.rt, give: one look. */
+/* shared.rt, give: one look. An item that is refused for another cause is sent back as well: none is here. */
 inline give_section(t, s) {
   LOOKS(t);
   if

@@ -18,3 +18,5 @@ pub mod Laws
 pub mod Counting
 pub mod ByNumber
 mod Lotting
+pub mod Rooms
+pub mod Ranges

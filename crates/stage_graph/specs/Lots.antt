@@ -1,5 +1,5 @@
 -- Items that travel through a chain in lots.
-use Rattle.std.specs.Prelude.{ℕ, List, Bool, true, false, map, slice_index_or, []}
+use Rattle.std.specs.Prelude.{ℕ, ◌+◌, List, Bool, true, false, map, slice_index_or, []}
 use Rattle.std.proofs.Common.{◌≡◌, ◌∷◌, zero, suc, refl, sym, ap, ◌∙◌}
 use Rattle.stage_graph.specs.After.{with_steps}
 use Rattle.stage_graph.specs.Steps.{value_of}
@@ -11,6 +11,11 @@ step_each step k values = map (step k) values
 -- the numbers of the items in a lot
 abbrev pub numbers_in : List (List ℕ) → ℕ → List ℕ
 numbers_in lots lot = slice_index_or lots lot []
+
+-- Where lots of these lengths begin that are numbered through from n on, and behind them where the last one ends.
+abbrev pub starts_of : ℕ → List ℕ → List ℕ
+starts_of n [] = n ∷ []
+starts_of n (k ∷ ks) = n ∷ starts_of (n + k) ks
 
 -- what a lot begins with
 abbrev pub inputs_in : {V : Type 0} → (ℕ → V) → List (List ℕ) → ℕ → List V

@@ -232,15 +232,7 @@ impl<C: Chain, N: RunName> Run<C, N> {
     /// item was fed once, and taken and given once at each stage; and it keeps all bounds.
     pub fn history(&self) -> &[Event]
         ensures history { result.now ≡ self.now }
-        ensures legal { is_legal_from_opening N.plan N.count self.now ≡ true }
-        ensures left { all_left (standing N.plan N.count self.now) ≡ true }
-        ensures done { all_done (standing N.plan N.count self.now) ≡ true }
-        ensures once { (k x : ℕ) → k < stages N.plan → x < N.count
-            → takes_of N.plan k x self.now ≡ 1 }
-        ensures fed { (x : ℕ) → x < N.count → feeds_of x self.now ≡ 1 }
-        ensures given { (k x : ℕ) → k < stages N.plan → x < N.count
-            → gives_of N.plan k x self.now ≡ 1 }
-        ensures bounds { KeepsBounds N.plan N.count self.now }
+        ensures whole { IsWhole N.plan N.count self.now }
     {
         self.history.as_slice()
     }

@@ -259,12 +259,14 @@ fn run_lots<
     plan: Plan,
     chain: &C,
     lots: Vec<Vec<C::Item>>,
-    gate: &LotGate<'_, G>,
+    gate: &G,
 ) -> Result<Carried<C::Item>, Unrun>
 where
     C::Item: Send,
     requires fresh { map (λ v. map (λ x. (C.Item.number_of x, C.Item.done_of x)) v.items) lots.items
         ≡ map (map (with_steps 0)) K.lots }
+    requires in_order { flat_map (λ ns. ns) K.lots
+        ≡ range_with_len 0 (length (flat_map (λ ns. ns) K.lots)) }
     requires count { length lots.items ≡ K.count }
     requires plan { plan ≡ K.plan }
     requires cut { last_cut plan ≡ C.steps }
@@ -273,14 +275,15 @@ where
     ensures history { IfOk result (λ r. IsWhole K.plan K.count r.history) }
     ensures stopped { IfErr result (IsStopped K.plan K.count) }
 {
+    let gate = LotGate::<G, K>::new(alloc, gate, &lots)?;
     let items = lot_items::<C, K>(alloc, lots)?;
     let chain = Lots::<C, K> {
         alloc,
         chain,
         of: PhantomData,
     };
-    let run = run_pool::<Lots<C, K>, K, LotGate<G>, R>(
-        rt, alloc, threads, plan, &chain, items, gate,
+    let run = run_pool::<Lots<C, K>, K, LotGate<G, K>, R>(
+        rt, alloc, threads, plan, &chain, items, &gate,
     )?;
     let (items, history) = run.into_parts();
     Ok(Carried {
@@ -354,6 +357,5 @@ where
         return run_each::<C, Brand, G, R>(rt, alloc, plan, chain, lots, gate);
     }
     let floor = plan.in_lots(alloc, size)?;
-    let gate = LotGate::new(alloc, gate, &lots)?;
-    run_lots::<C, Brand, G, R>(rt, alloc, threads, floor, chain, lots, &gate)
+    run_lots::<C, Brand, G, R>(rt, alloc, threads, floor, chain, lots, gate)
 }

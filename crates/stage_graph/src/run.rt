@@ -1,18 +1,20 @@
 //! A floor run by threads.
 
-ghost use Rattle.std.specs.Prelude.{◌≡◌, ℕ, ◌+◌, ◌<◌, ◌≤◌, map, true, OnOk, OnErr, IfOk, IfErr, IfSome, OnSome, IfNone};
-ghost use Rattle.std.specs.Prelude.{vec_len, vec_capacity};
+ghost use Rattle.std.specs.Prelude.{◌≡◌, ℕ, ◌+◌, ◌<◌, ◌≤◌, map, true, false, OnOk, OnErr, IfOk, IfErr};
+ghost use Rattle.std.specs.Prelude.{IfSome, OnSome, IfNone, IsErrAnd, vec_len, vec_capacity};
 ghost use Rattle.std.specs.List.{range_with_len};
-ghost use Rattle.stage_graph.specs.Layouts.{stages, workers, stage_at, cut_before};
-ghost use Rattle.stage_graph.specs.Floors.{standing, is_legal_from_opening, all_left, all_done};
+ghost use Rattle.stage_graph.specs.Layouts.{IsPlan, stages, workers, stage_at, cut_at, cut_before};
+ghost use Rattle.stage_graph.specs.Floors.{standing, all_left};
 ghost use Rattle.stage_graph.specs.After.{with_steps, last_cut};
 ghost use Rattle.stage_graph.specs.Stopped.{IsStopped};
+ghost use Rattle.stage_graph.specs.Through.{IsWhole};
 
 mod locked;
 pub(crate) mod pool;
 mod seats;
 mod shared;
 mod sleepers;
+mod visit;
 
 use crate::{Chain, Floor, Named, Plan, Run, RunName, Unrun};
 use locked::new_locked;
@@ -24,6 +26,7 @@ use std::sync::Wait;
 use std::sync::ledger::{Blank, Ledger, Share};
 use std::thread;
 use std::thread::{JoinHandle, Threads};
+use visit::{Stand, Visit};
 
 /// Is told where items go. Its calls stand outside the floor's lock.
 pub trait Gate {
@@ -80,9 +83,7 @@ where
     requires fresh { map (λ x. (C.Item.number_of x, C.Item.done_of x)) items.items
         ≡ map (with_steps 0) (range_with_len 0 N.count) }
     requires cut { last_cut N.plan ≡ C.steps }
-    ensures legal { IfOk result (λ r. is_legal_from_opening N.plan N.count r ≡ true) }
-    ensures left { IfOk result (λ r. all_left (standing N.plan N.count r) ≡ true) }
-    ensures done { IfOk result (λ r. all_done (standing N.plan N.count r) ≡ true) }
+    ensures whole { IfOk result (λ r. IsWhole N.plan N.count r) }
     ensures stopped { IfErr result (IsStopped N.plan N.count) }
 {
     let seats = Blank::new(plan.workers() as u64);
@@ -114,9 +115,7 @@ where
     requires fresh { map (λ x. (C.Item.number_of x, C.Item.done_of x)) items.items
         ≡ map (with_steps 0) (range_with_len 0 N.count) }
     requires cut { last_cut N.plan ≡ C.steps }
-    ensures legal { IfOk result (λ r. is_legal_from_opening N.plan N.count r ≡ true) }
-    ensures left { IfOk result (λ r. all_left (standing N.plan N.count r) ≡ true) }
-    ensures done { IfOk result (λ r. all_done (standing N.plan N.count r) ≡ true) }
+    ensures whole { IfOk result (λ r. IsWhole N.plan N.count r) }
     ensures stopped { IfErr result (IsStopped N.plan N.count) }
 {
     let stages = plan.stages();
@@ -127,10 +126,21 @@ where
     let floor = Floor::<C, N>::open(alloc, plan, items)?;
     let shared = new_shared(alloc, new_locked(floor, book), stages)?;
     let (started, mut all) = run_all(rt, &shared, chain, gate, seats, rest, handles);
+    ended(started, shared.into_floor(&mut all))
+}
+
+// The run of a floor that all workers have left. Out of memory where it lacked the threads that it needs.
+fn ended<C: Chain, N: RunName>(started: bool, floor: Floor<C, N>) -> Result<Run<C, N>, Unrun>
+    requires plan { IsPlan N.plan }
+    requires left { all_left (standing N.plan N.count floor) ≡ true }
+    ensures none { started ≡ false → IsErrAnd result (λ u. u ≡ Unrun.Memory) }
+    ensures whole { IfOk result (λ r. IsWhole N.plan N.count r) }
+    ensures stopped { IfErr result (IsStopped N.plan N.count) }
+{
     if !started {
         return Err(Unrun::Memory);
     }
-    shared.into_floor(&mut all).close()
+    floor.close()
 }
 
 // Starts a worker for each seat, feeds, and joins them. Tells whether any was started, and puts the seats together.
@@ -208,25 +218,68 @@ fn serve<C: Chain, N: RunName, L: Ledger, G: Gate, R: Wait>(
     let mut seat = seat.into_share();
     let mut given = None;
     for _ in rt.forever() {
-        let next = match given {
-            Some(item) => Some(item),
-            None => shared.take(rt, worker, stage, &mut seat),
-        };
-        let Some(item) = next else {
+        let Some(item) = next_item(rt, shared, worker, stage, &mut seat, given) else {
             return hand_back(seat);
         };
-        let number = item.number();
-        gate.enter(stage, number);
-        given = match work_up(chain, item, cut) {
-            Ok(item) => shared.give(rt, worker, stage, item),
-            Err(item) => {
-                shared.back(rt, worker, stage, item);
-                None
-            }
-        };
-        gate.left(stage, number);
+        let mut visit = Visit::new(gate, stage, item.number());
+        given = serve_one(rt, shared, chain, &mut visit, worker, stage, cut, item);
     }
     unreachable!()
+}
+
+// The item that the worker took already, or else the next one of its stage. It leaves where there is none.
+fn next_item<C: Chain, N: RunName, L: Ledger, R: Wait>(
+    rt: &R,
+    shared: &Shared<C, N, L>,
+    worker: usize,
+    stage: usize,
+    seat: &mut Share<L>,
+    taken: Option<C::Item>,
+) -> Option<C::Item>
+    requires worker { (worker < workers N.plan) × (stage ≡ stage_at N.plan worker) × (stage < stages N.plan) }
+    requires part { 0 < seat.old.parts }
+    requires begun { IfSome taken (λ x. C.Item.done_of x ≡ cut_before N.plan stage) }
+    ensures begun { IfSome result (λ x. C.Item.done_of x ≡ cut_before N.plan stage) }
+    ensures parts { seat.new.parts ≡ seat.old.parts }
+    ensures some { OnSome result (seat.new.amount ≡ seat.old.amount) }
+    ensures none { IfNone result (seat.new.amount ≡ seat.old.amount + 1) }
+{
+    match taken {
+        Some(item) => Some(item),
+        None => shared.take(rt, worker, stage, seat),
+    }
+}
+
+// Works on an item of the worker, gives it on and takes the next one, if there is one.
+fn serve_one<C: Chain, N: RunName, L: Ledger, G: Gate, R: Wait>(
+    rt: &R,
+    shared: &Shared<C, N, L>,
+    chain: &C,
+    visit: &mut Visit<'_, G>,
+    worker: usize,
+    stage: usize,
+    cut: usize,
+    item: C::Item,
+) -> Option<C::Item>
+    requires worker { worker < workers N.plan }
+    requires stage { stage ≡ stage_at N.plan worker }
+    requires cut { (cut ≡ cut_at N.plan stage) × (cut ≤ C.steps) }
+    requires begun { C.Item.done_of item ≤ cut }
+    requires visit { (visit.old.stage ≡ stage) × (visit.old.number ≡ C.Item.number_of item)
+        × (visit.old.stand ≡ Stand.Held) }
+    ensures begun { IfSome result (λ x. C.Item.done_of x ≡ cut_before N.plan stage) }
+    ensures left { visit.new.stand ≡ Stand.Left }
+{
+    visit.enter();
+    let next = match visit.work_up(chain, item, cut) {
+        Ok(item) => shared.give(rt, worker, stage, item),
+        Err(item) => {
+            shared.back(rt, worker, item);
+            None
+        }
+    };
+    visit.leave();
+    next
 }
 
 // Works on an item from its own steps up to a cut. Refused, it has the steps that were done.

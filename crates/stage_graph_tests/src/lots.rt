@@ -120,6 +120,13 @@ fn try_inputs<R: Threads + Wait + Sync + Abort>(
     Ok(())
 }
 
+// Far more lots than workers and places in the queues.
+#[test]
+fn many_lots(rt: HostRuntime) -> Result<(), Fail> {
+    let lists: Lists = (&[1, 2, 3], &[2, 2, 2], &[64, 64, 64]);
+    try_inputs(&rt, rt.alloc(), 3, lists, 5000, true)
+}
+
 #[test]
 fn each_count(rt: HostRuntime) -> Result<(), Fail> {
     let plans: [Lists; 4] = [

@@ -66,6 +66,18 @@ fn each_growth_refused_of_threads(rt: HostRuntime) {
     }
 }
 
+/// A floor with one worker, whose chain takes no memory. Where the worker's thread can't be started, none is, and the
+/// answer is that memory ran out, not that the floor was stopped.
+#[test]
+fn each_growth_refused_of_one_worker(rt: HostRuntime) {
+    let alloc = rt.alloc();
+    let lists: Lists = (&[3], &[1], &[1]);
+    match sums(&rt, alloc, lists, None, &[5, 6], &NoGate) {
+        Ok((values, _)) => assert_eq!(rt; values.as_slice(), [164, 172].as_slice()),
+        Err(unrun) => assert!(rt; matches!(unrun, Unrun::Memory)),
+    }
+}
+
 /// A history that lacks no memory to be checked is legal.
 fn check_legal<R: Abort>(rt: &R, alloc: Global, lists: Lists, count: usize, history: &History) {
     let Some(plan) = plan_of(alloc, lists.0, lists.1, lists.2) else {

@@ -48,6 +48,14 @@ fn room_past_all_memory(rt: HostRuntime) -> Result<(), Fail> {
     Ok(())
 }
 
+#[test]
+fn the_text_of_out_of_memory(rt: HostRuntime) -> Result<(), Fail> {
+    let fault = Memory;
+    let shown = format!(in rt.alloc(); "{fault}")?;
+    assert_eq!(rt; shown.as_str(), "out of memory");
+    Ok(())
+}
+
 // Out of memory: `checks/refuse_growths.py` refuses each growth in turn. Room that there is serves all later calls.
 #[test]
 fn each_growth_refused(rt: HostRuntime) {

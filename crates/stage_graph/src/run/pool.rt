@@ -3,13 +3,15 @@
 ghost use Rattle.std.specs.Prelude.{◌≡◌, ◌+◌, ◌<◌, ◌≤◌, map, true, IfOk, IfErr, vec_len, vec_capacity};
 ghost use Rattle.std.specs.List.{range_with_len};
 ghost use Rattle.stage_graph.specs.Layouts.{workers};
-ghost use Rattle.stage_graph.specs.Floors.{standing, is_legal_from_opening, all_left, all_done};
 ghost use Rattle.stage_graph.specs.After.{with_steps, last_cut};
+ghost use Rattle.stage_graph.specs.Waiting.{IsTask};
 ghost use Rattle.stage_graph.specs.Stopped.{IsStopped};
+ghost use Rattle.stage_graph.specs.Through.{IsWhole};
 
 use super::locked::new_locked;
 use super::shared::{Picked, Shared, new_shared};
-use super::{Gate, work_up};
+use super::visit::{Stand, Visit};
+use super::{Gate, ended};
 use crate::{Chain, Floor, Named, Plan, Run, RunName, Unrun};
 use std::alloc::Global;
 use std::marker::Brand;
@@ -45,9 +47,7 @@ where
     requires fresh { map (λ x. (C.Item.number_of x, C.Item.done_of x)) items.items
         ≡ map (with_steps 0) (range_with_len 0 N.count) }
     requires cut { last_cut N.plan ≡ C.steps }
-    ensures legal { IfOk result (λ r. is_legal_from_opening N.plan N.count r ≡ true) }
-    ensures left { IfOk result (λ r. all_left (standing N.plan N.count r) ≡ true) }
-    ensures done { IfOk result (λ r. all_done (standing N.plan N.count r) ≡ true) }
+    ensures whole { IfOk result (λ r. IsWhole N.plan N.count r) }
     ensures stopped { IfErr result (IsStopped N.plan N.count) }
 {
     let seats = Blank::new(plan.workers() as u64);
@@ -80,24 +80,26 @@ where
     requires fresh { map (λ x. (C.Item.number_of x, C.Item.done_of x)) items.items
         ≡ map (with_steps 0) (range_with_len 0 N.count) }
     requires cut { last_cut N.plan ≡ C.steps }
-    ensures legal { IfOk result (λ r. is_legal_from_opening N.plan N.count r ≡ true) }
-    ensures left { IfOk result (λ r. all_left (standing N.plan N.count r) ≡ true) }
-    ensures done { IfOk result (λ r. all_done (standing N.plan N.count r) ≡ true) }
+    ensures whole { IfOk result (λ r. IsWhole N.plan N.count r) }
     ensures stopped { IfErr result (IsStopped N.plan N.count) }
 {
     let stages = plan.stages();
     let crew = plan.workers();
-    let threads = threads.min(crew).min(items.len());
+    let threads = threads_for(threads, crew, items.len());
     let (book, mut all) = seats.open::<L>();
     let handles = Vec::with_capacity(alloc, threads)?;
     let floor = Floor::<C, N>::open(alloc, plan, items)?;
     let shared = new_shared(alloc, new_locked(floor, book), stages)?;
     let started = carry_all(rt, &shared, chain, gate, threads, handles);
     shared.leave_all(rt, crew, &mut all);
-    if !started {
-        return Err(Unrun::Memory);
-    }
-    shared.into_floor(&mut all).close()
+    ended(started, shared.into_floor(&mut all))
+}
+
+// How many threads work: no more than are asked for, and than there are workers or items.
+fn threads_for(most: usize, crew: usize, items: usize) -> usize
+    ensures { (result ≤ most) × (result ≤ crew) × (result ≤ items) }
+{
+    most.min(crew).min(items)
 }
 
 // Carries all items to their end, by so many threads, the calling one among them. Tells whether each was started.
@@ -165,19 +167,36 @@ fn carry<C: Chain, N: RunName, L: Ledger, G: Gate, R: Wait>(
         let Some(picked) = shared.pick(rt) else {
             return;
         };
-        let Picked {
-            worker,
-            stage,
-            cut,
-            item,
-        } = picked;
-        let number = item.number();
-        gate.enter(stage, number);
-        match work_up(chain, item, cut) {
-            Ok(item) => shared.hand_on(rt, worker, stage, item),
-            Err(item) => shared.back(rt, worker, stage, item),
-        }
-        gate.left(stage, number);
+        let mut visit = Visit::new(gate, picked.stage, picked.item.number());
+        carry_one(rt, shared, chain, &mut visit, picked);
     }
     unreachable!()
+}
+
+// Works on an item that was picked, and hands it on.
+fn carry_one<C: Chain, N: RunName, L: Ledger, G: Gate, R: Wait>(
+    rt: &R,
+    shared: &Shared<C, N, L>,
+    chain: &C,
+    visit: &mut Visit<'_, G>,
+    picked: Picked<C>,
+)
+    requires cut { last_cut N.plan ≡ C.steps }
+    requires picked { IsTask N.plan picked.worker picked.stage picked.cut (C.Item.done_of picked.item) }
+    requires visit { (visit.old.stage ≡ picked.stage) × (visit.old.number ≡ C.Item.number_of picked.item)
+        × (visit.old.stand ≡ Stand.Held) }
+    ensures { visit.new.stand ≡ Stand.Left }
+{
+    let Picked {
+        worker,
+        stage,
+        cut,
+        item,
+    } = picked;
+    visit.enter();
+    match visit.work_up(chain, item, cut) {
+        Ok(item) => shared.hand_on(rt, worker, stage, item),
+        Err(item) => shared.back(rt, worker, item),
+    }
+    visit.leave();
 }

@@ -2,11 +2,13 @@
 
 ghost use Rattle.std.specs.Prelude.{◌≡◌, ◌+◌, ◌-◌, ◌/◌, ◌<◌, ◌≤◌, true, nat_le, if◌then◌else◌, IfSome, OnSome, IfNone};
 ghost use Rattle.std.specs.Prelude.{vec_len};
-ghost use Rattle.stage_graph.specs.Layouts.{stages, workers, stage_at, cut_before};
+ghost use Rattle.stage_graph.specs.Layouts.{stages, workers, stage_at, cut_at, cut_before};
 ghost use Rattle.stage_graph.specs.Floors.{standing, all_left};
 ghost use Rattle.stage_graph.specs.After.{last_cut};
+ghost use Rattle.stage_graph.specs.Waiting.{HasNoRoom, IsTask};
+ghost use Rattle.std.specs.Sync.Mutex.{mutex_guard_value};
 
-use super::locked::Locked;
+use super::locked::{Locked, Passed};
 use super::sleepers::Sleepers;
 use crate::{Cause, Chain, Floor, RunName};
 use std::alloc::{AllocError, Global};
@@ -22,6 +24,9 @@ use std::sync::{Mutex, MutexGuard, Wait};
 // - `feeder`: the calling thread, which found the first queue full.
 // - `for_item` of a stage: its workers with an empty hand, which found its queue empty and may not leave yet.
 // - `for_room` of a stage: its workers with an item, which found the next queue full.
+//
+// Nobody sleeps for room before a queue that isn't full, or on a stopped floor (`sleep_for_room`). An item that is
+// refused for another cause, as one that isn't in the worker's hand, is sent back or dropped, and the floor is stopped.
 //
 // | event      | who may go on                                   | who is chosen to be woken                  |
 // |------------|-------------------------------------------------|--------------------------------------------|
@@ -122,10 +127,9 @@ impl<C: Chain, N: RunName, L: Ledger> Shared<C, N, L> {
     // The stage of a worker, and the steps that are done where it ends.
     pub(super) fn place<R: Wait>(&self, rt: &R, worker: usize) -> (usize, usize)
         requires { worker < workers N.plan }
-        ensures stage { (result.0 ≡ stage_at N.plan worker) × (result.0 < stages N.plan) }
-        ensures cut { result.1 ≤ last_cut N.plan }
+        ensures { IsTask N.plan worker result.0 result.1 (cut_before N.plan (stage_at N.plan worker)) }
     {
-        self.locked.lock(rt).floor().place(worker)
+        self.locked.lock(rt).place(worker)
     }
 
     // Feeds all items, unless the floor is stopped.
@@ -146,9 +150,9 @@ impl<C: Chain, N: RunName, L: Ledger> Shared<C, N, L> {
         for _ in rt.forever() {
             match locked.feed() {
                 Ok(()) => fed = fed.saturating_add(1),
-                Err(Cause::Full) if fed == 0 => locked = self.feeder.sleep(rt, locked),
+                Err(Cause::Full) if fed == 0 => locked = self.sleep_for_room(rt, 0, locked),
                 Err(cause) => {
-                    let chosen = self.choose_for_items(0, fed);
+                    let chosen = self.choose_for_items(&locked, 0, fed);
                     drop(locked);
                     self.wake_for_items(0, chosen);
                     return cause == Cause::Full;
@@ -189,8 +193,8 @@ impl<C: Chain, N: RunName, L: Ledger> Shared<C, N, L> {
         unreachable!()
     }
 
-    // Gives the item on and takes the next one, if there is one, in one section. Where the floor is stopped and there
-    // is no room, it sends the item back.
+    // Gives the item on and takes the next one, if there is one, in one section. Waits for room. Where the floor is
+    // stopped and there is none, the item is sent back.
     pub(super) fn give<R: Wait>(
         &self,
         rt: &R,
@@ -199,42 +203,56 @@ impl<C: Chain, N: RunName, L: Ledger> Shared<C, N, L> {
         item: C::Item,
     ) -> Option<C::Item>
         requires worker { worker < workers N.plan }
-        requires stage { stage < stages N.plan }
+        requires stage { stage ≡ stage_at N.plan worker }
+        requires steps { C.Item.done_of item ≡ cut_at N.plan stage }
+        ensures begun { IfSome result (λ x. C.Item.done_of x ≡ cut_before N.plan stage) }
     {
         let mut item = item;
         let mut locked = self.locked.lock(rt);
         for _ in rt.forever() {
             item = match locked.give(worker, item) {
-                Ok(()) => {
-                    let items = self.choose_for_items(stage + 1, 1);
-                    let next = locked.take(worker).ok();
-                    self.end_taken(locked, stage);
-                    self.wake_for_items(stage + 1, items);
-                    return next;
-                }
-                Err((_, item)) => item,
+                Ok(passed) => return self.take_next(locked, worker, stage, passed),
+                Err(item) => item,
             };
-            if locked.floor().stopped() {
-                item = match locked.back(worker, item) {
-                    Ok(()) => {
-                        drop(locked);
-                        self.wake_all();
-                        return None;
-                    }
-                    Err((_, item)) => item,
-                };
-            }
-            locked = self.crews[stage].for_room.sleep(rt, locked);
+            locked = self.sleep_for_room(rt, stage + 1, locked);
         }
         unreachable!()
+    }
+
+    // Ends the section in which a worker's item went on or back. Takes the next one, if there is one.
+    fn take_next(
+        &self,
+        mut locked: MutexGuard<Locked<C, N, L>>,
+        worker: usize,
+        stage: usize,
+        passed: Passed,
+    ) -> Option<C::Item>
+        requires worker { worker < workers N.plan }
+        requires stage { (stage ≡ stage_at N.plan worker) × (stage < stages N.plan) }
+        requires stopped { passed ≡ Passed.Back
+            → (standing N.plan N.count (mutex_guard_value locked).floor).stopped ≡ true }
+        ensures begun { IfSome result (λ x. C.Item.done_of x ≡ cut_before N.plan stage) }
+    {
+        match passed {
+            Passed::On => {
+                let items = self.choose_for_items(&locked, stage + 1, 1);
+                let next = locked.take(worker).ok();
+                self.end_taken(locked, stage);
+                self.wake_for_items(stage + 1, items);
+                next
+            }
+            Passed::Back => {
+                self.end_stopped(locked);
+                None
+            }
+        }
     }
 
     // Takes an item for a worker of the last stage that has one and a worker whose hand is empty. Feeds first what
     // there is room for.
     pub(super) fn pick<R: Wait>(&self, rt: &R) -> Option<Picked<C>>
-        ensures bounds { IfSome result (λ p. (p.worker < workers N.plan) × (p.stage < stages N.plan)
-            × (p.cut ≤ last_cut N.plan)) }
-        ensures stage { IfSome result (λ p. p.stage ≡ stage_at N.plan p.worker) }
+        ensures { IfSome result
+            (λ p. IsTask N.plan p.worker p.stage p.cut (C.Item.done_of p.item)) }
     {
         let mut locked = self.locked.lock(rt);
         fill(rt, &mut *locked);
@@ -242,7 +260,7 @@ impl<C: Chain, N: RunName, L: Ledger> Shared<C, N, L> {
         for before in 0..count {
             let worker = count - 1 - before;
             if let Ok(item) = locked.take(worker) {
-                let (stage, cut) = locked.floor().place(worker);
+                let (stage, cut) = locked.place(worker);
                 self.end_taken(locked, stage);
                 return Some(Picked {
                     worker,
@@ -255,32 +273,33 @@ impl<C: Chain, N: RunName, L: Ledger> Shared<C, N, L> {
         None
     }
 
-    // Gives the item on, once there is room for it. Where the floor is stopped and there is none, it sends the item
-    // back.
+    // Gives the item on, once there is room for it. Where the floor is stopped and there is none, it is sent back.
     pub(super) fn hand_on<R: Wait>(&self, rt: &R, worker: usize, stage: usize, item: C::Item)
         requires worker { worker < workers N.plan }
-        requires stage { stage < stages N.plan }
+        requires stage { stage ≡ stage_at N.plan worker }
+        requires steps { C.Item.done_of item ≡ cut_at N.plan stage }
     {
         let mut item = item;
         let mut locked = self.locked.lock(rt);
         for _ in rt.forever() {
             item = match locked.give(worker, item) {
-                Ok(()) => return,
-                Err((_, item)) => item,
+                Ok(passed) => return self.end_handed_on(locked, passed),
+                Err(item) => item,
             };
-            if locked.floor().stopped() {
-                item = match locked.back(worker, item) {
-                    Ok(()) => {
-                        drop(locked);
-                        self.wake_all();
-                        return;
-                    }
-                    Err((_, item)) => item,
-                };
-            }
-            locked = self.crews[stage].for_room.sleep(rt, locked);
+            locked = self.sleep_for_room(rt, stage + 1, locked);
         }
         unreachable!()
+    }
+
+    // Ends the section in which an item of the pool went on or back: who handed it on looks for another itself.
+    fn end_handed_on(&self, locked: MutexGuard<Locked<C, N, L>>, passed: Passed)
+        requires { passed ≡ Passed.Back
+            → (standing N.plan N.count (mutex_guard_value locked).floor).stopped ≡ true }
+    {
+        match passed {
+            Passed::On => {}
+            Passed::Back => self.end_stopped(locked),
+        }
     }
 
     // All workers leave, once they may.
@@ -312,30 +331,31 @@ impl<C: Chain, N: RunName, L: Ledger> Shared<C, N, L> {
     }
 
     // Sends the item back.
-    pub(super) fn back<R: Wait>(&self, rt: &R, worker: usize, stage: usize, item: C::Item)
-        requires worker { worker < workers N.plan }
-        requires stage { stage < stages N.plan }
+    pub(super) fn back<R: Wait>(&self, rt: &R, worker: usize, item: C::Item)
+        requires { worker < workers N.plan }
     {
-        let mut item = item;
         let mut locked = self.locked.lock(rt);
-        for _ in rt.forever() {
-            item = match locked.back(worker, item) {
-                Ok(()) => {
-                    drop(locked);
-                    self.wake_all();
-                    return;
-                }
-                Err((_, item)) => item,
-            };
-            locked = self.crews[stage].for_room.sleep(rt, locked);
-        }
-        unreachable!()
+        locked.back(worker, item);
+        self.end_stopped(locked);
     }
 
     // Stops the floor.
     pub(super) fn halt<R: Wait>(&self, rt: &R) {
-        let _stopped = self.locked.lock(rt).halt();
-        self.wake_all();
+        let mut locked = self.locked.lock(rt);
+        locked.halt();
+        self.end_stopped(locked);
+    }
+
+    // Ends a section on a stopped floor, and wakes all: everybody may leave, and nobody can take or feed.
+    fn end_stopped(&self, locked: MutexGuard<Locked<C, N, L>>)
+        requires { (standing N.plan N.count (mutex_guard_value locked).floor).stopped ≡ true }
+    {
+        drop(locked);
+        self.feeder.wake_all();
+        for crew in &self.crews {
+            crew.for_item.wake_all();
+            crew.for_room.wake_all();
+        }
     }
 
     // Ends a section in which a worker took an item of the stage, or found none, and wakes who may go on for it.
@@ -345,13 +365,25 @@ impl<C: Chain, N: RunName, L: Ledger> Shared<C, N, L> {
         let (waiting, capacity) = locked.floor().load(stage);
         let room = self
             .for_room_of(stage)
-            .choose(room_to_wake_for(waiting, capacity));
+            .choose(&locked, room_to_wake_for(waiting, capacity));
         let drained = locked.floor().is_drained(stage);
         drop(locked);
         self.for_room_of(stage).wake(room);
         if drained {
             self.crews[stage].for_item.wake_all();
         }
+    }
+
+    // Sleeps until there may be room in the queue of the stage.
+    fn sleep_for_room<'a, R: Wait>(
+        &self,
+        rt: &R,
+        stage: usize,
+        locked: MutexGuard<'a, Locked<C, N, L>>,
+    ) -> MutexGuard<'a, Locked<C, N, L>>
+        requires { HasNoRoom N.plan (standing N.plan N.count (mutex_guard_value locked).floor) stage }
+    {
+        self.for_room_of(stage).sleep(rt, locked)
     }
 
     // Those that wait for room in the queue of the stage.
@@ -366,9 +398,14 @@ impl<C: Chain, N: RunName, L: Ledger> Shared<C, N, L> {
     }
 
     // Chooses whom to wake for new items in the queue of a stage, if there is such a stage.
-    fn choose_for_items(&self, stage: usize, count: usize) -> usize {
+    fn choose_for_items(
+        &self,
+        locked: &MutexGuard<Locked<C, N, L>>,
+        stage: usize,
+        count: usize,
+    ) -> usize {
         match self.crews.get(stage) {
-            Some(crew) => crew.for_item.choose(count),
+            Some(crew) => crew.for_item.choose(locked, count),
             None => 0,
         }
     }
@@ -377,15 +414,6 @@ impl<C: Chain, N: RunName, L: Ledger> Shared<C, N, L> {
     fn wake_for_items(&self, stage: usize, chosen: usize) {
         if let Some(crew) = self.crews.get(stage) {
             crew.for_item.wake(chosen);
-        }
-    }
-
-    // Everybody may leave, and nobody can take or feed.
-    fn wake_all(&self) {
-        self.feeder.wake_all();
-        for crew in &self.crews {
-            crew.for_item.wake_all();
-            crew.for_room.wake_all();
         }
     }
 

@@ -29,8 +29,9 @@ impl Sleepers {
         self.notified.wait(rt, lock)
     }
 
-    // Chooses sleepers that no notification is on its way to, at most n. Tells how many.
-    pub(super) fn choose(&self, most: usize) -> usize {
+    // Chooses sleepers that no notification is on its way to, at most n. Tells how many. The guard shows that the
+    // floor's lock is held.
+    pub(super) fn choose<T>(&self, _held: &MutexGuard<'_, T>, most: usize) -> usize {
         let chosen = self.unchosen.load(Ordering::SeqCst).min(most);
         self.unchosen.fetch_sub(chosen, Ordering::SeqCst);
         chosen

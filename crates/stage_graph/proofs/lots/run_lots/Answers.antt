@@ -5,7 +5,12 @@ use Rattle.stage_graph.specs.After.{last_cut}
 use Rattle.stage_graph.specs.Steps.{value_of}
 use Rattle.stage_graph.specs.Lots.{step_each, lot_content}
 use Rattle.stage_graph.proofs.Lotting.{flat_map-seen, lots_by_number, all_alone}
+use Rattle.stage_graph.proofs.Ranges.{lengths_are}
 use Rattle.stage_graph.proofs.lots.run_lots.Goals as goal
+
+pub new-requires-clause-lengths : goal.new-requires-clause-lengths
+new-requires-clause-lengths g c =
+    rw c.deref.ensures.value (lengths_are (λ x. (g.C.Item.Named.number_of x, g.C.Item.Named.done_of x)) (λ v. v.items) 0 c.args.lots.items g.K.LotName.lots c.requires.fresh)
 
 pub returns-clause-values : goal.returns-clause-values
 returns-clause-values g c =

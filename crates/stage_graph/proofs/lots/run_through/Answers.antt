@@ -6,7 +6,14 @@ use Rattle.stage_graph.specs.Loads.{IsLotSize}
 use Rattle.stage_graph.specs.Steps.{value_of}
 use Rattle.stage_graph.specs.Through.{IsFloorInLots}
 use Rattle.stage_graph.proofs.Lotting.{fresh_lots, lots_of, each_a_lot, length-each, plain_floor, gone_through, stopped_in_lots, flat_map-mapped}
+use Rattle.stage_graph.proofs.Ranges.{whole_range}
 use Rattle.stage_graph.proofs.lots.run_through.Goals as goal
+
+pub run_lots-requires-clause-in_order : goal.run_lots-requires-clause-in_order
+run_lots-requires-clause-in_order g c κs within =
+    let are = lots_of g.C.Item.Named.number_of g.C.Item.Named.done_of (λ v. v.items) c.in_ok-plan.field-0.size (length c.args.items.items) c.in_ok-plan.field-0.lots.items
+    (ap (map {B = ℕ × ℕ} (λ x. (g.C.Item.Named.number_of x, g.C.Item.Named.done_of x))) c.in_ok-plan.ensures.items ∙ c.requires.fresh) c.in_ok-plan.ensures.lots in
+    whole_range _ (length c.args.items.items) are.in_order
 
 pub run_lots-requires-clause-fresh : goal.run_lots-requires-clause-fresh
 run_lots-requires-clause-fresh g c κs within =

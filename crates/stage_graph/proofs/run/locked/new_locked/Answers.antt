@@ -6,4 +6,4 @@ use Rattle.stage_graph.proofs.run.locked.new_locked.Goals as goal
 pub invariant_of-result : goal.invariant_of-result
 invariant_of-result g c =
     let e : left_on (standing g.N.RunName.plan g.N.RunName.count c.args.floor) ≡ 0 = ap (λ h. left_on (standing g.N.RunName.plan g.N.RunName.count h)) c.requires.floor ∙ none_left g.N.RunName.plan g.N.RunName.count in
-    record { counted = c.requires.book ∙ sym e }
+    record { some = c.requires.plan.some; rising = c.requires.plan.rising; posted = c.requires.plan.posted; counted = c.requires.book ∙ sym e }
