@@ -16,6 +16,7 @@ _haboob() {
     case $prev in
         --folder) _filedir -d; return ;;
         --engine) mapfile -t COMPREPLY < <(compgen -W "plain staged" -- "$cur"); return ;;
+        --to) mapfile -t COMPREPLY < <(compgen -W "2 traffic" -- "$cur"); return ;;
         --snapshot | --capture | --replies | --messages | --settings | --output) _filedir; return ;;
     esac
     local offered

@@ -44,4 +44,5 @@ pub refused : (words : List Text) (kinds : Kinds) (error : Error) (fault : WordF
 refused words kinds error (faults.Words text) same passes has becomes =
     (not_true _ (λ taken. becomes (passes taken)), λ none. becomes (only_memory kinds error (same ∙ none) has))
 refused words kinds error faults.Engine same passes has becomes = becomes
+refused words kinds error faults.Format same passes has becomes = becomes
 refused words kinds error faults.Memory same passes has becomes = tt

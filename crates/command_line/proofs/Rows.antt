@@ -4,8 +4,9 @@ use Rattle.clap.specs.Words.{Text, fault_of, subcommand_of, takes}
 use Rattle.clap.specs.declared.error.ErrorKind.TheVariants.{MissingRequiredArgument, UnknownArgument}
 use Rattle.clap.proofs.OnLiterals.{clap_on_literals}
 use Rattle.command_line.specs.declared.words.Engine.TheVariants.{Staged}
+use Rattle.command_line.specs.declared.words.Target.TheVariants.{Two, Traffic}
 use Rattle.command_line.specs.declared.words.Subcommand.TheVariants.{Replay, Upgrade, Snapshot, Inspect, Explain}
-use Rattle.command_line.specs.CommandLine.{command_line, explain_command, inspect_command, replay_command, settings_command, snapshot_command, upgrade_command, Found, file_of, engine_of, is_given, subcommand_of_rows, value_of}
+use Rattle.command_line.specs.CommandLine.{command_line, explain_command, inspect_command, replay_command, settings_command, snapshot_command, upgrade_command, Found, file_of, engine_of, is_given, subcommand_of_rows, target_of, value_of}
 
 abbrev found_on : List Text → Found
 found_on words = subcommand_of command_line words
@@ -74,6 +75,18 @@ upgrade_capture = refl
 upgrade_output : file_of (found_on upgrade_words) (codes "output") ≡ codes "n"
 unfolding clap_on_literals command_line replay_command upgrade_command snapshot_command inspect_command explain_command settings_command
 upgrade_output = refl
+
+upgrade_to_two : target_of (found_on upgrade_words) ≡ Some Two
+unfolding clap_on_literals command_line replay_command upgrade_command snapshot_command inspect_command explain_command settings_command
+upgrade_to_two = refl
+
+upgrade_to_traffic : target_of (found_on (codes "upgrade" ∷ codes "--to=traffic" ∷ codes "--output" ∷ codes "n" ∷ codes "--capture=c" ∷ [])) ≡ Some Traffic
+unfolding clap_on_literals command_line replay_command upgrade_command snapshot_command inspect_command explain_command settings_command
+upgrade_to_traffic = refl
+
+upgrade_to_three : target_of (found_on (codes "upgrade" ∷ codes "--to" ∷ codes "3" ∷ codes "--output" ∷ codes "n" ∷ codes "--capture=c" ∷ [])) ≡ None
+unfolding clap_on_literals command_line replay_command upgrade_command snapshot_command inspect_command explain_command settings_command
+upgrade_to_three = refl
 
 no_output : fault_of command_line (codes "upgrade" ∷ codes "--capture" ∷ codes "c" ∷ []) ≡ MissingRequiredArgument ∷ []
 unfolding clap_on_literals command_line replay_command upgrade_command snapshot_command inspect_command explain_command settings_command

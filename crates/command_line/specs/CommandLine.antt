@@ -9,6 +9,8 @@ use Rattle.clap.specs.declared.error.ErrorKind.{ErrorKind}
 use Rattle.clap.specs.declared.error.ErrorKind.TheVariants.{OutOfMemory}
 use Rattle.command_line.specs.declared.words.Engine.{Engine}
 use Rattle.command_line.specs.declared.words.Engine.TheVariants.{Plain, Staged}
+use Rattle.command_line.specs.declared.words.Target.{Target}
+use Rattle.command_line.specs.declared.words.Target.TheVariants.{Two, Traffic}
 use Rattle.command_line.specs.declared.words.Subcommand.{Subcommand}
 use Rattle.command_line.specs.declared.words.Subcommand.TheVariants as subcommands
 use Rattle.command_line.specs.declared.words.Job.{Job}
@@ -37,12 +39,13 @@ replay_command =
     (option_of (codes "settings")))
     (record (option_of (codes "engine")) { defaults = codes "staged" ∷ [] })
 
--- `upgrade`, with two options that are required
+-- `upgrade`, with two options that are required, and one with a default
 unfoldable pub upgrade_command : App
 upgrade_command =
-    with_rule (with_rule (new_app (codes "upgrade"))
+    with_rule (with_rule (with_rule (new_app (codes "upgrade"))
     (required_of (codes "capture")))
-    (required_of (codes "output"))
+    (required_of (codes "output")))
+    (record (option_of (codes "to")) { defaults = codes "2" ∷ [] })
 
 -- `snapshot`, with two options that are required, and a flag
 unfoldable pub snapshot_command : App
@@ -113,6 +116,15 @@ engine_named name =
 abbrev pub engine_of : Found → Option Engine
 engine_of found = engine_named (file_of found (codes "engine"))
 
+abbrev pub target_named : Text → Option Target
+target_named name =
+    if bytes_eq name (codes "2") then Some Two
+    else if bytes_eq name (codes "traffic") then Some Traffic
+    else None
+
+abbrev pub target_of : Found → Option Target
+target_of found = target_named (file_of found (codes "to"))
+
 -- The subcommand of a name. (The command takes no words that name another.)
 abbrev pub subcommand_named : Text → Subcommand
 subcommand_named name =
@@ -136,10 +148,11 @@ AsksBy found (jobs.Replay snapshot capture replies settings chosen) =
     × (replies.now ≡ file_of found (codes "replies"))
     × (option_map (λ s. s.now) settings ≡ value_of found (codes "settings"))
     × (engine_of found ≡ Some chosen)
-AsksBy found (jobs.Upgrade capture output) =
+AsksBy found (jobs.Upgrade capture output to) =
     (subcommand_of_rows found ≡ subcommands.Upgrade)
     × (capture.now ≡ file_of found (codes "capture"))
     × (output.now ≡ file_of found (codes "output"))
+    × (target_of found ≡ Some to)
 AsksBy found (jobs.Snapshot folder output skip) =
     (subcommand_of_rows found ≡ subcommands.Snapshot)
     × (folder.now ≡ file_of found (codes "folder"))
@@ -158,11 +171,12 @@ AsksBy found (jobs.Settings settings) =
     (subcommand_of_rows found ≡ subcommands.Settings)
     × (option_map (λ s. s.now) settings ≡ value_of found (codes "settings"))
 
--- a subcommand asks for a replay by another engine, and no other fault comes
-abbrev pub IsEngineFault : Found → WordFault → Type 0
-IsEngineFault found (faults.Words text) = ⊥
-IsEngineFault found faults.Engine = (subcommand_of_rows found ≡ subcommands.Replay) × (engine_of found ≡ None)
-IsEngineFault found faults.Memory = ⊥
+-- a subcommand asks for a replay by another engine, or for an upgrade to another format, and no other fault comes
+abbrev pub IsValueFault : Found → WordFault → Type 0
+IsValueFault found (faults.Words text) = ⊥
+IsValueFault found faults.Engine = (subcommand_of_rows found ≡ subcommands.Replay) × (engine_of found ≡ None)
+IsValueFault found faults.Format = (subcommand_of_rows found ≡ subcommands.Upgrade) × (target_of found ≡ None)
+IsValueFault found faults.Memory = ⊥
 
 -- ---- what the words ask for
 
@@ -179,20 +193,24 @@ Asks words job = Taken words (λ found. AsksBy found job)
 abbrev pub AreNotTaken : List Text → Type 0
 AreNotTaken words = (takes command_line words ≡ false) × (fault_of command_line words ≢ [])
 
--- The words are refused for this. Words that the command takes have no fault but another engine's name.
+-- The words are refused for this. Words that the command takes have no fault but another engine's name
+-- or another format's.
 abbrev pub Refuses : List Text → WordFault → Type 0
 Refuses words (faults.Words text) = (words ≢ []) × AreNotTaken words
-Refuses words faults.Engine = Taken words (λ found. IsEngineFault found faults.Engine)
+Refuses words faults.Engine = Taken words (λ found. IsValueFault found faults.Engine)
+Refuses words faults.Format = Taken words (λ found. IsValueFault found faults.Format)
 Refuses words faults.Memory = words ≢ []
 
 -- what the command alone refuses
 abbrev pub IsRefusal : List Text → WordFault → Type 0
 IsRefusal words (faults.Words text) = AreNotTaken words
 IsRefusal words faults.Engine = ⊥
+IsRefusal words faults.Format = ⊥
 IsRefusal words faults.Memory = Unit {0}
 
 -- what an error of this kind becomes
 abbrev pub Becomes : ErrorKind → WordFault → Type 0
 Becomes kind (faults.Words text) = kind ≢ OutOfMemory
 Becomes kind faults.Engine = ⊥
+Becomes kind faults.Format = ⊥
 Becomes kind faults.Memory = Unit {0}

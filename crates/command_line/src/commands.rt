@@ -32,11 +32,16 @@ const REPLAY_NOTES: &str = "Example:
 
 /// What help says after the options of `upgrade`.
 const UPGRADE_NOTES: &str =
-    "A capture of version 1 is written as one of version 2, with the same start and the same
-records. A capture of version 2 is written as it is.
+    "A capture is written as one of version 2, or with --to traffic as a traffic text, in which a
+connection's number is free again after its end, with the same start and the same records. What
+is in that format or a later one is written as it is.
 
-Example:
-  haboob upgrade --capture old.capture --output new.capture";
+Examples:
+  haboob upgrade --capture old.capture --output new.capture
+  haboob upgrade --capture new.capture --output day.traffic --to traffic";
+
+/// What help says of the formats.
+const TARGET_HELP: &str = "2, a capture of version 2, or traffic";
 
 /// What help says after the options of `snapshot`.
 const SNAPSHOT_NOTES: &str =
@@ -143,11 +148,15 @@ fn upgrade_command<'a>(alloc: Global) -> Result<Command<'a>, AllocError>
         "Where the new capture goes; another file that is there is overwritten",
     )
     .required(true);
+    let to = option(alloc, "to", "FORMAT")
+        .help(TARGET_HELP)
+        .default_value("2");
     Command::new(alloc, "upgrade")
-        .about("Writes a capture of an older version as one of version 2.")
+        .about("Writes a capture as one of version 2, or as traffic.")
         .after_help(UPGRADE_NOTES)
         .arg(capture)?
-        .arg(output)
+        .arg(output)?
+        .arg(to)
 }
 
 fn snapshot_command<'a>(alloc: Global) -> Result<Command<'a>, AllocError>

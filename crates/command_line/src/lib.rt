@@ -4,4 +4,4 @@
 mod commands;
 mod words;
 
-pub use words::{Engine, Job, WordFault, read_words};
+pub use words::{Engine, Job, Target, WordFault, read_words};

@@ -2,9 +2,9 @@
 
 ghost use Rattle.std.specs.Prelude.{◌≡◌, [], Ok, codes, map, option_map, IfOk, IfErr};
 ghost use Rattle.clap.specs.Words.{fault_of, kind_of, subcommand_of, subcommand_rows_of};
-ghost use Rattle.command_line.specs.CommandLine.{Asks, AsksBy, Becomes, IsEngineFault, IsRefusal, Refuses};
+ghost use Rattle.command_line.specs.CommandLine.{Asks, AsksBy, Becomes, IsRefusal, IsValueFault, Refuses};
 ghost use Rattle.command_line.specs.CommandLine.{command_line, engine_named, file_of, is_given, subcommand_named};
-ghost use Rattle.command_line.specs.CommandLine.{subcommand_of_rows, value_of};
+ghost use Rattle.command_line.specs.CommandLine.{subcommand_of_rows, target_named, value_of};
 
 use crate::commands::command_line;
 use clap::error::ErrorKind;
@@ -21,6 +21,15 @@ pub enum Engine {
     Staged,
 }
 
+/// Which format an upgrade writes.
+#[derive(Clone, Copy, Debug, PartialEq, Eq)]
+pub enum Target {
+    /// A capture of version 2.
+    Two,
+    /// Traffic, whose connection numbers are used again.
+    Traffic,
+}
+
 /// What the program is asked to do.
 #[derive(Clone, Copy, Debug)]
 pub enum Job<'a> {
@@ -34,10 +43,12 @@ pub enum Job<'a> {
         settings: Option<&'a str>,
         engine: Engine,
     },
-    /// The capture stands in a file of either version, and goes into another as one of version 2.
+    /// The text of a capture or of traffic stands in a file, and goes into another in this format, or in its own where
+    /// that is later.
     Upgrade {
         capture: &'a str,
         output: &'a str,
+        to: Target,
     },
     /// The files of a folder go into a snapshot. What can't stand there is left out where that is asked for.
     Snapshot {
@@ -80,6 +91,8 @@ pub enum WordFault {
     Words(String),
     /// The engine is neither `plain` nor `staged`.
     Engine,
+    /// The format of an upgrade is neither `2` nor `traffic`.
+    Format,
     /// There was no memory for them.
     Memory,
 }
@@ -101,7 +114,7 @@ impl From<AllocError> for WordFault {
 /// # Errors
 ///
 /// `Words` where the command doesn't take the words (or they ask for its help), `Engine` where the engine is neither
-/// `plain` nor `staged`, or `Memory`.
+/// `plain` nor `staged`, `Format` where that of an upgrade is neither `2` nor `traffic`, or `Memory`.
 pub fn read_words<'a, S: AsStr>(alloc: Global, words: &'a [S]) -> Result<Job<'a>, WordFault>
     ensures job { IfOk result (Asks (map S.text words.entry.now)) }
     ensures fault { IfErr result (Refuses (map S.text words.entry.now)) }
@@ -116,7 +129,7 @@ pub fn read_words<'a, S: AsStr>(alloc: Global, words: &'a [S]) -> Result<Job<'a>
 /// missing.
 fn job_of<'a>(matches: &ArgMatches<'a>) -> Result<Job<'a>, WordFault>
     ensures job { IfOk result (AsksBy (subcommand_rows_of matches.now)) }
-    ensures fault { IfErr result (IsEngineFault (subcommand_rows_of matches.now)) }
+    ensures fault { IfErr result (IsValueFault (subcommand_rows_of matches.now)) }
 {
     match chosen(matches) {
         Subcommand::Replay => {
@@ -132,9 +145,13 @@ fn job_of<'a>(matches: &ArgMatches<'a>) -> Result<Job<'a>, WordFault>
             })
         }
         Subcommand::Upgrade => {
+            let Some(to) = target_named(value(matches, "to").unwrap_or("")) else {
+                return Err(WordFault::Format);
+            };
             Ok(Job::Upgrade {
                 capture: file(matches, "capture"),
                 output: file(matches, "output"),
+                to,
             })
         }
         Subcommand::Snapshot => {
@@ -171,6 +188,16 @@ fn engine_named(name: &str) -> Option<Engine>
     match name {
         "plain" => Some(Engine::Plain),
         "staged" => Some(Engine::Staged),
+        _ => None,
+    }
+}
+
+fn target_named(name: &str) -> Option<Target>
+    ensures { result ≡ target_named name.now }
+{
+    match name {
+        "2" => Some(Target::Two),
+        "traffic" => Some(Target::Traffic),
         _ => None,
     }
 }

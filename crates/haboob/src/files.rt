@@ -2,7 +2,8 @@
 
 use crate::folder::{FileFolder, list_folder, open_root};
 use crate::overwritten::{Node, Overwritten};
-use command_line::{Job, WordFault, read_words};
+use captures::Version;
+use command_line::{Job, Target, WordFault, read_words};
 use devices::Output;
 use program::{
     Fault, Place, Wanted, inspect_files, run_files, run_program, run_snapshot, settings_files,
@@ -136,15 +137,23 @@ fn inspect_named(rt: &HostRuntime, standard: Option<Node>, capture: &str) -> Res
     inspect_files(rt.alloc(), capture, rt.stdout()).0
 }
 
+/// The version that an upgrade is asked for.
+fn version_of(to: Target) -> Version {
+    match to {
+        Target::Two => Version::Two,
+        Target::Traffic => Version::Traffic,
+    }
+}
+
 /// Writes the upgraded text of a capture file to another.
-fn upgrade_named(rt: &HostRuntime, capture: &str, output: &str) -> Result<(), Fault> {
+fn upgrade_named(rt: &HostRuntime, capture: &str, output: &str, to: Target) -> Result<(), Fault> {
     let capture = open(rt, capture, Place::Capture)?;
     let inputs = [Some(Node::of(&capture, Place::Capture)?)];
     let mut output = Overwritten::open(rt, output, Place::Output, &inputs)?;
     if output.empty().is_err() {
         return Err(Fault::Open(Place::Output));
     }
-    upgrade_files(rt.alloc(), capture, output).0
+    upgrade_files(rt.alloc(), capture, output, version_of(to)).0
 }
 
 /// Writes the files of a folder as a snapshot. What is in the folder is listed before the output is opened: so a new
@@ -264,7 +273,11 @@ pub fn run_arguments<T: Threads + Wait + Sync>(
             replay_named(rt, threads, standard, &names).map_err(Fault::of_rows)
         }
         Job::Inspect { capture } => inspect_named(rt, standard, capture),
-        Job::Upgrade { capture, output } => upgrade_named(rt, capture, output),
+        Job::Upgrade {
+            capture,
+            output,
+            to,
+        } => upgrade_named(rt, capture, output, to),
         Job::Snapshot {
             folder,
             output,

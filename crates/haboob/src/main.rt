@@ -3,10 +3,9 @@
 //! Without arguments it reads from standard input a snapshot directly followed by a capture, and writes the replies to
 //! standard output. Its commands read and write files: `haboob replay` writes the replies, `haboob explain` a table of
 //! decisions in their place, and both a report to standard output; `haboob snapshot` writes the files of a folder as a
-//! snapshot, `haboob inspect` tells what a capture holds, `haboob upgrade` writes one of an older version as one of
-//! version 2, and `haboob settings` writes out the settings that are in force. A fault is reported by one line on
-//! standard error, after which `haboob settings` says in words what is wrong, and by the status that the program ends
-//! with.
+//! snapshot, `haboob inspect` tells what a capture holds, `haboob upgrade` writes one in a later format, and
+//! `haboob settings` writes out the settings that are in force. A fault is reported by one line on standard error,
+//! after which `haboob settings` says in words what is wrong, and by the status that the program ends with.
 #![tactic(auto)]
 
 mod files;

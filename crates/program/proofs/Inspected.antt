@@ -13,7 +13,7 @@ use Rattle.program.specs.declared.fault.Place.TheVariants as places
 use Rattle.program.specs.Inspecting.{InspectsBefore, AreDue, IsInspectFault, IsInspectFilesFault, InspectSays}
 use Rattle.program.specs.Ports.{Port, Reads, port}
 use Rattle.program.specs.Replays.{IsReportFault}
-use Rattle.program.specs.Upgrading.{IsCaptureOfSomeVersion}
+use Rattle.program.specs.Upgrading.{IsTextOfSomeFormat}
 use Rattle.program.proofs.Settling.{ok_weaker, fault_weaker}
 
 -- the text that was due wasn't written
@@ -40,5 +40,5 @@ pub inspected_fault : (input : Option (List ℕ)) (output : Port) (ran : Result 
 inspected_fault input output ran says = fault_weaker _ _ ran (reported_of_inspection (port (fresh input) says.0) output) says.1.1
 
 -- where it came to its end, its input was a capture's text
-pub inspected_ok : (input : Option (List ℕ)) (output : Port) (ran : Result Unit Fault) → Reads InspectSays input output ran → OnOk ran (WhereKnown input IsCaptureOfSomeVersion)
+pub inspected_ok : (input : Option (List ℕ)) (output : Port) (ran : Result Unit Fault) → Reads InspectSays input output ran → OnOk ran (WhereKnown input IsTextOfSomeFormat)
 inspected_ok input output ran says = ok_weaker _ _ ran (λ inspects known. (let c = inspects.1.capture in (c.version, c.start, c.records, c.text known))) says.1.0

@@ -15,7 +15,7 @@ use Rattle.program.specs.declared.fault.Fault.{Fault}
 use Rattle.program.specs.declared.fault.Fault.TheVariants.{Snapshot, Replay, Upgrade, Write, Memory}
 use Rattle.program.specs.declared.fault.Place.TheVariants.{Replies}
 use Rattle.program.specs.Ports.{Port}
-use Rattle.program.specs.Upgrading.{IsCaptureOfSomeVersion}
+use Rattle.program.specs.Upgrading.{IsTextOfSomeFormat}
 
 -- There are files that keep the rules of a snapshot, and P holds of them and of the rest of the input. Where the bytes
 -- of the input are known, the text of these files stands at their start, and the bytes after it are the rest.
@@ -63,7 +63,7 @@ writer_failures other = 0
 
 -- where the bytes after the snapshot are known, they are the text of a capture
 abbrev pub HoldsCapture : List File → Option (List ℕ) → Type 0
-HoldsCapture files capture = WhereKnown capture IsCaptureOfSomeVersion
+HoldsCapture files capture = WhereKnown capture IsTextOfSomeFormat
 
 -- What a fault of the program says of its input: that of a snapshot or a capture is the first, but for a failed read
 -- and out of memory. Other faults are that the replies can't be written to their end, and out of memory.

@@ -27,7 +27,8 @@ use Rattle.program.specs.declared.fault.Fault.TheVariants as faults
 use Rattle.program.specs.declared.folder.FileFault.{FileFault}
 use Rattle.program.specs.declared.folder.FileFault.TheVariants as files
 use Rattle.program.specs.declared.fault.Reported.{Reported}
-use Rattle.program.specs.declared.fault.Reported.TheVariants.{Usage, Engine, Settings, Entry, Record, TooMany, File}
+use Rattle.program.specs.declared.fault.Reported.TheVariants.{Usage, Engine, Format, Settings, Entry}
+use Rattle.program.specs.declared.fault.Reported.TheVariants.{Record, TooMany, File}
 use Rattle.program.specs.declared.fault.Reported.TheVariants.{Open, Read}
 use Rattle.program.specs.declared.fault.Reported.TheVariants.{Write, Memory}
 
@@ -62,6 +63,7 @@ of_rows f = f
 abbrev pub reported_words : WordFault → Reported
 reported_words (words.Words text) = Usage
 reported_words words.Engine = Engine
+reported_words words.Format = Format
 reported_words words.Memory = Memory
 
 abbrev pub reported_settings : ConfigFaultKind → ConfigFault → Reported
@@ -84,6 +86,7 @@ reported faults.Memory = Memory
 abbrev pub status_of : Reported → ℕ
 status_of Usage = 2
 status_of Engine = 2
+status_of Format = 2
 status_of (Settings f) = 3
 status_of (Entry f) = 4
 status_of (Record f) = 5
@@ -122,6 +125,7 @@ file_fault_name files.Read = codes "Read"
 abbrev pub text_of : Reported → List ℕ
 text_of Usage = codes "usage"
 text_of Engine = codes "engine"
+text_of Format = codes "format"
 text_of (Settings f) = codes "settings: " ++ fault_text f
 text_of (Entry f) = codes "snapshot: entry " ++ decimal f.entry ++ codes ": " ++ entry_kind f.kind
 text_of (Record f) = codes "capture: record " ++ decimal f.at ++ codes ": " ++ record_kind f.kind
@@ -156,6 +160,7 @@ shown_name name = encode_utf8_all (map shown_char (chars name))
 abbrev pub usage_in : WordFault → Option (List ℕ)
 usage_in (words.Words text) = Some (string_bytes text)
 usage_in words.Engine = None
+usage_in words.Format = None
 usage_in words.Memory = None
 
 abbrev pub usage_of : Fault → Option (List ℕ)

@@ -1,4 +1,4 @@
--- The run that writes a capture of either version as one of version 2.
+-- The run that writes a text of records in a later format.
 use Rattle.std.specs.Prelude.{◌≡◌, ℕ, false, List, Option, Result, OnOk, IfErr}
 use Rattle.captures.specs.declared.record.Record.{Record}
 use Rattle.captures.specs.declared.pass_fault.PassFault.TheVariants.{Capture, TooMany}
@@ -12,21 +12,21 @@ use Rattle.program.specs.declared.fault.Fault.TheVariants.{Upgrade, Write, Memor
 use Rattle.program.specs.declared.fault.Place.TheVariants.{Output}
 use Rattle.program.specs.Ports.{Port}
 
--- the bytes are the text of a capture
-abbrev pub IsCaptureOfSomeVersion : List ℕ → Type 0
-IsCaptureOfSomeVersion bytes =
+-- the bytes are the text of a capture, or of traffic
+abbrev pub IsTextOfSomeFormat : List ℕ → Type 0
+IsTextOfSomeFormat bytes =
     (version : Version) × (start : ℕ) × (records : List Record) × IsCaptureText version bytes start records
 
 -- What a fault of the upgrade says of the input and of the output. No other fault comes.
-abbrev pub IsUpgradeFault : Port → Port → Fault → Type 0
-IsUpgradeFault input output (Upgrade f) =
-    Leaves input.old.bytes input.new.bytes output.old.bytes output.new.bytes f
-IsUpgradeFault input output other = ⊥
+abbrev pub IsUpgradeFault : Version → Port → Port → Fault → Type 0
+IsUpgradeFault to input output (Upgrade f) =
+    Leaves to input.old.bytes input.new.bytes output.old.bytes output.new.bytes f
+IsUpgradeFault to input output other = ⊥
 
 -- what the upgrade says
-abbrev pub UpgradeSays : Port → Port → Result Unit Fault → Type 0
-UpgradeSays input output ran = OnOk ran (Upgrades input.old.bytes output.old.bytes output.new.bytes)
-    × IfErr ran (IsUpgradeFault input output)
+abbrev pub UpgradeSays : Version → Port → Port → Result Unit Fault → Type 0
+UpgradeSays to input output ran = OnOk ran (Upgrades to input.old.bytes output.old.bytes output.new.bytes)
+    × IfErr ran (IsUpgradeFault to input output)
 
 -- What a fault of the program says of its input: that of a capture is the first, but for a failed read. Other faults
 -- are that the output can't be written to its end, and out of memory.

@@ -77,6 +77,8 @@ pub enum Reported {
     Usage,
     /// There is no engine of that name.
     Engine,
+    /// An upgrade writes no format of that name.
+    Format,
     /// A key of the settings is wrong, or the document.
     Settings(ConfigFault),
     /// An entry of the snapshot is wrong.
@@ -195,6 +197,7 @@ impl Fault {
         match self {
             Fault::Words(WordFault::Words(_)) => Reported::Usage,
             Fault::Words(WordFault::Engine) => Reported::Engine,
+            Fault::Words(WordFault::Format) => Reported::Format,
             Fault::Settings(fault) if fault.kind != ConfigFaultKind::Memory => {
                 Reported::Settings(*fault)
             }
@@ -227,7 +230,7 @@ impl Fault {
         ensures { result ≡ status_of (reported self.now) }
     {
         match self.reported() {
-            Reported::Usage | Reported::Engine => 2,
+            Reported::Usage | Reported::Engine | Reported::Format => 2,
             Reported::Settings(_) => 3,
             Reported::Entry(_) | Reported::File(_) => 4,
             Reported::Record(_) | Reported::TooMany(_) => 5,

@@ -9,7 +9,7 @@ ghost use Rattle.captures.specs.Passes.{BlamesReader};
 ghost use Rattle.program.specs.Inspecting.{is_untold, Inspects, IsInspectFault, IsInspectFilesFault, InspectSays};
 ghost use Rattle.program.specs.Ports.{Reads, Runs, port};
 ghost use Rattle.program.specs.Replays.{IsReportFault, capture_failures, report_failures};
-ghost use Rattle.program.specs.Upgrading.{IsCaptureOfSomeVersion};
+ghost use Rattle.program.specs.Upgrading.{IsTextOfSomeFormat};
 
 use crate::buffer::ROOM;
 use crate::fault::{Fault, Place};
@@ -106,7 +106,7 @@ pub fn inspect_files<R: Read + Drop, W: Write + Drop>(
     ensures device { Runs Place.Report (Reads InspectSays (R.remaining reader))
         (W.contents writer) (W.contents result.1) result.0 }
     // Where the bytes of the input are known, they were a capture's text, or a fault is their first.
-    ensures ok { OnOk result.0 (WhereKnown (R.remaining reader) IsCaptureOfSomeVersion) }
+    ensures ok { OnOk result.0 (WhereKnown (R.remaining reader) IsTextOfSomeFormat) }
     ensures fault { IfErr result.0 (IsInspectFilesFault (R.remaining reader)) }
 {
     match BufReader::with_capacity(alloc, ROOM, reader) {

@@ -37,14 +37,10 @@ pub enum Wanted {
 }
 
 /// Writes the report of an outcome.
-fn write_report<O: Write>(
-    alloc: Global,
-    outcome: &Outcome,
-    out: &mut Output<O>,
-) -> Result<(), Fault>
+fn write_report<O: Write>(alloc: Global, outcome: Outcome, out: &mut Output<O>) -> Result<(), Fault>
     requires { CanFail out.old }
-    ensures ok { OnOk result (Appends out.old.bytes out.new.bytes (report_text outcome.now)) }
-    ensures fault { IfErr result (IsReportFault (report_text outcome.now) (port out.old out.new)) }
+    ensures ok { OnOk result (Appends out.old.bytes out.new.bytes (report_text outcome)) }
+    ensures fault { IfErr result (IsReportFault (report_text outcome) (port out.old out.new)) }
     ensures count { CountsBy report_failures out.old.failures out.new.failures result }
 {
     let text = report(alloc, outcome)?;
@@ -118,7 +114,7 @@ pub fn run_replay<T: Threads + Wait + Sync, S: Read, C: Read, W: Write, O: Write
     let outcome = run_wanted::<Brand, T, C, W>(
         rt, alloc, wanted, &files, settings, capture, written,
     )?;
-    write_report(alloc, &outcome, out)
+    write_report(alloc, outcome, out)
 }
 
 /// Runs over buffers that were made. After a fault, no more of the report is written.

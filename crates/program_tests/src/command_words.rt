@@ -1,5 +1,5 @@
 //! What no clause says: the words of worked rows, and the texts for the user.
-use command_line::{Engine, Job, WordFault, read_words};
+use command_line::{Engine, Job, Target, WordFault, read_words};
 use std::test::Fail;
 
 static NONE: [&str; 0] = [];
@@ -40,6 +40,21 @@ static FAST: [&str; 8] = [
 static SHORT: [&str; 5] = ["replay", "--snapshot", "s", "--capture", "c"];
 
 static UPGRADE: [&str; 4] = ["upgrade", "--output", "n", "--capture=c"];
+
+static TO_TWO: [&str; 6] = ["upgrade", "--to", "2", "--output", "n", "--capture=c"];
+
+static TO_TRAFFIC: [&str; 5] = ["upgrade", "--output=n", "--to=traffic", "--capture", "c"];
+
+/// What is no format of an upgrade.
+static OTHER_FORMATS: [&str; 7] = [
+    "--to=1",
+    "--to=3",
+    "--to=02",
+    "--to=",
+    "--to=Traffic",
+    "--to=traffi",
+    "--to=2 ",
+];
 
 static NO_OUTPUT: [&str; 3] = ["upgrade", "--capture", "c"];
 
@@ -130,9 +145,34 @@ fn replays(rt: HostRuntime) {
 
 #[test]
 fn upgrades(rt: HostRuntime) {
-    match read_words(rt.alloc(), UPGRADE.as_slice()) {
-        Ok(Job::Upgrade { capture, output }) => assert!(rt; capture == "c" && output == "n"),
-        _ => assert!(rt; false, "the words of an upgrade"),
+    let table = [
+        (UPGRADE.as_slice(), Target::Two),
+        (TO_TWO.as_slice(), Target::Two),
+        (TO_TRAFFIC.as_slice(), Target::Traffic),
+    ];
+    for (words, want) in table {
+        match read_words(rt.alloc(), words) {
+            Ok(
+                Job::Upgrade {
+                    capture,
+                    output,
+                    to,
+                },
+            ) => {
+                assert!(rt; capture == "c" && output == "n");
+                assert_eq!(rt; to, want);
+            }
+            _ => assert!(rt; false, "the words of an upgrade"),
+        }
+    }
+}
+
+#[test]
+fn another_format(rt: HostRuntime) {
+    for format in OTHER_FORMATS {
+        let words = ["upgrade", "--capture=c", format, "--output=n"];
+        let refused = read_words(rt.alloc(), words.as_slice());
+        assert!(rt; matches!(refused, Err(WordFault::Format)));
     }
 }
 
@@ -210,7 +250,7 @@ Usage: haboob <COMMAND>
 
 Commands:
   replay    Answers a capture's requests, and writes a report to standard output.
-  upgrade   Writes a capture of an older version as one of version 2.
+  upgrade   Writes a capture as one of version 2, or as traffic.
   snapshot  Writes the files of a folder as a snapshot.
   inspect   Tells what a capture holds.
   explain   Tells of each message why it was admitted or turned away.
@@ -251,20 +291,23 @@ Example:
     --settings tight.toml
 ";
 
-static UPGRADE_HELP_TEXT: &str = "Writes a capture of an older version as one of version 2.
+static UPGRADE_HELP_TEXT: &str = "Writes a capture as one of version 2, or as traffic.
 
-Usage: haboob upgrade --capture <FILE> --output <FILE>
+Usage: haboob upgrade [OPTIONS] --capture <FILE> --output <FILE>
 
 Options:
       --capture <FILE>  The capture to read
       --output <FILE>   Where the new capture goes; another file that is there is overwritten
+      --to <FORMAT>     2, a capture of version 2, or traffic [default: 2]
   -h, --help            Print help
 
-A capture of version 1 is written as one of version 2, with the same start and the same
-records. A capture of version 2 is written as it is.
+A capture is written as one of version 2, or with --to traffic as a traffic text, in which a
+connection's number is free again after its end, with the same start and the same records. What
+is in that format or a later one is written as it is.
 
-Example:
+Examples:
   haboob upgrade --capture old.capture --output new.capture
+  haboob upgrade --capture new.capture --output day.traffic --to traffic
 ";
 
 static SNAPSHOT_HELP_TEXT: &str = "Writes the files of a folder as a snapshot.
@@ -369,7 +412,7 @@ For more information, try '--help'.
 
 static UNEXPECTED_TEXT: &str = "error: unexpected argument '--replies' found
 
-Usage: haboob upgrade --capture <FILE> --output <FILE>
+Usage: haboob upgrade [OPTIONS] --capture <FILE> --output <FILE>
 
 For more information, try '--help'.
 ";

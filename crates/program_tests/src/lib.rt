@@ -22,6 +22,8 @@ mod running;
 #[cfg(test)]
 mod settings_documents;
 #[cfg(test)]
+mod traffic;
+#[cfg(test)]
 mod upgrades;
 #[cfg(test)]
 mod words_of_faults;

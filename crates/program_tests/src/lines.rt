@@ -126,6 +126,7 @@ fn lines_of_words(rt: HostRuntime) -> Result<(), Fail> {
     let words = Fault::Words(WordFault::Words(text));
     check(&rt, words, 2, "error: no such word\n\nUsage: haboob\n");
     check(&rt, Fault::Words(WordFault::Engine), 2, "haboob: engine\n");
+    check(&rt, Fault::Words(WordFault::Format), 2, "haboob: format\n");
     check(&rt, Fault::Words(WordFault::Memory), 7, "haboob: memory\n");
     Ok(())
 }

@@ -1,6 +1,6 @@
 //! Captures of an older version that become captures of version 2.
 use crate::running::{Narrow, is_out_of_memory, run};
-use captures::{CaptureFault, CaptureFaultKind, UpgradeFault};
+use captures::{CaptureFault, CaptureFaultKind, UpgradeFault, Version};
 use devices::{Input, Output};
 use program::{Fault, Place, run_upgrade, upgrade_files};
 use std::alloc::AllocGlobal;
@@ -11,7 +11,7 @@ use test_support::{Flaky, NEWER, OLDER, ONE_REPLY, SNAPSHOT};
 /// Upgrades a text with buffers.
 fn check(rt: &(impl Abort + AllocGlobal), text: &str, want: Result<(), Fault>, stands: &str) {
     let mut output = Narrow::ample();
-    let (ran, _) = upgrade_files(rt.alloc(), text.as_bytes(), &mut output);
+    let (ran, _) = upgrade_files(rt.alloc(), text.as_bytes(), &mut output, Version::Two);
     assert_eq!(rt; ran, want);
     assert_eq!(rt; output.text(), stands.as_bytes());
 }
@@ -87,7 +87,12 @@ fn whole_before(length: usize) -> (usize, usize) {
 fn truncations(rt: HostRuntime) {
     for length in 0..OLDER.len() {
         let mut output = Narrow::ample();
-        let (ran, _) = upgrade_files(rt.alloc(), &OLDER.as_bytes()[..length], &mut output);
+        let (ran, _) = upgrade_files(
+            rt.alloc(),
+            &OLDER.as_bytes()[..length],
+            &mut output,
+            Version::Two,
+        );
         let (at, written) = whole_before(length);
         assert_eq!(rt; ran, capture_fault(at, CaptureFaultKind::Cut));
         assert_eq!(rt; output.text().len(), written);
@@ -111,6 +116,7 @@ fn ends_reading(rt: &(impl Abort + AllocGlobal), good: usize) -> bool {
         rt.alloc(),
         &mut Input::new(reader),
         &mut Output::new(&mut output),
+        Version::Two,
     );
     let Err(fault) = ran else {
         assert_eq!(rt; output.text(), NEWER.as_bytes());
@@ -139,9 +145,10 @@ fn ends_writing(rt: &(impl Abort + AllocGlobal), good: usize) -> bool {
         rt.alloc(),
         &mut Input::new(OLDER.as_bytes()),
         &mut Output::new(&mut output),
+        Version::Two,
     );
     let mut buffered = Narrow::new(8, good);
-    let (with_buffer, _) = upgrade_files(rt.alloc(), OLDER.as_bytes(), &mut buffered);
+    let (with_buffer, _) = upgrade_files(rt.alloc(), OLDER.as_bytes(), &mut buffered, Version::Two);
     assert!(rt; NEWER.as_bytes().starts_with(output.text()));
     assert!(rt; NEWER.as_bytes().starts_with(buffered.text()));
     assert!(rt; matches!(ran, Ok(()) | Err(Fault::Upgrade(UpgradeFault::Write))));
@@ -167,7 +174,12 @@ fn each_write_failing(rt: HostRuntime) {
 #[test]
 fn fault_with_a_dead_writer(rt: HostRuntime) {
     let mut output = Narrow::new(8, 0);
-    let (ran, _) = upgrade_files(rt.alloc(), &OLDER.as_bytes()[..50], &mut output);
+    let (ran, _) = upgrade_files(
+        rt.alloc(),
+        &OLDER.as_bytes()[..50],
+        &mut output,
+        Version::Two,
+    );
     assert_eq!(rt; ran, Err(Fault::Write(Place::Output)));
     assert!(rt; output.text().is_empty());
 }
@@ -176,7 +188,7 @@ fn fault_with_a_dead_writer(rt: HostRuntime) {
 #[test]
 fn each_growth_refused(rt: HostRuntime) {
     let mut output = Narrow::ample();
-    match upgrade_files(rt.alloc(), OLDER.as_bytes(), &mut output).0 {
+    match upgrade_files(rt.alloc(), OLDER.as_bytes(), &mut output, Version::Two).0 {
         Ok(()) => assert_eq!(rt; output.text(), NEWER.as_bytes()),
         Err(fault) => {
             assert!(rt; is_out_of_memory(&fault));
