@@ -286,7 +286,7 @@ def replay(program, folder, packets, port, clients):
 def check_capture(capture, clients):
     """Whether the capture holds what was sent, connection by connection; where nginx reset one, a prefix of that."""
     texts = [b""] * len(clients)
-    for piece in reference.read_capture(capture)[1]:
+    for piece in reference.read_recording(capture).records:
         texts[piece.conn] += piece.body
     for text, client in zip(texts, clients):
         if text != client.text and not (client.reset and client.text.startswith(text)):

@@ -14,12 +14,15 @@ for each, but for the first, which has those of the default settings: nothing th
 Of each the table of decisions is compared too, with its report, and what its capture holds; and its settings, which are
 written out, and once more from the text that was written.
 
-The capture of each is also upgraded, and the upgraded text once more, which leaves it as it is. Where that text differs
-from the capture, it is replayed with both engines: replies and report are those of the capture. For each seed a capture
-with a fault is upgraded besides. Exits with 1 where anything differs.
+A third of the recordings are traffic texts, in which numbers are used again after their end. Each recording is also
+upgraded, without a word, to version 2 and to a traffic text, and each upgraded text once more, which leaves it as it
+is. Where an upgraded text differs from the recording, it is replayed with both engines: the replies are those of the
+recording, byte for byte, and so is the report, but for the controls that a traffic text's leaves out. For each seed a
+recording with a fault is upgraded besides. Exits with 1 where anything differs.
 """
 import collections
 import datetime
+import itertools
 import os
 import random
 import re
@@ -48,7 +51,12 @@ START = 784111777
 FAULTS = ("", "", "", "", "", "snapshot", "capture", "settings")
 HEAVY = 20
 HEAVY_FAULTS = ("", "", "", "capture")
+# What an upgrade is asked for, and the format that it writes where the recording's own isn't a later one.
+UPGRADES = [([], reference.TWO), (["--to", "2"], reference.TWO), (["--to", "traffic"], reference.TRAFFIC)]
+# In the place of a piece: the end of the connection.
+END = None
 
+ONE, TRAFFIC = reference.ONE, reference.TRAFFIC
 FILES = [(b"a.txt", START, b"hi\n")]
 SNAPSHOT = b"haboob-snapshot 1\nfile 784111777 5 3\na.txt\nhi\n\nend 1\n"
 REQUEST = b"GET /a.txt HTTP/1.1\r\nHost: a\r\n\r\n"
@@ -465,33 +473,71 @@ def random_cut(chance, text):
     return [text[begin:end] for begin, end in zip(places, places[1:])]
 
 
+def lives_of(records):
+    """The connections: for each the place from which on a record of its number is one of it, and its first record."""
+    after, found = collections.defaultdict(int), {}
+    for place, record in enumerate(records):
+        conn = record[1]
+        found.setdefault((conn, after[conn]), place)
+        if len(record) == 2:
+            after[conn] = place + 1
+    return [(conn, begin, first) for (conn, begin), first in found.items()]
+
+
 def with_tiers(chance, records):
-    """The records with a tier for some of the connections, somewhere before their first piece."""
-    for conn in {record[1] for record in records}:
-        first = next(place for place, record in enumerate(records) if record[1] == conn)
-        if chance.random() < 0.7:
-            records.insert(chance.randint(0, first), ("tier", conn, chance.randrange(4)))
+    """The records with a tier for some of the connections, somewhere before their first piece: in a traffic text for
+    any life of a number."""
+    given = [(chance.randint(begin, first), conn) for conn, begin, first in lives_of(records) if chance.random() < 0.7]
+    for place, conn in sorted(given, reverse=True):
+        records.insert(place, ("tier", conn, chance.randrange(4)))
     return records
 
 
-def random_records(chance, names, times, version):
-    """The pieces and ends of a capture: tick, connection, and the bytes of a piece; and in version 2 its tiers."""
+def in_lives(chance, pieces):
+    """The pieces of a number with ends among them: where a life ends in the middle of a block, the rest comes as
+    another one. Some ends come again, with nothing open."""
+    often, parts = chance.choice((0.05, 0.3, 1)), []
+    for piece in pieces:
+        parts.append(piece)
+        while chance.random() < often and parts[-2:] != [END, END]:
+            parts.append(END)
+    return parts
+
+
+def lives(chance, names, times):
+    """What comes of one number of a traffic text: lives of some requests each, one after another, with ends between
+    them; or a hundred lives of a request each."""
+    if chance.random() < 0.15:
+        return [part for _ in range(100) for part in (plain_request(chance, names), END)]
+    parts = [END] if chance.random() < 0.1 else []
+    for _ in range(chance.choice((1, 2, 2, 5))):
+        pieces = random_cut(chance, random_text(chance, names, times, chance.choice((1, 2, 3, 6))))
+        parts += (in_lives(chance, pieces) if chance.random() < 0.3 else pieces) + [END]
+    return parts[:-1]
+
+
+def random_records(chance, names, times, form):
+    """The pieces and ends of a recording: tick, connection, and the bytes of a piece; and its tiers, where the format
+    has some."""
     busy = chance.random() < 0.3
     waiting = {}
-    high = [4096, 65_534, 65_535] if version == 2 else []
+    high = [4096, 65_534, 65_535] if form.last > reference.ONE.last else []
     for conn in chance.sample([0, 1, 2, 3, 7, 100, 4094, 4095] + high, chance.choice((1, 1, 2, 3, 4))):
+        if form.again and chance.random() < 0.8:
+            waiting[conn] = lives(chance, names, times)
+            continue
         texts = random_cut(chance, random_text(chance, names, times, chance.choice((1, 2, 3, 6, 12))))
         plain = [plain_request(chance, names) for _ in range(chance.randrange(150))] if busy else []
         waiting[conn] = plain + texts
     records = mixed(chance, waiting)
     if chance.random() < 0.2:
         records.insert(0, (0, 5))
-    return with_tiers(chance, records) if version == 2 else records
+    return with_tiers(chance, records) if form.tiers else records
 
 
 def mixed(chance, waiting):
-    """The pieces that wait at each connection, in an order and at ticks drawn at random, and some ends."""
-    order = [conn for conn, pieces in waiting.items() for _ in pieces]
+    """The pieces and ends that wait at each number, in an order and at ticks drawn at random, and some last ends."""
+    order = [conn for conn, parts in waiting.items() for _ in parts]
     chance.shuffle(order)
     steps = chance.choice(
         ([0, 1], [0, 0, 0, 50, 250], [100, 200, 300], [100, 200, 300], [0, 1000, 5000], [0, 999_999, 10**6, 10**7])
@@ -499,8 +545,9 @@ def mixed(chance, waiting):
     tick, records = chance.choice((0, 0, 1, 10**6, 10**15 - 1000)), []
     for conn in order:
         tick = min(tick + chance.choice(steps), reference.TICK_LIMIT)
-        records.append((tick, conn, waiting[conn].pop(0)))
-        if not waiting[conn] and chance.random() < 0.3:
+        part = waiting[conn].pop(0)
+        records.append((tick, conn) if part is END else (tick, conn, part))
+        if not waiting[conn] and part is not END and chance.random() < 0.3:
             records.append((tick, conn))
     return records
 
@@ -584,9 +631,9 @@ def record_parts(record):
     return [b"end %d %d\n" % (tick, conn), b""]
 
 
-def capture_text(chance, version, start, records, faulty):
-    """The text of a capture; in a faulty one a record may stand where it doesn't belong."""
-    parts = [b"haboob-capture %d %d\n" % (version, start), b""]
+def capture_text(chance, form, start, records, faulty):
+    """The text of a recording; in a faulty one a record may stand where it doesn't belong."""
+    parts = [b"%s%d\n" % (form.begin, start), b""]
     if faulty and records and chance.random() < 0.4:
         records, faulty = records[:], False
         place = chance.randrange(len(records))
@@ -726,12 +773,12 @@ def random_replay(seed, faults=FAULTS):
     files = random_files(chance, start)
     fault = chance.choice(faults)
     times = [start, start + 1, chance.randrange(reference.START_LIMIT)] + [time for _, time, _ in files]
-    version = chance.choice((1, 2))
-    records = random_records(chance, [name for name, _, _ in files], times, version)
+    form = chance.choice(reference.FORMATS)
+    records = random_records(chance, [name for name, _, _ in files], times, form)
     snapshot = snapshot_text(chance, files, fault == "snapshot")
     return (
         snapshot,
-        capture_text(chance, version, start, records, fault == "capture"),
+        capture_text(chance, form, start, records, fault == "capture"),
         random_settings(chance, fault == "settings"),
     )
 
@@ -805,23 +852,25 @@ def heavy_replay(seed, faults=HEAVY_FAULTS):
     names = names * (16 // len(names) + 1) + [b"large.js"]
     files = sorted(files + [(b"large.js", START, chance.randbytes(chance.choice((3000, 30_000, 200_000))))])
     times = [START, START + 1] + [time for _, time, _ in files]
-    version = chance.choice((1, 2))
-    conns = chance.sample(range(reference.LAST_CONNECTION[version] + 1), chance.randint(5, 40))
+    form = chance.choice(reference.FORMATS)
+    conns = chance.sample(range(form.last + 1), chance.randint(5, 40))
     weights = [chance.choice((1, 1, 1, 8)) for _ in conns]
     counts = collections.Counter(chance.choices(conns, weights, k=chance.choice((300, 600, 900, 900))))
     waiting = {conn: heavy_pieces(chance, names, times, count) for conn, count in counts.items()}
+    if form.again:
+        waiting = {conn: in_lives(chance, pieces) for conn, pieces in waiting.items()}
     records = mixed(chance, waiting)
-    records = with_tiers(chance, records) if version == 2 else records
-    capture = capture_text(chance, version, START, records, chance.choice(faults) == "capture")
+    records = with_tiers(chance, records) if form.tiers else records
+    capture = capture_text(chance, form, START, records, chance.choice(faults) == "capture")
     return snapshot_text(chance, files, False), capture, heavy_settings(chance)
 
 
 def faulty_capture(seed):
-    """The text of a capture with a fault, that a seed gives."""
+    """The text of a recording with a fault, that a seed gives."""
     chance = random.Random("a fault, %d" % seed)
-    version = chance.choice((1, 2))
+    form = chance.choice(reference.FORMATS)
     names = [name for name, _, _ in random_files(chance, START)]
-    return capture_text(chance, version, START, random_records(chance, names, [START], version), True)
+    return capture_text(chance, form, START, random_records(chance, names, [START], form), True)
 
 
 def few_connections(count, connections):
@@ -832,43 +881,57 @@ def few_connections(count, connections):
     return [(number, 7 + number % connections, requests[number // connections % 2]) for number in range(count)]
 
 
+def controlled(count):
+    """So many requests of tier 0, and ten fewer of tier 2, each on a life of its own, and so slowly that each has its
+    control before the next."""
+    records = []
+    for number in range(count):
+        records += [(1000 * number, 1, REQUEST), (1000 * number, 1)]
+        if number >= 10:
+            records += [("tier", 0, 2), (1000 * number + 500, 0, REQUEST), (1000 * number + 500, 0)]
+    return records
+
+
 def limit_replays():
-    """Name, files, version, start, records and settings of replays at a limit, and just past it."""
+    """Name, files, format, start, records and settings of replays at a limit, and just past it."""
     records = [(0, 0, REQUEST)]
     head = b"POST / HTTP/1.1\r\nHost: a\r\nContent-Length: %d\r\n\r\n"
     costly = b"[costs]\nfile = 1000000\nkib = 1000000\n"
     costly += b"[policy]\nevery = 1\ntarget = 1000000000000\nlow = 100\nup = 1000000000\n"
+    each = b"[policy]\nevery = 1\nwindow = 1\ndepth = 1000000\n"
     open_policy = b"[policy]\ndepth = 1000000\nrate = 1000000000\nrate_max = 1000000000\n"
     # More bytes of pages than the staged engine holds at a time, and of pieces than it takes into a batch.
     pages = [(b"%d.txt" % number, START, b"%d" % number * 5_000_000) for number in range(4)]
     asked = b"".join(b"GET /%d.txt HTTP/1.1\r\nHost: a\r\n\r\n" % (number % 4) for number in range(20))
-    yield "pages", pages, 1, START, [(0, 0, asked)], open_policy
+    yield "pages", pages, ONE, START, [(0, 0, asked)], open_policy
     bodies = [(number, number % 7, head % 65_000 + b"x" * 65_000) for number in range(300)]
-    yield "batch", FILES, 1, START, bodies, open_policy
+    yield "batch", FILES, ONE, START, bodies, open_policy
     for past in (0, 1):
-        yield "start", FILES, 1, reference.START_LIMIT + past, records, None
-        yield "tick", FILES, 1, START, [(reference.TICK_LIMIT + past, 0, REQUEST)], None
-        yield "connection", FILES, 1, START, [(0, reference.LAST_CONNECTION[1] + past, REQUEST)], None
-        yield "connection", FILES, 2, START, [(0, reference.LAST_CONNECTION[2] + past, REQUEST)], None
-        yield "tier", FILES, 2, START, [("tier", 0, reference.TIERS - 1 + past), (0, 0, REQUEST)], None
-        yield "piece", FILES, 1, START, [(0, 0, REQUEST * 2048 + b"G" * past)], None
-        yield "body", FILES, 1, START, [
+        yield "start", FILES, ONE, reference.START_LIMIT + past, records, None
+        yield "tick", FILES, ONE, START, [(reference.TICK_LIMIT + past, 0, REQUEST)], None
+        for form in reference.FORMATS:
+            yield "connection", FILES, form, START, [(0, form.last + past, REQUEST)], None
+        for form in (reference.TWO, TRAFFIC):
+            yield "tier", FILES, form, START, [("tier", 0, reference.TIERS - 1 + past), (0, 0, REQUEST)], None
+        yield "controls", FILES, TRAFFIC, START, controlled(reference.CONTROLS_SHOWN + past), each
+        yield "piece", FILES, ONE, START, [(0, 0, REQUEST * 2048 + b"G" * past)], None
+        yield "body", FILES, ONE, START, [
             (0, 0, head % (65_536 + past)),
             (1, 0, b"x" * 65_536),
             (2, 0, b"x" * past + REQUEST),
         ], None
-        yield "time", [(b"a.txt", reference.TIME_LIMIT + past, b"")], 1, START, records, None
-        yield "name", [(b"a.txt/" + b"x" * (reference.NAME_LIMIT - 6 + past), 0, b"")], 1, START, records, None
-        yield "length", [(b"a.txt", 0, bytes(reference.FILE_LIMIT + past))], 1, START, records * 2 + [
+        yield "time", [(b"a.txt", reference.TIME_LIMIT + past, b"")], ONE, START, records, None
+        yield "name", [(b"a.txt/" + b"x" * (reference.NAME_LIMIT - 6 + past), 0, b"")], ONE, START, records, None
+        yield "length", [(b"a.txt", 0, bytes(reference.FILE_LIMIT + past))], ONE, START, records * 2 + [
             (10**11, 0, REQUEST)
         ], costly
         yield "files", [
             (b"%05d" % number, 0, b"") for number in range(reference.FILES_LIMIT + past)
-        ], 1, START, records, None
-        yield "settings", FILES, 1, START, records, b"#" * (reference.SETTINGS_LIMIT + past)
+        ], ONE, START, records, None
+        yield "settings", FILES, ONE, START, records, b"#" * (reference.SETTINGS_LIMIT + past)
     # So many bytes are worth more threads than there are connections; of 300 pieces the first batch has 16 MiB.
     for count, connections in (60, 1), (300, 1), (100, 3):
-        yield "few connections", FILES, 1, START, few_connections(count, connections), open_policy
+        yield "few connections", FILES, ONE, START, few_connections(count, connections), open_policy
 
 
 def hundred_thousand():
@@ -933,9 +996,17 @@ def are_words_of(line, words):
     return words.startswith(b"haboob: " + begins) and holds in words and words.find(b"\n") == len(words) - 1
 
 
-def run_upgrade(program, capture):
-    """Status, line on standard error, output and standard output of an upgrade."""
-    return run_program(program, ["upgrade"], {"capture": capture, "output": OLD_REPLIES}, "output")
+def run_upgrade(program, capture, words):
+    """Status, line on standard error, output and standard output of an upgrade with these words besides."""
+    return run_program(program, ["upgrade"] + words, {"capture": capture, "output": OLD_REPLIES}, "output")
+
+
+def with_last_controls(report):
+    """The report of a capture as it is of the same records in a traffic text: of each tier's controls the last."""
+    lines = []
+    for listed, group in itertools.groupby(report.splitlines(True), lambda line: line.startswith(b"control ")):
+        lines += list(group)[-reference.CONTROLS_SHOWN :] if listed else group
+    return b"".join(lines)
 
 
 def difference(parts, wanted, got):
@@ -985,16 +1056,24 @@ class Comparison:
             wanted = 0, b"", text, text, b"words"
             self.judge("settings", name + ", read back", wanted, run_settings(self.program, text))
 
-    def upgrade(self, name, capture):
-        """Upgrades a capture, and the upgraded text once more; what is wanted then stands in the output."""
-        status, line, wanted = reference.upgrade(capture)
-        got = run_upgrade(self.program, capture)
+    def upgrade(self, name, capture, words, to):
+        """Upgrades a recording to a format, and the upgraded text once more; what is wanted then stands in the output.
+        """
+        name = " ".join([name, *words])
+        status, line, wanted = reference.upgrade(capture, to)
+        got = run_upgrade(self.program, capture, words)
         self.judge("upgrade", name, (status, line, wanted, b""), got)
         self.upgrades += 2
-        status, line, _ = reference.upgrade(wanted)
-        again = run_upgrade(self.program, got[2])
+        status, line, _ = reference.upgrade(wanted, to)
+        again = run_upgrade(self.program, got[2], words)
         self.judge("upgrade", name + ", upgraded again", (status, line, wanted, b""), again)
         return got[0], got[2]
+
+    def upgrade_all(self, name, capture):
+        """Upgrades a recording as it can be asked for; gives the texts that aren't the recording's own, of one that has
+        no fault."""
+        texts = {self.upgrade(name, capture, *asked) for asked in UPGRADES}
+        return sorted(text for ended, text in texts if ended == 0 and text != capture)
 
     def compare(self, name, snapshot, capture, settings):
         """Replays and upgrades; what the reference answers to the replay."""
@@ -1003,9 +1082,10 @@ class Comparison:
         self.replay(name, wanted, snapshot, capture, settings)
         self.explain(name, snapshot, capture, settings)
         self.settings(name, settings or b"")
-        ended, upgraded = self.upgrade(name, capture)
-        if ended == 0 and upgraded != capture:
-            self.replay(name + ", upgraded", wanted, snapshot, upgraded, settings)
+        for upgraded in self.upgrade_all(name, capture):
+            again = with_last_controls(report) if upgraded.startswith(TRAFFIC.begin) else report
+            title = "%s, upgraded to %s" % (name, upgraded[:16].decode())
+            self.replay(title, (*wanted[:3], again), snapshot, upgraded, settings)
         return wanted
 
 
@@ -1019,8 +1099,8 @@ def compare_large(comparison, name, settings):
 def compare_limits(comparison, chance):
     """Compares replays at and past the limits."""
     count = 0
-    for name, files, version, start, records, settings in limit_replays():
-        texts = snapshot_text(None, files, False), capture_text(None, version, start, records, False)
+    for name, files, form, start, records, settings in limit_replays():
+        texts = snapshot_text(None, files, False), capture_text(None, form, start, records, False)
         least = 65_536 if name in ("batch", "few connections") else 1
         comparison.compare("limit of " + name, *texts, with_floor(chance, settings, least))
         count += 1
@@ -1038,7 +1118,7 @@ def compare_random(comparison, count, first):
     for seed in range(first, first + count):
         status, *_ = comparison.compare("seed %d" % seed, *random_replay(seed))
         ends[status] = ends.get(status, 0) + 1
-        comparison.upgrade("seed %d, a fault" % seed, faulty_capture(seed))
+        comparison.upgrade_all("seed %d, a fault" % seed, faulty_capture(seed))
     print("%-30s %s" % ("seeds %d to %d" % (first, first + count - 1), ends_text(ends)))
 
 

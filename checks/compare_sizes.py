@@ -20,7 +20,8 @@ OPEN = b"[policy]\ndepth = 1000000\nrate = 1000000000\nrate_max = 1000000000\n"
 # The shortest request.
 SHORTEST = b"G / HTTP/1.1\nHost:\n\n"
 WRONG = b"G / HTTP/1.1\n\n"
-LAST = reference.LAST_CONNECTION[2]
+ONE, TWO, TRAFFIC = reference.FORMATS
+LAST = TWO.last
 
 
 def floor(**keys):
@@ -33,9 +34,15 @@ def pieces(count, connections=50, data=REQUEST):
     return [(number, number % connections, data) for number in range(count)]
 
 
-def with_fault(records, instead):
-    """The text of a capture whose last line is another."""
-    text = capture_text(None, 1, START, records, False)
+def in_turn(count, connections=50, data=REQUEST):
+    """So many lives of one request each, in turn on so many numbers, in a traffic text."""
+    return [record for number in range(count)
+            for record in ((number, number % connections, data), (number, number % connections))]
+
+
+def with_fault(records, instead, form=ONE):
+    """The text of a recording whose last line is another."""
+    text = capture_text(None, form, START, records, False)
     return text[:text.rindex(b"stop")] + instead
 
 
@@ -47,30 +54,41 @@ def late_faults():
                 if count < 100_000 or (batch, name) in ((1_000, "cut"), (65_536, "a wrong record")):
                     settings = OPEN + floor(batch=batch)
                     yield "%s after %d, batch %d" % (name, count, batch), with_fault(pieces(count), instead), settings
+    ended = in_turn(50_000), b"tier 49 4\n", TRAFFIC
+    yield "a wrong tier after 50,000 lives", with_fault(*ended), OPEN + floor(batch=65_536)
 
 
 def sized_captures():
-    """Name, version, records and settings of replays with much of one thing."""
-    yield "10,000 pieces a batch", 1, pieces(20_000), OPEN + floor(batch=10_000)
+    """Name, format, records and settings of replays with much of one thing."""
+    yield "10,000 pieces a batch", ONE, pieces(20_000), OPEN + floor(batch=10_000)
     most = SHORTEST * (reference.PIECE_LIMIT // len(SHORTEST))
-    yield "the most requests of a piece", 1, pieces(3, 2, most), OPEN
-    yield "the most requests of a piece, turned away", 1, pieces(3, 2, most), b"[policy]\nevery = 4096\n"
-    yield "every connection", 2, pieces(LAST + 1, LAST + 1), OPEN + floor(batch=30_000)
-    yield "a fault on every connection", 2, pieces(LAST + 1, LAST + 1, WRONG), OPEN + floor(batch=65_536)
+    yield "the most requests of a piece", ONE, pieces(3, 2, most), OPEN
+    yield "the most requests of a piece, turned away", ONE, pieces(3, 2, most), b"[policy]\nevery = 4096\n"
+    yield "every connection", TWO, pieces(LAST + 1, LAST + 1), OPEN + floor(batch=30_000)
+    yield "a fault on every connection", TWO, pieces(LAST + 1, LAST + 1, WRONG), OPEN + floor(batch=65_536)
     given = [("tier", LAST, 3), ("tier", LAST - 1, 2)]
-    yield "tiers of the last connections", 2, given + [(0, LAST - 1, REQUEST), (1, LAST, REQUEST * 20)], None
+    yield "tiers of the last connections", TWO, given + [(0, LAST - 1, REQUEST), (1, LAST, REQUEST * 20)], None
+    yield "every number twice", TRAFFIC, in_turn(2 * (LAST + 1), LAST + 1), OPEN + floor(batch=65_536)
+    yield "50,000 lives of one number", TRAFFIC, in_turn(50_000, 1), OPEN + floor(batch=30_000)
+    cut = [(0, 1, REQUEST[:20]), (0, 1), (0, 1, REQUEST[20:]), (0, 1)] * 20_000
+    yield "blocks that end with their lives", TRAFFIC, cut, OPEN
+    yield "ends alone", TRAFFIC, [(number, number % 70) for number in range(70_000)], OPEN
+    tiers = [record for number in range(20_000) for record in (
+        ("tier", number % 9, number % 4), (number, number % 9, REQUEST), (number, number % 9))]
+    yield "a tier for each life", TRAFFIC, tiers, OPEN + b"every = 1\nwindow = 1\n"
     byte_by_byte = [(at, at % 2, b"%c" % byte) for at, byte in enumerate(REQUEST * 300)]
-    yield "bytes", 1, [(at, 5, data) for at, _, data in byte_by_byte], OPEN + floor(batch=5_000)
+    yield "bytes", ONE, [(at, 5, data) for at, _, data in byte_by_byte], OPEN + floor(batch=5_000)
     window = b"window = 4096\nevery = 4096\n"
-    yield "the widest window", 1, pieces(20_000), OPEN + window
-    yield "twenty thousand controls", 1, pieces(20_000), OPEN + b"every = 1\nwindow = 1\n"
-    yield "the most workers", 1, pieces(3_000), OPEN + floor(front_workers=[16] * 3, back_workers=[16] * 2)
+    yield "the widest window", ONE, pieces(20_000), OPEN + window
+    yield "twenty thousand controls", ONE, pieces(20_000), OPEN + b"every = 1\nwindow = 1\n"
+    yield "the most workers", ONE, pieces(3_000), OPEN + floor(front_workers=[16] * 3, back_workers=[16] * 2)
     narrow = floor(front_capacities=[1] * 3, back_capacities=[1] * 2, front_workers=[16] * 3, back_workers=[16] * 2)
-    yield "the most workers, room for one", 1, pieces(3_000), OPEN + narrow
-    yield "the longest queues", 1, pieces(9_000), OPEN + floor(front_capacities=[4096] * 3, back_capacities=[4096] * 2)
+    yield "the most workers, room for one", ONE, pieces(3_000), OPEN + narrow
+    longest = floor(front_capacities=[4096] * 3, back_capacities=[4096] * 2)
+    yield "the longest queues", ONE, pieces(9_000), OPEN + longest
     head = b"POST /a.txt HTTP/1.1\r\nHost: a\r\nContent-Length: 65536\r\n\r\n"
     bodies = [(at, at % 500, data) for at, data in enumerate([head] * 500 + [b"x" * 65_536] * 500)]
-    yield "bodies of 500 connections at once", 1, bodies, OPEN
+    yield "bodies of 500 connections at once", ONE, bodies, OPEN
 
 
 def sized_snapshots():
@@ -107,11 +125,11 @@ def main():
     comparison = Comparison(os.path.abspath(sys.argv[1]))
     for name, capture, settings in late_faults():
         comparison.compare(name, compare_replays.SNAPSHOT, capture, settings)
-    for name, version, records, settings in sized_captures():
-        capture = capture_text(None, version, START, records, False)
+    for name, form, records, settings in sized_captures():
+        capture = capture_text(None, form, START, records, False)
         comparison.compare(name, snapshot_text(None, FILES, False), capture, settings)
     for name, files, records, settings in sized_snapshots():
-        capture = capture_text(None, 1, START, records, False)
+        capture = capture_text(None, ONE, START, records, False)
         comparison.compare(name, snapshot_text(None, files, False), capture, settings)
     for name, document in documents():
         comparison.settings(name, document)

@@ -4,8 +4,9 @@ reference.py.
 
     checks/cut_inputs.py PROGRAM
 
-Captures with pipelined requests, a closing one, two connections, an end and a tier, each cut after each of its bytes:
-what is told is the first record that isn't whole, and what stands are the replies to the messages of those before it.
+Captures with pipelined requests, a closing one, two connections, an end and a tier, and a traffic text with four lives
+of a number, each cut after each of its bytes: what is told is the first record that isn't whole, and what stands are
+the replies to the messages of those before it.
 A snapshot cut after each of its bytes. And texts of requests (dates, bodies, faulty lengths, HTTP/1.0, HEAD, an empty
 file) in one piece, and in pieces of one byte at the same tick: the replies are the same. Exits with 1 where anything
 differs.
@@ -34,6 +35,8 @@ CAPTURES = [
     FIRST % 1 + piece(0, GET + CLOSING + GET) + b"stop 1\n",
     FIRST % 1 + piece(9, GET) + piece(2, GET) + b"stop 2\n",
     FIRST % 2 + b"tier 9 1\n" + piece(9, GET[:20]) + b"end 7 2\n" + piece(9, GET[20:], 8) + b"stop 4\n",
+    b"haboob-traffic 1 784111777\n" + b"tier 9 1\n" + piece(9, GET + GET[:20]) + b"end 7 9\n" + piece(9, GET[20:])
+    + b"end 8 9\nend 8 9\ntier 9 2\n" + piece(9, GET, 8) + b"end 8 9\n" + piece(9, GET, 9) + b"stop 10\n",
 ]
 TEXTS = [
     GET + CLOSING + GET,

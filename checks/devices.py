@@ -222,6 +222,8 @@ def tasks():
     yield replay, Task("bundle", [], SNAPSHOT + replay.capture, {"out": lines})
     upgrade = ["upgrade", "--capture", "capture", "--output", "output"]
     yield replay, Task("upgrade", upgrade, b"", {"output": upgraded, "out": b""})
+    traffic = replay.capture.replace(b"haboob-capture 1", b"haboob-traffic 1")
+    yield replay, Task("upgrade to traffic", upgrade + ["--to", "traffic"], b"", {"output": traffic, "out": b""})
 
 
 def run_poorly(program, replay, task, shim, **poor):

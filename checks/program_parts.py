@@ -13,6 +13,7 @@ SECONDS = 20
 SNAPSHOT = b"haboob-snapshot 1\nfile 784111777 5 3\na.txt\nhi\n\nend 1\n"
 REQUEST = b"GET /a.txt HTTP/1.1\r\nHost: a\r\n\r\n"
 HEADER = b"haboob-capture 1 784111777\n"
+HEADER_TRAFFIC = b"haboob-traffic 1 784111777\n"
 PIECE = b"piece 0 0 32\n" + REQUEST + b"\n"
 FIRST_RUN = SNAPSHOT + HEADER + PIECE + b"stop 1\n"
 
@@ -59,10 +60,28 @@ OPEN_REPORT = (
     + b"p50 201\np90 402\np99 402\ncontrols 0\nend\n"
 )
 
+# The same requests as a traffic text: the number's first two connections end, and two more requests come on its third.
+TRAFFIC = (
+    HEADER_TRAFFIC
+    + (PIECE + b"end 0 0\n") * 2
+    + b"".join(b"piece %d 0 32\n" % tick + REQUEST + b"\n" for tick in (999999, 1000000))
+    + b"stop 6\n"
+)
+CLOSING = REQUEST[:-2] + b"Connection: close\r\n\r\n"
+# Four connections on three numbers, at most two at once: 5 bytes come after a message that closes, and twice 5 aren't
+# whole.
+LIVES = (
+    HEADER_TRAFFIC
+    + b"tier 9 1\npiece 5 9 56\n" + CLOSING + b"GET /\npiece 5 3 5\nGET /\nend 6 9\nend 6 3\nend 6 3\n"
+    + b"piece 7 3 32\n" + REQUEST + b"\npiece 1000007 4 5\nGET /\nstop 8\n"
+)
+
 # The files of a folder in which the program is run.
 FILES = {
     "snapshot": SNAPSHOT,
     "capture": CAPTURE,
+    "traffic": TRAFFIC,
+    "lives": LIVES,
     "settings": TIGHT,
     "empty": b"",
     "longer": SNAPSHOT + b".",

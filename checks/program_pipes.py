@@ -13,12 +13,15 @@ import time
 # The folder stays as it is.
 sys.dont_write_bytecode = True
 from program_parts import (
+    CLOSING,
     FIRST_LINE,
     FIRST_RUN,
     HEADER,
+    HEADER_TRAFFIC,
     ONE,
     PIECE,
     REPLIES,
+    REPLY,
     REQUEST,
     SECONDS,
     SNAPSHOT,
@@ -183,6 +186,95 @@ TABLE = [
     ("no output", "pipe", FIRST_RUN, "closed", 6, b"haboob: write: replies\n", None),
 ]
 
+# The reply to a message that closes, and two replies with the last line.
+CLOSED = (REPLY % 0).replace(b" 150\n", b" 169\n").replace(b"GMT\r\n\r\n", b"GMT\r\nConnection: close\r\n\r\n")
+TWO = ONE + REPLY % 1 + b"stop 2\n"
+END = b"end 0 0\n"
+BEGUN = b"piece 0 0 5\nGET /\n"
+
+# Traffic texts, each after a snapshot, from a pipe: the text, the fault ("" without one), and the replies.
+TRAFFIC_TABLE = [
+    ("a traffic text", HEADER_TRAFFIC + PIECE + b"stop 1\n", "", REPLIES),
+    ("no records", HEADER_TRAFFIC + b"stop 0\n", "", FIRST_LINE + b"stop 0\n"),
+    ("a number again", HEADER_TRAFFIC + PIECE + END + PIECE + b"stop 3\n", "", TWO),
+    ("an end twice", HEADER_TRAFFIC + PIECE + END + END + PIECE + b"stop 4\n", "", TWO),
+    ("an end with nothing open", HEADER_TRAFFIC + END + b"end 0 65535\n" + PIECE + b"stop 3\n", "", REPLIES),
+    ("a block that its end cuts", HEADER_TRAFFIC + BEGUN + END + PIECE + b"stop 3\n", "", REPLIES),
+    (
+        "a block whose rest comes after an end",
+        HEADER_TRAFFIC + BEGUN + END + b"piece 0 0 27\n" + REQUEST[5:] + b"\n" + END + PIECE + b"stop 5\n",
+        "",
+        FIRST_LINE
+        + b"reply 0 0 146\nHTTP/1.1 400 Bad Request\r\nDate: Sun, 06 Nov 1994 08:49:37 GMT\r\n"
+        + b"Content-Type: text/plain\r\nContent-Length: 16\r\nConnection: close\r\n\r\n400 Bad Request\n\n"
+        + REPLY % 1
+        + b"stop 2\n",
+    ),
+    (
+        "a message that closes, and a further connection",
+        HEADER_TRAFFIC + b"piece 0 0 83\n" + CLOSING + REQUEST + b"\n" + PIECE + END + PIECE + b"stop 4\n",
+        "",
+        FIRST_LINE + CLOSED + REPLY % 1 + b"stop 2\n",
+    ),
+    (
+        "the last number",
+        HEADER_TRAFFIC + PIECE.replace(b" 0 0 ", b" 0 65535 ") + b"stop 1\n",
+        "",
+        REPLIES.replace(b"reply 0 0 ", b"reply 0 65535 "),
+    ),
+    ("a piece of number 65,536", HEADER_TRAFFIC + b"piece 0 65536 1\nx\n", "record 1: Connection", FIRST_LINE),
+    ("an end of number 65,536", HEADER_TRAFFIC + b"end 0 65536\n", "record 1: Connection", FIRST_LINE),
+    ("a tier of number 65,536", HEADER_TRAFFIC + b"tier 65536 4\n", "record 1: Connection", FIRST_LINE),
+    ("a tier after a piece", HEADER_TRAFFIC + PIECE + b"tier 0 1\n", "record 2: Tier", ONE),
+    (
+        "a tier after a piece of a second life",
+        HEADER_TRAFFIC + PIECE + END + PIECE + b"tier 0 1\n",
+        "record 4: Tier",
+        ONE + REPLY % 1,
+    ),
+    ("a tier after a tier", HEADER_TRAFFIC + b"tier 0 1\ntier 0 1\n", "record 2: Tier", FIRST_LINE),
+    ("a tier above 3", HEADER_TRAFFIC + END + b"tier 0 4\n", "record 2: Tier", FIRST_LINE),
+    ("a tier after an end", HEADER_TRAFFIC + PIECE + END + b"tier 0 1\n" + PIECE + b"stop 4\n", "", TWO),
+    (
+        "tiers of two lives, one without a piece",
+        HEADER_TRAFFIC + b"tier 0 1\n" + END + b"tier 0 2\n" + PIECE + END + b"tier 0 3\n" + PIECE + b"stop 7\n",
+        "",
+        TWO,
+    ),
+    ("a tick lower than that of an end", HEADER_TRAFFIC + b"end 5 0\n" + PIECE, "record 2: Tick", FIRST_LINE),
+    ("an end lower than a piece", HEADER_TRAFFIC + b"piece 5 1 1\nG\n" + END, "record 2: Tick", FIRST_LINE),
+    ("a tick above the limit", HEADER_TRAFFIC + b"end 1000000000000001 65536\n", "record 1: Tick", FIRST_LINE),
+    ("the greatest tick", HEADER_TRAFFIC + b"end 1000000000000000 0\nstop 1\n", "", FIRST_LINE + b"stop 0\n"),
+    ("a piece of no bytes", HEADER_TRAFFIC + b"piece 0 0 0\n\n", "record 1: Length", FIRST_LINE),
+    ("a piece of 65,537 bytes", HEADER_TRAFFIC + b"piece 0 0 65537\n", "record 1: Length", FIRST_LINE),
+    ("no LF after a piece", HEADER_TRAFFIC + b"piece 0 0 1\nGET", "record 1: Length", FIRST_LINE),
+    ("a record of another kind", HEADER_TRAFFIC + PIECE + b"ends 0 0\n", "record 2: Kind", ONE),
+    ("an end with a length", HEADER_TRAFFIC + PIECE + b"end 0 0 1\n", "record 2: Number", ONE),
+    ("another count of records", HEADER_TRAFFIC + PIECE + END + b"stop 1\n", "record 3: Count", ONE),
+    ("a byte after", HEADER_TRAFFIC + PIECE + b"stop 1\n.", "record 2: Trailing", ONE),
+    ("a record after", HEADER_TRAFFIC + PIECE + b"stop 1\n" + END, "record 2: Trailing", ONE),
+    ("a capture of version 3", b"haboob-capture 3 0\nstop 0\n", "record 0: Header", FIRST_LINE),
+    ("a traffic text of version 2", b"haboob-traffic 2 0\nstop 0\n", "record 0: Header", FIRST_LINE),
+    ("a traffic text of version 10", b"haboob-traffic 10 0\nstop 0\n", "record 0: Header", FIRST_LINE),
+    ("a traffic text without a start", b"haboob-traffic 1\nstop 0\n", "record 0: Header", FIRST_LINE),
+    ("a start that is empty", b"haboob-traffic 1 \nstop 0\n", "record 0: Number", FIRST_LINE),
+    ("a start with a nought before it", b"haboob-traffic 1 07\nstop 0\n", "record 0: Number", FIRST_LINE),
+    ("a second start", b"haboob-traffic 1 7 7\nstop 0\n", "record 0: Number", FIRST_LINE),
+    ("the last start", b"haboob-traffic 1 4102444800\nstop 0\n", "", FIRST_LINE + b"stop 0\n"),
+    ("a start above the limit", b"haboob-traffic 1 4102444801\nstop 0\n", "record 0: Header", FIRST_LINE),
+    ("a first line without its LF", b"haboob-traffic 1 " + b"7" * 47, "record 0: Cut", FIRST_LINE),
+    ("a first line of 65 bytes", b"haboob-traffic 1 " + b"7" * 48 + b"\n", "record 0: Header", FIRST_LINE),
+]
+# The parts of a traffic text, and what is written once each is whole.
+PARTS = [
+    (HEADER_TRAFFIC, FIRST_LINE),
+    (PIECE, ONE),
+    (END, ONE),
+    (b"tier 0 1\n", ONE),
+    (PIECE, ONE + REPLY % 1),
+    (b"stop 4\n", TWO),
+]
+
 
 def feed(pipe, data, slowly):
     """Writes the input; the program may end before it has read all of it."""
@@ -294,10 +386,26 @@ def little_memory(program):
     return child.returncode, child.stderr, child.stdout
 
 
+def cut_anywhere():
+    """A traffic text cut after each of its bytes: the part that isn't whole, by its number, and what stands."""
+    text = SNAPSHOT
+    for number, (part, _) in enumerate(PARTS):
+        replies = PARTS[number - 1][1] if number else FIRST_LINE
+        for end in range(len(part)):
+            yield "a traffic text cut in part %d, byte %d" % (number, end), text + part[:end], number, replies
+        text += part
+
+
 def main():
     program = program_of(__doc__)
     report = Report()
-    for name, given, data, taken, status, line, replies in TABLE:
+    rows = TABLE[:]
+    for name, text, fault, replies in TRAFFIC_TABLE:
+        line = b"haboob: capture: %s\n" % fault.encode() if fault else b""
+        rows.append(("traffic: " + name, "pipe", SNAPSHOT + text, "pipe", 5 if fault else 0, line, replies))
+    for name, data, number, replies in cut_anywhere():
+        rows.append((name, "pipe", data, "pipe", 5, b"haboob: capture: record %d: Cut\n" % number, replies))
+    for name, given, data, taken, status, line, replies in rows:
         with tempfile.TemporaryDirectory() as folder:
             got = run(program, given, data, taken, folder)
         report.see_told(name, got[:2] == (status, line) and replies in (None, got[2]), got)

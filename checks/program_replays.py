@@ -6,13 +6,16 @@ import os
 import subprocess
 import sys
 import tempfile
+import threading
 
 # The folder stays as it is.
 sys.dont_write_bytecode = True
 from program_parts import (
+    CLOSING,
     FIRST_LINE,
     GOOD,
     HEADER,
+    HEADER_TRAFFIC,
     OLD,
     OPEN_REPLIES,
     OPEN_REPORT,
@@ -22,6 +25,7 @@ from program_parts import (
     REQUEST,
     SECONDS,
     SNAPSHOT,
+    STATUSES,
     TIGHT_REPLIES,
     TIGHT_REPORT,
     Report,
@@ -41,6 +45,22 @@ RUNS = [
     (
         "the same, the plain engine",
         GOOD + ["--settings", "settings", "--engine", "plain"],
+        0,
+        b"",
+        TIGHT_REPLIES,
+        TIGHT_REPORT,
+    ),
+    (
+        "a traffic text",
+        GOOD[:3] + ["traffic"] + GOOD[4:] + ["--settings", "settings"],
+        0,
+        b"",
+        TIGHT_REPLIES,
+        TIGHT_REPORT,
+    ),
+    (
+        "the same, the plain engine",
+        GOOD[:3] + ["traffic"] + GOOD[4:] + ["--settings", "settings", "--engine", "plain"],
         0,
         b"",
         TIGHT_REPLIES,
@@ -152,10 +172,34 @@ INSPECTION = (
     b"fault TooLong 0\nfault Block 0\nfault Host 0\nfault Coding 0\nfault Length 0\nfault BodySize 0\n"
     b"after-close 0 0\nunfinished 0 0\nbusiest 0 3\nend\n"
 )
+# Three connections on one number; and the four of the other text.
+TRAFFIC_INSPECTION = (
+    INSPECTION.replace(b"version 1\n", b"version traffic\n")
+    .replace(b"records 4\n", b"records 6\n")
+    .replace(b"ends 0\n", b"ends 2\n")
+    .replace(b"connections 1\n", b"connections 3\nopen 1\n")
+)
+LIVES_INSPECTION = (
+    b"haboob-inspection 1\nversion traffic\nstart 784111777\n"
+    b"records 8\npieces 4\nends 3\ntiers 1\nfirst 5\nlast 1000007\n"
+    b"connections 4\nopen 2\nbytes 98\nmessages 2\nrequests 2\n"
+    b"method GET 2\nmethod HEAD 0\nmethod other 0\nprotocol HTTP/1.0 0\nprotocol HTTP/1.1 2\n"
+    b"fault TooLong 0\nfault Block 0\nfault Host 0\nfault Coding 0\nfault Length 0\nfault BodySize 0\n"
+    b"after-close 5 1\nunfinished 10 2\nbusiest 0 2\nend\n"
+)
 TABLE_OF = ["--snapshot", "snapshot", "--capture", "capture", "--messages"]
 GOOD_TABLE = TABLE_OF + ["replies"]
 OTHER_RUNS = [
     ("explain", "a bucket of one token", GOOD_TABLE + ["--settings", "settings"], 0, b"", TIGHT_TABLE, TIGHT_REPORT),
+    (
+        "explain",
+        "a traffic text",
+        TABLE_OF[:3] + ["traffic", "--messages", "replies", "--settings", "settings"],
+        0,
+        b"",
+        TIGHT_TABLE,
+        TIGHT_REPORT,
+    ),
     ("explain", "no file for the table", TABLE_OF[:4], 2, None, OLD, b""),
     ("explain", "an engine", GOOD_TABLE + ["--engine", "plain"], 2, None, OLD, b""),
     (
@@ -199,11 +243,97 @@ OTHER_RUNS = [
     ("explain", "the table into a folder", TABLE_OF + ["folder"], 6, b"haboob: open: messages\n", OLD, b""),
     ("explain", "the table into a full device", TABLE_OF + ["/dev/full"], 6, b"haboob: write: messages\n", OLD, b""),
     ("inspect", "a capture", ["--capture", "capture"], 0, b"", OLD, INSPECTION),
+    ("inspect", "a traffic text", ["--capture", "traffic"], 0, b"", OLD, TRAFFIC_INSPECTION),
+    ("inspect", "a traffic text with all kinds of ends", ["--capture", "lives"], 0, b"", OLD, LIVES_INSPECTION),
     ("inspect", "no capture", [], 2, None, OLD, b""),
     ("inspect", "a file that isn't there", ["--capture", "absent"], 6, b"haboob: open: capture\n", OLD, b""),
     ("inspect", "a folder", ["--capture", "folder"], 6, b"haboob: read: capture\n", OLD, b""),
     ("inspect", "a snapshot", ["--capture", "snapshot"], 5, b"haboob: capture: record 0: Header\n", OLD, b""),
 ]
+
+# A control at each of 1,002 requests, one a second: a service of 201 and a rate that stays. The last control comes
+# after the last offer, and isn't shown.
+SECONDLY = b"[policy]\nevery = 1\nwindow = 1\nsmoothing = 0\nup = 0\ntarget = 1000000000000\n"
+CONTROLS = [b"control %d %d 201 201 1000000\n" % (number + 1, 1_000_000 * number + 201) for number in range(1001)]
+
+
+def controls_report(listed):
+    """The report with these of the controls."""
+    begin = b"haboob-report 1\nmessages 1002\nbypassed 0\nadmitted 1002\nrejected 0\n" + STATUSES % (1002, 0)
+    return begin + b"p50 201\np90 201\np99 201\ncontrols 1001\n" + b"".join(listed) + b"end\n"
+
+
+def report_of_controls(program, engine, header):
+    """Status, line and report of a replay of those requests, each on a connection of its own where that can be."""
+    ended = b"end %d 0\n" if header == HEADER_TRAFFIC else b""
+    records = b"".join(
+        b"piece %d 0 32\n%s\n" % (tick, REQUEST) + (ended % tick if ended else b"")
+        for tick in range(0, 1002 * 10**6, 10**6)
+    )
+    count = 2004 if ended else 1002
+    with tempfile.TemporaryDirectory() as folder:
+        files = {"snapshot": SNAPSHOT, "capture": header + records + b"stop %d\n" % count, "settings": SECONDLY}
+        for name, data in files.items():
+            with open(os.path.join(folder, name), "wb") as file:
+                file.write(data)
+        child = subprocess.run(
+            [os.path.abspath(program), "replay", *GOOD, "--settings", "settings", "--engine", engine],
+            cwd=folder,
+            capture_output=True,
+            timeout=SECONDS,
+        )
+    return child.returncode, child.stderr, child.stdout
+
+# A message that closes and 16,400 pieces after it, of 65,553 bytes each with their lines: 1,075,069,292 bytes in all
+# without the last line. A capture ends at byte 1,073,741,824, within the 16,380th of them, which is record 16381.
+LONG_BEGIN = b"piece 0 0 51\n" + CLOSING + b"\n"
+LONG_PIECE = b"piece 0 0 65536\n" + b"x" * 65_536 + b"\n"
+LONG_COUNT = 16_400
+LONG_TEXTS = [
+    # name, first line, status, line, version, whole records, lines after `connections`, bytes
+    (
+        "a capture of more than a GiB",
+        b"haboob-capture 2 784111777\n",
+        5,
+        b"haboob: capture: record 16381: TooLarge\n",
+        b"2",
+        16_380,
+        b"",
+        1_073_414_195,
+    ),
+    ("a traffic text of more than a GiB", HEADER_TRAFFIC, 0, b"", b"traffic", 16_401, b"open 1\n", 1_074_790_451),
+]
+
+
+def long_inspection(version, records, more, size):
+    """The inspection of one message of 51 bytes and what comes after it, which is all on its connection."""
+    return (
+        b"haboob-inspection 1\nversion %b\nstart 784111777\nrecords %d\npieces %d\nends 0\ntiers 0\nfirst 0\nlast 0\n"
+        b"connections 1\n%bbytes %d\nmessages 1\nrequests 1\n"
+        b"method GET 1\nmethod HEAD 0\nmethod other 0\nprotocol HTTP/1.0 0\nprotocol HTTP/1.1 1\n"
+        b"fault TooLong 0\nfault Block 0\nfault Host 0\nfault Coding 0\nfault Length 0\nfault BodySize 0\n"
+        b"after-close %d 1\nunfinished 0 0\nbusiest 0 1\nend\n"
+    ) % (version, records, records, more, size, size - 51)
+
+
+def inspect_long(program, header):
+    """Status, line and inspection of such a text, which comes over a pipe."""
+    words = [os.path.abspath(program), "inspect", "--capture", "/dev/stdin"]
+    with subprocess.Popen(words, stdin=subprocess.PIPE, stdout=subprocess.PIPE, stderr=subprocess.PIPE) as child:
+        killer = threading.Timer(SECONDS * 6, child.kill)
+        killer.start()
+        try:
+            child.stdin.write(header + LONG_BEGIN)
+            for _ in range(LONG_COUNT):
+                child.stdin.write(LONG_PIECE)
+            child.stdin.write(b"stop %d\n" % (LONG_COUNT + 1))
+            child.stdin.close()
+        except BrokenPipeError:
+            pass
+        child.stdin = None
+        text, line = child.communicate()
+        killer.cancel()
+    return child.returncode, line, text
 
 
 def unwritten_report(program):
@@ -212,11 +342,11 @@ def unwritten_report(program):
         return run_over_files(program, GOOD + ["--settings", "settings"], folder, full)[:3]
 
 
-def too_many(program, engine):
-    """Whether one message more than a replay may have is told, with the replies to all before it and no last line."""
+def too_many(program, engine, header, answered, end):
+    """What is told of one message more than a capture may have; and whether so many are answered, with this end."""
     block = b"piece 0 0 65536\n" + REQUEST * 2048 + b"\n"
     with tempfile.TemporaryDirectory() as folder:
-        files = {"snapshot": SNAPSHOT, "capture": HEADER + block * 512 + PIECE + b"stop 513\n"}
+        files = {"snapshot": SNAPSHOT, "capture": header + block * 512 + PIECE + b"stop 513\n"}
         for name, data in files.items():
             with open(os.path.join(folder, name), "wb") as file:
                 file.write(data)
@@ -228,10 +358,10 @@ def too_many(program, engine):
         )
         with open(os.path.join(folder, "replies"), "rb") as file:
             good = file.read(len(FIRST_LINE)) == FIRST_LINE
-            for number in range(1_048_576):
+            for number in range(answered):
                 reply = REPLY % number if number < 100 else REJECTED % number
                 good = good and file.read(len(reply)) == reply
-            good = good and not file.read(1)
+            good = good and file.read() == end
     return good, (child.returncode, child.stderr, child.stdout)
 
 
@@ -243,12 +373,25 @@ def main():
             got = run_over_files(program, words, folder, subprocess.PIPE, verb)
         good = (got[0], got[2], got[3]) == (status, replies, text) and is_told(got[1], line)
         report.see_told(verb + ": " + name, good, got)
+    for name, header, status, line, version, records, more, size in LONG_TEXTS:
+        got = inspect_long(program, header)
+        good = got == (status, line, long_inspection(version, records, more, size))
+        report.see_told("inspect: " + name, good, got)
     got = unwritten_report(program)
     good = got == (6, b"haboob: write: report\n", TIGHT_REPLIES)
     report.see_told("replay: a report into a full device", good, got)
     for engine in ("plain", "staged"):
-        good, got = too_many(program, engine)
+        got = report_of_controls(program, engine, HEADER)
+        good = got == (0, b"", controls_report(CONTROLS))
+        report.see("replay: all controls of a capture, " + engine, good, got)
+        got = report_of_controls(program, engine, HEADER_TRAFFIC)
+        good = got == (0, b"", controls_report(CONTROLS[-1000:]))
+        report.see("replay: the last controls of a traffic text, " + engine, good, got)
+        good, got = too_many(program, engine, HEADER, 1_048_576, b"")
         report.see_told("replay: too many messages, " + engine, good and got == TOO_MANY, got)
+        good, got = too_many(program, engine, HEADER_TRAFFIC, 1_048_577, b"stop 1048577\n")
+        good = good and got[:2] == (0, b"") and got[2].startswith(b"haboob-report 1\nmessages 1048577\n")
+        report.see_told("replay: as many in a traffic text, " + engine, good, (*got[:2], got[2][:40]))
     return report.end()
 
 

@@ -1,7 +1,7 @@
 #!/usr/bin/env python3
 """Runs each command of the program with words that are no text, with words that hold characters which act on a
-terminal, and with inputs that aren't there: the first that is absent is told, in the order settings, snapshot, capture,
-and no new output stays behind.
+terminal, with formats that there aren't, and with inputs that aren't there: the first that is absent is told, in the
+order settings, snapshot, capture, and no new output stays behind.
 """
 import itertools
 import os
@@ -37,6 +37,9 @@ WRONG_WORDS = [
     ["snapshot", "--skip=%s"],
     ["settings", "--settings", "a", "--settings%s"],
 ]
+
+# What `haboob upgrade --to` doesn't take, whether the capture is there or not.
+WRONG_FORMATS = ["1", "3", "02", "2 ", "Traffic", "traffi", "traffic 1", "haboob-traffic", "", "-1", "2,traffic"]
 
 # The inputs of each command, in the order in which they are told, and its output.
 COMMANDS = [
@@ -93,6 +96,11 @@ def main():
         words = WRONG_WORDS[number % len(WRONG_WORDS)]
         good, got = tells_shown(program, words, character)
         report.see_told("shown: U+%04X in %s" % (ord(character), " ".join(words)), good, got)
+    for word in WRONG_FORMATS:
+        for capture in ("capture", "absent"):
+            got = run(program, ["upgrade", "--capture", capture, "--output", "new", "--to=" + word])
+            wanted = 2, b"haboob: format\n", b"", set()
+            report.see_told("upgrade to %r of %s" % (word, capture), got == wanted, got)
     for verb, inputs, output in COMMANDS:
         for count in range(1, len(inputs) + 1):
             for absent in itertools.combinations(inputs, count):

@@ -1,5 +1,6 @@
 #!/usr/bin/env python3
-"""Replays a capture as docs/RULES.md and docs/FORMATS.md say, slowly and plainly, to compare the program with.
+"""Replays a capture or a traffic text as docs/RULES.md and docs/FORMATS.md say, slowly and plainly, to compare the
+program with.
 
     checks/reference.py [--replies FILE | --messages FILE] SNAPSHOT CAPTURE [SETTINGS]
 
@@ -29,19 +30,27 @@ LINE_LIMIT = 64
 TIME_LIMIT = 253_402_300_799
 START_LIMIT = 4_102_444_800
 TICK_LIMIT = 10**15
-LAST_CONNECTION = {1: 4095, 2: 65_535}
 TIERS = 4
 PIECE_LIMIT = 65_536
 FILE_LIMIT = 16_777_216
 FILES_LIMIT = 65_536
 NAME_LIMIT = 1024
-MESSAGES_LIMIT = 1_048_576
+CONTROLS_SHOWN = 1000
 BLOCK_LIMIT = 8192
 FIELDS_LIMIT = 64
 BODY_LIMIT = 65_536
 SETTINGS_LIMIT = 65_536
 TICKS_IN_SECOND = 10**6
 UNITS_IN_TOKEN = 10**9
+
+# The formats of recordings (docs/FORMATS.md, Capture and Traffic): how the first line begins, what an inspection calls
+# the version, the last number of a connection, whether records give tiers, whether a number is free again after its
+# end, the most bytes, and the most messages that are answered.
+Format = collections.namedtuple("Format", "begin version last tiers again bytes messages")
+ONE = Format(b"haboob-capture 1 ", "1", 4095, False, False, TEXT_LIMIT, 1_048_576)
+TWO = Format(b"haboob-capture 2 ", "2", 65_535, True, False, TEXT_LIMIT, 1_048_576)
+TRAFFIC = Format(b"haboob-traffic 1 ", "traffic", 65_535, True, True, 1_125_899_906_842_624, 536_870_912)
+FORMATS = [ONE, TWO, TRAFFIC]
 
 HEADING = "number,connection,tick,tier,status,decision,service,credit,rate,start,finish,waited,method,target"
 
@@ -208,7 +217,12 @@ class Refused(Exception):
 
 
 File = collections.namedtuple("File", "name time body")
-Piece = collections.namedtuple("Piece", "tick conn body tier")
+# A record: of an end there is neither body nor tier, of a tier no body. The life tells how many ends its connection's
+# number had before.
+Piece = collections.namedtuple("Piece", "tick conn life body tier")
+# What is read of a recording: the format and the start (None where the first line has a fault), the records before the
+# first fault, and that fault or None.
+Recording = collections.namedtuple("Recording", "format start records fault")
 Bad = collections.namedtuple("Bad", "kind")
 Request = collections.namedtuple("Request", "method target minor link modified_since length")
 Control = collections.namedtuple("Control", "instant percentile smoothed rate")
@@ -217,10 +231,10 @@ Control = collections.namedtuple("Control", "instant percentile smoothed rate")
 class Text:
     """A snapshot's or a capture's text, read from the front (docs/FORMATS.md, Formats)."""
 
-    def __init__(self, data):
+    def __init__(self, data, limit):
         self.data = data
         self.at = 0
-        self.end = min(len(data), TEXT_LIMIT)
+        self.end = min(len(data), limit)
         self.entry = 0
 
     def need(self, condition):
@@ -308,7 +322,7 @@ def read_files(text, files):
 
 def read_snapshot(data):
     """The files of a snapshot by their names (docs/FORMATS.md, Snapshot)."""
-    text, files = Text(data), {}
+    text, files = Text(data, TEXT_LIMIT), {}
     try:
         read_files(text, files)
     except Refused as kind:
@@ -317,27 +331,33 @@ def read_snapshot(data):
 
 
 def read_start(text):
-    """The version and the start, from the first line of a capture (docs/FORMATS.md, Capture)."""
+    """The format and the start, from the first line (docs/FORMATS.md, Capture and Traffic)."""
     line = text.line("Header")
-    refuse_unless(line.startswith((b"haboob-capture 1 ", b"haboob-capture 2 ")), "Header")
+    form = next((form for form in FORMATS if line.startswith(form.begin)), None)
+    refuse_unless(form is not None, "Header")
     _, start = numbers(line, 2)
     refuse_unless(start <= START_LIMIT, "Header")
-    return int(line[15:16]), start
+    return form, start
 
 
 class Connections:
-    """What the records of a capture have said of its connections so far (docs/FORMATS.md, Capture)."""
+    """What the records have said of the connections so far (docs/FORMATS.md, Capture and Traffic)."""
 
-    def __init__(self, version):
-        self.last = LAST_CONNECTION[version]
+    def __init__(self, form):
+        self.format = form
         self.tick = 0
-        self.ended = set()
+        self.ends = collections.Counter()
         self.tiers = {}
 
     def check(self, conn):
-        """A record of this connection may come."""
-        refuse_unless(conn <= self.last, "Connection")
-        refuse_unless(conn not in self.ended, "Ended")
+        """A record of this number may come."""
+        refuse_unless(conn <= self.format.last, "Connection")
+        refuse_unless(self.format.again or conn not in self.ends, "Ended")
+
+    def end(self, conn):
+        """The number's connection is closed: what comes of the number later is of another life."""
+        self.ends[conn] += 1
+        self.tiers.pop(conn, None)
 
 
 def read_tier(line, connections):
@@ -346,53 +366,54 @@ def read_tier(line, connections):
     connections.check(conn)
     refuse_unless(tier < TIERS and conn not in connections.tiers, "Tier")
     connections.tiers[conn] = tier
-    return Piece(connections.tick, conn, b"", tier)
+    return Piece(connections.tick, conn, connections.ends[conn], b"", tier)
 
 
 def read_record(text, line, connections):
-    """A piece, or an end, of a capture (docs/FORMATS.md, Capture)."""
+    """A piece, or an end (docs/FORMATS.md, Capture)."""
     tick, conn, *lengths = numbers(line, 3 if line.startswith(b"piece ") else 2)
     refuse_unless(connections.tick <= tick <= TICK_LIMIT, "Tick")
     connections.check(conn)
-    connections.tick = tick
+    connections.tick, life = tick, connections.ends[conn]
     if not lengths:
-        connections.ended.add(conn)
-        return Piece(tick, conn, b"", None)
+        connections.end(conn)
+        return Piece(tick, conn, life, b"", None)
     refuse_unless(1 <= lengths[0] <= PIECE_LIMIT, "Length")
     body, whole = text.owed(lengths[0])
     refuse_unless(whole, "Length")
-    return Piece(tick, conn, body, connections.tiers.setdefault(conn, 0))
+    return Piece(tick, conn, life, body, connections.tiers.setdefault(conn, 0))
 
 
-def read_pieces(text, version, pieces):
-    """The records of a capture, up to its end or first fault (docs/FORMATS.md, Capture)."""
-    connections = Connections(version)
+def read_pieces(text, form, pieces):
+    """The records, up to the end or the first fault (docs/FORMATS.md, Capture)."""
+    connections = Connections(form)
     while True:
         text.entry += 1
         line = text.line("Kind")
         if line.startswith(b"stop "):
             return text.finish(numbers(line, 1))
-        if version == 2 and line.startswith(b"tier "):
+        if form.tiers and line.startswith(b"tier "):
             pieces.append(read_tier(line, connections))
             continue
         refuse_unless(line.startswith((b"piece ", b"end ")), "Kind")
         pieces.append(read_record(text, line, connections))
 
 
-def read_capture(data):
-    """The start of a capture (None where its first line has a fault), the records before its first fault, and that
-    fault (docs/FORMATS.md, Capture)."""
-    text, start, pieces = Text(data), None, []
+def read_recording(data):
+    """A capture, or a traffic text (docs/FORMATS.md, Capture and Traffic). No format's limit is met in the first line,
+    which has at most 64 bytes."""
+    text, form, start, pieces = Text(data, len(data)), None, None, []
     try:
-        version, start = read_start(text)
-        read_pieces(text, version, pieces)
+        form, start = read_start(text)
+        text.end = min(len(data), form.bytes)
+        read_pieces(text, form, pieces)
     except Refused as kind:
-        return start, pieces, Fault(5, "capture: record %d: %s" % (text.entry, kind))
-    return start, pieces, None
+        return Recording(form, start, pieces, Fault(5, "capture: record %d: %s" % (text.entry, kind)))
+    return Recording(form, start, pieces, None)
 
 
 def record_text(record):
-    """A record of a capture as it stands in version 2 (docs/FORMATS.md, Capture)."""
+    """A record as it stands in version 2 and in a traffic text (docs/FORMATS.md, Capture)."""
     if record.body:
         return b"piece %d %d %d\n%s\n" % (record.tick, record.conn, len(record.body), record.body)
     if record.tier is not None:
@@ -400,12 +421,14 @@ def record_text(record):
     return b"end %d %d\n" % (record.tick, record.conn)
 
 
-def upgrade(capture):
-    """Status, line of a fault and output of an upgrade (docs/FORMATS.md, Capture)."""
-    start, records, fault = read_capture(capture)
-    if start is None:
+def upgrade(capture, to=TWO):
+    """Status, line of a fault and output of an upgrade to a format, or to the text's own where that is a later one
+    (docs/FORMATS.md, Capture and Traffic)."""
+    form, start, records, fault = read_recording(capture)
+    if form is None:
         return fault.status, fault.line, b""
-    output = b"haboob-capture 2 %d\n" % start + b"".join(map(record_text, records))
+    form = max(form, to, key=FORMATS.index)
+    output = b"%s%d\n" % (form.begin, start) + b"".join(map(record_text, records))
     if fault:
         return fault.status, fault.line, output
     return 0, b"", output + b"stop %d\n" % len(records)
@@ -417,10 +440,23 @@ def rests(records):
     texts = collections.defaultdict(bytes)
     for record in records:
         if record.body:
-            texts[record.conn] += record.body
+            texts[record.conn, record.life] += record.body
     for text in texts.values():
         end, last = ([(0, None)] + messages_of(text))[-1]
         yield len(text), len(text) - end, isinstance(last, Bad) or (last is not None and last.link == b"close")
+
+
+def most_open(records):
+    """The most connections that were open at once, each from its first piece to its end (docs/FORMATS.md,
+    Inspection)."""
+    now, most = set(), 0
+    for record in records:
+        if record.body:
+            now.add(record.conn)
+        elif record.tier is None:
+            now.discard(record.conn)
+        most = max(most, len(now))
+    return most
 
 
 def busiest(arrived):
@@ -430,7 +466,7 @@ def busiest(arrived):
     return min(((-count, second) for second, count in counts.items()), default=(0, 0))
 
 
-def inspection_lines(version, start, records):
+def inspection_lines(form, start, records):
     """The lines of an inspection between the first and the last (docs/FORMATS.md, Inspection)."""
     pieces = [record for record in records if record.body]
     tiers = [record for record in records if not record.body and record.tier is not None]
@@ -443,7 +479,7 @@ def inspection_lines(version, start, records):
     unfinished = [rest for _, rest, closed in held if rest and not closed]
     count, second = busiest(arrived)
     methods = [request.method if request.method in (b"GET", b"HEAD") else b"other" for request in requests]
-    yield "version %d" % version
+    yield "version %s" % form.version
     yield "start %d" % start
     yield "records %d" % len(records)
     yield "pieces %d" % len(pieces)
@@ -452,6 +488,8 @@ def inspection_lines(version, start, records):
     yield "first %s" % (ticks[0] if ticks else "-")
     yield "last %s" % (ticks[-1] if ticks else "-")
     yield "connections %d" % len(held)
+    if form.again:
+        yield "open %d" % most_open(records)
     yield "bytes %d" % sum(size for size, _, _ in held)
     yield "messages %d" % len(messages)
     yield "requests %d" % len(requests)
@@ -465,10 +503,10 @@ def inspection_lines(version, start, records):
 
 def inspect(capture):
     """Status, line of a fault and text of an inspection (docs/FORMATS.md, Inspection)."""
-    start, records, fault = read_capture(capture)
-    if start is None:
+    form, start, records, fault = read_recording(capture)
+    if form is None:
         return fault.status, fault.line, b""
-    lines = ["haboob-inspection 1", *inspection_lines(int(capture[15:16]), start, records), "end"]
+    lines = ["haboob-inspection 1", *inspection_lines(form, start, records), "end"]
     text = "".join(line + "\n" for line in lines).encode()
     return (fault.status, fault.line, text) if fault else (0, b"", text)
 
@@ -577,7 +615,7 @@ def arrivals(pieces):
     """Piece and message of all messages in the order of their numbers (docs/RULES.md, Arrival)."""
     of_connection = {}
     for record, piece in enumerate(pieces):
-        of_connection.setdefault(piece.conn, []).append(record)
+        of_connection.setdefault((piece.conn, piece.life), []).append(record)
     found = []
     for records in of_connection.values():
         ends = list(itertools.accumulate(len(pieces[record].body) for record in records))
@@ -819,8 +857,8 @@ def rows(files, settings, arrived, admission):
         yield status, ",".join(map(str, [number, piece.conn, piece.tick, piece.tier, status] + fields))
 
 
-def report_text(arrived, statuses, admission):
-    """The report of a run (docs/FORMATS.md, Report)."""
+def report_text(form, arrived, statuses, admission):
+    """The report of a run (docs/FORMATS.md, Report): of a traffic text the last controls of each tier are listed."""
     offered = [not isinstance(message, Bad) for _, message in arrived]
     rejected = [number for number, status in enumerate(statuses) if status == 503]
     samples = admission.samples
@@ -834,7 +872,8 @@ def report_text(arrived, statuses, admission):
             lines.append("controls %d" % len(controls))
         elif tier.samples or tier.rejected:
             lines.append("tier %d %d %d %d" % (number, len(tier.samples), tier.rejected, len(controls)))
-        lines += ["control %d %d %d %d %d" % (place, *control) for place, control in enumerate(controls, 1)]
+        listed = list(enumerate(controls, 1))[-CONTROLS_SHOWN:] if form.again else enumerate(controls, 1)
+        lines += ["control %d %d %d %d %d" % (place, *control) for place, control in listed]
     lines += ["reject %d" % number for number in rejected]
     return "".join(line + "\n" for line in lines + ["end"]).encode()
 
@@ -949,15 +988,15 @@ def run(tell, snapshot, capture, settings):
         settings = read_settings(settings)
         files = read_snapshot(snapshot)
         text = b""
-        start, pieces, fault = read_capture(capture)
+        form, start, pieces, fault = read_recording(capture)
         arrived = arrivals(pieces)
-        if len(arrived) > MESSAGES_LIMIT:
-            arrived, fault = arrived[:MESSAGES_LIMIT], Fault(5, "capture: message %d: TooMany" % MESSAGES_LIMIT)
+        if form and len(arrived) > form.messages:
+            arrived, fault = arrived[:form.messages], Fault(5, "capture: message %d: TooMany" % form.messages)
         admission = Admission(settings)
         statuses, text = tell(files, settings, start, arrived, admission, fault)
         if fault:
             raise fault
-        return 0, b"", text, report_text(arrived, statuses, admission)
+        return 0, b"", text, report_text(form, arrived, statuses, admission)
     except Fault as fault:
         return fault.status, fault.line, text, b""
 

@@ -28,10 +28,10 @@ REASONS = {
     ("paths", "make_slots"): "more slots than a number counts; the index stays empty, and no call answers so",
     ("program", "unwritten"): "the writer has no other fault left, by its contract",
     ("settings", "MEMORY"): "the name of this answer",
+    ("stage_graph", "after"): "more numbers than 64 bits count can't be passed to the gate",
+    ("stage_graph", "ended"): "no thread could be started, which counts as that",
     ("stage_graph", "items_of"): "a lot of which a step was refused memory came back without its items",
     ("stage_graph", "open"): "a sum of events that no 64 bits hold can't be reserved",
-    ("stage_graph", "pool_with"): "a thread could not be started, which counts as that",
-    ("stage_graph", "run_with"): "no thread could be started, which counts as that",
 }
 
 

@@ -32,18 +32,24 @@ TIGHT = os.path.join(TOP, "examples", "tight.toml")
 TIERS = os.path.join(TOP, "examples", "tiers.capture")
 FIRST_RUN = os.path.join(TOP, "crates", "haboob", "stdin")
 CUT = "cut"  # a capture without its last line, in the folder of the runs
+LIVES = "lives"  # a traffic text, there too
 REPLAY = ["replay", "--snapshot", SITE, "--capture", BURST, "--replies", "written"]
+REPLAY_LIVES = ["replay", "--snapshot", SITE, "--capture", LIVES, "--replies", "written", "--settings", TIGHT]
 
 # The words of each run, and its standard input.
 RUNS = [
     ("the first run", [], FIRST_RUN),
     ("a replay on one thread", REPLAY + ["--settings", TIGHT, "--engine", "plain"], os.devnull),
     ("a replay by the staged engine", REPLAY + ["--settings", TIGHT], os.devnull),
+    ("a traffic text on one thread", REPLAY_LIVES + ["--engine", "plain"], os.devnull),
+    ("a traffic text by the staged engine", REPLAY_LIVES, os.devnull),
+    ("an inspection of a traffic text", ["inspect", "--capture", LIVES], os.devnull),
     ("a fault of the settings", REPLAY + ["--settings", SITE], os.devnull),
     ("a fault of the capture", ["replay", "--snapshot", SITE, "--capture", SITE, "--replies", "written"], os.devnull),
     ("too few words", ["replay", "--snapshot", SITE], os.devnull),
     ("an upgrade from version 1", ["upgrade", "--capture", BURST, "--output", "written"], os.devnull),
     ("an upgrade from version 2", ["upgrade", "--capture", TIERS, "--output", "written"], os.devnull),
+    ("an upgrade to traffic", ["upgrade", "--capture", TIERS, "--output", "written", "--to", "traffic"], os.devnull),
     ("an upgrade with a fault", ["upgrade", "--capture", CUT, "--output", "written"], os.devnull),
     ("an upgrade, too few words", ["upgrade", "--capture", BURST], os.devnull),
     ("a snapshot", ["snapshot", "--folder", "tree/b", "--output", "written"], os.devnull),
@@ -148,6 +154,18 @@ def make_tree(tree):
     os.symlink("a", os.path.join(tree, "c"))
 
 
+def lives(count):
+    """A traffic text of so many connections in turn on four numbers, each with a tier, a request and half of another,
+    which its end cuts."""
+    get = b"GET / HTTP/1.1\r\nHost: a\r\n\r\n"
+    text = b"haboob-traffic 1 784111777\n"
+    for tick in range(count):
+        conn, data = tick % 4, get + get[:9]
+        text += b"tier %d %d\npiece %d %d %d\n%b\n" % (conn, tick % 3, tick, conn, len(data), data)
+        text += b"end %d %d\n" % (tick, conn)
+    return text + b"stop %d\n" % (3 * count)
+
+
 def make_shared(shared):
     """The files of a replay that is worth threads: the large batch of devices.py, which sees that some are started."""
     os.mkdir(shared)
@@ -172,6 +190,8 @@ def main():
         make_tree(os.path.join(folder, "tree"))
         with open(TIERS, "rb") as whole, open(os.path.join(folder, CUT), "wb") as cut:
             cut.writelines(whole.readlines()[:-1])
+        with open(os.path.join(folder, LIVES), "wb") as file:
+            file.write(lives(60))
         make_shared(os.path.join(folder, "shared"))
         wrong = sum(sweep(program, *it, folder, refuser) for it in RUNS)
         wrong += sweep(program, *SHARED_RUN, folder, refuser, STRIDE)

@@ -1,5 +1,6 @@
 #!/usr/bin/python3
-"""Turns access logs (nginx's or Apache's, by formats with names or a given one) into a capture that Haboob replays.
+"""Turns access logs (nginx's or Apache's, by formats with names or a given one) into a capture or a traffic text that
+Haboob replays.
 
 Exits with 0; with 1 at a fault, which is one line on standard error and leaves an older output as it was; with 2 where
 the words are wrong; with 130 at Ctrl-C.
@@ -33,7 +34,7 @@ What a log can't tell, and what stands in its place:
   bodies        none: a POST comes without its body and without Content-Length
   connections   each request is one of its own, for --sample too. They get the numbers 0 to 65,535 in
                 turn; so in a long log several requests of one tier follow one another under
-                one number, as over a connection that is kept alive.
+                one number, as over a connection that is kept alive, in a traffic text too.
   time          nginx logs when the answer was sent: with $request_time the request came so much
                 earlier, and is put there. Apache's %t is when the request came (with end: it is the
                 answer's, and %D or %T is taken off). Without $msec (%{msec}t, %{usec}t) the log has
@@ -56,10 +57,10 @@ Left out, and counted: lines of another format; lines whose time stands alone, f
 lines near them, or whose request took more than a day; lines whose request isn't a method, a target
 of visible ASCII characters and a version, or whose head is longer than 8,192 bytes (the answer would
 be 400, and the connection closed); fields with control characters. More than a hundredth of the
-lines in another format, more than a tenth left out in all, or more than a capture holds (1,048,576
-messages, 1 GiB), is a fault; --lenient writes the capture all the same.
+lines in another format, more than a tenth left out in all, or more than what is written has room for,
+is a fault; --lenient writes the capture all the same.
 
-""" + capture_writer.SAMPLE_EXPLAINED + capture_writer.TIERS_EXPLAINED + """\
+""" + capture_writer.FORMATS_EXPLAINED + capture_writer.SAMPLE_EXPLAINED + capture_writer.TIERS_EXPLAINED + """\
 The client's address is $remote_addr, which the format then needs.
 
 examples:
@@ -191,7 +192,7 @@ class Conversion:
             left_out[SAMPLED] += 1
             return
         if self.writer is None:
-            self.writer = capture_writer.CaptureWriter(file, time)
+            self.writer = capture_writer.CaptureWriter(file, time, options.format)
         tick = time - self.writer.first
         self.writer.message(tick, self.number_for(tick, tier), head)
 

@@ -1,5 +1,5 @@
 #!/usr/bin/python3
-"""Turns recorded packets (pcap, pcapng) of plain HTTP into a capture that Haboob replays.
+"""Turns recorded packets (pcap, pcapng) of plain HTTP into a capture or a traffic text that Haboob replays.
 
 Exits with 0; with 1 at a fault, which is one line on standard error and leaves an older output as it was; with 2 where
 the words are wrong; with 130 at Ctrl-C.
@@ -29,8 +29,8 @@ numbers. Bytes that are out of order wait for those before them, and come with t
 twice count once, also where the connection has ended. Where bytes are missing for good (the server
 has acknowledged them, the connection or the file ends, or 1 MiB waits), the connection ends there.
 Ticks are microseconds from the first packet to a server port. A connection gets the next number when
-its first bytes come, and ends at the client's FIN or at a RST from either side. Only packets to the
-server are needed.
+its first bytes come (in a traffic text the smallest that no open one has), and ends at the client's
+FIN or at a RST from either side. Only packets to the server are needed.
 
 Files may be several, whose packets are taken by their times, and compressed (gzip, bzip2, xz;
 Zstandard where Python reads it); - is standard input.
@@ -41,10 +41,10 @@ begin isn't there what comes before a packet that begins with a request line; fr
 
 It is a fault, and --lenient writes the capture of what is there, where packets were cut when they
 were recorded (each connection ends at its first cut packet: record whole ones, tcpdump -s 0); where
-a file is cut or broken (it is taken up to that place); where there is more than a capture holds
-(65,536 connections, 1,048,576 messages, 1 GiB).
+a file is cut or broken (it is taken up to that place); where there is more than what is written has
+room for.
 
-""" + capture_writer.SAMPLE_EXPLAINED + capture_writer.TIERS_EXPLAINED + """\
+""" + capture_writer.FORMATS_EXPLAINED + capture_writer.SAMPLE_EXPLAINED + capture_writer.TIERS_EXPLAINED + """\
 A connection's target is that of its first request; where the request line isn't whole in the
 connection's first bytes, no pattern of a target fits, and the connection is counted.
 
@@ -148,7 +148,7 @@ class Conversion:
         self.last = time
         if segment.destination[1] in self.ports:
             if self.writer is None and time >= self.options.begin:
-                self.writer = capture_writer.CaptureWriter(self.file, time)
+                self.writer = capture_writer.CaptureWriter(self.file, time, self.options.format)
             self.from_client(time, segment)
         elif segment.source[1] in self.ports:
             self.from_server(time, segment)

@@ -130,7 +130,8 @@ def draw_words(drawn, tool):
         words += ["--log-format=" + form]
     for option, values in (("--from", TIMES), ("--to", TIMES), ("--sample", ("2", "0", "7")),
                            ("--tier", ("/=1", "127.0.0.0/8=2", "~a(=3", "~[0-9]$=3")),
-                           ("--without", ("Referer", "If-None-Match", "a b"))):
+                           ("--without", ("Referer", "If-None-Match", "a b")),
+                           ("--format", ("2", "traffic", "1"))):
         if drawn.random() < 0.06:
             words.append(option + "=" + drawn.choice(values))
     return words + ["--lenient"] * (drawn.random() < 0.6)

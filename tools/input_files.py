@@ -24,7 +24,8 @@ if zstd:
     OPENERS[ZSTANDARD] = zstd.open
     DAMAGES += (zstd.ZstdError,)
 PACKETS = (b"\xd4\xc3\xb2\xa1", b"\xa1\xb2\xc3\xd4", b"\x4d\x3c\xb2\xa1", b"\xa1\xb2\x3c\x4d", b"\x0a\x0d\x0d\x0a")
-CAPTURE = b"haboob-capture "
+CAPTURE, TRAFFIC = b"haboob-capture ", b"haboob-traffic "
+RECORDINGS = (CAPTURE, TRAFFIC)
 
 
 class Input:
@@ -78,8 +79,8 @@ def kind_of(first):
     """What the first bytes of a file are, and which tool reads it, where that can be told; else None."""
     if first.startswith(PACKETS):
         return "recorded packets, which tools/capture_from_pcap.py reads"
-    if first.startswith(CAPTURE):
-        return "a capture already"
+    if first.startswith(RECORDINGS):
+        return "a capture already" if first.startswith(CAPTURE) else "a traffic text already"
     if first and b"\0" not in first and b"\n" in first:
         return "text; if it is an access log, tools/capture_from_log.py reads it"
     return None

@@ -294,7 +294,7 @@ class LogReader:
 
 def nothing_fits(one, form):
     """What is said where no line of an input fits the format of a log."""
-    if one.first.startswith(input_files.CAPTURE):
+    if one.first.startswith(input_files.RECORDINGS):
         return "this is a capture, which tells no answers; give the packets or the log that it was made of"
     line = one.first.split(b"\n", 1)[0].rstrip(b"\r")
     return "no line fits the format %s (line 1 does in its first %d bytes); --log-format takes another" % (

@@ -517,7 +517,7 @@ def kinds_in_words(paths):
     for path in paths:
         with open(path, "rb") as file:
             first = file.read(input_files.FIRST_BYTES)
-        kind = None if first.startswith(input_files.CAPTURE) else input_files.kind_of(first)
+        kind = None if first.startswith(input_files.RECORDINGS) else input_files.kind_of(first)
         words += "; %s is %s" % (path, kind) if kind else ""
     return words
 

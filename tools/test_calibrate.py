@@ -390,8 +390,9 @@ class Faults(Base):
         self.check(log.replace(b".", b"_"), 1, none % log.index(b"\n"))
         self.check((DATA / "served" / "apache_combined.log").read_bytes(), 1, none % 130)  # all of it
         capture = (TOOLS.parent / "examples" / "burst.capture").read_bytes()
-        self.check(capture, 1, "input: this is a capture, which tells no answers; give the packets or the log that it "
-                   "was made of")
+        for recording in (capture, capture.replace(b"haboob-capture 1", b"haboob-traffic 1")):
+            self.check(recording, 1, "input: this is a capture, which tells no answers; give the packets or the log "
+                       "that it was made of")
         self.check(b"", 1, "input: empty")
         packets = pcap_of(packets_of(simulated(4, 1, (3000, 40, 800), 0, 8_000, 20)))
         self.check(packets, 2, "input: these are packets: --port says which is the server's")

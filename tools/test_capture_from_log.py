@@ -22,12 +22,14 @@ import unittest
 import unittest.mock
 
 import test_support
-from test_support import DATA, GET, SERVED, START, TOOLS, capture, read_capture, requests_in, sent_requests
+from test_support import DATA, GET, SERVED, START, TOOLS, capture, read_capture, requests_in, sent_requests, traffic
 
 import capture_from_log
 import capture_writer
 import log_blocks
 import log_requests
+
+SMALL = capture_writer.CAPTURE._replace(messages=3)
 
 
 class Logs(test_support.ToolTest):
@@ -266,14 +268,29 @@ class Logs(test_support.ToolTest):
 
     def test_what_does_not_fit_a_capture(self):
         lines = self.lines_at([0, 1, 2, 3, 4])
-        with unittest.mock.patch.object(capture_writer, "MESSAGES_LIMIT", 3):
-            _, said = self.convert(lines, "--host", "a", status=1)
-            text, lenient = self.convert(lines, "--host", "a", "--lenient")
+        with unittest.mock.patch.object(capture_writer, "FORMATS", (SMALL, capture_writer.TRAFFIC)):
+            words = ["--host", "a", "--format", "2"]
+            _, said = self.convert(lines, *words, status=1)
+            text, lenient = self.convert(lines, *words, "--lenient")
         self.assertEqual(said, "capture_from_log: a capture ends at 3 messages: cut at tick 3000000, "
                          "1994-11-06T08:49:40.000000Z (2 records beyond 3 messages); take a part of the time by --from "
-                         "and --to; nothing is written: --lenient writes what there is\n")
+                         "and --to, or a traffic text by --format traffic; nothing is written: --lenient writes what "
+                         "there is\n")
         self.assertEqual(text, capture((0, 0, GET), (1000000, 1, GET), (2000000, 2, GET)))
         self.assertIn("cut at tick 3000000", lenient)
+
+    def test_more_requests_than_a_capture_has(self):
+        lines = self.lines_at([0, 1, 2, 3, 4])
+        records = [(number * 1000000, number, GET) for number in range(5)]
+        with unittest.mock.patch.object(capture_writer, "CAPTURE", SMALL):
+            text, said = self.convert(lines, "--host", "a")
+            few, of_few = self.convert(self.lines_at([0, 1, 2]), "--host", "a")
+        self.assertEqual(text, traffic(*records))
+        self.assertIn("5 records, 5 connections, %d bytes; a traffic text, since a capture ends at 3 messages\n"
+                      % (5 * len(GET)), said)
+        self.assertEqual(few, capture(*records[:3]))
+        self.assertNotIn("traffic", of_few)
+        self.assertEqual(self.convert(lines, "--host", "a", "--format", "traffic")[0], traffic(*records))
 
     def test_a_first_time_that_is_too_late(self):
         line = b"4102444801.000 GET / HTTP/1.1\n"

@@ -11,15 +11,20 @@ import bz2
 import gzip
 import lzma
 import os
+import random
 import struct
+import subprocess
+import sys
 import unittest
 import unittest.mock
 
 import test_support
 from test_support import DATA, GET, START, TOOLS, capture, read_capture, requests_in, sent_requests, texts_of
+from test_support import texts_of_lives, traffic
 
 import capture_from_log
 import capture_from_pcap
+import capture_writer
 
 SYN, FIN, RST, ACK = 2, 1, 4, 16
 CLIENT, SERVER = (bytes([10, 0, 0, 1]), 4000), (bytes([10, 0, 0, 2]), 80)
@@ -228,12 +233,108 @@ class Packets(test_support.ToolTest):
 
     def test_more_connections_than_numbers(self):
         packets = [(tick, packet(1, GET, ACK, (struct.pack(">I", tick), 4000))) for tick in range(65539)]
-        _, said = self.convert(pcap(packets), status=1)
-        self.assertIn("a capture ends at 65536 connections: cut at tick 65536, 1994-11-06T08:49:37.065536Z "
-                      "(3 connections beyond 65536 connections); take a part of the time by --from and --to", said)
+        records = [(tick, tick, GET) for tick in range(65536)]
+        ends = "cut at tick 65536, 1994-11-06T08:49:37.065536Z (3 connections beyond 65536 connections"
+        text, said = self.convert(pcap(packets), "--format", "2", "--lenient")
+        self.assertEqual(text, capture(*records))
+        self.assertIn("a capture ends at 65536 connections: %s); take a part of the time by --from and --to, or a "
+                      "traffic text by --format traffic\n" % ends, said)
         text, said = self.convert(pcap(packets), "--lenient")
-        self.assertEqual(text, capture(*((tick, tick, GET) for tick in range(65536))))
-        self.assertIn("cut at tick 65536", said)
+        self.assertEqual(text, traffic(*records))
+        self.assertIn("a traffic text ends at 65536 connections at once: %s at once); take a part of the time by "
+                      "--from and --to\n" % ends, said)
+        with unittest.mock.patch.object(capture_writer, "CONNECTIONS_LIMIT", 3):
+            for words in ([], ["--format", "2"], ["--format", "traffic"]):
+                _, said = self.convert(pcap(packets[:4]), *words, status=1)
+                self.assertIn("ends at 3 connections", said)
+                self.assertIn("nothing is written: --lenient writes what there is", said)
+
+    def test_more_connections_than_a_capture_has(self):
+        clients = [(struct.pack(">I", number), 4000) for number in range(65539)]
+        packets = [(number, packet(1, GET, ACK, client)) for number, client in enumerate(clients)]
+        # The ends of the connections 5 and 2 come before the numbers are all given, that of 9 between the later ones.
+        ends = {70: (5, FIN | ACK), 90: (2, RST), 65537: (9, FIN | ACK)}
+        for tick, (client, flags) in ends.items():
+            packets.append((tick, packet(28, b"", flags, clients[client])))
+        packets.sort(key=lambda one: one[0])
+        text, said = self.convert(pcap(packets))
+        records = []
+        for tick, number in enumerate([*range(65536), 2, 5, 9]):
+            records += [(tick, number, GET)] + ([(tick, ends[tick][0])] if tick in ends else [])
+        self.assertEqual(text, traffic(*records))
+        self.assertIn("65542 records, 65539 connections, %d bytes; a traffic text, since a capture ends at 65536 "
+                      "connections;" % (65539 * len(GET)), said)
+
+    def test_numbers_are_given_again(self):
+        clients = [(bytes([10, 0, 0, number]), 4000) for number in range(6)]
+        packets = [(0, packet(1, GET, ACK, clients[0])), (1, packet(1, GET, ACK, clients[1])),
+                   (2, packet(0, GET[:5], SYN, clients[2])), (3, packet(28, b"", RST, clients[1])),
+                   (4, packet(28, b"", FIN | ACK, clients[0])), (5, packet(1, GET, ACK | FIN, clients[3])),
+                   (6, packet(1, GET, ACK, clients[4])), (7, packet(1, GET, ACK, clients[5])),
+                   (8, packet(6, GET[5:], ACK, clients[2])), (9, packet(40, b"", SYN, clients[4])),
+                   (10, packet(41, GET, ACK, clients[4]))]
+        packets = [(tick + 250000, data) for tick, data in packets]
+        records = [(0, 0, GET), (1, 1, GET), (2, 2, GET[:5]), (3, 1), (4, 0), (5, 0, GET), (5, 0), (6, 0, GET),
+                   (7, 1, GET), (8, 2, GET[5:]), (9, 0), (10, 0, GET)]
+        self.assertEqual(self.convert(pcap(packets), "--format", "traffic")[0], traffic(*records))
+        tiers = ["--tier", "10.0.0.0=1", "--tier", "10.0.0.4=2"]
+        text, _ = self.convert(pcap(packets), "--format", "traffic", *tiers)
+        tiered = [("tier", 0, 1), *records[:7], ("tier", 0, 2), *records[7:11], ("tier", 0, 2), records[11]]
+        self.assertEqual(text, traffic(*tiered))
+        numbers = [0, 1, 2, 1, 0, 3, 3, 4, 5, 2, 4, 6]
+        self.assertEqual(self.convert(pcap(packets))[0],
+                         capture(*((tick, number, *data) for (tick, _, *data), number in zip(records, numbers))))
+
+    def drawn_packets(self, drawn, count, most):
+        """Packets of so many connections, at most so many of them open at once, and what each of them sends: its own
+        number again and again. Half of their ports are used again at once."""
+        packets, texts, ports, waiting, tick, begun = [], [], list(range(5000, 5000 + most)), [], 0, 0
+        while begun < count or waiting:
+            tick += drawn.choice((0, 1, 40))
+            if begun < count and ports and (not waiting or drawn.random() < 0.5):
+                data = b"".join(b"GET /%d HTTP/1.1\r\nHost: a\r\n\r\n" % begun for _ in range(drawn.choice((1, 1, 3))))
+                port = ports.pop(drawn.choice((0, -1)))
+                waiting.append([(CLIENT[0], port), drawn.randrange(2**32), data])
+                texts.append(data)
+                packets.append((tick, packet(waiting[-1][1] - 1, b"", SYN, waiting[-1][0])))
+                begun += 1
+                continue
+            client, sequence, data = one = drawn.choice(waiting)
+            sent = data[:drawn.choice((5, 30, len(data)))]
+            ends = len(sent) == len(data)
+            packets.append((tick, packet(sequence, sent, drawn.choice((FIN | ACK, RST)) if ends else ACK, client)))
+            one[1:] = sequence + len(sent), data[len(sent):]
+            if ends:
+                waiting.remove(one)
+                ports.append(client[1])
+        return packets, texts
+
+    def test_no_number_is_given_to_two_connections_at_once(self):
+        for seed in range(8):
+            drawn = random.Random(seed)
+            packets, texts = self.drawn_packets(drawn, 300, 9)
+            for words in ((), ("--format", "traffic"), ("--format", "traffic", "--tier", "/1=1")):
+                with unittest.mock.patch.object(capture_writer, "CONNECTIONS_LIMIT", 9):
+                    text, _ = self.convert(pcap(packets), *words)
+                self.assertTrue(text.startswith(b"haboob-traffic 1 "))
+                records = [record for record in read_capture(text)[1] if record[0] != "tier"]
+                self.assertLess(max(record[1] for record in records), 9)
+                self.assertEqual(sorted(texts_of_lives(records)), sorted(texts))
+            text, _ = self.convert(pcap(packets))
+            self.assertEqual(list(texts_of(read_capture(text)[1]).values()).count(b""), 0)
+            self.assertEqual(sorted(texts_of(read_capture(text)[1]).values()), sorted(texts))
+
+    def test_an_output_that_is_a_pipe(self):
+        packets = [(tick, packet(1, GET, ACK, (struct.pack(">I", tick), 4000))) for tick in range(4)]
+        os.mkfifo(os.path.join(self.folder, "pipe"))
+        for words, begin in (([], b"haboob-capture 2"), (["--format", "traffic"], b"haboob-traffic 1")):
+            command = [os.path.join(TOOLS, "capture_from_pcap.py"), "--port", "80", *words, "--output",
+                       os.path.join(self.folder, "pipe"), self.stored(pcap(packets))]
+            with subprocess.Popen([sys.executable, *command], stderr=subprocess.DEVNULL) as tool:
+                with open(os.path.join(self.folder, "pipe"), "rb") as pipe:
+                    text = pipe.read()
+            self.assertEqual(tool.returncode, 0)
+            self.assertEqual(text, capture(*((tick, tick, GET) for tick in range(4)), begin=begin))
 
     def test_tiers(self):
         clients = [(bytes([10, number, 0, 1]), 4000) for number in range(4)]
@@ -286,6 +387,7 @@ class Packets(test_support.ToolTest):
                            (b"some text that is longer than a head\n", "input: this is text; if it is an access log, "
                             "tools/capture_from_log.py reads it\n"),
                            (b"haboob-capture 2 784111777\nstop 0\n", "input: this is a capture already\n"),
+                           (b"haboob-traffic 1 784111777\nstop 0\n", "input: this is a traffic text already\n"),
                            (bytes(100), "input: no pcap and no pcapng\n"),
                            (b"\xd4\xc3\xb2\xa1", "input: cut at byte 4\n"),
                            (pcap([], link=147), "input: packets of a kind of link that isn't known, 147\n"),

@@ -26,9 +26,9 @@ START = 784111777
 GET = b"GET / HTTP/1.1\r\nHost: a\r\n\r\n"
 
 
-def capture(*records, start=START):
+def capture(*records, start=START, begin=b"haboob-capture 2"):
     """The text of a capture: (tick, connection, bytes), (tick, connection) of an end, ("tier", connection, tier)."""
-    parts = [b"haboob-capture 2 %d\n" % start]
+    parts = [b"%b %d\n" % (begin, start)]
     for tick, connection, *data in records:
         if tick == "tier":
             parts.append(b"tier %d %d\n" % (connection, data[0]))
@@ -39,9 +39,14 @@ def capture(*records, start=START):
     return b"".join(parts) + b"stop %d\n" % len(records)
 
 
+def traffic(*records, start=START):
+    """The traffic text of these records."""
+    return capture(*records, start=start, begin=b"haboob-traffic 1")
+
+
 def read_capture(text):
-    """The start and the records of a capture's text, as capture() takes them; fails where it breaks a rule."""
-    first, at = re.match(rb"haboob-capture 2 (0|[1-9]\d*)\n", text), None
+    """The start and the records of a text, as capture() and traffic() take them; fails where it breaks a rule."""
+    first = re.match(rb"(haboob-capture 2|haboob-traffic 1) (0|[1-9]\d*)\n", text)
     records, at, last, ended, begun = [], first.end(), 0, set(), set()
     while not (stop := re.compile(rb"stop (\d+)\n").fullmatch(text, at)):
         tier = re.compile(rb"tier (\d+) ([0-3])\n").match(text, at)
@@ -63,9 +68,11 @@ def read_capture(text):
             at += length + 1
         else:
             records.append((tick, connection))
-            ended.add(connection)
+            begun.discard(connection)
+            if first[1] == b"haboob-capture 2":
+                ended.add(connection)
     assert int(stop[1]) == len(records)
-    return int(first[1]), records
+    return int(first[2]), records
 
 
 def texts_of(records):
@@ -74,6 +81,17 @@ def texts_of(records):
     for _, connection, *data in records:
         texts[connection] += b"".join(data)
     return dict(texts)
+
+
+def texts_of_lives(records):
+    """The bytes of each connection of some records, in which a number's later connections come after its ends."""
+    open_now, texts = {}, []
+    for _, number, *data in records:
+        if not data:
+            texts.append(open_now.pop(number))
+        else:
+            open_now[number] = open_now.get(number, b"") + data[0]
+    return texts + list(open_now.values())
 
 
 class ToolTest(unittest.TestCase):

@@ -252,6 +252,11 @@ class Figures(unittest.TestCase):
             "admitted": 0, "rejected": 0, "p50": None, "p90": None, "p99": None, "rejected_while_idle": 0,
             "greatest": None, "most_inside": 0, "busy": 0, "span": 0, "tiers": {}})
 
+    def test_a_report_with_the_last_controls_alone(self):
+        some = "controls 1002\ncontrol 3 1000 200 190 1000\ncontrol 4 2000 200 190 900\ntier 1 3 1 9\n"
+        report = REPORT.format(3, 3, 400).replace("controls 0\n", some + "control 7 3000 200 190 10\n")
+        self.assertEqual(self.figures(ROWS, report), self.figures(ROWS))
+
     def test_cut(self):
         for report in ("", "haboob-report 1\n", REPORT[:-4].format(1, 1, 1), "haboob-report 1\nadmitted 1\nend\n"):
             with self.subTest(report), self.assertRaisesRegex(decision_tables.Fault, "the report isn't whole"):

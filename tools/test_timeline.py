@@ -127,8 +127,10 @@ class Figures(Base):
         """The capture begins at 08:49:37; its third second is 08:49:39."""
         for words in (("--from", "8:49:39"), ("--from", "1994-11-06T08:49:39"), ("--from", "1994-11-06T09:49:39+01:00"),
                       ("--from", "2")):
-            rows = self.rows(TABLE, "--step", "1", "--capture", str(self.capture), *words)
-            self.assertEqual([(row["second"], row["offered"]) for row in rows], [("2", "1")], words)
+            for text in (CAPTURE, CAPTURE.replace("capture 2", "traffic 1")):
+                self.capture.write_text(text)
+                rows = self.rows(TABLE, "--step", "1", "--capture", str(self.capture), *words)
+                self.assertEqual([(row["second"], row["offered"]) for row in rows], [("2", "1")], words)
         rows = self.rows(TABLE, "--step", "1", "--from", "0:00:02")  # without the capture since its start
         self.assertEqual([row["second"] for row in rows], ["2"])
         status, error, _ = self.run_on(TABLE, "--from", "1994-11-06T08:49:39")

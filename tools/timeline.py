@@ -71,7 +71,7 @@ TARGETS_ROOM = 64_000_000  # characters that these have together
 OTHERS = "(all others)"
 DEFAULT_TARGET = 100_000  # microseconds: policy.target where the settings have none
 LONGEST_SHOWN = 120  # characters of a target
-FIRST_LINE = re.compile(rb"haboob-capture [0-9]+ ([0-9]{1,10})\n")
+FIRST_LINE = re.compile(rb"haboob-(?:capture|traffic) [0-9]+ ([0-9]{1,10})\n")
 ESCAPE = re.compile("%([0-9A-Fa-f]{2})")
 STROKES = ((0, (1, 1)), (0, (5, 1, 1, 1)), (0, (8, 2)), (0, (3, 3)))  # of the targets of up to four tiers
 NAMES = ("offered", "admitted", "rejected", "bypassed")
@@ -383,7 +383,7 @@ def start_of(path):
         first = file.read(input_files.FIRST_BYTES)
     found = FIRST_LINE.match(first)
     if not found:
-        kind = None if first.startswith(input_files.CAPTURE) else input_files.kind_of(first)
+        kind = None if first.startswith(input_files.RECORDINGS) else input_files.kind_of(first)
         raise Fault("%s: this is no capture%s" % (path, ", but %s" % kind if kind else ""))
     return int(found[1])
 
