@@ -1,15 +1,14 @@
 -- The laws of what is carried from offer to offer.
-use Rattle.std.proofs.Common.{◌≡◌, ℕ, ◌+◌, ◌-◌, ◌*◌, ◌<◌, ◌≤◌, min, max, List, [], ◌∷◌, ◌++◌, map, Bool, true, false, cond, nat_le, refl, sym, ◌∙◌, ap, arith, append-nil, inl, inr, if◌then◌else◌}
+use Rattle.std.proofs.Common.{◌≡◌, ℕ, ◌+◌, ◌-◌, ◌*◌, ◌<◌, ◌≤◌, min, List, [], ◌∷◌, ◌++◌, Bool, true, false, cond, nat_le, refl, sym, ◌∙◌, ap, arith, append-nil, inl, inr, if◌then◌else◌}
 use Rattle.std.proofs.lemmas.Bool.{le-leb, lt-leb, cases_lt, cases_eq}
-use Rattle.std.proofs.lemmas.List.{map-append}
 use Rattle.token_bucket.specs.Reference.{TOKEN, accrual}
 use Rattle.token_bucket.proofs.AccrualLemmas.{accrual-split}
 use Rattle.admission.specs.declared.policy.PolicyNumbers.{PolicyNumbers}
 use Rattle.admission.specs.declared.control.Decision.TheVariants.{Admitted, Rejected}
-use Rattle.admission.specs.Reference.{rules_of, Offer, Decided, Served, of_tier, is_admitted, served, last_finish, finish_after, control_at, rate_at, least_balance, credit, decide, decided_next, decided_from, decided, tick_from}
+use Rattle.admission.specs.Reference.{Station, rules_of, Offer, Decided, Served, of_tier, is_admitted, served, finish_after, control_at, rate_at, least_balance, credit, decide, decided_next, decided_from, decided, tick_from}
 use Rattle.admission.specs.After.{AllCovered}
-use Rattle.admission.specs.Laws.{AreOffered, AreOfOthers, RunsTo, FinishFromFinish, FirstCredit, CreditFromCredit, AccrualSplitsAtControl, RateFromOffersBefore}
-use Rattle.admission.proofs.RequestLemmas.{decided_from-push, of_tier-same, of_tier-other, of_tier-none, served-push, last_finish-push}
+use Rattle.admission.specs.Laws.{AreOffered, AreOfOthers, FirstCredit, CreditFromCredit, AccrualSplitsAtControl, RateFromOffersBefore}
+use Rattle.admission.proofs.RequestLemmas.{decided_from-push, of_tier-same, of_tier-other, of_tier-none, served-push}
 use Rattle.admission.proofs.CreditLemmas.{token_of, least_balance-none, least_balance-later, least_balance-push, covered-later, covered-push}
 use Rattle.admission.proofs.LawLemmas.{decided_from-append}
 use Rattle.admission.proofs.OfferLemmas as offers
@@ -26,41 +25,6 @@ served_admitted past offer finish = served-push past (Chosen offer finish true)
 served_rejected : (past : List Decided) (offer : Offer) (finish : ℕ) → served (past ++ Chosen offer finish false ∷ []) ≡ served past
 served_rejected past offer finish = served-push past (Chosen offer finish false) ∙ append-nil (served past)
 
--- ---- finishes
-
-runs-push : (before last : ℕ) (requests : List Served) (request : Served) → RunsTo before requests last
-    → request.finish ≡ max last request.offer.tick + request.offer.service → RunsTo before (requests ++ request ∷ []) request.finish
-unfolding RunsTo
-runs-push before last [] request runs is = (rw runs is, refl)
-runs-push before last (first ∷ requests) request runs is = (runs.0, runs-push first.finish last requests request runs.1 is)
-
-abbrev Runs : List Served → Type 0
-Runs requests = RunsTo 0 requests (last_finish (map (λ (r : Served). r.offer) requests))
-
-runs_next : (past : List Decided) (offer : Offer) (b : Bool) → Runs (served past)
-    → Runs (served (past ++ Chosen offer (finish_after (served past) offer) b ∷ []))
-runs_next past offer true runs =
-    let finish : ℕ = finish_after (served past) offer in
-    let request : Served = record { offer = offer; finish = finish } in
-    let last : last_finish (map (λ (r : Served). r.offer) (served past ++ request ∷ [])) ≡ finish =
-    ap last_finish (map-append (λ (r : Served). r.offer) (served past) (request ∷ [])) in
-    rw (served_admitted past offer finish, last)
-    (runs-push 0 (last_finish (map (λ (r : Served). r.offer) (served past))) (served past) request runs
-    (last_finish-push (map (λ (r : Served). r.offer) (served past)) offer))
-runs_next past offer false runs = rw (served_rejected past offer (finish_after (served past) offer)) runs
-
-runs_from : (policies : List PolicyNumbers) (past : List Decided) (offers : List Offer) → Runs (served past)
-    → Runs (served (decided_from policies past offers))
-unfolding decided_from
-runs_from policies past [] runs = runs
-runs_from policies past (offer ∷ offers) runs =
-    runs_from policies (past ++ decided_next policies past offer ∷ []) offers
-    (runs_next past offer (nat_le TOKEN (credit (rules_of policies offer.tier) (of_tier offer.tier past) offer.tick)) runs)
-
-pub finish_from_finish : FinishFromFinish
-unfolding RunsTo served last_finish
-finish_from_finish policies offers = runs_from policies [] offers refl
-
 -- ---- rates
 
 rate_chosen : (rules : PolicyNumbers) (past : List Decided) (offer : Offer) (finish u : ℕ) (b : Bool) → 0 < rules.every → u < finish
@@ -70,54 +34,53 @@ rate_chosen rules past offer finish u true some before =
     (sym (offers.rate_before rules (served past) (record { offer = offer; finish = finish }) u some before))
 rate_chosen rules past offer finish u false some before = rw (served_rejected past offer finish) refl
 
-finish_later : (requests : List Served) (offer : Offer) (u : ℕ) → 1 ≤ offer.service → u ≤ offer.tick
-    → u < finish_after requests offer
-finish_later requests offer u longer before =
-    omega (arith, last_finish-push (map (λ (r : Served). r.offer) requests) offer)
+finish_later : (servers : ℕ) (requests : List Served) (offer : Offer) (u : ℕ) → 1 ≤ offer.service → u ≤ offer.tick
+    → u < finish_after servers requests offer
+finish_later servers requests offer u longer before = omega arith
 
 -- the requests of a tier after one more offer: with that offer, or as they were
-tier_next : (policies : List PolicyNumbers) (past : List Decided) (offer : Offer) (tier : ℕ) (P : List Decided → Type 0)
-    → (offer.tier ≡ tier → P (of_tier tier past ++ decided_next policies past offer ∷ [])) → P (of_tier tier past)
-    → P (of_tier tier (past ++ decided_next policies past offer ∷ []))
-tier_next policies past offer tier P own other =
+tier_next : (station : Station) (past : List Decided) (offer : Offer) (tier : ℕ) (P : List Decided → Type 0)
+    → (offer.tier ≡ tier → P (of_tier tier past ++ decided_next station past offer ∷ [])) → P (of_tier tier past)
+    → P (of_tier tier (past ++ decided_next station past offer ∷ []))
+tier_next station past offer tier P own other =
     elim (cases_eq offer.tier tier) [
-      | inl same ↦ rw (of_tier-same tier past (decided_next policies past offer) same) (own same)
-      | inr apart ↦ rw (of_tier-other tier past (decided_next policies past offer) apart) other
+      | inl same ↦ rw (of_tier-same tier past (decided_next station past offer) same) (own same)
+      | inr apart ↦ rw (of_tier-other tier past (decided_next station past offer) apart) other
     ]
 
-abbrev chooses : List PolicyNumbers → List Decided → Offer → Bool
-chooses policies past offer = nat_le TOKEN (credit (rules_of policies offer.tier) (of_tier offer.tier past) offer.tick)
+abbrev chooses : Station → List Decided → Offer → Bool
+chooses station past offer = nat_le TOKEN (credit (rules_of station offer.tier) (of_tier offer.tier past) offer.tick)
 
-rate_own : (rules : PolicyNumbers) (policies : List PolicyNumbers) (past own : List Decided) (offer : Offer) (u : ℕ) → 0 < rules.every → 1 ≤ offer.service
-    → u ≤ offer.tick → rate_at rules (served (own ++ decided_next policies past offer ∷ [])) u ≡ rate_at rules (served own) u
-rate_own rules policies past own offer u some longer before =
-    rate_chosen rules own offer (finish_after (served past) offer) u (chooses policies past offer) some
-    (finish_later (served past) offer u longer before)
+rate_own : (rules : PolicyNumbers) (station : Station) (past own : List Decided) (offer : Offer) (u : ℕ) → 0 < rules.every → 1 ≤ offer.service
+    → u ≤ offer.tick → rate_at rules (served (own ++ decided_next station past offer ∷ [])) u ≡ rate_at rules (served own) u
+rate_own rules station past own offer u some longer before =
+    rate_chosen rules own offer (finish_after station.servers (served past) offer) u (chooses station past offer) some
+    (finish_later station.servers (served past) offer u longer before)
 
-rate_next : (rules : PolicyNumbers) (policies : List PolicyNumbers) (past : List Decided) (offer : Offer) (tier u : ℕ) → 0 < rules.every → 1 ≤ offer.service
+rate_next : (rules : PolicyNumbers) (station : Station) (past : List Decided) (offer : Offer) (tier u : ℕ) → 0 < rules.every → 1 ≤ offer.service
     → u ≤ offer.tick
-    → rate_at rules (served (of_tier tier (past ++ decided_next policies past offer ∷ []))) u ≡ rate_at rules (served (of_tier tier past)) u
-rate_next rules policies past offer tier u some longer before =
-    tier_next policies past offer tier (λ ds. rate_at rules (served ds) u ≡ rate_at rules (served (of_tier tier past)) u)
-    (λ same. rate_own rules policies past (of_tier tier past) offer u some longer before) refl
+    → rate_at rules (served (of_tier tier (past ++ decided_next station past offer ∷ []))) u ≡ rate_at rules (served (of_tier tier past)) u
+rate_next rules station past offer tier u some longer before =
+    tier_next station past offer tier (λ ds. rate_at rules (served ds) u ≡ rate_at rules (served (of_tier tier past)) u)
+    (λ same. rate_own rules station past (of_tier tier past) offer u some longer before) refl
 
 offered-lower : (u v : ℕ) (offers : List Offer) → u ≤ v → AreOffered v offers → AreOffered u offers
 unfolding AreOffered
 offered-lower u v [] lower offered = tt
 offered-lower u v (offer ∷ offers) lower offered = (omega (arith, offered.0), offered.1, offered.2)
 
-rate_from : (rules : PolicyNumbers) (policies : List PolicyNumbers) (past : List Decided) (more : List Offer) (tier u : ℕ) → 0 < rules.every → AreOffered u more
-    → rate_at rules (served (of_tier tier (decided_from policies past more))) u ≡ rate_at rules (served (of_tier tier past)) u
+rate_from : (rules : PolicyNumbers) (station : Station) (past : List Decided) (more : List Offer) (tier u : ℕ) → 0 < rules.every → AreOffered u more
+    → rate_at rules (served (of_tier tier (decided_from station past more))) u ≡ rate_at rules (served (of_tier tier past)) u
 unfolding decided_from AreOffered
-rate_from rules policies past [] tier u some offered = refl
-rate_from rules policies past (offer ∷ more) tier u some offered =
-    rate_from rules policies (past ++ decided_next policies past offer ∷ []) more tier u some (offered-lower u offer.tick more offered.0 offered.2)
-    ∙ rate_next rules policies past offer tier u some offered.1 offered.0
+rate_from rules station past [] tier u some offered = refl
+rate_from rules station past (offer ∷ more) tier u some offered =
+    rate_from rules station (past ++ decided_next station past offer ∷ []) more tier u some (offered-lower u offer.tick more offered.0 offered.2)
+    ∙ rate_next rules station past offer tier u some offered.1 offered.0
 
 pub rate_from_offers_before : RateFromOffersBefore
-rate_from_offers_before policies offers more tier tick range offered =
-    ap (λ (ds : List Decided). rate_at (rules_of policies tier) (served (of_tier tier ds)) tick) (decided_from-append policies [] offers more)
-    ∙ rate_from (rules_of policies tier) policies (decided policies offers) more tier tick (omega (arith, range.every.0)) offered
+rate_from_offers_before station offers more tier tick range offered =
+    ap (λ (ds : List Decided). rate_at (rules_of station tier) (served (of_tier tier ds)) tick) (decided_from-append station [] offers more)
+    ∙ rate_from (rules_of station tier) station (decided station offers) more tier tick (omega (arith, range.every.0)) offered
 
 -- ---- credits
 
@@ -136,32 +99,32 @@ taken_is false = omega arith
 abbrev Covers : PolicyNumbers → ℕ → List Decided → Type 0
 Covers rules tick own = AllCovered (rate_at rules (served own)) (rules.depth * TOKEN) tick own
 
-covered_own : (policies : List PolicyNumbers) (past : List Decided) (offer : Offer) → 0 < (rules_of policies offer.tier).every → 1 ≤ offer.service
-    → Covers (rules_of policies offer.tier) offer.tick (of_tier offer.tier past)
-    → Covers (rules_of policies offer.tier) offer.tick (of_tier offer.tier past ++ decided_next policies past offer ∷ [])
-covered_own policies past offer some longer covered =
-    let rules : PolicyNumbers = rules_of policies offer.tier in
+covered_own : (station : Station) (past : List Decided) (offer : Offer) → 0 < (rules_of station offer.tier).every → 1 ≤ offer.service
+    → Covers (rules_of station offer.tier) offer.tick (of_tier offer.tier past)
+    → Covers (rules_of station offer.tier) offer.tick (of_tier offer.tier past ++ decided_next station past offer ∷ [])
+covered_own station past offer some longer covered =
+    let rules : PolicyNumbers = rules_of station offer.tier in
     let own : List Decided = of_tier offer.tier past in
-    covered-push (rate_at rules (served own)) (rate_at rules (served (own ++ decided_next policies past offer ∷ []))) (rules.depth * TOKEN) offer.tick own
-    (decided_next policies past offer) covered refl (λ u below. sym (rate_own rules policies past own offer u some longer (omega arith)))
-    (enough (credit rules own offer.tick) (finish_after (served past) offer))
+    covered-push (rate_at rules (served own)) (rate_at rules (served (own ++ decided_next station past offer ∷ []))) (rules.depth * TOKEN) offer.tick own
+    (decided_next station past offer) covered refl (λ u below. sym (rate_own rules station past own offer u some longer (omega arith)))
+    (enough (credit rules own offer.tick) (finish_after station.servers (served past) offer))
 
-covered_next : (policies : List PolicyNumbers) (past : List Decided) (offer : Offer) (tier : ℕ) → 0 < (rules_of policies tier).every → 1 ≤ offer.service
-    → Covers (rules_of policies tier) offer.tick (of_tier tier past)
-    → Covers (rules_of policies tier) offer.tick (of_tier tier (past ++ decided_next policies past offer ∷ []))
-covered_next policies past offer tier some longer covered =
-    tier_next policies past offer tier (Covers (rules_of policies tier) offer.tick)
-    (λ same. rw (← same) (covered_own policies past offer (rw (← same) at some) longer (rw (← same) at covered))) covered
+covered_next : (station : Station) (past : List Decided) (offer : Offer) (tier : ℕ) → 0 < (rules_of station tier).every → 1 ≤ offer.service
+    → Covers (rules_of station tier) offer.tick (of_tier tier past)
+    → Covers (rules_of station tier) offer.tick (of_tier tier (past ++ decided_next station past offer ∷ []))
+covered_next station past offer tier some longer covered =
+    tier_next station past offer tier (Covers (rules_of station tier) offer.tick)
+    (λ same. rw (← same) (covered_own station past offer (rw (← same) at some) longer (rw (← same) at covered))) covered
 
-covered_from : (policies : List PolicyNumbers) (past : List Decided) (offers : List Offer) (tier t : ℕ) → 0 < (rules_of policies tier).every → AreOffered t offers
-    → Covers (rules_of policies tier) t (of_tier tier past)
-    → Covers (rules_of policies tier) (tick_from t offers) (of_tier tier (decided_from policies past offers))
+covered_from : (station : Station) (past : List Decided) (offers : List Offer) (tier t : ℕ) → 0 < (rules_of station tier).every → AreOffered t offers
+    → Covers (rules_of station tier) t (of_tier tier past)
+    → Covers (rules_of station tier) (tick_from t offers) (of_tier tier (decided_from station past offers))
 unfolding decided_from AreOffered tick_from
-covered_from policies past [] tier t some offered covered = covered
-covered_from policies past (offer ∷ offers) tier t some offered covered =
-    covered_from policies (past ++ decided_next policies past offer ∷ []) offers tier offer.tick some offered.2
-    (covered_next policies past offer tier some offered.1
-    (covered-later (rate_at (rules_of policies tier) (served (of_tier tier past))) ((rules_of policies tier).depth * TOKEN) t offer.tick
+covered_from station past [] tier t some offered covered = covered
+covered_from station past (offer ∷ offers) tier t some offered covered =
+    covered_from station (past ++ decided_next station past offer ∷ []) offers tier offer.tick some offered.2
+    (covered_next station past offer tier some offered.1
+    (covered-later (rate_at (rules_of station tier) (served (of_tier tier past))) ((rules_of station tier).depth * TOKEN) t offer.tick
     (of_tier tier past) covered offered.0))
 
 offered-parts : (t : ℕ) (offers : List Offer) (offer : Offer) → AreOffered t (offers ++ offer ∷ [])
@@ -172,53 +135,53 @@ offered-parts t (first ∷ offers) offer offered =
     let rest = offered-parts first.tick offers offer offered.2 in
     ((offered.0, offered.1, rest.0), rest.1, rest.2)
 
-others_from : (policies : List PolicyNumbers) (past : List Decided) (offers : List Offer) (tier : ℕ) → AreOfOthers tier offers
-    → of_tier tier (decided_from policies past offers) ≡ of_tier tier past
+others_from : (station : Station) (past : List Decided) (offers : List Offer) (tier : ℕ) → AreOfOthers tier offers
+    → of_tier tier (decided_from station past offers) ≡ of_tier tier past
 unfolding decided_from AreOfOthers
-others_from policies past [] tier others = refl
-others_from policies past (offer ∷ offers) tier others =
-    others_from policies (past ++ decided_next policies past offer ∷ []) offers tier others.1
-    ∙ of_tier-other tier past (decided_next policies past offer) others.0
+others_from station past [] tier others = refl
+others_from station past (offer ∷ offers) tier others =
+    others_from station (past ++ decided_next station past offer ∷ []) offers tier others.1
+    ∙ of_tier-other tier past (decided_next station past offer) others.0
 
 pub first_credit : FirstCredit
-first_credit policies offers tier tick others =
-    ap (λ (ds : List Decided). credit (rules_of policies tier) ds tick) (others_from policies [] offers tier others ∙ of_tier-none tier)
-    ∙ least_balance-none (rate_at (rules_of policies tier) (served [])) ((rules_of policies tier).depth * TOKEN) tick
+first_credit station offers tier tick others =
+    ap (λ (ds : List Decided). credit (rules_of station tier) ds tick) (others_from station [] offers tier others ∙ of_tier-none tier)
+    ∙ least_balance-none (rate_at (rules_of station tier) (served [])) ((rules_of station tier).depth * TOKEN) tick
 
-credit_own : (policies : List PolicyNumbers) (past : List Decided) (offer : Offer) (tick : ℕ) → 0 < (rules_of policies offer.tier).every → 1 ≤ offer.service
-    → offer.tick ≤ tick → Covers (rules_of policies offer.tier) offer.tick (of_tier offer.tier past)
-    → credit (rules_of policies offer.tier) (of_tier offer.tier past ++ decided_next policies past offer ∷ []) tick
-    ≡ min ((rules_of policies offer.tier).depth * TOKEN)
-    (credit (rules_of policies offer.tier) (of_tier offer.tier past) offer.tick - (if is_admitted (decide policies past offer) then TOKEN else 0)
-    + accrual (rate_at (rules_of policies offer.tier) (served (of_tier offer.tier past ++ decided_next policies past offer ∷ []))) offer.tick tick)
-credit_own policies past offer tick some longer later covered =
-    let rules : PolicyNumbers = rules_of policies offer.tier in
+credit_own : (station : Station) (past : List Decided) (offer : Offer) (tick : ℕ) → 0 < (rules_of station offer.tier).every → 1 ≤ offer.service
+    → offer.tick ≤ tick → Covers (rules_of station offer.tier) offer.tick (of_tier offer.tier past)
+    → credit (rules_of station offer.tier) (of_tier offer.tier past ++ decided_next station past offer ∷ []) tick
+    ≡ min ((rules_of station offer.tier).depth * TOKEN)
+    (credit (rules_of station offer.tier) (of_tier offer.tier past) offer.tick - (if is_admitted (decide station past offer) then TOKEN else 0)
+    + accrual (rate_at (rules_of station offer.tier) (served (of_tier offer.tier past ++ decided_next station past offer ∷ []))) offer.tick tick)
+credit_own station past offer tick some longer later covered =
+    let rules : PolicyNumbers = rules_of station offer.tier in
     let own : List Decided = of_tier offer.tier past in
-    let request : Decided = decided_next policies past offer in
+    let request : Decided = decided_next station past offer in
     let full : ℕ = rules.depth * TOKEN in
     let f : ℕ → ℕ = rate_at rules (served own) in
     let g : ℕ → ℕ = rate_at rules (served (own ++ request ∷ [])) in
     let there : least_balance g full offer.tick (own ++ request ∷ []) ≡ least_balance f full offer.tick own - TOKEN * token_of request =
-    least_balance-push f g full offer.tick own request covered refl (λ u below. sym (rate_own rules policies past own offer u some longer (omega arith))) in
-    least_balance-later g full offer.tick tick (own ++ request ∷ []) (covered_own policies past offer some longer covered) later
+    least_balance-push f g full offer.tick own request covered refl (λ u below. sym (rate_own rules station past own offer u some longer (omega arith))) in
+    least_balance-later g full offer.tick tick (own ++ request ∷ []) (covered_own station past offer some longer covered) later
     ∙ ap (λ n. min full (n + accrual g offer.tick tick))
-    (there ∙ ap (λ n. least_balance f full offer.tick own - n) (taken_is (is_admitted (decide policies past offer))))
+    (there ∙ ap (λ n. least_balance f full offer.tick own - n) (taken_is (is_admitted (decide station past offer))))
 
 first_covered : (rules : PolicyNumbers) → Covers rules 0 []
 unfolding AllCovered
 first_covered rules = tt
 
 pub credit_from_credit : CreditFromCredit
-credit_from_credit policies xs offer tick range offered later =
+credit_from_credit station xs offer tick range offered later =
     let parts = offered-parts 0 xs offer offered in
-    let rules : PolicyNumbers = rules_of policies offer.tier in
+    let rules : PolicyNumbers = rules_of station offer.tier in
     let some : 0 < rules.every = omega (arith, range.every.0) in
-    let past : List Decided = decided policies xs in
+    let past : List Decided = decided station xs in
     let own : List Decided = of_tier offer.tier past in
     let none : Covers rules 0 (of_tier offer.tier []) = rw (of_tier-none offer.tier) (first_covered rules) in
-    let covered : Covers rules (tick_from 0 xs) own = covered_from policies [] xs offer.tier 0 some parts.0 none in
-    rw (decided_from-push policies [] xs offer, of_tier-same offer.tier past (decided_next policies past offer) refl)
-    (credit_own policies past offer tick some parts.2 later
+    let covered : Covers rules (tick_from 0 xs) own = covered_from station [] xs offer.tier 0 some parts.0 none in
+    rw (decided_from-push station [] xs offer, of_tier-same offer.tier past (decided_next station past offer) refl)
+    (credit_own station past offer tick some parts.2 later
     (covered-later (rate_at rules (served own)) (rules.depth * TOKEN) (tick_from 0 xs) offer.tick own covered parts.1))
 
 pub accrual_splits_at_control : AccrualSplitsAtControl

@@ -1,18 +1,19 @@
 -- The controls of requests, and of these requests with one more.
-use Rattle.std.proofs.Common.{◌≡◌, ℕ, zero, suc, ◌+◌, ◌-◌, ◌*◌, ◌/◌, ◌%◌, ◌<◌, ◌≤◌, List, [], ◌∷◌, ◌++◌, length, map, refl, sym, ◌∙◌, ap, arith, add-one, subst, length-append, Some, inl, inr}
-use Rattle.std.specs.Prelude.{◌⊎◌, slice_index, unwrap_or}
+use Rattle.std.proofs.Common.{◌≡◌, ℕ, zero, suc, max, take, ◌+◌, ◌-◌, ◌*◌, ◌/◌, ◌%◌, ◌<◌, ◌≤◌, List, [], ◌∷◌, ◌++◌, length, map, refl, sym, ◌∙◌, ap, arith, add-one, subst, length-append, Some, inl, inr}
+use Rattle.std.specs.Prelude.{◌⊎◌, unwrap_or}
 use Rattle.std.specs.List.{range_with_len}
 use Rattle.std.proofs.Math.Nat.{le-div_iff_mul-le}
-use Rattle.std.proofs.Math.Seq.{get_or-append_seam, take-length}
-use Rattle.std.proofs.lemmas.List.{take-append-le, map-append, get_or_append_left, length-map}
+use Rattle.std.proofs.Math.Seq.{take-length}
+use Rattle.std.proofs.lemmas.List.{take-append-le, map-append, length-map}
 use Rattle.std.proofs.lemmas.Bool.{cases_lt, cases_eq, eq-eqb, ne_eqb}
 use Rattle.std.proofs.lemmas.List.FromFn.{map-range_with_len_more}
 use Rattle.circular_buffer.specs.Buffer.{keep_last, last_item}
 use Rattle.circular_buffer.proofs.Places.{slice_get-last}
 use Rattle.admission.specs.declared.policy.PolicyNumbers.{PolicyNumbers}
 use Rattle.admission.specs.declared.control.Control.{Control}
-use Rattle.admission.specs.Reference.{Served, sample, samples, finishes, percentile, percentile_at, smoother, smoothed_at, adjusted, rate_after, control_at, controls_of}
+use Rattle.admission.specs.Reference.{Served, greatest, sample, samples, finishes, percentile, percentile_at, smoother, smoothed_at, adjusted, rate_after, control_at, controls_of}
 use Rattle.admission.specs.Running.{last_smoothed, last_rate, next_control, with_due}
+use Rattle.admission.proofs.DoneLemmas.{greatest-push}
 
 -- ---- quotients
 
@@ -32,9 +33,6 @@ quotient_below k e n some below =
 
 less_by_one : (k e n : ℕ) → suc k * e ≤ n → k * e ≤ n
 less_by_one k e n fit = omega arith
-
-below_product : (k e n : ℕ) → 0 < e → 1 ≤ k → k * e ≤ n → k * e - 1 < n
-below_product k e n some first within = let e_le : e ≤ k * e = grind arith in omega arith
 
 smaller_product : (k m e n : ℕ) → k ≤ m → m * e ≤ n → k * e ≤ n
 smaller_product k m e n le within = let products : k * e ≤ m * e = grind arith in omega arith
@@ -79,8 +77,11 @@ whole_quotient e n some due =
     let products : e * ((n + 1) / e) ≡ e * (n / e + 1) = ap (λ q. e * q) (quotient_next e n some due) in
     omega (arith, products, due)
 
-last_place : (xs : List ℕ) (x n : ℕ) → length xs ≡ n → slice_index (xs ++ x ∷ []) (n + 1 - 1) ≡ x
-last_place xs x n long = let place : n + 1 - 1 ≡ length xs = omega arith in rw place (get_or-append_seam xs x [] 0)
+-- when all with one more are finished
+all_finished : (xs : List ℕ) (x n : ℕ) → length xs ≡ n → greatest (take (n + 1) (xs ++ x ∷ [])) ≡ max (greatest xs) x
+all_finished xs x n long =
+    let whole : n + 1 ≡ length (xs ++ x ∷ []) = omega (arith, length-append xs (x ∷ []), long) in
+    rw (whole, take-length (xs ++ x ∷ [])) (greatest-push xs x)
 
 -- ---- more samples leave the earlier controls
 
@@ -121,12 +122,11 @@ control_at-more : (rules : PolicyNumbers) (requests : List Served) (request : Se
     → k * rules.every ≤ length requests → control_at rules (requests ++ request ∷ []) k ≡ control_at rules requests k
 control_at-more rules requests request k some first within =
     let within_samples : k * rules.every ≤ length (samples requests) = rw (length-samples requests) within in
-    let place : k * rules.every - 1 < length (finishes requests) =
-    rw (length-finishes requests) (below_product k rules.every (length requests) some first within) in
+    let within_finishes : k * rules.every ≤ length (finishes requests) = rw (length-finishes requests) within in
     rw (
       finishes-push requests request,
       samples-push requests request,
-      get_or_append_left (finishes requests) (request.finish ∷ []) 0 (k * rules.every - 1) place,
+      take-append-le (k * rules.every) (finishes requests) (request.finish ∷ []) within_finishes,
       percentile_at-more rules (samples requests) (sample request ∷ []) k within_samples,
       smoothed_at-more rules (samples requests) (sample request ∷ []) k within_samples,
       rate_after-more rules (samples requests) (sample request ∷ []) k within_samples,
@@ -237,7 +237,7 @@ control-parts a b instant own smoothed rate =
 pub control-due : (rules : PolicyNumbers) (requests : List Served) (request : Served) → 0 < rules.every
     → (length requests + 1) % rules.every ≡ 0
     → control_at rules (requests ++ request ∷ []) (length requests / rules.every + 1)
-    ≡ next_control rules (controls_of rules requests) request.finish
+    ≡ next_control rules (controls_of rules requests) (max (greatest (finishes requests)) request.finish)
     (unwrap_or (percentile (keep_last rules.window (samples requests ++ sample request ∷ []))) 0)
 control-due rules requests request some due =
     let whole : (length requests / rules.every + 1) * rules.every ≡ length requests + 1 =
@@ -261,7 +261,8 @@ control-due rules requests request some due =
       last_smoothed-is rules requests,
     ) refl in
     control-parts _ _
-    (rw (finishes-push requests request, whole) (last_place (finishes requests) request.finish (length requests) (length-finishes requests)))
+    (rw (finishes-push requests request, whole)
+    (all_finished (finishes requests) request.finish (length requests) (length-finishes requests)))
     own smoothed
     (rate_after-next rules (samples (requests ++ request ∷ [])) (length requests / rules.every)
     ∙ rw (
@@ -275,7 +276,7 @@ control-due rules requests request some due =
 pub controls_of-push : (rules : PolicyNumbers) (requests : List Served) (request : Served) → 0 < rules.every
     → controls_of rules (requests ++ request ∷ [])
     ≡ with_due rules (controls_of rules requests) (keep_last rules.window (samples requests ++ sample request ∷ []))
-    (length requests + 1) request.finish
+    (length requests + 1) (max (greatest (finishes requests)) request.finish)
 controls_of-push rules requests request some =
     elim (cases_eq ((length requests + 1) % rules.every) 0) [
       | inl due ↦

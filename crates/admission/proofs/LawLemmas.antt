@@ -7,7 +7,7 @@ use Rattle.std.proofs.lemmas.List.Sums.{sum_by_push}
 use Rattle.token_bucket.specs.Reference.{TOKEN, accrual}
 use Rattle.admission.specs.declared.policy.PolicyNumbers.{PolicyNumbers}
 use Rattle.admission.specs.declared.control.Decision.TheVariants.{Admitted, Rejected}
-use Rattle.admission.specs.Reference.{rules_of, Offer, Decided, Served, of_tier, served, samples, finish_after, smoothed_at, adjusted, rate_after, rate_at, least_balance, credit, decided_next, decided_from, decided}
+use Rattle.admission.specs.Reference.{Station, rules_of, Offer, Decided, Served, of_tier, served, samples, finish_after, smoothed_at, adjusted, rate_after, rate_at, least_balance, credit, decided_next, decided_from, decided}
 use Rattle.admission.specs.Rules.{IsInRange}
 use Rattle.admission.specs.Laws.{DecisionsBegin, FinishRuns, OtherTiersLeave, RateBefore, RatesWithin, RejectedLeavesAll, and_rejected}
 use Rattle.admission.proofs.RequestLemmas.{decided_from-push, last_finish-push, of_tier-same, of_tier-other, served-push}
@@ -16,30 +16,30 @@ use Rattle.admission.proofs.OfferLemmas as offers
 
 -- ---- beginnings
 
-begins : (policies : List PolicyNumbers) (past : List Decided) (more : List Offer) → (rest : List Decided) × (decided_from policies past more ≡ past ++ rest)
+begins : (station : Station) (past : List Decided) (more : List Offer) → (rest : List Decided) × (decided_from station past more ≡ past ++ rest)
 unfolding decided_from
-begins policies past [] = ([], sym (append-nil past))
-begins policies past (offer ∷ more) =
-    let next = begins policies (past ++ decided_next policies past offer ∷ []) more in
-    (decided_next policies past offer ∷ next.0, next.1 ∙ append_assoc past (decided_next policies past offer ∷ []) next.0)
+begins station past [] = ([], sym (append-nil past))
+begins station past (offer ∷ more) =
+    let next = begins station (past ++ decided_next station past offer ∷ []) more in
+    (decided_next station past offer ∷ next.0, next.1 ∙ append_assoc past (decided_next station past offer ∷ []) next.0)
 
-pub decided_from-append : (policies : List PolicyNumbers) (past : List Decided) (xs ys : List Offer)
-    → decided_from policies past (xs ++ ys) ≡ decided_from policies (decided_from policies past xs) ys
+pub decided_from-append : (station : Station) (past : List Decided) (xs ys : List Offer)
+    → decided_from station past (xs ++ ys) ≡ decided_from station (decided_from station past xs) ys
 unfolding decided_from
-decided_from-append policies past [] ys = refl
-decided_from-append policies past (x ∷ xs) ys = decided_from-append policies (past ++ decided_next policies past x ∷ []) xs ys
+decided_from-append station past [] ys = refl
+decided_from-append station past (x ∷ xs) ys = decided_from-append station (past ++ decided_next station past x ∷ []) xs ys
 
 pub decisions_begin : DecisionsBegin
-decisions_begin policies xs ys =
-    let rest = begins policies (decided policies xs) ys in
-    (rest.0, decided_from-append policies [] xs ys ∙ rest.1)
+decisions_begin station xs ys =
+    let rest = begins station (decided station xs) ys in
+    (rest.0, decided_from-append station [] xs ys ∙ rest.1)
 
 -- ---- other tiers
 
 pub other_tiers_leave : OtherTiersLeave
-other_tiers_leave policies offers offer tier apart =
-    rw (decided_from-push policies [] offers offer)
-    (of_tier-other tier (decided policies offers) (decided_next policies (decided policies offers) offer) apart)
+other_tiers_leave station offers offer tier apart =
+    rw (decided_from-push station [] offers offer)
+    (of_tier-other tier (decided station offers) (decided_next station (decided station offers) offer) apart)
 
 -- ---- rejected offers
 
@@ -94,14 +94,14 @@ credit_of-rejected rules tier past rejected tick =
     ]
 
 pub rejected_leaves_all : RejectedLeavesAll
-rejected_leaves_all policies past rejected offer tier tick = (
+rejected_leaves_all station past rejected offer tier tick = (
   served_rejected past rejected,
   served_of-rejected tier past rejected,
-  credit_of-rejected (rules_of policies tier) tier past rejected tick,
-  ap (λ n. if nat_le TOKEN n then (Admitted (finish_after (served (and_rejected past rejected)) offer)) else Rejected)
-      (credit_of-rejected (rules_of policies offer.tier) offer.tier past rejected offer.tick)
-      ∙ ap (λ (rs : List Served). if nat_le TOKEN (credit (rules_of policies offer.tier) (of_tier offer.tier past) offer.tick)
-      then (Admitted (finish_after rs offer)) else Rejected) (served_rejected past rejected),
+  credit_of-rejected (rules_of station tier) tier past rejected tick,
+  ap (λ n. if nat_le TOKEN n then (Admitted (finish_after station.servers (served (and_rejected past rejected)) offer)) else Rejected)
+      (credit_of-rejected (rules_of station offer.tier) offer.tier past rejected offer.tick)
+      ∙ ap (λ (rs : List Served). if nat_le TOKEN (credit (rules_of station offer.tier) (of_tier offer.tier past) offer.tick)
+      then (Admitted (finish_after station.servers rs offer)) else Rejected) (served_rejected past rejected),
 )
 
 -- ---- rates

@@ -1,12 +1,16 @@
 pub mod CarryLemmas
 pub mod ControlLemmas
 pub mod CreditLemmas
+pub mod DoneLemmas
+pub mod HeapLemmas
 pub mod LawLemmas
 pub mod NewLemmas
 pub mod OfferLemmas
+pub mod OrderLemmas
 pub mod PassLemmas
 pub mod RateLemmas
 pub mod RequestLemmas
+pub mod ServerLemmas
 pub mod SortLemmas
 pub mod StandLemmas
 pub mod TallyLemmas
@@ -15,4 +19,5 @@ pub mod WindowLemmas
 pub mod SoundLemmas
 pub mod UntilLemmas
 pub mod TierLemmas
+pub mod TurnLemmas
 pub mod OneTierLemmas

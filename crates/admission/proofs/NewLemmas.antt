@@ -8,12 +8,12 @@ use Rattle.token_bucket.specs.After.{BucketAfter, last_rate}
 use Rattle.token_bucket.specs.Standing as bucket
 use Rattle.token_bucket.proofs.CallLemmas as calls
 use Rattle.admission.specs.declared.policy.PolicyNumbers.{PolicyNumbers}
-use Rattle.admission.specs.Reference.{Decided, served, rate_after, control_at, least_balance}
+use Rattle.admission.specs.Reference.{Decided, greatest, served, rate_after, control_at, least_balance}
 use Rattle.admission.specs.Window.{Window, window_of}
 use Rattle.admission.specs.Standing.{TierStanding, RiseWithin, AllRates, IsSoundTier, IsShare}
 use Rattle.admission.specs.Running.{passed}
-use Rattle.admission.specs.After.{IsRising, AllCovered, BucketFits, TierFits}
-use Rattle.admission.proofs.StandLemmas.{stands_passing}
+use Rattle.admission.specs.After.{AllCovered, BucketFits, TierFits}
+use Rattle.admission.proofs.StandLemmas.{stands_passing, has_reached}
 use Rattle.admission.proofs.PassLemmas.{Ends}
 
 -- a tier that was offered nothing
@@ -24,6 +24,7 @@ start rules b window = record {
   admitted = 0;
   rejected = 0;
   window = window;
+  cleared = 0;
   controls = [];
   reached = 0;
 }
@@ -39,13 +40,13 @@ start_sound rules b window every is = record {
   rates = tt;
 }
 
-pub start_share : (rules : PolicyNumbers) (b : bucket.Standing) (window : Window) → b.tick ≡ 0 → IsShare 0 0 0 (start rules b window)
+pub start_share : (rules : PolicyNumbers) (b : bucket.Standing) (window : Window) → b.tick ≡ 0 → IsShare 0 0 (start rules b window)
 unfolding RiseWithin
 start_share rules b window clock = record { admitted = omega arith; rejected = omega arith; clock = omega arith; rising = tt }
 
 pub start_fits : (rules : PolicyNumbers) (b : bucket.Standing) (window : Window) → BucketAfter (made rules.depth rules.rate) b → b.tick ≡ 0
-    → window ≡ window_of rules.window [] → TierFits [] 0 (start rules b window)
-unfolding served rate_after least_balance AllCovered IsRising last_rate
+    → window ≡ window_of rules.window [] → TierFits [] (start rules b window)
+unfolding served rate_after least_balance AllCovered greatest last_rate
 start_fits rules b window fits clock is = record {
   bucket = record {
     past_calls = made rules.depth rules.rate;
@@ -60,22 +61,23 @@ start_fits rules b window fits clock is = record {
   };
   admitted = refl;
   rejected = refl;
-  rising = omega arith;
+  cleared = refl;
   window = is;
   controls = sym (ap (λ n. map (control_at rules []) (range_with_len 1 n)) (zero-div rules.every));
 }
 
 -- the bucket of a tier at a later tick
-pub later_fits : (t : TierStanding) (next : bucket.Standing) (past : List Decided) (free rise tick : ℕ) → TierFits past free t
+pub later_fits : (t : TierStanding) (next : bucket.Standing) (past : List Decided) (rise tick : ℕ) → TierFits past t
     → IsSoundTier t → RiseWithin t.bucket.tick rise (drop t.reached t.controls) → t.bucket.tick ≤ tick
     → ((calls : Past) → BucketAfter calls t.bucket → Ends t.bucket (drop t.reached t.controls) tick next)
     → BucketFits t.rules past next (t.reached + passed (drop t.reached t.controls) tick)
-later_fits t next past free rise tick fits sound rises later passes =
+later_fits t next past rise tick fits sound rises later passes =
     let ends : Ends t.bucket (drop t.reached t.controls) tick next = passes fits.bucket.past_calls fits.bucket.fits in
     record {
       past_calls = ends.0.0;
       fits = ends.0.1;
       stands = rw ends.1
-          (stands_passing t.rules past free (drop t.reached t.controls) t.bucket t.reached tick rise
-          sound.every fits.rising (ap (drop t.reached) (sym fits.controls)) rises later fits.bucket.stands);
+          (stands_passing t.rules past (drop t.reached t.controls) t.bucket t.reached tick rise
+          sound.every (ap (drop t.reached) (sym fits.controls)) rises later
+          (has_reached t.rules past t.bucket t.reached fits.bucket.stands));
     }

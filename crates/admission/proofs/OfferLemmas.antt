@@ -4,7 +4,7 @@ use Rattle.std.specs.Prelude.{◌↔◌, IsTrue, nat_le, count_by, cond}
 use Rattle.std.proofs.lemmas.Bool.{le-leb, lt-leb, cases_lt}
 use Rattle.std.proofs.lemmas.List.{map-append, length-map}
 use Rattle.std.proofs.lemmas.Grind.{common_steps}
-use Rattle.std.proofs.lemmas.List.Sums.{count_by-le-length, sum_by_push}
+use Rattle.std.proofs.lemmas.List.Sums.{prefix_len-le-length, sum_by_push}
 use Rattle.circular_buffer.specs.Buffer.{keep_last}
 use Rattle.token_bucket.specs.Reference.{TOKEN}
 use Rattle.token_bucket.specs.Calls.{Past, TryTake, and_then}
@@ -15,14 +15,15 @@ use Rattle.token_bucket.proofs.FitsLemmas.{standing_runs}
 use Rattle.admission.specs.declared.policy.PolicyNumbers.{PolicyNumbers}
 use Rattle.admission.specs.declared.control.Decision.TheVariants.{Admitted, Rejected}
 use Rattle.admission.specs.declared.control.Control.{Control}
-use Rattle.admission.specs.Reference.{Offer, Decided, Served, is_rejected, served, sample, samples, finishes, done, rate_after, rate_at, controls_of, least_balance, credit}
+use Rattle.admission.specs.Reference.{Offer, Decided, Served, greatest, is_rejected, served, sample, samples, finishes, done, rate_after, rate_at, controls_of, least_balance, credit}
 use Rattle.admission.specs.Window.{Window, window_of, with_sample}
 use Rattle.admission.specs.Standing.{TierStanding}
 use Rattle.admission.specs.Running.{with_due, when_rejected, when_admitted, decision_after}
 use Rattle.admission.specs.After.{TierBucketAfter, TierFits}
 use Rattle.admission.proofs.CreditLemmas.{least_balance-le, least_balance-push, covered-push}
 use Rattle.admission.proofs.ControlLemmas.{quotient_fits, rate_after-more, controls_of-push}
-use Rattle.admission.proofs.RequestLemmas.{served-push, upto-push_later, rising-push, rising-widen}
+use Rattle.admission.proofs.RequestLemmas.{served-push}
+use Rattle.admission.proofs.DoneLemmas.{upto-push_later, greatest-push}
 
 -- ---- the bucket after `try_take`
 
@@ -72,22 +73,11 @@ rejected_push : (past : List Decided) (r : Decided)
     → count_by (λ r. is_rejected r.decision) (past ++ r ∷ []) ≡ count_by (λ r. is_rejected r.decision) past + cond (is_rejected r.decision) 1 0
 rejected_push past r = sum_by_push (λ r. cond (is_rejected r.decision) 1 0) past r
 
--- later finishes of other tiers leave a tier as it stands
-pub tier_later : (past : List Decided) (free later : ℕ) (t : TierStanding) → TierFits past free t → free ≤ later → TierFits past later t
-tier_later past free later t fits more = record {
-  bucket = fits.bucket;
-  admitted = fits.admitted;
-  rejected = fits.rejected;
-  rising = rising-widen 0 free later (finishes (served past)) fits.rising more;
-  window = fits.window;
-  controls = fits.controls;
-}
-
-pub tier_rejected : (t : TierStanding) (b next : bucket.Standing) (reached : ℕ) (calls : Past) (past : List Decided) (free : ℕ) (offer : Offer)
-    → TierFits past free t → TierBucketAfter t.rules past b reached → b.tick ≡ offer.tick
+pub tier_rejected : (t : TierStanding) (b next : bucket.Standing) (reached : ℕ) (calls : Past) (past : List Decided) (offer : Offer)
+    → TierFits past t → TierBucketAfter t.rules past b reached → b.tick ≡ offer.tick
     → BucketAfter calls b → BucketAfter (and_then calls (TryTake false)) next
-    → TierFits (past ++ record { offer = offer; decision = Rejected } ∷ []) free (when_rejected t next reached)
-tier_rejected t b next reached calls past free offer fits stands at before now =
+    → TierFits (past ++ record { offer = offer; decision = Rejected } ∷ []) (when_rejected t next reached)
+tier_rejected t b next reached calls past offer fits stands at before now =
     let next_is : next ≡ after b (TryTake false) = standing_runs calls b next (TryTake false) before (omega arith) (omega arith) now in
     let same : served (past ++ record { offer = offer; decision = Rejected } ∷ []) ≡ served past = served_rejected past offer in
     record {
@@ -98,7 +88,7 @@ tier_rejected t b next reached calls past free offer fits stands at before now =
       };
       admitted = fits.admitted ∙ sym (ap (λ (rs : List Served). length rs) same);
       rejected = ap (λ n. n + 1) fits.rejected ∙ sym (rejected_push past (record { offer = offer; decision = Rejected }));
-      rising = rw same fits.rising;
+      cleared = fits.cleared ∙ sym (ap (λ (rs : List Served). greatest (finishes rs)) same);
       window = fits.window ∙ sym (ap (λ (rs : List Served). window_of t.rules.window (samples rs)) same);
       controls = fits.controls ∙ sym (ap (controls_of t.rules) same);
     }
@@ -137,7 +127,7 @@ quotient_within rules requests u some =
     omega (
       arith,
       fit,
-      count_by-le-length (λ finish. nat_le finish u) (finishes requests),
+      prefix_len-le-length (λ finish. nat_le finish u) (finishes requests),
       length-map requests (λ (r : Served). r.finish),
       length-map requests sample,
     )
@@ -173,7 +163,7 @@ stands_admitted rules past b next reached offer finish stands at is some later e
     rw is (record {
       depth = stands.depth;
       rate = stands.rate ∙ sym (rw (more, samples-push (served past) (record { offer = offer; finish = finish }))
-          (rate_after-more rules (samples (served past)) ((finish - offer.tick) ∷ []) reached within));
+          (rate_after-more rules (samples (served past)) ((finish - offer.tick + offer.delay) ∷ []) reached within));
       credit = still_taken (b.depth * TOKEN) b.credit b.rate b.tick TOKEN (within_depth rules past b reached stands)
           ∙ ap (λ n. n - TOKEN * 1) stands.credit ∙ sym credit_is;
       in_force = stands.in_force ∙ sym (rw (more, done_before (served past) (record { offer = offer; finish = finish }) b.tick ahead) refl);
@@ -182,18 +172,21 @@ stands_admitted rules past b next reached offer finish stands at is some later e
           (record { offer = offer; decision = Admitted finish }) stands.covered (sym at) agree enough_there;
     })
 
-pub tier_admitted : (t : TierStanding) (b next : bucket.Standing) (reached : ℕ) (calls : Past) (past : List Decided) (free : ℕ) (offer : Offer)
+pub tier_admitted : (t : TierStanding) (b next : bucket.Standing) (reached : ℕ) (calls : Past) (past : List Decided) (offer : Offer)
     (finish : ℕ)
-    → TierFits past free t → TierBucketAfter t.rules past b reached → b.tick ≡ offer.tick → 0 < t.rules.every → offer.tick < finish → free < finish
+    → TierFits past t → TierBucketAfter t.rules past b reached → b.tick ≡ offer.tick → 0 < t.rules.every → offer.tick < finish
     → BucketAfter calls b → BucketAfter (and_then calls (TryTake true)) next → TOKEN ≤ b.credit
-    → TierFits (past ++ record { offer = offer; decision = Admitted finish } ∷ []) finish (when_admitted t next reached finish (finish - offer.tick))
-tier_admitted t b next reached calls past free offer finish fits stands at some later following before now enough =
+    → TierFits (past ++ record { offer = offer; decision = Admitted finish } ∷ [])
+    (when_admitted t next reached finish (finish - offer.tick + offer.delay))
+tier_admitted t b next reached calls past offer finish fits stands at some later before now enough =
     let next_is : next ≡ after b (TryTake true) = standing_runs calls b next (TryTake true) before (omega arith) enough now in
     let request : Served = record { offer = offer; finish = finish } in
     let more : served (past ++ record { offer = offer; decision = Admitted finish } ∷ []) ≡ served past ++ request ∷ [] =
     served_admitted past offer finish in
-    let window : with_sample t.window (finish - offer.tick) ≡ window_of t.rules.window (samples (served past) ++ sample request ∷ []) =
-    rw fits.window (window_more t.rules.window (samples (served past)) (finish - offer.tick)) in
+    let took : ℕ = finish - offer.tick + offer.delay in
+    let window : with_sample t.window took ≡ window_of t.rules.window (samples (served past) ++ sample request ∷ []) =
+    rw fits.window (window_more t.rules.window (samples (served past)) took) in
+    let instant : max t.cleared finish ≡ max (greatest (finishes (served past))) finish = ap (λ n. max n finish) fits.cleared in
     record {
       bucket = record {
         past_calls = and_then calls (TryTake true);
@@ -203,14 +196,15 @@ tier_admitted t b next reached calls past free offer finish fits stands at some 
       rejected =
           (let one = rejected_push past (record { offer = offer; decision = Admitted finish }) in let own = fits.rejected in omega (arith, one, own));
       admitted = rw more (ap (λ n. n + 1) fits.admitted ∙ sym (length-append (served past) (request ∷ [])));
-      rising = rw (more, finishes-push (served past) request)
-          (rising-push 0 free finish (finishes (served past)) fits.rising following);
+      cleared = rw (more, finishes-push (served past) request) (instant ∙ sym (greatest-push (finishes (served past)) finish));
       window = rw (more, samples-push (served past) request) window;
       controls =
-          ap (λ (controls : List Control). with_due t.rules controls (with_sample t.window (finish - offer.tick)).samples (t.admitted + 1) finish) fits.controls
-          ∙ ap (λ (w : Window). with_due t.rules (controls_of t.rules (served past)) w.samples (t.admitted + 1) finish) window
+          ap (λ (controls : List Control). with_due t.rules controls (with_sample t.window took).samples (t.admitted + 1) (max t.cleared finish)) fits.controls
+          ∙ ap (λ (w : Window). with_due t.rules (controls_of t.rules (served past)) w.samples (t.admitted + 1) (max t.cleared finish)) window
           ∙ ap (λ n. with_due t.rules (controls_of t.rules (served past))
-          (keep_last t.rules.window (samples (served past) ++ sample request ∷ [])) (n + 1) finish) fits.admitted
+          (keep_last t.rules.window (samples (served past) ++ sample request ∷ [])) (n + 1) (max t.cleared finish)) fits.admitted
+          ∙ ap (λ n. with_due t.rules (controls_of t.rules (served past))
+          (keep_last t.rules.window (samples (served past) ++ sample request ∷ [])) (length (served past) + 1) n) instant
           ∙ sym (rw more (controls_of-push t.rules (served past) request some));
     }
 

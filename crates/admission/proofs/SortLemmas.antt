@@ -107,7 +107,7 @@ any-insert x (y ∷ s) =
       | inr above ↦ rw (insert-front x y s above, eq-eqb x x refl) refl
     ]
 
-length-insert : (x : ℕ) (s : List ℕ) → length (insert_sorted x s) ≡ length s + 1
+pub length-insert : (x : ℕ) (s : List ℕ) → length (insert_sorted x s) ≡ length s + 1
 length-insert x [] = rw (insert-none x) refl
 length-insert x (y ∷ s) =
     elim (cases_lt y x) [

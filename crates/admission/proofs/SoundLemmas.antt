@@ -1,5 +1,5 @@
 -- What each tier keeps stays so at an offer.
-use Rattle.std.proofs.Common.{◌≡◌, ℕ, zero, suc, ◌+◌, ◌%◌, ◌≤◌, List, [], ◌∷◌, ◌++◌, length, drop, Bool, true, false, refl, sym, ◌∙◌, arith, nat_eq, if◌then◌else◌, length-append}
+use Rattle.std.proofs.Common.{◌≡◌, ℕ, zero, suc, max, ◌+◌, ◌%◌, ◌≤◌, List, [], ◌∷◌, ◌++◌, length, drop, Bool, true, false, refl, sym, ◌∙◌, arith, nat_eq, if◌then◌else◌, length-append}
 use Rattle.std.proofs.lemmas.List.Sums.{prefix_len-le-length}
 use Rattle.std.proofs.lemmas.List.{length-drop}
 use Rattle.std.specs.Prelude.{nat_le, unwrap_or}
@@ -57,10 +57,10 @@ length_due_most false controls control = omega arith
 
 -- ---- an admitted offer
 
-pub sound_admitted : (t : TierStanding) (b : bucket.Standing) (reached finish : ℕ) (window : Window) (controls : List Control) (own : ℕ)
+pub sound_admitted : (t : TierStanding) (b : bucket.Standing) (reached cleared : ℕ) (window : Window) (controls : List Control) (own : ℕ)
     → IsSoundTier t → reached ≤ length t.controls → window.size ≡ t.window.size
     → controls ≡ (if nat_eq ((t.admitted + 1) % t.rules.every) 0
-    then (t.controls ++ next_control t.rules t.controls finish own ∷ []) else t.controls)
+    then (t.controls ++ next_control t.rules t.controls cleared own ∷ []) else t.controls)
     → AllRates controls
     → IsSoundTier (record {
       rules = t.rules;
@@ -68,20 +68,21 @@ pub sound_admitted : (t : TierStanding) (b : bucket.Standing) (reached finish : 
       admitted = t.admitted + 1;
       rejected = t.rejected;
       window = window;
+      cleared = cleared;
       controls = controls;
       reached = reached;
     })
-sound_admitted t b reached finish window controls own sound few size is rates = record {
+sound_admitted t b reached cleared window controls own sound few size is rates = record {
   every = sound.every;
   size = size ∙ sound.size;
   made = rw is (omega (
     arith,
     sound.made,
-    length_due_most (nat_eq ((t.admitted + 1) % t.rules.every) 0) t.controls (next_control t.rules t.controls finish own),
+    length_due_most (nat_eq ((t.admitted + 1) % t.rules.every) 0) t.controls (next_control t.rules t.controls cleared own),
   ));
   reached = rw is (omega (
     arith,
-    length_due (nat_eq ((t.admitted + 1) % t.rules.every) 0) t.controls (next_control t.rules t.controls finish own),
+    length_due (nat_eq ((t.admitted + 1) % t.rules.every) 0) t.controls (next_control t.rules t.controls cleared own),
   ));
   rates = rates;
 }
@@ -89,34 +90,35 @@ sound_admitted t b reached finish window controls own sound few size is rates = 
 -- ---- beside the other tiers
 
 -- where others were offered
-pub share_later : (offers free tick offers' free' tick' : ℕ) (t : TierStanding) → IsShare offers free tick t
-    → offers ≤ offers' → free ≤ free' → tick ≤ tick' → IsShare offers' free' tick' t
-share_later offers free tick offers' free' tick' t share more longer later = record {
+pub share_later : (offers tick offers' tick' : ℕ) (t : TierStanding) → IsShare offers tick t
+    → offers ≤ offers' → tick ≤ tick' → IsShare offers' tick' t
+share_later offers tick offers' tick' t share more later = record {
   admitted = omega (arith, share.admitted);
   rejected = omega (arith, share.rejected);
   clock = omega (arith, share.clock);
-  rising = rise_widen t.bucket.tick free free' (drop t.reached t.controls) share.rising longer;
+  rising = share.rising;
 }
 
-pub share_rejected : (offers free tick : ℕ) (t : TierStanding) (b : bucket.Standing) (reached : ℕ) → IsShare offers free tick t
-    → b.tick ≡ tick → RiseWithin tick free (drop reached t.controls)
-    → IsShare (offers + 1) free tick (when_rejected t b reached)
-share_rejected offers free tick t b reached share at rise = record {
+pub share_rejected : (offers tick : ℕ) (t : TierStanding) (b : bucket.Standing) (reached : ℕ) → IsShare offers tick t
+    → b.tick ≡ tick → RiseWithin tick t.cleared (drop reached t.controls)
+    → IsShare (offers + 1) tick (when_rejected t b reached)
+share_rejected offers tick t b reached share at rise = record {
   admitted = omega (arith, share.admitted);
   rejected = omega (arith, share.rejected);
   clock = omega arith;
   rising = rw at rise;
 }
 
-pub share_admitted : (offers free tick finish sample : ℕ) (t : TierStanding) (b : bucket.Standing) (reached : ℕ) → IsShare offers free tick t
-    → b.tick ≡ tick → RiseWithin tick free (drop reached t.controls) → reached ≤ length t.controls → free ≤ finish → tick ≤ finish
-    → IsShare (offers + 1) finish tick (when_admitted t b reached finish sample)
-share_admitted offers free tick finish sample t b reached share at rise few above later = record {
+pub share_admitted : (offers tick finish sample : ℕ) (t : TierStanding) (b : bucket.Standing) (reached : ℕ) → IsShare offers tick t
+    → b.tick ≡ tick → RiseWithin tick t.cleared (drop reached t.controls) → reached ≤ length t.controls → tick ≤ finish
+    → IsShare (offers + 1) tick (when_admitted t b reached finish sample)
+share_admitted offers tick finish sample t b reached share at rise few later = record {
   admitted = omega (arith, share.admitted);
   rejected = omega (arith, share.rejected);
   clock = omega arith;
-  rising = rw at (rise_due (nat_eq ((t.admitted + 1) % t.rules.every) 0) tick free reached t.controls
-      (next_control t.rules t.controls finish (unwrap_or (percentile (with_sample t.window sample).samples) 0)) rise above later few);
+  rising = rw at (rise_due (nat_eq ((t.admitted + 1) % t.rules.every) 0) tick t.cleared reached t.controls
+      (next_control t.rules t.controls (max t.cleared finish) (unwrap_or (percentile (with_sample t.window sample).samples) 0))
+      rise (omega arith) (omega arith) few);
 }
 
 -- ---- the controls that a bucket passes

@@ -1,8 +1,8 @@
 -- The tiers beside one another: one of them takes one more offer.
-use Rattle.std.proofs.Common.{◌≡◌, ℕ, zero, suc, ◌+◌, ◌<◌, ◌≤◌, max, List, [], ◌∷◌, ◌++◌, length, map, Bool, true, false, nat_le, if◌then◌else◌, refl, sym, ◌∙◌, ap, arith, append-nil, length-append, Some, slice_get, slice_set, slice_index_or, inl, inr}
+use Rattle.std.proofs.Common.{◌≡◌, ℕ, zero, suc, drop, replicate, ◌+◌, ◌<◌, ◌≤◌, max, List, [], ◌∷◌, ◌++◌, length, map, Bool, true, false, nat_le, if◌then◌else◌, refl, sym, ◌∙◌, ap, arith, append-nil, length-append, Some, slice_get, slice_set, slice_index_or, inl, inr}
 use Rattle.std.proofs.Math.Seq.{map-set_same}
 use Rattle.std.proofs.lemmas.Bool.{cases_eq}
-use Rattle.std.proofs.lemmas.List.{map-append, length-set}
+use Rattle.std.proofs.lemmas.List.{length-set, length-replicate, get_or-replicate}
 use Rattle.std.proofs.lemmas.Option.{get_or_from_slice_get}
 use Rattle.token_bucket.specs.Reference.{TOKEN}
 use Rattle.token_bucket.specs.Limits.{MAX_TICK}
@@ -12,14 +12,15 @@ use Rattle.admission.specs.declared.control.Control.{Control}
 use Rattle.admission.specs.declared.control.Decision.{Decision}
 use Rattle.admission.specs.declared.control.Outlook.{Outlook}
 use Rattle.admission.specs.declared.control.Decision.TheVariants.{Admitted, Rejected}
-use Rattle.admission.specs.Reference.{no_rules, rules_of, Offer, Decided, Served, of_tier, served, last_finish, finish_after, controls_until, credit, decide, decided_from, decided, tick_from}
+use Rattle.admission.specs.Reference.{no_rules, rules_of, Offer, Decided, Served, of_tier, served, insert_sorted, free_at, controls_until, credit, decide, decided_from, decided, tick_from}
+use Rattle.admission.specs.Servers.{free_ticks}
 use Rattle.admission.specs.Decisions.{outlook, controls_in, all_controls}
-use Rattle.admission.specs.Standing.{TierStanding, Standing, policies_of, IsShare, IsSound}
-use Rattle.admission.specs.Running.{decision_after, free_after}
+use Rattle.admission.specs.Standing.{TierStanding, Standing, station_of, first_free, IsShare, IsSound}
+use Rattle.admission.specs.Running.{decision_after, finish_or, servers_after}
 use Rattle.admission.specs.After.{TierFits, ControllerAfter}
-use Rattle.admission.specs.TierCalls.{AreNew, Decides, Takes, Shows, Foresees, AllShare, AllShow}
-use Rattle.admission.proofs.RequestLemmas.{decided_from-push, served-push, of_tier-same, of_tier-other, of_tier-none, tick_from-push, last_finish-push}
-use Rattle.admission.proofs.OfferLemmas.{tier_later}
+use Rattle.admission.specs.TierCalls.{AreNew, IsBeside, Decides, Takes, Shows, Foresees, AllShare, AllShow}
+use Rattle.admission.proofs.RequestLemmas.{decided_from-push, served-push, of_tier-same, of_tier-other, of_tier-none, tick_from-push}
+use Rattle.admission.proofs.ServerLemmas.{free_ticks-none, free_ticks-push, free_first, first-exchanged, length-exchanged}
 use Rattle.admission.proofs.SoundLemmas.{share_later}
 
 -- ---- one of the tiers
@@ -51,124 +52,145 @@ rules_in [] i t at = absurd (cc)
 rules_in (first ∷ ts) zero t at = ap (λ (t : TierStanding). t.rules) (same_some first t at)
 rules_in (first ∷ ts) (suc i) t at = rules_in ts i t at
 
-pub rules_at : (c : Standing) (i : ℕ) (t : TierStanding) → slice_get c.tiers i ≡ Some t → rules_of (policies_of c) i ≡ t.rules
-unfolding rules_of policies_of
+pub rules_at : (c : Standing) (i : ℕ) (t : TierStanding) → slice_get c.tiers i ≡ Some t → rules_of (station_of c) i ≡ t.rules
+unfolding rules_of station_of
 rules_at c i t at = rules_in c.tiers i t at
 
 -- the controller with one tier changed
-abbrev pub with_tier : Standing → ℕ → TierStanding → ℕ → ℕ → Standing
-with_tier c i next free tick = record { tiers = slice_set c.tiers i next; free = free; offers = c.offers + 1; tick = tick }
+abbrev pub with_tier : Standing → ℕ → TierStanding → List ℕ → ℕ → Standing
+with_tier c i next servers tick = record { tiers = slice_set c.tiers i next; servers = servers; offers = c.offers + 1; tick = tick }
 
-pub policies_kept : (c : Standing) (i : ℕ) (t next : TierStanding) (free tick : ℕ) → slice_get c.tiers i ≡ Some t → next.rules ≡ t.rules
-    → policies_of (with_tier c i next free tick) ≡ policies_of c
-unfolding policies_of
-policies_kept c i t next free tick at same =
+pub station_kept : (c : Standing) (i : ℕ) (t next : TierStanding) (servers : List ℕ) (tick : ℕ) → slice_get c.tiers i ≡ Some t
+    → next.rules ≡ t.rules → length servers ≡ length c.servers → station_of (with_tier c i next servers tick) ≡ station_of c
+unfolding station_of
+station_kept c i t next servers tick at same many =
+    let policies : map (λ (t : TierStanding). t.rules) (slice_set c.tiers i next) ≡ map (λ (t : TierStanding). t.rules) c.tiers =
     map-set_same (λ (t : TierStanding). t.rules) c.tiers i next t
-    (same ∙ sym (ap (λ (t : TierStanding). t.rules) (get_or_from_slice_get c.tiers i t t at)))
+    (same ∙ sym (ap (λ (t : TierStanding). t.rules) (get_or_from_slice_get c.tiers i t t at))) in
+    rw (policies, many) refl
+
+-- the number of its servers
+many_servers : (c : Standing) → (station_of c).servers ≡ length c.servers
+unfolding station_of
+many_servers c = refl
 
 -- ---- the decision
 
+-- when the first server is free
+first_is : (c : Standing) (offers : List Offer) → 1 ≤ length c.servers → ControllerAfter offers c
+    → free_at (station_of c).servers (served (decided (station_of c) offers)) ≡ first_free c.servers
+first_is c offers some fits =
+    ap (λ n. free_at n (served (decided (station_of c) offers))) (many_servers c)
+    ∙ free_first (length c.servers) (served (decided (station_of c) offers)) some
+    ∙ ap first_free (sym fits.servers)
+
 -- the decision of a tier is that of the definitions
-pub decide_is : (c : Standing) (offers : List Offer) (offer : Offer) (t : TierStanding) → ControllerAfter offers c → slice_get c.tiers offer.tier ≡ Some t
-    → decision_after t.rules (of_tier offer.tier (decided (policies_of c) offers)) c.free offer.tick offer.service
-    ≡ decide (policies_of c) (decided (policies_of c) offers) offer
-decide_is c offers offer t fits at =
-    let past : List Decided = decided (policies_of c) offers in
-    let finish : finish_after (served past) offer ≡ max c.free offer.tick + offer.service =
-    last_finish-push (map (λ (r : Served). r.offer) (served past)) offer
-    ∙ ap (λ n. max n offer.tick + offer.service) (sym fits.free) in
-    rw (rules_at c offer.tier t at, finish) refl
+pub decide_is : (c : Standing) (offers : List Offer) (offer : Offer) (t : TierStanding) → 1 ≤ length c.servers → ControllerAfter offers c
+    → slice_get c.tiers offer.tier ≡ Some t
+    → decision_after t.rules (of_tier offer.tier (decided (station_of c) offers)) (first_free c.servers) offer.tick offer.service
+    ≡ decide (station_of c) (decided (station_of c) offers) offer
+decide_is c offers offer t some fits at = rw (rules_at c offer.tier t at, first_is c offers some fits) refl
 
 abbrev Chosen : ℕ → Bool → Decision
 Chosen finish b = if b then (Admitted finish) else Rejected
 
-grows : (free tick service : ℕ) (b : Bool) → free ≤ free_after free (Chosen (max free tick + service) b)
-grows free tick service true = omega arith
-grows free tick service false = omega arith
-
--- when the server is free after one more offer
-free_chosen : (past : List Decided) (offer : Offer) (free : ℕ) (b : Bool) → free ≡ last_finish (map (λ (r : Served). r.offer) (served past))
-    → free_after free (Chosen (max free offer.tick + offer.service) b)
-    ≡ last_finish (map (λ (r : Served). r.offer) (served (past ++ record { offer = offer; decision = Chosen (max free offer.tick + offer.service) b } ∷ [])))
-free_chosen past offer free true is =
-    let finish : ℕ = max free offer.tick + offer.service in
+-- when each server is free after one more offer
+servers_chosen : (past : List Decided) (offer : Offer) (servers : List ℕ) (finish n : ℕ) (b : Bool)
+    → servers ≡ free_ticks n (served past)
+    → servers_after servers (Chosen finish b)
+    ≡ free_ticks n (served (past ++ record { offer = offer; decision = Chosen finish b } ∷ []))
+servers_chosen past offer servers finish n true is =
     let request : Served = record { offer = offer; finish = finish } in
     let more : served (past ++ record { offer = offer; decision = Admitted finish } ∷ []) ≡ served past ++ request ∷ [] =
     served-push past (record { offer = offer; decision = Admitted finish }) in
-    rw (more, map-append (λ (r : Served). r.offer) (served past) (request ∷ []))
-    (ap (λ n. max n offer.tick + offer.service) is ∙ sym (last_finish-push (map (λ (r : Served). r.offer) (served past)) offer))
-free_chosen past offer free false is =
+    rw more (ap (λ (s : List ℕ). drop 1 (insert_sorted finish s)) is ∙ sym (free_ticks-push n (served past) request))
+servers_chosen past offer servers finish n false is =
     let same : served (past ++ record { offer = offer; decision = Rejected } ∷ []) ≡ served past =
     served-push past (record { offer = offer; decision = Rejected }) ∙ append-nil (served past) in
     rw same is
 
+-- as many servers as before
+pub many_after : (servers : List ℕ) (decision : Decision) → length (servers_after servers decision) ≡ length servers
+many_after servers (Admitted finish) = length-exchanged finish servers
+many_after servers Rejected = refl
+
 -- ---- the controller after one more offer
 
 -- the tiers after it
-tiers_after : (c : Standing) (past : List Decided) (request : Decided) (t next : TierStanding) (later : ℕ)
-    → ((i : ℕ) (t : TierStanding) → slice_get c.tiers i ≡ Some t → TierFits (of_tier i past) c.free t)
-    → request.offer.tier < length c.tiers → c.free ≤ later
-    → TierFits (of_tier request.offer.tier past ++ request ∷ []) later next
+tiers_after : (c : Standing) (past : List Decided) (request : Decided) (t next : TierStanding)
+    → ((i : ℕ) (t : TierStanding) → slice_get c.tiers i ≡ Some t → TierFits (of_tier i past) t)
+    → request.offer.tier < length c.tiers
+    → TierFits (of_tier request.offer.tier past ++ request ∷ []) next
     → (i : ℕ) (t : TierStanding) → slice_get (slice_set c.tiers request.offer.tier next) i ≡ Some t
-    → TierFits (of_tier i (past ++ request ∷ [])) later t
-tiers_after c past request t next later fits within longer own i found at =
+    → TierFits (of_tier i (past ++ request ∷ [])) t
+tiers_after c past request t next fits within own i found at =
     elim (cases_eq i request.offer.tier) [
       | inl same ↦
           let is : found ≡ next = set_here c.tiers request.offer.tier next found within (rw same at at) in
           rw (is, same, of_tier-same request.offer.tier past request refl) own
       | inr apart ↦
           rw (of_tier-other i past request (λ same. apart (sym same)))
-          (tier_later (of_tier i past) c.free later found
-          (fits i found (set_there c.tiers request.offer.tier i next found apart at)) longer)
+          (fits i found (set_there c.tiers request.offer.tier i next found apart at))
     ]
 
 pub offer_fits : (c : Standing) (offers : List Offer) (offer : Offer) (t next : TierStanding) (decision : Decision)
-    → ControllerAfter offers c → offer.tier < length c.tiers → slice_get c.tiers offer.tier ≡ Some t → next.rules ≡ t.rules
-    → decision ≡ decision_after t.rules (of_tier offer.tier (decided (policies_of c) offers)) c.free offer.tick offer.service
-    → TierFits (of_tier offer.tier (decided (policies_of c) offers) ++ record { offer = offer; decision = decision } ∷ [])
-    (free_after c.free decision) next
-    → ControllerAfter (offers ++ offer ∷ []) (with_tier c offer.tier next (free_after c.free decision) offer.tick)
-offer_fits c offers offer t next decision fits within at rules is own =
-    let past : List Decided = decided (policies_of c) offers in
-    let later : ℕ = free_after c.free decision in
+    → 1 ≤ length c.servers → ControllerAfter offers c → offer.tier < length c.tiers → slice_get c.tiers offer.tier ≡ Some t
+    → next.rules ≡ t.rules
+    → decision
+    ≡ decision_after t.rules (of_tier offer.tier (decided (station_of c) offers)) (first_free c.servers) offer.tick offer.service
+    → TierFits (of_tier offer.tier (decided (station_of c) offers) ++ record { offer = offer; decision = decision } ∷ []) next
+    → ControllerAfter (offers ++ offer ∷ []) (with_tier c offer.tier next (servers_after c.servers decision) offer.tick)
+offer_fits c offers offer t next decision some fits within at rules is own =
+    let past : List Decided = decided (station_of c) offers in
+    let finish : ℕ = max (first_free c.servers) offer.tick + offer.service in
     let request : Decided = record { offer = offer; decision = decision } in
     let chosen : Bool = nat_le TOKEN (credit t.rules (of_tier offer.tier past) offer.tick) in
-    let longer : c.free ≤ later = rw is (grows c.free offer.tick offer.service chosen) in
-    let kept : policies_of (with_tier c offer.tier next later offer.tick) ≡ policies_of c =
-    policies_kept c offer.tier t next later offer.tick at rules in
-    let more : decided (policies_of c) (offers ++ offer ∷ []) ≡ past ++ request ∷ [] =
-    decided_from-push (policies_of c) [] offers offer
-    ∙ ap (λ (d : Decision). past ++ record { offer = offer; decision = d } ∷ []) (sym (is ∙ decide_is c offers offer t fits at)) in
+    let many : length (servers_after c.servers decision) ≡ length c.servers = many_after c.servers decision in
+    let kept : station_of (with_tier c offer.tier next (servers_after c.servers decision) offer.tick) ≡ station_of c =
+    station_kept c offer.tier t next (servers_after c.servers decision) offer.tick at rules many in
+    let more : decided (station_of c) (offers ++ offer ∷ []) ≡ past ++ request ∷ [] =
+    decided_from-push (station_of c) [] offers offer
+    ∙ ap (λ (d : Decision). past ++ record { offer = offer; decision = d } ∷ []) (sym (is ∙ decide_is c offers offer t some fits at)) in
     record {
       offered = ap (λ n. n + 1) fits.offered ∙ sym (length-append offers (offer ∷ []));
       tick = sym (tick_from-push 0 offers offer);
-      free = rw (kept, more, is) (free_chosen past offer c.free chosen fits.free);
-      tiers = rw (kept, more) (tiers_after c past request t next later fits.tiers within longer own);
+      servers = rw (kept, more, many, is) (servers_chosen past offer c.servers finish (length c.servers) chosen fits.servers);
+      tiers = rw (kept, more) (tiers_after c past request t next fits.tiers within own);
     }
 
-pub offer_sound : (c : Standing) (i free tick service : ℕ) (next : TierStanding)
+-- the first server that is free after an offer
+first_after : (servers : List ℕ) (decision : Decision) → 1 ≤ length servers
+    → first_free servers ≤ finish_or (first_free servers) decision
+    → first_free (servers_after servers decision) ≤ finish_or (first_free servers) decision
+first_after servers (Admitted finish) some later = first-exchanged finish servers some later
+first_after servers Rejected some later = omega arith
+
+pub offer_sound : (c : Standing) (i tick service : ℕ) (decision : Decision) (next : TierStanding)
     → IsSound c → i < length c.tiers → c.offers < MAX_OFFERS → tick ≤ MAX_TICK → service ≤ MAX_SERVICE → c.tick ≤ tick
-    → c.free ≤ free → free ≤ max c.free tick + service → IsShare (c.offers + 1) free tick next
-    → IsSound (with_tier c i next free tick)
-offer_sound c i free tick service next sound within room most short forward longer bound share = record {
+    → first_free c.servers ≤ finish_or (first_free c.servers) decision
+    → finish_or (first_free c.servers) decision ≤ max (first_free c.servers) tick + service
+    → IsShare (c.offers + 1) tick next
+    → IsSound (with_tier c i next (servers_after c.servers decision) tick)
+offer_sound c i tick service decision next sound within room most short forward longer bound share = record {
   four = length-set c.tiers i next ∙ sound.four;
   offers = omega arith;
-  free = omega (arith, sound.free);
+  some = omega (arith, many_after c.servers decision, sound.some);
+  free = omega (arith, sound.free, first_after c.servers decision sound.some longer);
   tick = most;
   tiers = λ j found at. elim (cases_eq j i) [
     | inl same ↦
         let is : found ≡ next = set_here c.tiers i next found within (rw same at at) in
         rw is share
     | inr apart ↦
-        share_later c.offers c.free c.tick (c.offers + 1) free tick found (sound.tiers j found (set_there c.tiers i j next found apart at))
-        (omega arith) longer forward
+        share_later c.offers c.tick (c.offers + 1) tick found (sound.tiers j found (set_there c.tiers i j next found apart at))
+        (omega arith) forward
   ];
 }
 
 -- ---- a controller that was offered nothing
 
-pub four_new : (a b c d : TierStanding) → TierFits [] 0 a × IsShare 0 0 0 a → TierFits [] 0 b × IsShare 0 0 0 b
-    → TierFits [] 0 c × IsShare 0 0 0 c → TierFits [] 0 d × IsShare 0 0 0 d → AreNew (a ∷ b ∷ c ∷ d ∷ [])
+pub four_new : (a b c d : TierStanding) → TierFits [] a × IsShare 0 0 a → TierFits [] b × IsShare 0 0 b
+    → TierFits [] c × IsShare 0 0 c → TierFits [] d × IsShare 0 0 d → AreNew (a ∷ b ∷ c ∷ d ∷ [])
 four_new a b c d na nb nc nd zero t at = rw (sym (same_some a t at)) na
 four_new a b c d na nb nc nd (suc zero) t at = rw (sym (same_some b t at)) nb
 four_new a b c d na nb nc nd (suc (suc zero)) t at = rw (sym (same_some c t at)) nc
@@ -186,104 +208,117 @@ four_rules (p ∷ q ∷ []) a b c d e f g h long pa pb pc pd = absurd (omega ari
 four_rules (p ∷ q ∷ r ∷ []) a b c d e f g h long pa pb pc pd = absurd (omega arith)
 four_rules (p ∷ q ∷ r ∷ s ∷ t ∷ rest) a b c d e f g h long pa pb pc pd = absurd (omega arith)
 
-abbrev pub started : List TierStanding → Standing
-started ts = record { tiers = ts; free = 0; offers = 0; tick = 0 }
+abbrev pub started : List TierStanding → List ℕ → Standing
+started ts servers = record { tiers = ts; servers = servers; offers = 0; tick = 0 }
 
-pub started_sound : (ts : List TierStanding) → length ts ≡ 4 → AreNew ts → IsSound (started ts)
-started_sound ts long news = record {
+pub started_sound : (ts : List TierStanding) (servers : List ℕ) (n : ℕ) → length ts ≡ 4 → AreNew ts → 1 ≤ n → servers ≡ replicate n 0
+    → IsSound (started ts servers)
+started_sound ts servers n long news some is = record {
   four = long;
   offers = omega arith;
-  free = omega arith;
+  some = rw (is, length-replicate {A = ℕ} n 0) some;
+  free = rw (is, get_or-replicate {A = ℕ} n 0 0 0 some) (omega arith);
   tick = omega arith;
   tiers = λ i t at. (news i t at).1;
 }
 
-pub started_fits : (ts : List TierStanding) → AreNew ts → ControllerAfter [] (started ts)
-unfolding decided_from served last_finish tick_from
-started_fits ts news = record {
+pub started_fits : (ts : List TierStanding) (servers : List ℕ) (n : ℕ) → AreNew ts → servers ≡ replicate n 0
+    → ControllerAfter [] (started ts servers)
+unfolding decided_from served tick_from
+started_fits ts servers n news is = record {
   offered = refl;
   tick = refl;
-  free = refl;
+  servers = rw (is, length-replicate {A = ℕ} n 0) (sym (free_ticks-none n));
   tiers = λ i t at. rw (of_tier-none i) (news i t at).0;
 }
 
-pub started_policies : (policies : List PolicyNumbers) (ts : List TierStanding) → map (λ (t : TierStanding). t.rules) ts ≡ policies
-    → policies_of (started ts) ≡ policies
-unfolding policies_of
-started_policies policies ts rules = rules
+pub started_station : (policies : List PolicyNumbers) (ts : List TierStanding) (servers : List ℕ) (n : ℕ)
+    → map (λ (t : TierStanding). t.rules) ts ≡ policies → servers ≡ replicate n 0
+    → station_of (started ts servers) ≡ record { policies = policies; servers = n }
+unfolding station_of
+started_station policies ts servers n rules is = rw (rules, is, length-replicate {A = ℕ} n 0) refl
 
 -- ---- what the controller's calls ask of a tier, and what they get
 
 -- a tier of a sound controller, where it is offered nothing more
 pub shared_at : (c : Standing) (i : ℕ) (t : TierStanding) → IsSound c → i < length c.tiers → t ≡ slice_index_or c.tiers i t
-    → IsShare MAX_OFFERS c.free c.tick (slice_index_or c.tiers i t)
+    → IsBeside c.tick (slice_index_or c.tiers i t)
 shared_at c i t sound within at =
-    rw (← at) (share_later c.offers c.free c.tick MAX_OFFERS c.free c.tick t (sound.tiers i t (get_at c.tiers i t within at))
-    sound.offers (omega arith) (omega arith))
+    rw (← at) (c.offers, sound.offers, sound.tiers i t (get_at c.tiers i t within at))
 
 -- the standing of a tier, and that it fits its own requests
 pub own_fits : (c : Standing) (i : ℕ) (t : TierStanding) (offers : List Offer) → i < length c.tiers
-    → t ≡ slice_index_or c.tiers i t → ControllerAfter offers c → TierFits (of_tier i (decided (policies_of c) offers)) c.free t
+    → t ≡ slice_index_or c.tiers i t → ControllerAfter offers c → TierFits (of_tier i (decided (station_of c) offers)) t
 own_fits c i t offers within at fits = fits.tiers i t (get_at c.tiers i t within at)
 
 -- the controls that a tier shows
 pub shown_at : (c : Standing) (i : ℕ) (t : TierStanding) (offers : List Offer) (shown : List Control) → i < length c.tiers
     → t ≡ slice_index_or c.tiers i t → ControllerAfter offers c
     → Shows (slice_index_or c.tiers i t) c.tick shown
-    → shown ≡ controls_until (rules_of (policies_of c) i) (served (of_tier i (decided (policies_of c) offers))) (tick_from 0 offers)
+    → shown ≡ controls_until (rules_of (station_of c) i) (served (of_tier i (decided (station_of c) offers))) (tick_from 0 offers)
 shown_at c i t offers shown within at fits shows =
     let found : slice_get c.tiers i ≡ Some t = get_at c.tiers i t within at in
     rw (rules_at c i t found, ← fits.tick)
-    (rw (← at) at (shows (of_tier i (decided (policies_of c) offers)) c.free (rw (← at) (fits.tiers i t found))))
+    (rw (← at) at (shows (of_tier i (decided (station_of c) offers)) (rw (← at) (fits.tiers i t found))))
 
 -- a tier that is offered one more request
 pub offered_at : (c : Standing) (i tick : ℕ) (t : TierStanding) → IsSound c → i < length c.tiers → t ≡ slice_index_or c.tiers i t
-    → c.tick ≤ tick → IsShare c.offers c.free tick (slice_index_or c.tiers i t)
+    → c.tick ≤ tick → IsShare c.offers tick (slice_index_or c.tiers i t)
 offered_at c i tick t sound within at forward =
-    rw (← at) (share_later c.offers c.free c.tick c.offers c.free tick t (sound.tiers i t (get_at c.tiers i t within at))
-    (omega arith) (omega arith) forward)
+    rw (← at) (share_later c.offers c.tick c.offers tick t (sound.tiers i t (get_at c.tiers i t within at))
+    (omega arith) forward)
 
-pub offered_decision : (c : Standing) (i tick service : ℕ) (t : TierStanding) (offers : List Offer) (decision : Decision) → i < length c.tiers
-    → t ≡ slice_index_or c.tiers i t → ControllerAfter offers c
-    → Decides (slice_index_or c.tiers i t) c.free tick service decision
-    → decision ≡ decide (policies_of c) (decided (policies_of c) offers) (record { tier = i; tick = tick; service = service })
-offered_decision c i tick service t offers decision within at fits decides =
+pub offered_decision : (c : Standing) (i tick service delay : ℕ) (t : TierStanding) (offers : List Offer) (decision : Decision)
+    → 1 ≤ length c.servers → i < length c.tiers → t ≡ slice_index_or c.tiers i t → ControllerAfter offers c
+    → Decides (slice_index_or c.tiers i t) (first_free c.servers) tick service decision
+    → decision
+    ≡ decide (station_of c) (decided (station_of c) offers) (record { tier = i; tick = tick; service = service; delay = delay })
+offered_decision c i tick service delay t offers decision some within at fits decides =
     let found : slice_get c.tiers i ≡ Some t = get_at c.tiers i t within at in
-    rw (← at) at (decides (of_tier i (decided (policies_of c) offers)) (rw (← at) (fits.tiers i t found)))
-    ∙ decide_is c offers (record { tier = i; tick = tick; service = service }) t fits found
+    rw (← at) at (decides (of_tier i (decided (station_of c) offers)) (rw (← at) (fits.tiers i t found)))
+    ∙ decide_is c offers (record { tier = i; tick = tick; service = service; delay = delay }) t some fits found
 
-pub offered_fits : (c : Standing) (i tick service : ℕ) (t next : TierStanding) (offers : List Offer) (decision : Decision) → i < length c.tiers
-    → t ≡ slice_index_or c.tiers i t → ControllerAfter offers c
-    → Decides (slice_index_or c.tiers i t) c.free tick service decision
-    → Takes (slice_index_or c.tiers i t) c.free tick decision next
+pub offered_fits : (c : Standing) (i tick service delay : ℕ) (t next : TierStanding) (offers : List Offer) (decision : Decision)
+    → 1 ≤ length c.servers → i < length c.tiers → t ≡ slice_index_or c.tiers i t → ControllerAfter offers c
+    → Decides (slice_index_or c.tiers i t) (first_free c.servers) tick service decision
+    → Takes (slice_index_or c.tiers i t) tick delay decision next
     → next.rules ≡ (slice_index_or c.tiers i t).rules
-    → ControllerAfter (offers ++ record { tier = i; tick = tick; service = service } ∷ []) (with_tier c i next (free_after c.free decision) tick)
-offered_fits c i tick service t next offers decision within at fits decides stands rules =
-    let offer : Offer = record { tier = i; tick = tick; service = service } in
-    let past : List Decided = of_tier i (decided (policies_of c) offers) in
+    → ControllerAfter (offers ++ record { tier = i; tick = tick; service = service; delay = delay } ∷ [])
+    (with_tier c i next (servers_after c.servers decision) tick)
+offered_fits c i tick service delay t next offers decision some within at fits decides stands rules =
+    let offer : Offer = record { tier = i; tick = tick; service = service; delay = delay } in
+    let past : List Decided = of_tier i (decided (station_of c) offers) in
     let found : slice_get c.tiers i ≡ Some t = get_at c.tiers i t within at in
-    let own : TierFits past c.free (slice_index_or c.tiers i t) = rw (← at) (fits.tiers i t found) in
-    offer_fits c offers offer t next decision fits within found (rw (← at) at rules) (rw (← at) at (decides past own)) (stands past offer refl own)
+    let own : TierFits past (slice_index_or c.tiers i t) = rw (← at) (fits.tiers i t found) in
+    offer_fits c offers offer t next decision some fits within found (rw (← at) at rules) (rw (← at) at (decides past own))
+    (stands past offer refl refl own)
 
-pub offered_policies : (c : Standing) (i free tick : ℕ) (t next : TierStanding) → i < length c.tiers → t ≡ slice_index_or c.tiers i t
-    → next.rules ≡ (slice_index_or c.tiers i t).rules → policies_of (with_tier c i next free tick) ≡ policies_of c
-offered_policies c i free tick t next within at rules =
-    policies_kept c i t next free tick (get_at c.tiers i t within at) (rw (← at) at rules)
+pub offered_station : (c : Standing) (i tick : ℕ) (decision : Decision) (t next : TierStanding) → i < length c.tiers
+    → t ≡ slice_index_or c.tiers i t → next.rules ≡ (slice_index_or c.tiers i t).rules
+    → station_of (with_tier c i next (servers_after c.servers decision) tick) ≡ station_of c
+offered_station c i tick decision t next within at rules =
+    station_kept c i t next (servers_after c.servers decision) tick (get_at c.tiers i t within at) (rw (← at) at rules)
+    (many_after c.servers decision)
 
 -- what a request of a tier finds that comes at a later tick
 pub later_at : (c : Standing) (i tick : ℕ) (t : TierStanding) → IsSound c → i < length c.tiers → t ≡ slice_index_or c.tiers i t
-    → c.tick ≤ tick → IsShare MAX_OFFERS c.free tick (slice_index_or c.tiers i t)
+    → c.tick ≤ tick → IsBeside tick (slice_index_or c.tiers i t)
 later_at c i tick t sound within at forward =
-    rw (← at) (share_later c.offers c.free c.tick MAX_OFFERS c.free tick t (sound.tiers i t (get_at c.tiers i t within at))
-    sound.offers (omega arith) forward)
+    rw (← at) (
+      c.offers,
+      sound.offers,
+      share_later c.offers c.tick c.offers tick t (sound.tiers i t (get_at c.tiers i t within at))
+          (omega arith) forward,
+    )
 
-pub foreseen_at : (c : Standing) (i tick : ℕ) (t : TierStanding) (offers : List Offer) (found : Outlook) → i < length c.tiers
-    → t ≡ slice_index_or c.tiers i t → ControllerAfter offers c → Foresees (slice_index_or c.tiers i t) c.free tick found
-    → found ≡ outlook (policies_of c) (decided (policies_of c) offers) i tick
-foreseen_at c i tick t offers found within at fits foresees =
+pub foreseen_at : (c : Standing) (i tick : ℕ) (t : TierStanding) (offers : List Offer) (found : Outlook) → 1 ≤ length c.servers
+    → i < length c.tiers → t ≡ slice_index_or c.tiers i t → ControllerAfter offers c
+    → Foresees (slice_index_or c.tiers i t) (first_free c.servers) tick found
+    → found ≡ outlook (station_of c) (decided (station_of c) offers) i tick
+foreseen_at c i tick t offers found some within at fits foresees =
     let is : slice_get c.tiers i ≡ Some t = get_at c.tiers i t within at in
-    rw (rules_at c i t is, ← fits.free)
-    (rw (← at) at (foresees (of_tier i (decided (policies_of c) offers)) (rw (← at) (fits.tiers i t is))))
+    rw (rules_at c i t is, first_is c offers some fits)
+    (rw (← at) at (foresees (of_tier i (decided (station_of c) offers)) (rw (← at) (fits.tiers i t is))))
 
 -- ---- the controls of all tiers
 
@@ -294,15 +329,15 @@ some_at (x ∷ xs) (suc i) within = some_at xs i (omega (arith, within))
 
 shown_in : (c : Standing) (offers : List Offer) (shown : List (List Control)) (i : ℕ) (controls : List Control)
     → i < length c.tiers → ControllerAfter offers c → AllShow c.tiers c.tick shown → slice_get shown i ≡ Some controls
-    → controls ≡ controls_in (policies_of c) offers i
+    → controls ≡ controls_in (station_of c) offers i
 shown_in c offers shown i controls within fits shows at =
     let own = some_at c.tiers i within in
     rw (rules_at c i own.0 own.1, ← fits.tick)
-    (shows i own.0 controls own.1 at (of_tier i (decided (policies_of c) offers)) c.free (fits.tiers i own.0 own.1))
+    (shows i own.0 controls own.1 at (of_tier i (decided (station_of c) offers)) (fits.tiers i own.0 own.1))
 
 pub all_shown : (c : Standing) (offers : List Offer) (shown : List (List Control)) → length c.tiers ≡ 4
     → length shown ≡ 4 → ControllerAfter offers c → AllShow c.tiers c.tick shown
-    → shown ≡ all_controls (policies_of c) offers
+    → shown ≡ all_controls (station_of c) offers
 all_shown c offers (w ∷ x ∷ y ∷ z ∷ []) four long fits shows =
     let first = shown_in c offers (w ∷ x ∷ y ∷ z ∷ []) 0 w (omega (arith, four)) fits shows refl in
     let second = shown_in c offers (w ∷ x ∷ y ∷ z ∷ []) 1 x (omega (arith, four)) fits shows refl in
@@ -317,4 +352,4 @@ all_shown c offers (w ∷ x ∷ y ∷ z ∷ v ∷ rest) four long fits shows = a
 
 pub all_share : (c : Standing) → IsSound c → AllShare c.tiers c.tick
 all_share c sound i t at =
-    (c.free, share_later c.offers c.free c.tick MAX_OFFERS c.free c.tick t (sound.tiers i t at) sound.offers (omega arith) (omega arith))
+    (c.offers, sound.offers, sound.tiers i t at)

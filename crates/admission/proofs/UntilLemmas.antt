@@ -1,17 +1,16 @@
 -- The controls up to a tick are the first of all controls.
-use Rattle.std.proofs.Common.{◌≡◌, ℕ, zero, suc, ◌+◌, ◌-◌, ◌*◌, ◌/◌, ◌<◌, ◌≤◌, List, ◌∷◌, length, map, take, Bool, true, false, refl, sym, ◌∙◌, ap, arith, inl, inr}
-use Rattle.std.specs.Prelude.{filter, nat_le, slice_index}
+use Rattle.std.proofs.Common.{◌≡◌, ℕ, zero, suc, ◌+◌, ◌*◌, ◌/◌, ◌<◌, ◌≤◌, List, ◌∷◌, length, map, take, Bool, true, false, refl, sym, ◌∙◌, ap, arith, inl, inr}
+use Rattle.std.specs.Prelude.{filter, nat_le}
 use Rattle.std.specs.List.{range_with_len}
 use Rattle.std.proofs.lemmas.Bool.{cases_lt, le-leb, lt-leb}
-use Rattle.std.proofs.lemmas.List.Sums.{count_by-le-length}
 use Rattle.token_bucket.specs.Standing as bucket
 use Rattle.admission.specs.declared.policy.PolicyNumbers.{PolicyNumbers}
 use Rattle.admission.specs.declared.control.Control.{Control}
-use Rattle.admission.specs.Reference.{Decided, Served, served, finishes, done, control_at, controls_of, controls_until}
+use Rattle.admission.specs.Reference.{Decided, Served, greatest, served, finishes, done, control_at, controls_of, controls_until}
 use Rattle.admission.specs.Standing.{TierStanding}
-use Rattle.admission.specs.After.{IsRising, BucketFits, TierFits}
+use Rattle.admission.specs.After.{BucketFits, TierFits}
 use Rattle.admission.proofs.ControlLemmas.{fits_quotient, quotient_fits, length-finishes}
-use Rattle.admission.proofs.RequestLemmas.{upto-before, upto-at}
+use Rattle.admission.proofs.DoneLemmas.{upto-before, upto-at}
 
 -- where the first j pass and the others don't
 filter_first : (p : Control → Bool) (f : ℕ → Control) (a m j : ℕ)
@@ -27,53 +26,43 @@ filter_first p f a (suc m) (suc j) ones others =
     rw here (ap (λ (cs : List Control). f a ∷ cs)
     (filter_first p f (a + 1) m j (λ k above below. ones k (omega arith) (omega arith)) (λ k above below. others k (omega arith) (omega arith))))
 
-product_some : (k e : ℕ) → 0 < e → 1 ≤ k → 1 ≤ k * e
-product_some k e some first = let e_le : e ≤ k * e = grind arith in omega arith
-
 -- a control in force has its instant after it
-reached : (rules : PolicyNumbers) (requests : List Served) (hi tick k : ℕ) → 0 < rules.every → IsRising 0 hi (finishes requests)
-    → 1 ≤ k → k ≤ done requests tick / rules.every → (control_at rules requests k).instant ≤ tick
-reached rules requests hi tick k some rising first within =
+reached : (rules : PolicyNumbers) (requests : List Served) (tick k : ℕ) → 0 < rules.every
+    → k ≤ done requests tick / rules.every → (control_at rules requests k).instant ≤ tick
+reached rules requests tick k some within =
     let fit : k * rules.every ≤ done requests tick = quotient_fits k rules.every (done requests tick) some within in
-    let one : 1 ≤ k * rules.every = product_some k rules.every some first in
-    let all : done requests tick ≤ length requests =
-    omega (arith, count_by-le-length (λ finish. nat_le finish tick) (finishes requests), length-finishes requests) in
-    let place : k * rules.every - 1 < length (finishes requests) = rw (length-finishes requests) (omega arith) in
-    elim (cases_lt tick (slice_index (finishes requests) (k * rules.every - 1))) [
+    elim (cases_lt tick (greatest (take (k * rules.every) (finishes requests)))) [
       | inl later ↦
-          let few : done requests tick ≤ k * rules.every - 1 =
-          upto-before 0 hi tick (k * rules.every - 1) (finishes requests) rising place later in
+          let few : done requests tick < k * rules.every = upto-before tick (k * rules.every) (finishes requests) later in
           absurd (omega arith)
       | inr now ↦ now
     ]
 
 -- any other has it ahead
-ahead : (rules : PolicyNumbers) (requests : List Served) (hi tick k : ℕ) → 0 < rules.every → IsRising 0 hi (finishes requests)
+ahead : (rules : PolicyNumbers) (requests : List Served) (tick k : ℕ) → 0 < rules.every
     → done requests tick / rules.every < k → k ≤ length requests / rules.every → tick < (control_at rules requests k).instant
-ahead rules requests hi tick k some rising above within =
+ahead rules requests tick k some above within =
     let fit : k * rules.every ≤ length requests = quotient_fits k rules.every (length requests) some within in
-    let one : 1 ≤ k * rules.every = product_some k rules.every some (omega arith) in
-    let place : k * rules.every - 1 < length (finishes requests) = rw (length-finishes requests) (omega arith) in
-    elim (cases_lt tick (slice_index (finishes requests) (k * rules.every - 1))) [
+    let place : k * rules.every ≤ length (finishes requests) = rw (length-finishes requests) fit in
+    elim (cases_lt tick (greatest (take (k * rules.every) (finishes requests)))) [
       | inl later ↦ later
       | inr now ↦
-          let many : k * rules.every - 1 < done requests tick =
-          upto-at 0 hi tick (k * rules.every - 1) (finishes requests) rising place now in
-          let in_force : k ≤ done requests tick / rules.every = fits_quotient k rules.every (done requests tick) some (omega arith) in
+          let many : k * rules.every ≤ done requests tick = upto-at tick (k * rules.every) (finishes requests) place now in
+          let in_force : k ≤ done requests tick / rules.every = fits_quotient k rules.every (done requests tick) some many in
           absurd (omega arith)
     ]
 
-pub until_is : (rules : PolicyNumbers) (requests : List Served) (hi tick : ℕ) → 0 < rules.every → IsRising 0 hi (finishes requests)
+pub until_is : (rules : PolicyNumbers) (requests : List Served) (tick : ℕ) → 0 < rules.every
     → controls_until rules requests tick ≡ take (done requests tick / rules.every) (controls_of rules requests)
-until_is rules requests hi tick some rising =
+until_is rules requests tick some =
     filter_first (λ (c : Control). nat_le c.instant tick) (control_at rules requests) 1 (length requests / rules.every)
     (done requests tick / rules.every)
-    (λ k above below. le-leb _ tick (reached rules requests hi tick k some rising above (omega arith)))
-    (λ k above below. lt-leb _ tick (ahead rules requests hi tick k some rising (omega arith) (omega arith)))
+    (λ k above below. le-leb _ tick (reached rules requests tick k some (omega arith)))
+    (λ k above below. lt-leb _ tick (ahead rules requests tick k some (omega arith) (omega arith)))
 
-pub until_fits : (past : List Decided) (free tick : ℕ) (t : TierStanding) (b : bucket.Standing) (reached : ℕ) → 1 ≤ t.rules.every
-    → TierFits past free t → BucketFits t.rules past b reached → b.tick ≡ tick
+pub until_fits : (past : List Decided) (tick : ℕ) (t : TierStanding) (b : bucket.Standing) (reached : ℕ) → 1 ≤ t.rules.every
+    → TierFits past t → BucketFits t.rules past b reached → b.tick ≡ tick
     → take reached t.controls ≡ controls_until t.rules (served past) tick
-until_fits past free tick t b reached some fits passed at =
-    sym (until_is t.rules (served past) free tick some fits.rising
+until_fits past tick t b reached some fits passed at =
+    sym (until_is t.rules (served past) tick some
     ∙ rw (fits.controls, passed.stands.in_force, at) refl)

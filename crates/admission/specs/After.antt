@@ -1,20 +1,15 @@
 -- What a controller keeps of the offers so far.
-use Rattle.std.specs.Prelude.{◌≡◌, ℕ, ◌+◌, ◌*◌, ◌/◌, ◌<◌, ◌≤◌, List, [], ◌∷◌, length, map, count_by, Some, slice_get}
+use Rattle.std.specs.Prelude.{◌≡◌, ℕ, ◌+◌, ◌*◌, ◌/◌, ◌≤◌, List, [], ◌∷◌, length, count_by, Some, slice_get}
 use Rattle.token_bucket.specs.Reference.{TOKEN, accrual}
 use Rattle.token_bucket.specs.Calls.{Past}
 use Rattle.token_bucket.specs.After as calls
 use Rattle.token_bucket.specs.Standing as bucket
 use Rattle.admission.specs.declared.policy.PolicyNumbers.{PolicyNumbers}
-use Rattle.admission.specs.Reference.{Offer, Decided, of_tier, is_admitted, is_rejected, served, finishes}
-use Rattle.admission.specs.Reference.{samples, last_finish, done, controls_of, rate_after, rate_at, credit, decided}
-use Rattle.admission.specs.Reference.{tick_from}
+use Rattle.admission.specs.Reference.{Offer, Decided, of_tier, is_admitted, is_rejected, served, finishes, greatest}
+use Rattle.admission.specs.Reference.{samples, done, controls_of, rate_after, rate_at, credit, decided, tick_from}
+use Rattle.admission.specs.Servers.{free_ticks}
 use Rattle.admission.specs.Window.{window_of}
-use Rattle.admission.specs.Standing.{TierStanding, Standing, policies_of}
-
--- numbers that rise from above lo up to hi
-unfoldable pub IsRising : ℕ → ℕ → List ℕ → Type 0
-IsRising lo hi [] = lo ≤ hi
-IsRising lo hi (x ∷ xs) = (lo < x) × IsRising x hi xs
+use Rattle.admission.specs.Standing.{TierStanding, Standing, station_of}
 
 -- all of the requests were offered up to this tick, and no balance of theirs goes below zero
 unfoldable pub AllCovered : (ℕ → ℕ) → ℕ → ℕ → List Decided → Type 0
@@ -41,20 +36,19 @@ pub record BucketFits (rules : PolicyNumbers) (past : List Decided) (b : bucket.
   pub fits : calls.BucketAfter past_calls b
   pub stands : TierBucketAfter rules past b reached
 
--- a tier whose bucket, window and controls are those of these requests of the tier, where all tiers' requests are
--- finished when the server is free
-pub record TierFits (past : List Decided) (free : ℕ) (t : TierStanding) : Type 0 where
+-- a tier whose bucket, window and controls are those of these requests of the tier
+pub record TierFits (past : List Decided) (t : TierStanding) : Type 0 where
   pub bucket : BucketFits t.rules past t.bucket t.reached
   pub admitted : t.admitted ≡ length (served past)
   pub rejected : t.rejected ≡ count_by (λ r. is_rejected r.decision) past
-  pub rising : IsRising 0 free (finishes (served past))
+  pub cleared : t.cleared ≡ greatest (finishes (served past))
   pub window : t.window ≡ window_of t.rules.window (samples (served past))
   pub controls : t.controls ≡ controls_of t.rules (served past)
 
--- a controller that stands so after these offers: each tier by its own requests, the server by those of all tiers
+-- a controller that stands so after these offers: each tier by its own requests, the servers by those of all tiers
 pub record ControllerAfter (offers : List Offer) (c : Standing) : Type 0 where
   pub offered : c.offers ≡ length offers
   pub tick : c.tick ≡ tick_from 0 offers
-  pub free : c.free ≡ last_finish (map (λ r. r.offer) (served (decided (policies_of c) offers)))
+  pub servers : c.servers ≡ free_ticks (length c.servers) (served (decided (station_of c) offers))
   pub tiers : (i : ℕ) (t : TierStanding) → slice_get c.tiers i ≡ Some t
-      → TierFits (of_tier i (decided (policies_of c) offers)) c.free t
+      → TierFits (of_tier i (decided (station_of c) offers)) t

@@ -1,16 +1,17 @@
 -- What follows from the definitions.
-use Rattle.std.specs.Prelude.{◌≡◌, ℕ, ◌+◌, ◌-◌, ◌*◌, ◌<◌, ◌≤◌, min, max, List, [], ◌∷◌, ◌++◌, map, if◌then◌else◌}
+use Rattle.std.specs.Prelude.{◌≡◌, ℕ, ◌+◌, ◌-◌, ◌*◌, ◌<◌, ◌≤◌, min, max, List, [], ◌∷◌, ◌++◌, if◌then◌else◌}
 use Rattle.token_bucket.specs.Reference.{TOKEN, accrual}
 use Rattle.admission.specs.declared.policy.PolicyNumbers.{PolicyNumbers}
 use Rattle.admission.specs.declared.control.Decision.TheVariants.{Rejected}
-use Rattle.admission.specs.Reference.{rules_of, Offer, Decided, Served, of_tier, served, last_finish}
+use Rattle.admission.specs.Reference.{Station, rules_of, Offer, Decided, Served, of_tier, served}
 use Rattle.admission.specs.Reference.{is_admitted, control_at, rate_at, credit, decide, decided}
+use Rattle.admission.specs.Servers.{last_finish, offers_served}
 use Rattle.admission.specs.Rules.{IsInRange}
 
 -- the decisions on the first offers are the first decisions
 abbrev pub DecisionsBegin : Type 0
-DecisionsBegin = (policies : List PolicyNumbers) (offers more : List Offer)
-    → (rest : List Decided) × (decided policies (offers ++ more) ≡ decided policies offers ++ rest)
+DecisionsBegin = (station : Station) (offers more : List Offer)
+    → (rest : List Decided) × (decided station (offers ++ more) ≡ decided station offers ++ rest)
 
 abbrev pub and_rejected : List Decided → Offer → List Decided
 and_rejected past rejected = past ++ record { offer = rejected; decision = Rejected } ∷ []
@@ -18,27 +19,27 @@ and_rejected past rejected = past ++ record { offer = rejected; decision = Rejec
 -- a rejected offer, of whatever tier, changes nothing that a later one sees: no request is served, in any tier no
 -- sample, control or rate is another (they are those of its served requests) and no credit is, and so no decision is
 abbrev pub RejectedLeavesAll : Type 0
-RejectedLeavesAll = (policies : List PolicyNumbers) (past : List Decided) (rejected offer : Offer) (tier tick : ℕ)
+RejectedLeavesAll = (station : Station) (past : List Decided) (rejected offer : Offer) (tier tick : ℕ)
     → (served (and_rejected past rejected) ≡ served past)
     × (served (of_tier tier (and_rejected past rejected)) ≡ served (of_tier tier past))
-    × (credit (rules_of policies tier) (of_tier tier (and_rejected past rejected)) tick
-    ≡ credit (rules_of policies tier) (of_tier tier past) tick)
-    × (decide policies (and_rejected past rejected) offer ≡ decide policies past offer)
+    × (credit (rules_of station tier) (of_tier tier (and_rejected past rejected)) tick
+    ≡ credit (rules_of station tier) (of_tier tier past) tick)
+    × (decide station (and_rejected past rejected) offer ≡ decide station past offer)
 
 -- an offer of another tier, whatever becomes of it, leaves the requests of this tier as they were, and with them each
 -- credit, rate, sample and control of this tier
 abbrev pub OtherTiersLeave : Type 0
-OtherTiersLeave = (policies : List PolicyNumbers) (offers : List Offer) (offer : Offer) (tier : ℕ)
+OtherTiersLeave = (station : Station) (offers : List Offer) (offer : Offer) (tier : ℕ)
     → (offer.tier ≡ tier → ⊥)
-    → of_tier tier (decided policies (offers ++ offer ∷ [])) ≡ of_tier tier (decided policies offers)
+    → of_tier tier (decided station (offers ++ offer ∷ [])) ≡ of_tier tier (decided station offers)
 
 -- each rate lies between the least and the greatest
 abbrev pub RatesWithin : Type 0
 RatesWithin = (rules : PolicyNumbers) (requests : List Served) (tick : ℕ) → IsInRange rules
     → (rules.rate_min ≤ rate_at rules requests tick) × (rate_at rules requests tick ≤ rules.rate_max)
 
--- a finish is the later of the finish before it and its request's arrival, with its service: finishes never
--- fall, and a response never takes less than the service
+-- a finish of one server is the later of the finish before it and its request's arrival, with its service: these
+-- finishes never fall, and a response never takes less than the service
 abbrev pub FinishRuns : Type 0
 FinishRuns = (offers : List Offer) (offer : Offer)
     → (last_finish (offers ++ offer ∷ []) ≡ max (last_finish offers) offer.tick + offer.service)
@@ -69,32 +70,32 @@ RunsTo before [] last = before ≡ last
 RunsTo before (request ∷ requests) last =
     (request.finish ≡ max before request.offer.tick + request.offer.service) × RunsTo request.finish requests last
 
--- the finishes of the admitted requests of all tiers run so from 0 to the finish after which the next one is served,
--- of whatever tier it is
+-- where there is one server, the finishes of the admitted requests of all tiers run so from 0 to the finish after which
+-- the next one is served, of whatever tier it is
 abbrev pub FinishFromFinish : Type 0
-FinishFromFinish = (policies : List PolicyNumbers) (offers : List Offer)
-    → RunsTo 0 (served (decided policies offers)) (last_finish (map (λ r. r.offer) (served (decided policies offers))))
+FinishFromFinish = (station : Station) (offers : List Offer) → station.servers ≡ 1
+    → RunsTo 0 (served (decided station offers)) (last_finish (offers_served (served (decided station offers))))
 
 -- the first offered request of a tier finds a full bucket, whenever it comes and whatever other tiers were offered
 abbrev pub FirstCredit : Type 0
-FirstCredit = (policies : List PolicyNumbers) (offers : List Offer) (tier tick : ℕ) → AreOfOthers tier offers
-    → credit (rules_of policies tier) (of_tier tier (decided policies offers)) tick
-    ≡ (rules_of policies tier).depth * TOKEN
+FirstCredit = (station : Station) (offers : List Offer) (tier tick : ℕ) → AreOfOthers tier offers
+    → credit (rules_of station tier) (of_tier tier (decided station offers)) tick
+    ≡ (rules_of station tier).depth * TOKEN
 
 -- the credit of a tier after an offer of that tier, by the tier's rules
-abbrev pub CreditAfter : PolicyNumbers → List PolicyNumbers → List Offer → Offer → ℕ → Type 0
-CreditAfter rules policies offers offer tick =
-    credit rules (of_tier offer.tier (decided policies (offers ++ offer ∷ []))) tick
+abbrev pub CreditAfter : PolicyNumbers → Station → List Offer → Offer → ℕ → Type 0
+CreditAfter rules station offers offer tick =
+    credit rules (of_tier offer.tier (decided station (offers ++ offer ∷ []))) tick
     ≡ min (rules.depth * TOKEN)
-    (credit rules (of_tier offer.tier (decided policies offers)) offer.tick
-    - (if is_admitted (decide policies (decided policies offers) offer) then TOKEN else 0)
-    + accrual (rate_at rules (served (of_tier offer.tier (decided policies (offers ++ offer ∷ []))))) offer.tick tick)
+    (credit rules (of_tier offer.tier (decided station offers)) offer.tick
+    - (if is_admitted (decide station (decided station offers) offer) then TOKEN else 0)
+    + accrual (rate_at rules (served (of_tier offer.tier (decided station (offers ++ offer ∷ []))))) offer.tick tick)
 
 -- it is that of the offer, without the token that it took, and with what accrues from it on, up to the depth
 abbrev pub CreditFromCredit : Type 0
-CreditFromCredit = (policies : List PolicyNumbers) (offers : List Offer) (offer : Offer) (tick : ℕ)
-    → IsInRange (rules_of policies offer.tier) → AreOffered 0 (offers ++ offer ∷ []) → offer.tick ≤ tick
-    → CreditAfter (rules_of policies offer.tier) policies offers offer tick
+CreditFromCredit = (station : Station) (offers : List Offer) (offer : Offer) (tick : ℕ)
+    → IsInRange (rules_of station offer.tier) → AreOffered 0 (offers ++ offer ∷ []) → offer.tick ≤ tick
+    → CreditAfter (rules_of station offer.tier) station offers offer tick
 
 -- what accrues from one tick to another falls into what accrues up to a control between them and from it on
 abbrev pub AccrualSplitsAtControl : Type 0
@@ -107,7 +108,7 @@ AccrualSplitsAtControl = (rules : PolicyNumbers) (requests : List Served) (k s t
 -- the rate of a tier in force at a tick that no further offer of any tier comes before depends on the offers so far
 -- alone
 abbrev pub RateFromOffersBefore : Type 0
-RateFromOffersBefore = (policies : List PolicyNumbers) (offers more : List Offer) (tier tick : ℕ)
-    → IsInRange (rules_of policies tier) → AreOffered tick more
-    → rate_at (rules_of policies tier) (served (of_tier tier (decided policies (offers ++ more)))) tick
-    ≡ rate_at (rules_of policies tier) (served (of_tier tier (decided policies offers))) tick
+RateFromOffersBefore = (station : Station) (offers more : List Offer) (tier tick : ℕ)
+    → IsInRange (rules_of station tier) → AreOffered tick more
+    → rate_at (rules_of station tier) (served (of_tier tier (decided station (offers ++ more)))) tick
+    ≡ rate_at (rules_of station tier) (served (of_tier tier (decided station offers))) tick

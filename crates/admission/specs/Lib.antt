@@ -3,9 +3,11 @@ pub mod Decisions
 pub mod Laws
 pub mod Limits
 pub mod OneTier
+pub mod Others
 pub mod Reference
 pub mod Rules
 pub mod Running
+pub mod Servers
 pub mod Standing
 pub mod Tally
 pub mod TierCalls

@@ -28,6 +28,14 @@ MAX_TARGET = 1000000000000
 abbrev pub MAX_SERVICE : ℕ
 MAX_SERVICE = 20000000000
 
+-- the most servers
+abbrev pub MAX_SERVERS : ℕ
+MAX_SERVERS = 1024
+
+-- the longest delay, in ticks
+abbrev pub MAX_DELAY : ℕ
+MAX_DELAY = 1000000000
+
 -- the most requests that are offered
 abbrev pub MAX_OFFERS : ℕ
 MAX_OFFERS = 536870912

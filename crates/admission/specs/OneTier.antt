@@ -4,24 +4,26 @@ use Rattle.token_bucket.specs.Reference.{TOKEN}
 use Rattle.admission.specs.declared.policy.PolicyNumbers.{PolicyNumbers}
 use Rattle.admission.specs.declared.control.Decision.{Decision}
 use Rattle.admission.specs.declared.control.Decision.TheVariants.{Admitted, Rejected}
-use Rattle.admission.specs.Reference.{rules_of, Offer, Decided, served, of_tier, finish_after, credit, decided}
+use Rattle.admission.specs.Reference.{Station, rules_of, Offer, Decided, served, of_tier, finish_after, credit}
+use Rattle.admission.specs.Reference.{decided}
 
 -- a request is admitted exactly where its credit holds a token
-abbrev pub decide_alone : PolicyNumbers → List Decided → Offer → Decision
-decide_alone rules past offer =
-    if nat_le TOKEN (credit rules past offer.tick) then (Admitted (finish_after (served past) offer)) else Rejected
+abbrev pub decide_alone : ℕ → PolicyNumbers → List Decided → Offer → Decision
+decide_alone servers rules past offer =
+    if nat_le TOKEN (credit rules past offer.tick) then (Admitted (finish_after servers (served past) offer))
+    else Rejected
 
-abbrev pub decided_alone_next : PolicyNumbers → List Decided → Offer → Decided
-decided_alone_next rules past offer = record { offer = offer; decision = decide_alone rules past offer }
+abbrev pub decided_alone_next : ℕ → PolicyNumbers → List Decided → Offer → Decided
+decided_alone_next servers rules past offer = record { offer = offer; decision = decide_alone servers rules past offer }
 
 -- each offer in turn, decided by those before it
-unfoldable pub decided_alone_from : PolicyNumbers → List Decided → List Offer → List Decided
-decided_alone_from rules past [] = past
-decided_alone_from rules past (offer ∷ offers) =
-    decided_alone_from rules (past ++ decided_alone_next rules past offer ∷ []) offers
+unfoldable pub decided_alone_from : ℕ → PolicyNumbers → List Decided → List Offer → List Decided
+decided_alone_from servers rules past [] = past
+decided_alone_from servers rules past (offer ∷ offers) =
+    decided_alone_from servers rules (past ++ decided_alone_next servers rules past offer ∷ []) offers
 
-abbrev pub decided_alone : PolicyNumbers → List Offer → List Decided
-decided_alone rules offers = decided_alone_from rules [] offers
+abbrev pub decided_alone : ℕ → PolicyNumbers → List Offer → List Decided
+decided_alone servers rules offers = decided_alone_from servers rules [] offers
 
 -- all of these offers are of this tier
 unfoldable pub AreOfTier : ℕ → List Offer → Type 0
@@ -31,6 +33,6 @@ AreOfTier tier (offer ∷ offers) = (offer.tier ≡ tier) × AreOfTier tier offe
 -- offers of tier 0 alone are decided under any policies as the first of them alone decides them, and they are the
 -- requests of tier 0, whose samples, controls and rates are therefore those of that policy alone
 abbrev pub OneTierAsBefore : Type 0
-OneTierAsBefore = (policies : List PolicyNumbers) (offers : List Offer) → AreOfTier 0 offers
-    → (decided policies offers ≡ decided_alone (rules_of policies 0) offers)
-    × (of_tier 0 (decided policies offers) ≡ decided_alone (rules_of policies 0) offers)
+OneTierAsBefore = (station : Station) (offers : List Offer) → AreOfTier 0 offers
+    → (decided station offers ≡ decided_alone station.servers (rules_of station 0) offers)
+    × (of_tier 0 (decided station offers) ≡ decided_alone station.servers (rules_of station 0) offers)

@@ -1,8 +1,8 @@
 -- What a reader has to believe: the definitions of this crate that the headline stands on, in reading order.
 use Rattle.std.specs.Prelude.{ℕ, List, slice_index_or, ◌+◌, ◌-◌, max, Bool, true, false, [], ◌∷◌, ◌++◌, map, filter}
-use Rattle.std.specs.Prelude.{count_by, sum_by, nat_eq, nat_le, ◌*◌, ◌/◌, length, if◌then◌else◌, Option, slice_get}
-use Rattle.std.specs.Prelude.{zero, suc, min, take, slice_index, unwrap_or, nat_lt}
-use Rattle.std.specs.List.{range_with_len}
+use Rattle.std.specs.Prelude.{count_by, nat_eq, nat_le, ◌*◌, ◌/◌, length, if◌then◌else◌, Option, slice_get}
+use Rattle.std.specs.Prelude.{zero, suc, min, take, reverse, unwrap_or, nat_lt}
+use Rattle.std.specs.List.{prefix_len, range_with_len}
 use Rattle.admission.specs.declared.policy.PolicyNumbers.{PolicyNumbers}
 use Rattle.admission.specs.declared.control.Decision.{Decision}
 use Rattle.admission.specs.declared.control.Decision.TheVariants.{Admitted, Rejected}
@@ -28,17 +28,24 @@ no_rules = record {
   depth = 0;
 }
 
--- the rules of a tier, among the policies in the order of their tiers
-unfoldable pub rules_of : List PolicyNumbers → ℕ → PolicyNumbers
-rules_of policies tier = slice_index_or policies tier no_rules
+-- what requests come to: the policies in the order of their tiers, and how many servers there are
+pub record Station : Type 0 where
+  pub policies : List PolicyNumbers
+  pub servers : ℕ
+
+-- the rules of a tier
+unfoldable pub rules_of : Station → ℕ → PolicyNumbers
+rules_of station tier = slice_index_or station.policies tier no_rules
 
 -- Requests that are offered, decided and served.
 
--- an offered request: its tier, the tick that it comes at, and how long it takes
+-- an offered request: its tier, the tick that it comes at, how long a server works on it, and how long its response
+-- takes beside that
 pub record Offer : Type 0 where
   pub tier : ℕ
   pub tick : ℕ
   pub service : ℕ
+  pub delay : ℕ
 
 -- an offered request, and what became of it
 pub record Decided : Type 0 where
@@ -71,40 +78,39 @@ unfoldable pub served : List Decided → List Served
 served [] = []
 served (request ∷ requests) = as_served request.offer request.decision ++ served requests
 
--- when the last of these requests is finished: the greatest, over each of them, of its arrival and the
--- services from it on (Lindley)
-unfoldable pub last_finish : List Offer → ℕ
-last_finish [] = 0
-last_finish (offer ∷ offers) = max (offer.tick + sum_by (λ o. o.service) (offer ∷ offers)) (last_finish offers)
-
--- the offered request's finish, where it is served after these
-abbrev pub finish_after : List Served → Offer → ℕ
-finish_after requests offer = last_finish (map (λ r. r.offer) requests ++ offer ∷ [])
-
 abbrev pub finishes : List Served → List ℕ
 finishes requests = map (λ r. r.finish) requests
-
--- how many are finished at tick u
-abbrev pub done : List Served → ℕ → ℕ
-done requests u = count_by (λ finish. nat_le finish u) (finishes requests)
-
--- how long a request took, from its arrival to its finish
-abbrev pub sample : Served → ℕ
-sample request = request.finish - request.offer.tick
-
-abbrev pub samples : List Served → List ℕ
-samples requests = map sample requests
-
--- The 90th percentile of samples, by the nearest rank.
 
 unfoldable pub insert_sorted : ℕ → List ℕ → List ℕ
 insert_sorted x [] = x ∷ []
 insert_sorted x (y ∷ ys) = if nat_le x y then (x ∷ y ∷ ys) else (y ∷ insert_sorted x ys)
 
--- the samples from the least to the greatest
+-- these numbers from the least to the greatest
 unfoldable pub sorted : List ℕ → List ℕ
 sorted [] = []
 sorted (x ∷ xs) = insert_sorted x (sorted xs)
+
+-- when one of n servers is free: at the n-th greatest of the finishes, 0 where there are fewer
+unfoldable pub free_at : ℕ → List Served → ℕ
+free_at n requests = slice_index_or (reverse (sorted (finishes requests))) (n - 1) 0
+
+-- the offered request's finish, where it is served after these: its service begins when it comes, or when a server is
+-- free, whichever is later
+abbrev pub finish_after : ℕ → List Served → Offer → ℕ
+finish_after servers requests offer = max (free_at servers requests) offer.tick + offer.service
+
+-- how many of the first are finished at tick u, each together with all before it
+abbrev pub done : List Served → ℕ → ℕ
+done requests u = prefix_len (λ finish. nat_le finish u) (finishes requests)
+
+-- how long a response took, from the request's arrival to its finish, with its delay
+abbrev pub sample : Served → ℕ
+sample request = request.finish - request.offer.tick + request.offer.delay
+
+abbrev pub samples : List Served → List ℕ
+samples requests = map sample requests
+
+-- The 90th percentile of samples, by the nearest rank.
 
 -- the rank of the 90th percentile of m samples, counted from 1: nine tenths of m, rounded up
 abbrev pub rank : ℕ → ℕ
@@ -142,10 +148,15 @@ unfoldable pub rate_after : PolicyNumbers → List ℕ → ℕ → ℕ
 rate_after rules taken zero = rules.rate
 rate_after rules taken (suc k) = adjusted rules (smoothed_at rules taken (suc k)) (rate_after rules taken k)
 
--- control k, counted from 1, stands at the finish of request k times `every`
+-- the greatest of these numbers, 0 of none
+unfoldable pub greatest : List ℕ → ℕ
+greatest [] = 0
+greatest (x ∷ xs) = max x (greatest xs)
+
+-- control k, counted from 1, stands where the first k times `every` requests are all finished
 abbrev pub control_at : PolicyNumbers → List Served → ℕ → Control
 control_at rules requests k = record {
-  instant = slice_index (finishes requests) (k * rules.every - 1);
+  instant = greatest (take (k * rules.every) (finishes requests));
   percentile = percentile_at rules (samples requests) k;
   smoothed = smoothed_at rules (samples requests) k;
   rate = rate_after rules (samples requests) k;
@@ -159,7 +170,7 @@ controls_of rules requests = map (control_at rules requests) (range_with_len 1 (
 abbrev pub controls_until : PolicyNumbers → List Served → ℕ → List Control
 controls_until rules requests tick = filter (λ c. nat_le c.instant tick) (controls_of rules requests)
 
--- the rate in force at tick u: that of the last control whose requests are finished
+-- the rate in force at tick u: that of the last control whose requests are all finished
 abbrev pub rate_at : PolicyNumbers → List Served → ℕ → ℕ
 rate_at rules requests u = rate_after rules (samples requests) (done requests u / rules.every)
 
@@ -190,19 +201,19 @@ credit rules past tick = least_balance (rate_at rules (served past)) (rules.dept
 
 -- a request is admitted exactly where its credit, by the rules of its tier over the requests of its tier, holds a
 -- token; it is served after the admitted requests of all tiers
-abbrev pub decide : List PolicyNumbers → List Decided → Offer → Decision
-decide policies past offer =
-    if nat_le TOKEN (credit (rules_of policies offer.tier) (of_tier offer.tier past) offer.tick)
-    then (Admitted (finish_after (served past) offer)) else Rejected
+abbrev pub decide : Station → List Decided → Offer → Decision
+decide station past offer =
+    if nat_le TOKEN (credit (rules_of station offer.tier) (of_tier offer.tier past) offer.tick)
+    then (Admitted (finish_after station.servers (served past) offer)) else Rejected
 
-abbrev pub decided_next : List PolicyNumbers → List Decided → Offer → Decided
-decided_next policies past offer = record { offer = offer; decision = decide policies past offer }
+abbrev pub decided_next : Station → List Decided → Offer → Decided
+decided_next station past offer = record { offer = offer; decision = decide station past offer }
 
 -- each offer in turn, decided by those before it
-unfoldable pub decided_from : List PolicyNumbers → List Decided → List Offer → List Decided
-decided_from policies past [] = past
-decided_from policies past (offer ∷ offers) =
-    decided_from policies (past ++ decided_next policies past offer ∷ []) offers
+unfoldable pub decided_from : Station → List Decided → List Offer → List Decided
+decided_from station past [] = past
+decided_from station past (offer ∷ offers) =
+    decided_from station (past ++ decided_next station past offer ∷ []) offers
 
-abbrev pub decided : List PolicyNumbers → List Offer → List Decided
-decided policies offers = decided_from policies [] offers
+abbrev pub decided : Station → List Offer → List Decided
+decided station offers = decided_from station [] offers

@@ -1,6 +1,6 @@
 -- What one more offer makes of a tier's standing.
 use Rattle.std.specs.Prelude.{ℕ, ◌+◌, ◌%◌, max, List, [], ◌∷◌, ◌++◌, nat_le, nat_eq, if◌then◌else◌, unwrap_or}
-use Rattle.std.specs.Prelude.{option_map}
+use Rattle.std.specs.Prelude.{drop, option_map}
 use Rattle.std.specs.List.{prefix_len}
 use Rattle.circular_buffer.specs.Buffer.{last_item}
 use Rattle.token_bucket.specs.Reference.{TOKEN}
@@ -11,7 +11,7 @@ use Rattle.admission.specs.declared.policy.PolicyNumbers.{PolicyNumbers}
 use Rattle.admission.specs.declared.control.Control.{Control}
 use Rattle.admission.specs.declared.control.Decision.{Decision}
 use Rattle.admission.specs.declared.control.Decision.TheVariants.{Admitted, Rejected}
-use Rattle.admission.specs.Reference.{Decided, percentile, smoother, adjusted, credit}
+use Rattle.admission.specs.Reference.{insert_sorted, Decided, percentile, smoother, adjusted, credit}
 use Rattle.admission.specs.Window.{with_sample}
 use Rattle.admission.specs.Standing.{TierStanding}
 
@@ -53,7 +53,7 @@ with_due rules controls samples admitted instant =
 abbrev pub when_rejected : TierStanding → bucket.Standing → ℕ → TierStanding
 when_rejected t b reached = record t { bucket = b; rejected = t.rejected + 1; reached = reached }
 
--- the tier after an admitted one, which is finished at this tick after this response time
+-- the tier after an admitted one, which is finished at this tick and took this long
 abbrev pub when_admitted : TierStanding → bucket.Standing → ℕ → ℕ → ℕ → TierStanding
 when_admitted t b reached finish sample = record {
   rules = t.rules;
@@ -61,16 +61,22 @@ when_admitted t b reached finish sample = record {
   admitted = t.admitted + 1;
   rejected = t.rejected;
   window = with_sample t.window sample;
-  controls = with_due t.rules t.controls (with_sample t.window sample).samples (t.admitted + 1) finish;
+  cleared = max t.cleared finish;
+  controls = with_due t.rules t.controls (with_sample t.window sample).samples (t.admitted + 1) (max t.cleared finish);
   reached = reached;
 }
 
--- what becomes of a request after these of its tier, where the server is free from some tick on
+-- what becomes of a request after these of its tier, where a server is free from some tick on
 abbrev pub decision_after : PolicyNumbers → List Decided → ℕ → ℕ → ℕ → Decision
 decision_after rules past free tick service =
     if nat_le TOKEN (credit rules past tick) then (Admitted (max free tick + service)) else Rejected
 
--- when the server is free after that
-abbrev pub free_after : ℕ → Decision → ℕ
-free_after free (Admitted finish) = finish
-free_after free Rejected = free
+-- its finish where it was admitted, else this tick
+abbrev pub finish_or : ℕ → Decision → ℕ
+finish_or tick (Admitted finish) = finish
+finish_or tick Rejected = tick
+
+-- when each server is free after that, the first to be free first: an admitted request takes the first of them
+abbrev pub servers_after : List ℕ → Decision → List ℕ
+servers_after free (Admitted finish) = drop 1 (insert_sorted finish free)
+servers_after free Rejected = free

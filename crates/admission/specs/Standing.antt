@@ -1,28 +1,32 @@
 -- What a contract sees of a `Controller`.
 use Rattle.std.specs.Prelude.{◌≡◌, ℕ, ◌+◌, ◌*◌, ◌<◌, ◌≤◌, List, [], ◌∷◌, length, drop, map, Some, slice_get}
+use Rattle.std.specs.Prelude.{slice_index_or}
 use Rattle.token_bucket.specs.Limits.{MAX_TICK, MAX_RATE}
 use Rattle.token_bucket.specs.Standing as bucket
 use Rattle.admission.specs.declared.policy.PolicyNumbers.{PolicyNumbers}
 use Rattle.admission.specs.Limits.{MAX_OFFERS, MAX_SERVICE}
 use Rattle.admission.specs.declared.control.Control.{Control}
+use Rattle.admission.specs.Reference.{Station}
 use Rattle.admission.specs.Window.{Window}
 
 -- a tier: its policy's numbers; its bucket; how many of its requests were admitted, and how many rejected; its window;
--- its controls made so far, and how many of them the bucket's clock has reached
+-- when the admitted ones are all finished; its controls made so far, and how many of them the bucket's clock has
+-- reached
 pub record TierStanding : Type 0 where
   pub rules : PolicyNumbers
   pub bucket : bucket.Standing
   pub admitted : ℕ
   pub rejected : ℕ
   pub window : Window
+  pub cleared : ℕ
   pub controls : List Control
   pub reached : ℕ
 
--- the tiers; when the one server is free; how many requests were offered, and the tick of the last one, 0 before the
--- first
+-- the tiers; when each server is free, the first to be free first; how many requests were offered, and the tick of the
+-- last one, 0 before the first
 pub record Standing : Type 0 where
   pub tiers : List TierStanding
-  pub free : ℕ
+  pub servers : List ℕ
   pub offers : ℕ
   pub tick : ℕ
 
@@ -30,9 +34,13 @@ pub record Standing : Type 0 where
 abbrev pub last_tick : Standing → ℕ
 last_tick c = c.tick
 
--- the policies that a controller was made with, in the order of their tiers
-unfoldable pub policies_of : Standing → List PolicyNumbers
-policies_of c = map (λ t. t.rules) c.tiers
+-- what a controller was made with: the policies in the order of their tiers, and the number of the servers
+unfoldable pub station_of : Standing → Station
+station_of c = record { policies = map (λ t. t.rules) c.tiers; servers = length c.servers }
+
+-- when the first server is free
+abbrev pub first_free : List ℕ → ℕ
+first_free servers = slice_index_or servers 0 0
 
 -- the controls' instants rise from lo up to hi
 unfoldable pub RiseWithin : ℕ → ℕ → List Control → Type 0
@@ -54,20 +62,21 @@ pub record IsSoundTier (t : TierStanding) : Type 0 where
   pub rates : AllRates t.controls
 
 -- a tier beside the others: no more of its requests were admitted than offered in all, its clock is not beyond this
--- tick, and the instants of its pending controls rise from there to when the server is free
-pub record IsShare (offers free tick : ℕ) (t : TierStanding) : Type 0 where
+-- tick, and the instants of its pending controls rise from there to when its requests are all finished
+pub record IsShare (offers tick : ℕ) (t : TierStanding) : Type 0 where
   pub admitted : t.admitted ≤ offers
   pub rejected : t.rejected ≤ offers
   pub clock : t.bucket.tick ≤ tick
-  pub rising : RiseWithin t.bucket.tick free (drop t.reached t.controls)
+  pub rising : RiseWithin t.bucket.tick t.cleared (drop t.reached t.controls)
 
 -- what each controller keeps, whatever was offered
 pub record IsSound (c : Standing) : Type 0 where
   pub four : length c.tiers ≡ 4
   pub offers : c.offers ≤ MAX_OFFERS
-  pub free : c.free ≤ MAX_TICK + MAX_SERVICE * c.offers
+  pub some : 1 ≤ length c.servers
+  pub free : first_free c.servers ≤ MAX_TICK + MAX_SERVICE * c.offers
   pub tick : c.tick ≤ MAX_TICK
-  pub tiers : (i : ℕ) (t : TierStanding) → slice_get c.tiers i ≡ Some t → IsShare c.offers c.free c.tick t
+  pub tiers : (i : ℕ) (t : TierStanding) → slice_get c.tiers i ≡ Some t → IsShare c.offers c.tick t
 
 -- what is offered: one of the four tiers, a tick and a service within their limits
 abbrev pub IsOffer : ℕ → ℕ → ℕ → Type 0

@@ -1,5 +1,5 @@
 -- What the calls on a tier say of it, whatever requests of the tier it stands for.
-use Rattle.std.specs.Prelude.{◌≡◌, ℕ, ◌+◌, List, [], ◌∷◌, ◌++◌, drop, Some, slice_get}
+use Rattle.std.specs.Prelude.{◌≡◌, ℕ, ◌+◌, ◌≤◌, List, [], ◌∷◌, ◌++◌, drop, Some, slice_get}
 use Rattle.token_bucket.specs.Standing as bucket
 use Rattle.admission.specs.declared.control.Control.{Control}
 use Rattle.admission.specs.declared.control.Decision.{Decision}
@@ -7,50 +7,53 @@ use Rattle.admission.specs.declared.control.Outlook.{Outlook}
 use Rattle.admission.specs.Reference.{Offer, Decided, served, controls_until, rate_at, credit}
 use Rattle.admission.specs.Limits.{MAX_OFFERS}
 use Rattle.admission.specs.Standing.{TierStanding, RiseWithin, IsShare}
-use Rattle.admission.specs.Running.{decision_after, free_after}
+use Rattle.admission.specs.Running.{decision_after}
 use Rattle.admission.specs.After.{BucketFits, TierFits}
 
 -- tiers that were offered nothing yet
 abbrev pub AreNew : List TierStanding → Type 0
-AreNew tiers = (i : ℕ) (t : TierStanding) → slice_get tiers i ≡ Some t → TierFits [] 0 t × IsShare 0 0 0 t
+AreNew tiers = (i : ℕ) (t : TierStanding) → slice_get tiers i ≡ Some t → TierFits [] t × IsShare 0 0 t
 
 -- the decision on an offer at this tick is that of the definitions
 abbrev pub Decides : TierStanding → ℕ → ℕ → ℕ → Decision → Type 0
 Decides t free tick service decision =
-    (past : List Decided) → TierFits past free t → decision ≡ decision_after t.rules past free tick service
+    (past : List Decided) → TierFits past t → decision ≡ decision_after t.rules past free tick service
 
 -- the tier then stands with that offer, of whatever tier and service it is, after its other requests
 abbrev pub Takes : TierStanding → ℕ → ℕ → Decision → TierStanding → Type 0
-Takes t free tick decision next = (past : List Decided) (offer : Offer) → offer.tick ≡ tick → TierFits past free t
-    → TierFits (past ++ record { offer = offer; decision = decision } ∷ []) (free_after free decision) next
+Takes t tick delay decision next = (past : List Decided) (offer : Offer) → offer.tick ≡ tick → offer.delay ≡ delay
+    → TierFits past t → TierFits (past ++ record { offer = offer; decision = decision } ∷ []) next
 
 -- and stays beside the others
-abbrev pub StaysBeside : TierStanding → ℕ → ℕ → Decision → TierStanding → Type 0
-StaysBeside t free tick decision next =
-    (offers : ℕ) → IsShare offers free tick t → IsShare (offers + 1) (free_after free decision) tick next
+abbrev pub StaysBeside : TierStanding → ℕ → TierStanding → Type 0
+StaysBeside t tick next = (offers : ℕ) → IsShare offers tick t → IsShare (offers + 1) tick next
 
 -- the bucket of the tier at a later tick, where it has taken on n controls
 abbrev pub Passes : TierStanding → bucket.Standing → ℕ → Type 0
-Passes t b reached = (past : List Decided) (free : ℕ) → TierFits past free t → BucketFits t.rules past b reached
+Passes t b reached = (past : List Decided) → TierFits past t → BucketFits t.rules past b reached
 
 -- the controls that it has not taken on then rise from there
 abbrev pub RisesFrom : TierStanding → ℕ → ℕ → Type 0
-RisesFrom t tick reached = (free : ℕ) → RiseWithin t.bucket.tick free (drop t.reached t.controls)
-    → RiseWithin tick free (drop reached t.controls)
+RisesFrom t tick reached = RiseWithin t.bucket.tick t.cleared (drop t.reached t.controls)
+    → RiseWithin tick t.cleared (drop reached t.controls)
 
 -- these are the controls of the tier up to this tick
 abbrev pub Shows : TierStanding → ℕ → List Control → Type 0
-Shows t tick shown = (past : List Decided) (free : ℕ) → TierFits past free t
+Shows t tick shown = (past : List Decided) → TierFits past t
     → shown ≡ controls_until t.rules (served past) tick
 
 -- what a request of the tier finds that comes at this tick
 abbrev pub Foresees : TierStanding → ℕ → ℕ → Outlook → Type 0
-Foresees t free tick found = (past : List Decided) → TierFits past free t → found
+Foresees t free tick found = (past : List Decided) → TierFits past t → found
     ≡ record { credit = credit t.rules past tick; rate = rate_at t.rules (served past) tick; free = free }
+
+-- a tier beside the others up to this tick, of whatever was offered
+abbrev pub IsBeside : ℕ → TierStanding → Type 0
+IsBeside tick t = (offers : ℕ) × (offers ≤ MAX_OFFERS) × IsShare offers tick t
 
 -- tiers that stay beside one another up to this tick
 abbrev pub AllShare : List TierStanding → ℕ → Type 0
-AllShare tiers tick = (i : ℕ) (t : TierStanding) → slice_get tiers i ≡ Some t → (free : ℕ) × IsShare MAX_OFFERS free tick t
+AllShare tiers tick = (i : ℕ) (t : TierStanding) → slice_get tiers i ≡ Some t → IsBeside tick t
 
 -- these lists are the controls of these tiers up to this tick
 abbrev pub AllShow : List TierStanding → ℕ → List (List Control) → Type 0

@@ -3,7 +3,7 @@
 /// A change of the rate. `percentile` and `smoothed` are in ticks, `rate` in thousandths of a token a second.
 #[derive(Clone, Copy, Debug, PartialEq, Eq, Hash)]
 pub struct Control {
-    /// The tick that its rate holds from.
+    /// The tick that its rate holds from: that at which all requests it was made of are finished.
     pub instant: u64,
     /// The 90th percentile of the window's response times.
     pub percentile: u64,
@@ -29,6 +29,6 @@ pub struct Outlook {
     pub credit: u64,
     /// The tier's rate in force, in thousandths of a token a second. That of a control at the same tick counts.
     pub rate: u64,
-    /// The tick at which the server has finished the admitted requests of all tiers.
+    /// The tick from which on a server is free of the admitted requests of all tiers.
     pub free: u64,
 }

@@ -1,25 +1,28 @@
-//! The controller: four tiers that share one server, offered requests in the order of their ticks.
+//! The controller: four tiers that share the servers, offered requests in the order of their ticks.
 
 ghost use Rattle.std.specs.Prelude.{◌≡◌, ◌+◌, ◌*◌, ◌<◌, ◌≤◌, ◌++◌, [], ◌∷◌, ℕ, List, length, map, IfOk, OnOk, OnErr};
 ghost use Rattle.std.specs.Prelude.{count_by};
 ghost use Rattle.admission.specs.Reference.{Offer, of_tier, served, is_rejected, decide, decided};
 ghost use Rattle.admission.specs.Decisions.{outlook, controls_in, all_controls};
-ghost use Rattle.admission.specs.Standing.{last_tick, policies_of, IsOffer, TakesOfferAt};
+ghost use Rattle.admission.specs.Standing.{last_tick, station_of, IsOffer, TakesOfferAt};
 ghost use Rattle.admission.specs.After.{ControllerAfter};
+ghost use Rattle.admission.specs.Running.{finish_or};
 ghost use Rattle.admission.specs.TierCalls.{AreNew, AllShare, AllShow};
-ghost use Rattle.admission.specs.Running.{free_after};
 
+use crate::servers::Servers;
 use crate::tier::Tier;
-use crate::{Control, Decision, MAX_OFFERS, MAX_SERVICE, MAX_TICK, Outlook, Policy};
+use crate::{
+    Control, Decision, MAX_DELAY, MAX_OFFERS, MAX_SERVERS, MAX_SERVICE, MAX_TICK, Outlook, Policy,
+};
 use std::alloc::{AllocError, Global};
 use std::marker::Model;
 
-/// Decides which offered requests of four tiers one virtual server takes.
+/// Decides which offered requests of four tiers the virtual servers take.
 #[derive(Drop)]
 pub struct Controller {
     tiers: [Tier; 4],
-    /// When the server has finished the admitted requests of all tiers.
-    free: u64,
+    /// When each server is free of the admitted requests of all tiers.
+    servers: Servers,
     /// How many requests were offered, of all tiers.
     offers: u64,
     /// The tick of the last one.
@@ -31,19 +34,10 @@ impl Model for Controller {
 
     ghost Value = { Standing };
 
-    ghost view = { λ c. record { tiers = c.tiers; free = c.free; offers = c.offers; tick = c.tick } };
+    ghost view = { λ c. record { tiers = c.tiers; servers = c.servers; offers = c.offers; tick = c.tick } };
 
-    ghost invariant = { λ c. IsSound (record { tiers = c.tiers; free = c.free; offers = c.offers; tick = c.tick }) };
-}
-
-/// When the server is free after a decision.
-fn free_after(free: u64, decision: Decision) -> u64
-    ensures { result ≡ free_after free decision }
-{
-    match decision {
-        Decision::Admitted { finish } => finish,
-        Decision::Rejected => free,
-    }
+    ghost invariant = { λ c. IsSound
+        (record { tiers = c.tiers; servers = c.servers; offers = c.offers; tick = c.tick }) };
 }
 
 /// The tiers of these policies, which were offered nothing yet.
@@ -78,46 +72,93 @@ fn controls_of(tiers: [Tier; 4], tick: u64) -> [Vec<Control>; 4]
 }
 
 impl Controller {
-    /// A controller that was offered nothing yet, with the policies of the tiers 0 to 3.
+    /// A controller that was offered nothing yet, with the policies of the tiers 0 to 3 and one server.
     pub fn new(alloc: Global, policies: [Policy; 4]) -> Result<Self, AllocError>
         ensures fits { IfOk result (λ controller. ControllerAfter [] controller) }
-        ensures policies { IfOk result (λ controller. policies_of controller ≡ policies) }
+        ensures station { IfOk result
+            (λ controller. station_of controller ≡ record { policies = policies; servers = 1 }) }
+        ensures start { IfOk result
+            (λ controller. (controller.offers ≡ 0) × (last_tick controller ≡ 0)) }
+    {
+        Controller::with_servers(alloc, policies, 1)
+    }
+
+    /// The same with that many servers, 1 to 1,024.
+    pub fn with_servers(
+        alloc: Global,
+        policies: [Policy; 4],
+        servers: u64,
+    ) -> Result<Self, AllocError>
+        requires { (1 ≤ servers) × (servers ≤ MAX_SERVERS) }
+        ensures fits { IfOk result (λ controller. ControllerAfter [] controller) }
+        ensures station { IfOk result
+            (λ controller. station_of controller ≡ record { policies = policies; servers = servers }) }
         ensures start { IfOk result
             (λ controller. (controller.offers ≡ 0) × (last_tick controller ≡ 0)) }
     {
         let tiers = tiers_of(alloc, &policies)?;
+        let servers = Servers::new(alloc, servers)?;
         Ok(Controller {
             tiers,
-            free: 0,
+            servers,
             offers: 0,
             tick: 0,
         })
     }
 
-    /// Offers a request of a tier (0 to 3) that comes at `tick` and takes `service` ticks.
+    /// Offers a request of a tier (0 to 3) that comes at `tick` and takes `service` ticks, without a delay.
     pub fn offer(&mut self, tier: u8, tick: u64, service: u64) -> Result<Decision, AllocError>
         requires offer { IsOffer tier tick service }
         requires room { TakesOfferAt self.old tick }
 
+        // As `offer_delayed`, with no delay.
+        ensures decision { IfOk result
+            (λ decision. (offers : List Offer) → ControllerAfter offers self.old
+            → decision ≡ decide (station_of self.old) (decided (station_of self.old) offers)
+            (record { tier = tier; tick = tick; service = service; delay = 0 })) }
+        ensures fits { OnOk result ((offers : List Offer) → ControllerAfter offers self.old → ControllerAfter
+            (offers ++ record { tier = tier; tick = tick; service = service; delay = 0 } ∷ []) self.new) }
+        ensures next { OnOk result
+            ((last_tick self.new ≡ tick) × (self.new.offers ≡ self.old.offers + 1)
+            × (station_of self.new ≡ station_of self.old)) }
+        ensures err { OnErr result (self.new ≡ self.old) }
+    {
+        self.offer_delayed(tier, tick, service, 0)
+    }
+
+    /// Offers a request of a tier (0 to 3) that comes at `tick`, takes `service` ticks of a server, and whose response
+    /// takes `delay` ticks (0 to 1,000,000,000) beside that.
+    pub fn offer_delayed(
+        &mut self,
+        tier: u8,
+        tick: u64,
+        service: u64,
+        delay: u64,
+    ) -> Result<Decision, AllocError>
+        requires { IsOffer tier tick service × (delay ≤ MAX_DELAY) × TakesOfferAt self.old tick }
+
         // The decision is that of the definitions for the offers of all tiers so far followed by this one.
         ensures decision { IfOk result
             (λ decision. (offers : List Offer) → ControllerAfter offers self.old
-            → decision ≡ decide (policies_of self.old) (decided (policies_of self.old) offers)
-            (record { tier = tier; tick = tick; service = service })) }
-        ensures fits { OnOk result
-            ((offers : List Offer) → ControllerAfter offers self.old
-            → ControllerAfter (offers ++ record { tier = tier; tick = tick; service = service } ∷ []) self.new) }
+            → decision ≡ decide (station_of self.old) (decided (station_of self.old) offers)
+            (record { tier = tier; tick = tick; service = service; delay = delay })) }
+        ensures fits { OnOk result ((offers : List Offer) → ControllerAfter offers self.old → ControllerAfter
+            (offers ++ record { tier = tier; tick = tick; service = service; delay = delay } ∷ []) self.new) }
 
         // What the next offer asks.
         ensures next { OnOk result
             ((last_tick self.new ≡ tick) × (self.new.offers ≡ self.old.offers + 1)
-            × (policies_of self.new ≡ policies_of self.old)) }
+            × (station_of self.new ≡ station_of self.old)) }
+
+        // It fits beside its delay.
+        ensures finish { IfOk result (λ decision. finish_or 0 decision ≤ MAX_TICK + MAX_SERVICE * MAX_OFFERS) }
 
         // Without memory nothing has changed.
         ensures err { OnErr result (self.new ≡ self.old) }
     {
-        let decision = self.tiers[usize::from(tier)].offer(self.free, tick, service)?;
-        self.free = free_after(self.free, decision);
+        let free = self.servers.first();
+        let decision = self.tiers[usize::from(tier)].offer(free, tick, service, delay)?;
+        self.servers.serve(decision);
         self.offers += 1;
         self.tick = tick;
         Ok(decision)
@@ -128,17 +169,17 @@ impl Controller {
         requires tier { tier < 4 }
         requires forward { (last_tick self.now ≤ tick) × (tick ≤ MAX_TICK) }
         ensures finds { (offers : List Offer) → ControllerAfter offers self.now
-            → result ≡ outlook (policies_of self.now) (decided (policies_of self.now) offers) tier tick }
+            → result ≡ outlook (station_of self.now) (decided (station_of self.now) offers) tier tick }
         ensures range { result.free ≤ MAX_TICK + MAX_SERVICE * MAX_OFFERS }
     {
-        self.tiers[usize::from(tier)].outlook(self.free, tick)
+        self.tiers[usize::from(tier)].outlook(self.servers.first(), tick)
     }
 
     /// How many requests of a tier (0 to 3) were admitted.
     pub fn admitted(&self, tier: u8) -> u64
         requires { tier < 4 }
         ensures { (offers : List Offer) → ControllerAfter offers self.now
-            → result ≡ length (served (of_tier tier (decided (policies_of self.now) offers))) }
+            → result ≡ length (served (of_tier tier (decided (station_of self.now) offers))) }
     {
         let own = &self.tiers[usize::from(tier)];
         own.admitted
@@ -148,7 +189,7 @@ impl Controller {
     pub fn rejected(&self, tier: u8) -> u64
         requires { tier < 4 }
         ensures { (offers : List Offer) → ControllerAfter offers self.now
-            → result ≡ count_by (λ r. is_rejected r.decision) (of_tier tier (decided (policies_of self.now) offers)) }
+            → result ≡ count_by (λ r. is_rejected r.decision) (of_tier tier (decided (station_of self.now) offers)) }
     {
         let own = &self.tiers[usize::from(tier)];
         own.rejected
@@ -158,7 +199,7 @@ impl Controller {
     pub fn controls(&self, tier: u8) -> &[Control]
         requires { tier < 4 }
         ensures { (offers : List Offer) → ControllerAfter offers self.now
-            → result.now ≡ controls_in (policies_of self.now) offers tier }
+            → result.now ≡ controls_in (station_of self.now) offers tier }
     {
         self.tiers[usize::from(tier)].controls_until(self.tick)
     }
@@ -166,7 +207,7 @@ impl Controller {
     /// The controls of each tier, as [`Controller::controls`] shows them, without a copy.
     pub fn into_controls(self) -> [Vec<Control>; 4]
         ensures { (offers : List Offer) → ControllerAfter offers self
-            → map (λ v. v.items) result ≡ all_controls (policies_of self) offers }
+            → map (λ v. v.items) result ≡ all_controls (station_of self) offers }
     {
         let tick = self.tick;
         controls_of(self.tiers, tick)

@@ -4,6 +4,7 @@ ghost use Rattle.admission.specs.Laws.{AccrualSplitsAtControl, CreditFromCredit,
 ghost use Rattle.admission.specs.Laws.{FinishRuns, FirstCredit, OtherTiersLeave, RateBefore, RateFromOffersBefore};
 ghost use Rattle.admission.specs.Laws.{RatesWithin, RejectedLeavesAll};
 ghost use Rattle.admission.specs.OneTier.{OneTierAsBefore};
+ghost use Rattle.admission.specs.Servers.{FirstComeFirstServed, OneServerFinishes, OneServerInOrder};
 
 /// A decision depends on the offers before it alone.
 pub fn decisions_begin()
@@ -30,7 +31,7 @@ pub fn rates_within()
     ensures { RatesWithin }
 {}
 
-/// The server's finish can be carried from request to request over all tiers, and never falls.
+/// The finish of one server can be carried from request to request over all tiers, and never falls.
 pub fn finish_runs()
     ensures { FinishRuns }
 {}
@@ -40,7 +41,8 @@ pub fn rate_before()
     ensures { RateBefore }
 {}
 
-/// Each admitted request is finished its service after the later of its arrival and the finish of the one before it.
+/// Where there is one server, each admitted request is finished its service after the later of its arrival and the
+/// finish of the one before it.
 pub fn finish_from_finish()
     ensures { FinishFromFinish }
 {}
@@ -64,4 +66,21 @@ pub fn accrual_splits_at_control()
 /// The rate of a tier in force at a tick depends on the offers of all tiers before that tick alone.
 pub fn rate_from_offers_before()
     ensures { RateFromOffersBefore }
+{}
+
+/// The finishes are those of servers one by one, each request served by the first that is free.
+pub fn first_come_first_served()
+    ensures { FirstComeFirstServed }
+{}
+
+/// Where there is one server, a finish is the greatest, over the admitted requests so far, of its arrival and the
+/// services from it on.
+pub fn one_server_finishes()
+    ensures { OneServerFinishes }
+{}
+
+/// Where there is one server, the requests of a tier are finished in their order: a control stands at the finish of its
+/// last request, and the rate in force is by how many are finished.
+pub fn one_server_in_order()
+    ensures { OneServerInOrder }
 {}

@@ -1,7 +1,7 @@
 //! Adaptive admission control on virtual time.
 //!
-//! One virtual server takes the admitted requests of four tiers one after another. Each tier has a
-//! policy and a token bucket of its own. At every n of its admitted requests a control compares
+//! One virtual server, or several side by side, take the admitted requests of four tiers in their order. Each tier has
+//! a policy and a token bucket of its own. At every n of its admitted requests a control compares
 //! the smoothed 90th percentile of their response times with a target, and raises the rate of its
 //! bucket by addition or lowers it by division. A request is admitted where the bucket of its tier has
 //! a token when it is offered. All times are ticks of one microsecond.
@@ -11,6 +11,7 @@ mod control;
 mod controller;
 pub mod laws;
 mod policy;
+mod servers;
 mod tier;
 mod window;
 
@@ -40,9 +41,15 @@ pub const MAX_TARGET: u64 = 1_000_000_000_000;
 /// The longest service, in ticks.
 pub const MAX_SERVICE: u64 = 20_000_000_000;
 
+/// The most servers.
+pub const MAX_SERVERS: u64 = 1024;
+
+/// The longest delay of a response beside its service, in ticks.
+pub const MAX_DELAY: u64 = 1_000_000_000;
+
 /// The most offers that a controller takes.
 pub const MAX_OFFERS: u64 = 536_870_912;
 
-// The tick at which the server is free fits into 64 bits after all of these and one more, each of the longest service:
-// 10^15 + 2 * 10^10 * (2^29 + 1) is less than 2^64.
-const _: () = prove!(MAX_SERVICE <= (u64::MAX - MAX_TICK) / (MAX_OFFERS + 1));
+// The tick at which a server is free fits into 64 bits after all of these and one more, each of the longest service,
+// and so does the longest response time: 10^15 + 10^9 + 2 * 10^10 * (2^29 + 1) is less than 2^64.
+const _: () = prove!(MAX_SERVICE <= (u64::MAX - MAX_TICK - MAX_DELAY) / (MAX_OFFERS + 1));

@@ -9,13 +9,14 @@ ghost use Rattle.token_bucket.specs.After.{BucketAfter};
 ghost use Rattle.admission.specs.Reference.{percentile, smoother, adjusted};
 ghost use Rattle.admission.specs.Standing.{RiseWithin, AllRates, IsShare};
 ghost use Rattle.admission.specs.After.{TierFits};
-ghost use Rattle.admission.specs.TierCalls.{Decides, Takes, StaysBeside, Passes, RisesFrom, Shows, Foresees};
+ghost use Rattle.admission.specs.TierCalls.{Decides, Takes, StaysBeside, IsBeside, Passes, RisesFrom, Shows, Foresees};
 ghost use Rattle.admission.specs.Window.{with_sample};
 ghost use Rattle.admission.specs.Running.{passing, passed, last_rate, next_control, with_due, when_rejected};
-ghost use Rattle.admission.specs.Running.{when_admitted, free_after};
+ghost use Rattle.admission.specs.Running.{when_admitted, finish_or};
 
 use crate::{
-    Control, Decision, MAX_OFFERS, MAX_RATE, MAX_SERVICE, MAX_TICK, Outlook, Policy, SampleWindow,
+    Control, Decision, MAX_DELAY, MAX_OFFERS, MAX_RATE, MAX_SERVICE, MAX_TICK, Outlook, Policy,
+    SampleWindow,
 };
 use std::alloc::{AllocError, Global};
 use std::marker::Model;
@@ -33,6 +34,8 @@ pub(crate) struct Tier {
     pub(crate) rejected: u64,
     /// The response times of the last ones.
     window: SampleWindow,
+    /// When the admitted ones are all finished.
+    cleared: u64,
     /// The controls of the admitted requests, also those whose instant is still to come.
     controls: Vec<Control>,
     /// How many of them the bucket has taken on.
@@ -50,6 +53,7 @@ impl Model for Tier {
       admitted = t.admitted;
       rejected = t.rejected;
       window = t.window;
+      cleared = t.cleared;
       controls = t.controls.items;
       reached = t.reached;
     } };
@@ -60,6 +64,7 @@ impl Model for Tier {
       admitted = t.admitted;
       rejected = t.rejected;
       window = t.window;
+      cleared = t.cleared;
       controls = t.controls.items;
       reached = t.reached;
     }) };
@@ -190,8 +195,8 @@ impl Tier {
     /// A tier that was offered nothing yet.
     pub(crate) fn new(alloc: Global, policy: Policy) -> Result<Self, AllocError>
         ensures rules { IfOk result (λ tier. tier.rules ≡ policy) }
-        ensures fits { IfOk result (λ tier. TierFits [] 0 tier) }
-        ensures share { IfOk result (λ tier. IsShare 0 0 0 tier) }
+        ensures fits { IfOk result (λ tier. TierFits [] tier) }
+        ensures share { IfOk result (λ tier. IsShare 0 0 tier) }
     {
         Ok(Tier {
             policy,
@@ -199,28 +204,31 @@ impl Tier {
             admitted: 0,
             rejected: 0,
             window: SampleWindow::new(alloc, policy.numbers.window as usize)?,
+            cleared: 0,
             controls: Vec::new(alloc),
             reached: 0,
         })
     }
 
-    /// Offers a request of this tier that comes at `tick` and takes `service` ticks of the server, which is free from
-    /// `free` on.
+    /// Offers a request of this tier that comes at `tick` and takes `service` ticks of a server, which is free from
+    /// `free` on. Its response takes `delay` ticks beside that.
     pub(crate) fn offer(
         &mut self,
         free: u64,
         tick: u64,
         service: u64,
+        delay: u64,
     ) -> Result<Decision, AllocError>
-        requires share { (offers : ℕ) × (offers < MAX_OFFERS) × IsShare offers free tick self.old }
+        requires share { (offers : ℕ) × (offers < MAX_OFFERS) × IsShare offers tick self.old }
         requires free { free ≤ MAX_TICK + MAX_SERVICE * MAX_OFFERS }
         requires tick { tick ≤ MAX_TICK }
         requires service { (1 ≤ service) × (service ≤ MAX_SERVICE) }
+        requires delay { delay ≤ MAX_DELAY }
         ensures decision { IfOk result (λ decision. Decides self.old free tick service decision) }
-        ensures fits { IfOk result (λ decision. Takes self.old free tick decision self.new) }
-        ensures share { IfOk result (λ decision. StaysBeside self.old free tick decision self.new) }
-        ensures free { IfOk result
-            (λ decision. (free ≤ free_after free decision) × (free_after free decision ≤ max free tick + service)) }
+        ensures fits { IfOk result (λ decision. Takes self.old tick delay decision self.new) }
+        ensures share { OnOk result (StaysBeside self.old tick self.new) }
+        ensures finish { IfOk result
+            (λ decision. (free ≤ finish_or free decision) × (finish_or free decision ≤ max free tick + service)) }
         ensures rules { OnOk result (self.new.rules ≡ self.old.rules) }
         ensures err { OnErr result (self.new ≡ self.old) }
     {
@@ -229,15 +237,15 @@ impl Tier {
             self.reject(bucket, reached);
             return Ok(Decision::Rejected);
         }
-        // at most MAX_TICK + MAX_SERVICE * (MAX_OFFERS + 1), which is less than 2^64
+        // at most MAX_TICK + MAX_SERVICE * (MAX_OFFERS + 1), and with MAX_DELAY still less than 2^64
         let finish = free.max(tick) + service;
-        self.admit(bucket, reached, finish, finish - tick)?;
+        self.admit(bucket, reached, finish, finish - tick + delay)?;
         Ok(Decision::Admitted { finish })
     }
 
     /// The controls whose instant is at most this tick.
     pub(crate) fn controls_until(&self, tick: u64) -> &[Control]
-        requires share { (free : ℕ) × IsShare MAX_OFFERS free tick self.now }
+        requires share { IsBeside tick self.now }
         requires tick { tick ≤ MAX_TICK }
         ensures { Shows self.now tick result.now }
     {
@@ -247,7 +255,7 @@ impl Tier {
 
     /// The same, without a copy and without the rest of the tier.
     pub(crate) fn into_controls_until(self, tick: u64) -> Vec<Control>
-        requires share { (free : ℕ) × IsShare MAX_OFFERS free tick self }
+        requires share { IsBeside tick self }
         requires tick { tick ≤ MAX_TICK }
         ensures { Shows self tick result.items }
     {
@@ -257,9 +265,9 @@ impl Tier {
         controls
     }
 
-    /// What a request of this tier finds that comes at `tick`, where the server is free from `free` on.
+    /// What a request of this tier finds that comes at `tick`, where a server is free from `free` on.
     pub(crate) fn outlook(&self, free: u64, tick: u64) -> Outlook
-        requires share { (busy : ℕ) × IsShare MAX_OFFERS busy tick self.now }
+        requires share { IsBeside tick self.now }
         requires tick { tick ≤ MAX_TICK }
         ensures finds { Foresees self.now free tick result }
         ensures free { result.free ≡ free }
@@ -274,7 +282,7 @@ impl Tier {
 
     /// The bucket at a later tick, and how many controls it has taken on then.
     fn bucket_at(&self, tick: u64) -> (Bucket, usize)
-        requires share { (free : ℕ) × IsShare MAX_OFFERS free tick self.now }
+        requires share { IsBeside tick self.now }
         requires tick { tick ≤ MAX_TICK }
         ensures tick { result.0.tick ≡ tick }
         ensures reached { result.1 ≤ length self.now.controls }
@@ -298,8 +306,8 @@ impl Tier {
         self.reached = reached;
     }
 
-    /// Takes a request for which `bucket` gave a token, and which is finished at `finish`, `sample` ticks after it
-    /// came.
+    /// Takes a request for which `bucket` gave a token, which is finished at `finish`, and whose response took `sample`
+    /// ticks.
     fn admit(
         &mut self,
         bucket: Bucket,
@@ -316,12 +324,13 @@ impl Tier {
         self.bucket = bucket;
         self.reached = reached;
         self.admitted += 1;
+        self.cleared = self.cleared.max(finish);
         note_control(
             self.policy,
             &self.window,
             &mut self.controls,
             self.admitted,
-            finish,
+            self.cleared,
         );
         Ok(())
     }

@@ -34,3 +34,27 @@ fn each_growth_refused(rt: HostRuntime) {
     let rates = controller.controls(1).iter().map(|control| control.rate);
     assert!(rt; rates.eq([833, 694]));
 }
+
+/// With three servers an offer takes no more memory than with one.
+#[test]
+fn each_growth_of_servers_refused(rt: HostRuntime) {
+    let policy = Policy::new(2, 1, 700, 1000, 500, 2000, 10, 120, 1000, 90, 10).expect(
+        &rt, "a policy",
+    );
+    let Ok(mut controller) = Controller::with_servers(rt.alloc(), [policy; 4], 3) else {
+        return;
+    };
+    for place in 0..6u64 {
+        let answer = match controller.offer_delayed(0, 0, 5, 7) {
+            Ok(decision) => Ok(decision),
+            Err(_) => controller.offer_delayed(0, 0, 5, 7),
+        };
+        let Ok(decision) = answer else {
+            return;
+        };
+        let finish = if place < 3 { 5 } else { 10 };
+        assert_eq!(rt; decision, Decision::Admitted { finish });
+    }
+    assert!(rt; controller.controls(0).is_empty());
+    assert_eq!(rt; controller.admitted(0), 6);
+}

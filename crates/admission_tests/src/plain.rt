@@ -51,13 +51,26 @@ struct Request {
     tier: u8,
     tick: u64,
     service: u64,
+    delay: u64,
     finish: Option<u64>,
 }
 
-/// The greatest, over the admitted requests and this one, of an arrival and the services from it on.
-fn finish_of(requests: &[Request], tick: u64, service: u64) -> u64 {
-    let mut services = service;
-    let mut greatest = tick.saturating_add(service);
+/// How many servers there are, and how long each response takes beside their work.
+#[derive(Clone, Copy)]
+struct Work {
+    servers: usize,
+    delay: u64,
+}
+
+const ONE_SERVER: Work = Work {
+    servers: 1,
+    delay: 0,
+};
+
+/// When one server is free: at the greatest, over the admitted requests, of an arrival and the services from it on.
+fn last_finish(requests: &[Request]) -> u64 {
+    let mut services = 0u64;
+    let mut greatest = 0u64;
     for request in requests.iter().rev() {
         if request.finish.is_some() {
             services = services.saturating_add(request.service);
@@ -65,6 +78,24 @@ fn finish_of(requests: &[Request], tick: u64, service: u64) -> u64 {
         }
     }
     greatest
+}
+
+/// When one of several servers is free: at that one of the finishes, from the greatest on; 0 where there are fewer.
+fn free_of(alloc: Global, requests: &[Request], servers: usize) -> Result<u64, AllocError> {
+    if servers == 1 {
+        return Ok(last_finish(requests));
+    }
+    let mut finishes = Vec::new(alloc);
+    for request in requests {
+        if let Some(finish) = request.finish {
+            finishes.push(finish)?;
+        }
+    }
+    finishes.sort_unstable();
+    match finishes.len().checked_sub(servers) {
+        Some(place) => Ok(finishes.get(place).copied().unwrap_or(0)),
+        None => Ok(0),
+    }
 }
 
 /// The sample that nine tenths of them, rounded up, do not exceed: by sorting.
@@ -97,7 +128,7 @@ fn controls_of(
 ) -> Result<Vec<Control>, AllocError> {
     let mut samples = Vec::new(alloc);
     let mut controls = Vec::new(alloc);
-    let (mut smoothed, mut rate) = (0u64, rules.rate);
+    let (mut smoothed, mut rate, mut cleared) = (0u64, rules.rate, 0u64);
     for request in requests {
         let Some(finish) = request.finish else {
             continue;
@@ -105,7 +136,9 @@ fn controls_of(
         if request.tier != tier {
             continue;
         }
-        samples.push(finish.saturating_sub(request.tick))?;
+        let taken = finish.saturating_sub(request.tick);
+        samples.push(taken.saturating_add(request.delay))?;
+        cleared = cleared.max(finish);
         if (samples.len() as u64).checked_rem(rules.every) != Some(0) {
             continue;
         }
@@ -118,7 +151,7 @@ fn controls_of(
         smoothed = before.saturating_add(own) / 1000;
         rate = rate_of(rules, smoothed, rate);
         controls.push(Control {
-            instant: finish,
+            instant: cleared,
             percentile,
             smoothed,
             rate,
@@ -162,19 +195,20 @@ fn credit_of(rules: Rules, controls: &[Control], requests: &[Request], offer: (u
     least
 }
 
-/// What the plain program says of one more offer (tier, tick, service).
+/// What the plain program says of one more offer (tier, tick, service), where a server is free from `free` on.
 fn decision_of(
     rules: Rules,
     controls: &[Control],
     requests: &[Request],
     offer: (u8, u64, u64),
+    free: u64,
 ) -> Decision {
     let (tier, tick, service) = offer;
     if credit_of(rules, controls, requests, (tier, tick)) < TOKEN {
         return Decision::Rejected;
     }
     Decision::Admitted {
-        finish: finish_of(requests, tick, service),
+        finish: free.max(tick).saturating_add(service),
     }
 }
 
@@ -184,15 +218,12 @@ fn outlook_of(
     controls: &[Control],
     requests: &[Request],
     offer: (u8, u64),
+    free: u64,
 ) -> Outlook {
     Outlook {
         credit: credit_of(rules, controls, requests, offer),
         rate: rate_at(rules, controls, offer.1),
-        free: requests
-            .iter()
-            .filter_map(|request| request.finish)
-            .last()
-            .unwrap_or(0),
+        free,
     }
 }
 
@@ -232,8 +263,15 @@ fn compare_controls(
 
 /// Offers 200 requests up to 15 ticks apart in the first `tiers` tiers, and compares what each finds, each decision
 /// and the controls of all tiers with those of the plain program. Returns how many were turned away.
-fn compare(rt: &(impl Abort + AllocGlobal), rules: [Rules; 4], tiers: u64) -> Result<usize, Fail>
-    requires { (1 ≤ tiers) × (tiers ≤ 4) }
+fn compare(
+    rt: &(impl Abort + AllocGlobal),
+    rules: [Rules; 4],
+    tiers: u64,
+    work: Work,
+) -> Result<usize, Fail>
+    requires tiers { (1 ≤ tiers) × (tiers ≤ 4) }
+    requires servers { (1 ≤ work.servers) × (work.servers ≤ 1024) }
+    requires delay { work.delay ≤ 1000000000 }
 {
     let alloc = rt.alloc();
     let policies = [
@@ -242,7 +280,7 @@ fn compare(rt: &(impl Abort + AllocGlobal), rules: [Rules; 4], tiers: u64) -> Re
         rules[2].policy(rt),
         rules[3].policy(rt),
     ];
-    let mut controller = Controller::new(alloc, policies)?;
+    let mut controller = Controller::with_servers(alloc, policies, work.servers as u64)?;
     let mut requests = Vec::new(alloc);
     let (mut number, mut tick) = (1u64, 0u64);
     for _ in 0..200u64 {
@@ -252,14 +290,19 @@ fn compare(rt: &(impl Abort + AllocGlobal), rules: [Rules; 4], tiers: u64) -> Re
         let tier = ((number >> 50) % tiers) as u8;
         let own = rules[usize::from(tier)];
         let controls = controls_of(alloc, own, &requests, tier)?;
-        let outlook = outlook_of(own, &controls, &requests, (tier, tick));
+        let free = free_of(alloc, &requests, work.servers)?;
+        let outlook = outlook_of(own, &controls, &requests, (tier, tick), free);
         assert_eq!(rt; controller.outlook(tier, tick), outlook);
-        let decision = decision_of(own, &controls, &requests, (tier, tick, service));
-        assert_eq!(rt; controller.offer(tier, tick, service)?, decision);
+        let decision = decision_of(own, &controls, &requests, (tier, tick, service), free);
+        assert_eq!(rt;
+            controller.offer_delayed(tier, tick, service, work.delay)?,
+            decision
+        );
         requests.push(Request {
             tier,
             tick,
             service,
+            delay: work.delay,
             finish: finish_in(decision),
         })?;
         compare_controls(rt, &controller, rules, &requests, tick)?;
@@ -289,7 +332,7 @@ fn a_window_longer_than_the_controls_are_apart(rt: HostRuntime) -> Result<(), Fa
         low: 90,
         depth: 3,
     };
-    assert_eq!(rt; compare(&rt, [rules; 4], 1)?, 43);
+    assert_eq!(rt; compare(&rt, [rules; 4], 1, ONE_SERVER)?, 43);
     Ok(())
 }
 
@@ -308,7 +351,7 @@ fn a_control_at_each_request(rt: HostRuntime) -> Result<(), Fail> {
         low: 100,
         depth: 1,
     };
-    assert_eq!(rt; compare(&rt, [rules; 4], 1)?, 112);
+    assert_eq!(rt; compare(&rt, [rules; 4], 1, ONE_SERVER)?, 112);
     Ok(())
 }
 
@@ -352,6 +395,62 @@ fn four_tiers(rt: HostRuntime) -> Result<(), Fail> {
         depth: 1,
         ..shared
     };
-    assert_eq!(rt; compare(&rt, [shared, second, third, fourth], 4)?, 76);
+    assert_eq!(rt;
+        compare(&rt, [shared, second, third, fourth], 4, ONE_SERVER)?,
+        76
+    );
+    Ok(())
+}
+
+/// Three servers, so that requests are finished in another order than they come.
+#[test]
+fn three_servers_and_a_delay(rt: HostRuntime) -> Result<(), Fail> {
+    let rules = Rules {
+        window: 3,
+        every: 1,
+        smoothing: 0,
+        rate: 90_000_000,
+        rate_min: 20_000_000,
+        rate_max: 400_000_000,
+        up: 5_000_000,
+        down: 105,
+        target: 13,
+        low: 100,
+        depth: 1,
+    };
+    let work = Work {
+        servers: 3,
+        delay: 2,
+    };
+    assert_eq!(rt; compare(&rt, [rules; 4], 1, work)?, 72);
+    Ok(())
+}
+
+#[test]
+fn two_servers_for_four_tiers(rt: HostRuntime) -> Result<(), Fail> {
+    let rules = Rules {
+        window: 5,
+        every: 2,
+        smoothing: 700,
+        rate: 30_000_000,
+        rate_min: 5_000_000,
+        rate_max: 90_000_000,
+        up: 2_000_000,
+        down: 120,
+        target: 12,
+        low: 90,
+        depth: 2,
+    };
+    let second = Rules {
+        every: 1,
+        target: 9,
+        depth: 1,
+        ..rules
+    };
+    let work = Work {
+        servers: 2,
+        delay: 0,
+    };
+    assert_eq!(rt; compare(&rt, [rules, second, rules, second], 4, work)?, 57);
     Ok(())
 }

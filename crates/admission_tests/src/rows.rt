@@ -377,3 +377,97 @@ fn the_text_of_each_fault_of_a_policy(rt: HostRuntime) -> Result<(), Fail> {
     }
     Ok(())
 }
+
+/// docs/RULES.md, "Servers": the third request waits for the server that is the first to be free, and the controls
+/// stand at tick 9, at which the first request is finished.
+#[test]
+fn three_requests_on_two_servers(rt: HostRuntime) -> Result<(), Fail> {
+    let policy = Policy::new(1, 1, 700, 1000, 500, 2000, 10, 120, 1000, 90, 10).expect(
+        &rt, "a policy",
+    );
+    let mut controller = Controller::with_servers(rt.alloc(), [policy; 4], 2)?;
+    assert_eq!(rt;
+        controller.offer(0, 0, 9)?,
+        Decision::Admitted { finish: 9 }
+    );
+    assert_eq!(rt;
+        controller.offer(0, 1, 4)?,
+        Decision::Admitted { finish: 5 }
+    );
+    assert_eq!(rt;
+        controller.offer(0, 2, 3)?,
+        Decision::Admitted { finish: 8 }
+    );
+    let before = Outlook {
+        credit: 7_000_008_000,
+        rate: 1000,
+        free: 8,
+    };
+    assert_eq!(rt; controller.outlook(0, 8), before);
+    let at = Outlook {
+        credit: 7_000_009_000,
+        rate: 1030,
+        free: 8,
+    };
+    assert_eq!(rt; controller.outlook(0, 9), at);
+    assert_eq!(rt;
+        controller.offer(1, 20, 1)?,
+        Decision::Admitted { finish: 21 }
+    );
+    let shown = [
+        control(9, 9, 2, 1010),
+        control(9, 4, 2, 1020),
+        control(9, 6, 3, 1030),
+    ];
+    assert_eq!(rt; controller.controls(0), shown.as_slice());
+    Ok(())
+}
+
+/// A delay is in the response times alone: it makes the controller lower its rate, and the server is free before it is
+/// over.
+#[test]
+fn a_delay_lowers_the_rate(rt: HostRuntime) -> Result<(), Fail> {
+    let policy = Policy::new(1, 1, 700, 1000, 500, 2000, 10, 120, 1000, 90, 10).expect(
+        &rt, "a policy",
+    );
+    let mut controller = Controller::new(rt.alloc(), [policy; 4])?;
+    assert_eq!(rt;
+        controller.offer_delayed(0, 0, 100, 5000)?,
+        Decision::Admitted { finish: 100 }
+    );
+    assert_eq!(rt;
+        controller.offer_delayed(0, 0, 100, 5000)?,
+        Decision::Admitted { finish: 200 }
+    );
+    assert_eq!(rt;
+        controller.offer(0, 200, 100)?,
+        Decision::Admitted { finish: 300 }
+    );
+    let shown = [control(100, 5100, 1530, 833), control(200, 5200, 2631, 694)];
+    assert_eq!(rt; controller.controls(0), shown.as_slice());
+    Ok(())
+}
+
+/// As many requests as there are servers begin when they come, and the next one when the first of them is finished.
+#[test]
+fn the_most_servers(rt: HostRuntime) -> Result<(), Fail> {
+    let policy = Policy::new(1, 1, 0, 1000, 1000, 1000, 0, 120, 1000, 90, 2000).expect(
+        &rt, "a policy",
+    );
+    let mut controller = Controller::with_servers(rt.alloc(), [policy; 4], 1024)?;
+    for j in 0..1024u64 {
+        assert_eq!(rt;
+            controller.offer_delayed(0, 0, 2000 - j, 1_000_000_000)?,
+            Decision::Admitted { finish: 2000 - j }
+        );
+    }
+    assert_eq!(rt;
+        controller.offer(0, 0, 5)?,
+        Decision::Admitted { finish: 982 }
+    );
+    assert_eq!(rt;
+        controller.offer(0, 979, 1)?,
+        Decision::Admitted { finish: 980 }
+    );
+    Ok(())
+}

@@ -1,4 +1,4 @@
-use Rattle.admission.proofs.CarryLemmas as lemmas
+use Rattle.admission.proofs.TurnLemmas as lemmas
 use Rattle.admission.proofs.laws.finish_from_finish.Goals as goal
 
 pub returns : goal.returns

@@ -5,7 +5,7 @@ use Rattle.admission.proofs.controller.Controller.controls.Goals as goal
 pub controls_until-requires-clause-share : goal.controls_until-requires-clause-share
 controls_until-requires-clause-share c =
     let within : c.from.result < length c.self.inside.tiers = omega (arith, c.self.invariant.four, c.from.ensures, c.requires) in
-    (c.self.inside.free, shared_at _ c.from.result c.index-self-from.result c.self.invariant within c.index-self-from.is)
+    shared_at _ c.from.result c.index-self-from.result c.self.invariant within c.index-self-from.is
 
 pub returns : goal.returns
 returns c offers fits =

@@ -1,0 +1,70 @@
+-- The servers one by one, and a single one.
+use Rattle.std.specs.Prelude.{◌≡◌, ℕ, ◌+◌, ◌<◌, ◌≤◌, min, max, List, [], ◌∷◌, ◌++◌, length, map, take, drop, replicate}
+use Rattle.std.specs.Prelude.{sum_by, count_by, nat_eq, nat_le, slice_index, if◌then◌else◌}
+use Rattle.admission.specs.Reference.{Station, Offer, Served, of_tier, served, finishes, sorted, finish_after, done}
+use Rattle.admission.specs.Reference.{greatest, decided}
+
+-- when each of n servers is free, the first to be free first: the n greatest of the finishes, and 0 for each server
+-- that none is left for
+unfoldable pub free_ticks : ℕ → List Served → List ℕ
+free_ticks n requests = drop (length requests) (sorted (replicate n 0 ++ finishes requests))
+
+-- ---- first come, first served
+
+-- the least of these ticks, 0 of none
+unfoldable pub least : List ℕ → ℕ
+least [] = 0
+least (x ∷ []) = x
+least (x ∷ y ∷ xs) = min x (least (y ∷ xs))
+
+-- with y in the place of the first x
+unfoldable pub with_first : ℕ → ℕ → List ℕ → List ℕ
+with_first x y [] = []
+with_first x y (z ∷ zs) = if nat_eq x z then (y ∷ zs) else (z ∷ with_first x y zs)
+
+-- the request's finish, where the servers are free at these ticks, and it is served by the first that is free
+abbrev pub finish_on : List ℕ → Offer → ℕ
+finish_on free offer = max (least free) offer.tick + offer.service
+
+-- the finishes of these requests, each of which is served by the first server that is free, in their order
+unfoldable pub finishes_in_turn : List ℕ → List Offer → List ℕ
+finishes_in_turn free [] = []
+finishes_in_turn free (offer ∷ offers) =
+    finish_on free offer ∷ finishes_in_turn (with_first (least free) (finish_on free offer) free) offers
+
+abbrev pub offers_served : List Served → List Offer
+offers_served requests = map (λ r. r.offer) requests
+
+-- the admitted requests are finished as if each was served by the first of the servers that was free
+abbrev pub FirstComeFirstServed : Type 0
+FirstComeFirstServed = (station : Station) (offers : List Offer) → 1 ≤ station.servers
+    → finishes (served (decided station offers))
+    ≡ finishes_in_turn (replicate station.servers 0) (offers_served (served (decided station offers)))
+
+-- ---- one server
+
+-- when the last of these requests is finished by one server: the greatest, over each of them, of its arrival and the
+-- services from it on (Lindley)
+unfoldable pub last_finish : List Offer → ℕ
+last_finish [] = 0
+last_finish (offer ∷ offers) = max (offer.tick + sum_by (λ o. o.service) (offer ∷ offers)) (last_finish offers)
+
+-- the finish of a request after those that one server was offered
+abbrev pub OneServerFinishes : Type 0
+OneServerFinishes = (station : Station) (offers : List Offer) (offer : Offer) → station.servers ≡ 1
+    → finish_after station.servers (served (decided station offers)) offer
+    ≡ last_finish (offers_served (served (decided station offers)) ++ offer ∷ [])
+
+-- the admitted requests of this tier
+abbrev pub own_served : Station → List Offer → ℕ → List Served
+own_served station offers tier = served (of_tier tier (decided station offers))
+
+-- the requests of a tier are finished by one server in their order: as many of the first are as have a finish up to a
+-- tick, and the first of them all are finished when the last of these is
+abbrev pub OneServerInOrder : Type 0
+OneServerInOrder = (station : Station) (offers : List Offer) (tier tick k : ℕ) → station.servers ≡ 1
+    → (done (own_served station offers tier) tick
+    ≡ count_by (λ finish. nat_le finish tick) (finishes (own_served station offers tier)))
+    × (k < length (own_served station offers tier)
+    → greatest (take (k + 1) (finishes (own_served station offers tier)))
+    ≡ slice_index (finishes (own_served station offers tier)) k)
