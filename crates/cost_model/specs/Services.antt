@@ -1,17 +1,39 @@
 -- How long the virtual server works on a request, in ticks of one microsecond.
-use Rattle.std.specs.Prelude.{ℕ, ◌&&◌, Bool, nat_le}
+use Rattle.std.specs.Prelude.{ℕ, ◌≤◌, ◌&&◌, Bool, nat_le}
 use Rattle.cost_model.specs.Reference.{CostTable}
 
--- the greatest of the three costs; the code has a constant of this name
+-- the greatest of the three costs, the most servers, the longest delay, the greatest cost of a route and the most
+-- routes; the code has constants of these names
 abbrev pub MAX_COST : ℕ
 MAX_COST = 1000000
+
+abbrev pub MAX_SERVERS : ℕ
+MAX_SERVERS = 1024
+
+abbrev pub MAX_DELAY : ℕ
+MAX_DELAY = 1000000000
+
+abbrev pub MAX_ROUTE_COST : ℕ
+MAX_ROUTE_COST = 1000000000
+
+abbrev pub MAX_ROUTES : ℕ
+MAX_ROUTES = 64
 
 abbrev pub is_in_range : CostTable → Bool
 is_in_range costs =
     nat_le 1 costs.file && nat_le costs.file MAX_COST
     && nat_le costs.kib MAX_COST
     && nat_le 1 costs.error && nat_le costs.error MAX_COST
+    && nat_le 1 costs.servers && nat_le costs.servers MAX_SERVERS
+    && nat_le costs.delay MAX_DELAY
 
--- the most ticks that a service takes
+-- the numbers of a route are in their ranges
+pub record IsRoute (cost kib delay : ℕ) : Type 0 where
+  pub costs : (1 ≤ cost) × (cost ≤ MAX_ROUTE_COST)
+  pub kibs : kib ≤ MAX_COST
+  pub delays : delay ≤ MAX_DELAY
+
+-- The most ticks that a service takes: on a route at most 1,000,000,000 and 16,384 KiB at 1,000,000 each, and less on
+-- none.
 abbrev pub longest_service : ℕ
 longest_service = 20000000000

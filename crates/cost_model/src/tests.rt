@@ -1,8 +1,12 @@
-//! Costs by the table, and outside their ranges.
+//! Costs by the table and by routes, and outside their ranges.
 
-use crate::{CostFault, Costs, service};
+ghost use Rattle.cost_model.specs.Services.{IsRoute};
+
+use crate::{CostFault, Costs, Prefix, Route, Routes, Tariff, service};
 use devices::Bytes;
 use paths::Outcome;
+use std::alloc::Global;
+use std::test::Fail;
 
 #[test]
 fn costs_by_the_table(rt: HostRuntime) {
@@ -29,4 +33,165 @@ fn costs_outside_their_ranges(rt: HostRuntime) {
     assert_eq!(rt; Costs::new(1, 0, 1_000_001), Err(CostFault::Range));
     assert_eq!(rt; Costs::new(1, 0, 1).is_ok(), true);
     assert_eq!(rt; Costs::new(1_000_000, 1_000_000, 1_000_000).is_ok(), true);
+}
+
+#[test]
+fn servers_and_delay(rt: HostRuntime) {
+    let alone = Costs::new(200, 10, 50).expect(&rt, "costs");
+    assert_eq!(rt; (alone.servers(), alone.delay()), (1, 0));
+    let four = alone.served_by(4, 3000);
+    assert_eq!(rt; (four.servers(), four.delay()), (4, 3000));
+    assert_eq!(rt; service(four, &Outcome::File(0), false, false, 3), 201);
+    let most = alone.served_by(1024, 1_000_000_000);
+    assert_eq!(rt; (most.servers(), most.delay()), (1024, 1_000_000_000));
+}
+
+/// The route of this prefix, if it is written so.
+fn route(alloc: Global, prefix: &[u8], cost: u64, kib: u64, delay: u64) -> Option<Route>
+    requires { IsRoute cost kib delay }
+{
+    match Prefix::read(alloc, prefix) {
+        Ok(Some(prefix)) => Some(Route::in_range(prefix, cost, kib, delay)),
+        _ => None,
+    }
+}
+
+/// Texts that are no prefix.
+static NO_PREFIXES: [&[u8]; 9] = [
+    b"", b"api", b"//", b"/a//", b"/a//b", b"/./a", b"/a/..", b"/.", b"//a",
+];
+
+/// Texts that are one.
+static PREFIXES: [&[u8]; 6] = [b"/", b"/a", b"/a/", b"/a/b/", b"/...", b"/a%20b"];
+
+#[test]
+fn prefixes_by_their_texts(rt: HostRuntime) {
+    for text in NO_PREFIXES.iter() {
+        let prefix = Prefix::read(rt.alloc(), text).expect(&rt, "memory");
+        assert_eq!(rt; prefix.is_none(), true);
+    }
+    for text in PREFIXES.iter() {
+        let prefix = Prefix::read(rt.alloc(), text).expect(&rt, "memory");
+        assert_eq!(rt; prefix.is_some(), true);
+    }
+}
+
+/// A target, what it is answered with, whether only a head is given, a length, and what comes of it.
+#[derive(Drop)]
+struct ChargeRow {
+    target: &'static [u8],
+    file: bool,
+    head: bool,
+    len: u16,
+    service: u64,
+    delay: u64,
+}
+
+#[test]
+fn charges_by_the_first_route(rt: HostRuntime) -> Result<(), Fail> {
+    let alloc = rt.alloc();
+    let costs = Costs::new(200, 10, 50).expect(&rt, "costs").served_by(1, 7);
+    let mut routes = Vec::new(alloc);
+    routes.push(route(alloc, b"/api/slow", 9000, 0, 3000).expect(&rt, "a prefix"))?;
+    routes.push(route(alloc, b"/api/", 2000, 100, 0).expect(&rt, "a prefix"))?;
+    let tariff = Tariff::new(costs, Routes::new(routes));
+    assert_eq!(rt; tariff.routes().as_slice().len(), 2);
+    assert_eq!(rt; tariff.costs(), costs);
+    // by hand: 2000 and 100 for each begun 1,024 bytes in whole ticks, 200 and 10 for them beside the routes
+    let rows = [
+        ChargeRow {
+            target: b"/api/slow",
+            file: false,
+            head: false,
+            len: 0,
+            service: 9000,
+            delay: 3000,
+        },
+        ChargeRow {
+            target: b"/api/slow/x?q",
+            file: true,
+            head: false,
+            len: 9000,
+            service: 9000,
+            delay: 3000,
+        },
+        ChargeRow {
+            target: b"/api/slower",
+            file: false,
+            head: false,
+            len: 0,
+            service: 2000,
+            delay: 0,
+        },
+        ChargeRow {
+            target: b"/api",
+            file: true,
+            head: false,
+            len: 1025,
+            service: 2101,
+            delay: 0,
+        },
+        ChargeRow {
+            target: b"/%61pi/x",
+            file: true,
+            head: true,
+            len: 1025,
+            service: 2000,
+            delay: 0,
+        },
+        ChargeRow {
+            target: b"/x/../api",
+            file: false,
+            head: false,
+            len: 0,
+            service: 2000,
+            delay: 0,
+        },
+        ChargeRow {
+            target: b"/apis",
+            file: true,
+            head: false,
+            len: 1025,
+            service: 211,
+            delay: 7,
+        },
+        ChargeRow {
+            target: b"/",
+            file: false,
+            head: false,
+            len: 0,
+            service: 50,
+            delay: 7,
+        },
+        ChargeRow {
+            target: b"*",
+            file: false,
+            head: false,
+            len: 0,
+            service: 50,
+            delay: 7,
+        },
+    ];
+    for row in rows.iter() {
+        let outcome = if row.file {
+            Outcome::File(0)
+        } else {
+            Outcome::NotAllowed
+        };
+        let charge = tariff
+            .charge(
+                alloc,
+                row.target,
+                &outcome,
+                row.head,
+                false,
+                u64::from(row.len),
+            )
+            .expect(&rt, "memory");
+        assert_eq!(rt;
+            (charge.service(), charge.delay()),
+            (row.service, row.delay)
+        );
+    }
+    Ok(())
 }

@@ -1,3 +1,4 @@
+mod Counting
 mod Rows
 mod Texts
 mod WrittenOut

@@ -66,13 +66,17 @@ given_or document key (Some d) = Ok (Some d)
 abbrev pub given : Members → Key → Result (Option Data) ConfigFault
 given document key = value_at document key >>= given_or document key
 
--- an integer within its range, or the default
+-- an integer within its range
+abbrev pub number_of : Key → ℕ → ℕ → Data → Result ℕ ConfigFault
+number_of key least greatest (integer (pos n)) =
+    if nat_le least n && nat_le n greatest then Ok n else Err (range key)
+number_of key least greatest (integer (negsuc n)) = Err (range key)
+number_of key least greatest _ = Err (shape key)
+
+-- the same, or the default
 abbrev pub number_or : Key → ℕ → ℕ → ℕ → Option Data → Result ℕ ConfigFault
 number_or key default least greatest None = Ok default
-number_or key default least greatest (Some (integer (pos n))) =
-    if nat_le least n && nat_le n greatest then Ok n else Err (range key)
-number_or key default least greatest (Some (integer (negsuc n))) = Err (range key)
-number_or key default least greatest (Some _) = Err (shape key)
+number_or key default least greatest (Some d) = number_of key least greatest d
 
 abbrev pub number_as : Members → Key → KeyKind → Result ℕ ConfigFault
 number_as document key (Number default least greatest) =

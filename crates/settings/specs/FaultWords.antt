@@ -9,7 +9,8 @@ use Rattle.settings.specs.declared.keys.Key.TheVariants as keys
 use Rattle.settings.specs.declared.config_fault.ConfigFault.{ConfigFault}
 use Rattle.settings.specs.declared.config_fault.ConfigFaultKind.{ConfigFaultKind}
 use Rattle.settings.specs.declared.config_fault.ConfigFaultKind.TheVariants.{Text, Unknown, Shape, Range}
-use Rattle.settings.specs.Keys.{KeyKind, Table, Numbers, Lists, row_of, all_keys, is_table, name_of, path_of, table_of}
+use Rattle.settings.specs.Keys.{KeyKind, Table, Tables, Text as OwnText, Numbers, Lists, row_of, all_keys, is_table}
+use Rattle.settings.specs.Keys.{name_of, path_of, table_of}
 use Rattle.settings.specs.Documents.{Misplaced, misplaced_in}
 use Rattle.settings.specs.SettingsTable.{document_of}
 
@@ -68,6 +69,8 @@ misplaced_words (Some m) = misplaced_text m
 
 abbrev pub value_words_as : Key → KeyKind → List ℕ
 value_words_as key Table = path_of key ++ codes " is to be a table"
+value_words_as key Tables = path_of key ++ codes " is to be a list of tables: " ++ (row_of key).comment
+value_words_as key OwnText = path_of key ++ codes " is to be a text: " ++ (row_of key).comment
 value_words_as key (Numbers default) =
     path_of key ++ codes " is to be a list of integers: " ++ (row_of key).comment
 value_words_as key other =

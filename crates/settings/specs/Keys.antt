@@ -14,12 +14,16 @@ use Rattle.settings.specs.declared.keys.Kind.TheVariants as kinds
 use Rattle.settings.specs.declared.keys.Row.{Row}
 
 -- what may stand at a key: a table of the document; an integer, with its default, the least and the greatest one; a
--- list of integers, with its default; or no value but the three lists of a floor, which are to fit together
+-- list of integers, with its default; or no value but the three lists of a floor, which are to fit together. Or a list
+-- of tables, and in each of them a text, or an integer, with the least and the greatest one.
 pub data KeyKind : Type 0 where
   Table : KeyKind
   Number : (default least greatest : ℕ) → KeyKind
   Numbers : (default : List ℕ) → KeyKind
   Lists : (cuts workers capacities : Key) → KeyKind
+  Tables : KeyKind
+  Text : KeyKind
+  Each : (least greatest : ℕ) → KeyKind
 
 -- a row of the table: the table that holds the key, which is its own where it is one; its name there; what may stand
 -- at it; its unit, its range and what it is; and what its unit is in another one, where that helps
@@ -96,6 +100,10 @@ row_of keys.Kib = row keys.Costs (codes "kib") (Number 10 0 1000000)
     (codes "microseconds, 0 to 1000000: how long it works besides on each 1024 bytes that are given")
 row_of keys.Error = row keys.Costs (codes "error") (Number 50 1 1000000)
     (codes "microseconds, 1 to 1000000: how long it works on any other answer")
+row_of keys.Servers = row keys.Costs (codes "servers") (Number 1 1 1024)
+    (codes "servers, 1 to 1024: how many work side by side, each on one request at a time")
+row_of keys.Delay = row keys.Costs (codes "delay") (Number 0 0 1000000000)
+    (codes "microseconds, 0 to 1000000000: how long each response takes beside the server's work")
 row_of (keys.Policy tables.Policy) = row (keys.Policy tables.Policy) (codes "policy") Table []
 row_of (keys.Policy tables.Tier1) = row (keys.Policy tables.Tier1) (codes "tier1") Table []
 row_of (keys.Policy tables.Tier2) = row (keys.Policy tables.Tier2) (codes "tier2") Table []
@@ -104,6 +112,16 @@ row_of (keys.InPolicy table key) = policy_row (keys.Policy table) key
 row_of keys.Page = row keys.Page (codes "page") Table []
 row_of keys.RetryAfter = row keys.Page (codes "retry_after") (Number 1 0 86400)
     (codes "seconds, 0 to 86400: after how long a rejected request may be tried again (Retry-After)")
+row_of keys.Route = row keys.Route (codes "route") Tables
+    (codes "at most 64 of them, each below a line [[route]]")
+row_of keys.RoutePrefix = row keys.Route (codes "prefix") Text
+    (codes "a decoded path from its first slash on: what is at it and below it is on the route")
+row_of keys.RouteCost = row keys.Route (codes "cost") (Each 1 1000000000)
+    (codes "microseconds, 1 to 1000000000: how long the server works on a request, whatever its answer")
+row_of keys.RouteKib = row keys.Route (codes "kib") (Each 0 1000000)
+    (codes "microseconds, 0 to 1000000: how long it works besides on each 1024 bytes that are given")
+row_of keys.RouteDelay = row keys.Route (codes "delay") (Each 0 1000000000)
+    (codes "microseconds, 0 to 1000000000: how long each response takes beside the server's work")
 
 -- the keys that the table of a policy may have
 abbrev pub policy_keys : List PolicyKey
@@ -115,12 +133,13 @@ policy_keys =
 abbrev pub keys_in : Option Key → List Key
 keys_in None =
     keys.Floor ∷ keys.Costs ∷ keys.Policy tables.Policy ∷ keys.Page
-    ∷ keys.Policy tables.Tier1 ∷ keys.Policy tables.Tier2 ∷ keys.Policy tables.Tier3 ∷ []
+    ∷ keys.Policy tables.Tier1 ∷ keys.Policy tables.Tier2 ∷ keys.Policy tables.Tier3 ∷ keys.Route ∷ []
 keys_in (Some keys.Floor) =
     keys.FrontCuts ∷ keys.FrontWorkers ∷ keys.FrontCapacities ∷ keys.BackCuts ∷ keys.BackWorkers ∷ keys.BackCapacities
     ∷ keys.Batch ∷ keys.Cache ∷ []
-keys_in (Some keys.Costs) = keys.File ∷ keys.Kib ∷ keys.Error ∷ []
+keys_in (Some keys.Costs) = keys.File ∷ keys.Kib ∷ keys.Error ∷ keys.Servers ∷ keys.Delay ∷ []
 keys_in (Some keys.Page) = keys.RetryAfter ∷ []
+keys_in (Some keys.Route) = keys.RoutePrefix ∷ keys.RouteCost ∷ keys.RouteKib ∷ keys.RouteDelay ∷ []
 keys_in (Some (keys.Policy table)) = map (keys.InPolicy table) policy_keys
 keys_in (Some _) = []
 
@@ -144,9 +163,10 @@ table_of key = (row_of key).table
 
 abbrev pub is_table_kind : KeyKind → Bool
 is_table_kind Table = true
+is_table_kind Tables = true
 is_table_kind other = false
 
--- whether the key is a table
+-- whether the key is a table, or a list of tables
 abbrev pub is_table : Key → Bool
 is_table key = is_table_kind (row_of key).kind
 
@@ -178,6 +198,11 @@ abbrev pub IsWithin : KeyKind → ℕ → Type 0
 IsWithin (Number default least greatest) n = (least ≤ n) × (n ≤ greatest)
 IsWithin other n = Unit
 
+-- an integer is within the range of what may stand there in each table of a list
+abbrev pub IsOfEach : KeyKind → ℕ → Type 0
+IsOfEach (Each least greatest) n = (least ≤ n) × (n ≤ greatest)
+IsOfEach other n = Unit
+
 -- its default is
 abbrev pub HasDefault : KeyKind → Type 0
 HasDefault kind = IsWithin kind (default_number kind)
@@ -186,7 +211,13 @@ HasDefault kind = IsWithin kind (default_number kind)
 
 -- the service times
 abbrev pub costs_with : (Key → ℕ) → CostTable
-costs_with at = record { file = at keys.File; kib = at keys.Kib; error = at keys.Error }
+costs_with at = record {
+  file = at keys.File;
+  kib = at keys.Kib;
+  error = at keys.Error;
+  servers = at keys.Servers;
+  delay = at keys.Delay;
+}
 
 -- the policy of these
 abbrev pub policy_with : (PolicyKey → ℕ) → PolicyNumbers
@@ -211,6 +242,9 @@ IsKind kinds.Table kind = kind ≡ Table
 IsKind (kinds.Number default least greatest) kind = kind ≡ Number default least greatest
 IsKind (kinds.Numbers default) kind = kind ≡ Numbers default.now
 IsKind (kinds.Lists cuts workers capacities) kind = kind ≡ Lists cuts workers capacities
+IsKind kinds.Tables kind = kind ≡ Tables
+IsKind kinds.Text kind = kind ≡ Text
+IsKind (kinds.Each least greatest) kind = kind ≡ Each least greatest
 
 -- a row of the code says the same
 abbrev pub IsRow : Row → KeyRow → Type 0

@@ -18,6 +18,7 @@ use Rattle.settings.specs.declared.config_fault.ConfigFault.{ConfigFault}
 use Rattle.settings.specs.ConfigFaults.{no_text, not_known, range}
 use Rattle.settings.specs.Keys.{KeyKind, Lists, row_of, all_keys, default_of, defaults_of, costs_with, policy_with}
 use Rattle.settings.specs.Documents.{◌>>=◌, misplaced_in, values_fit, number_in, numbers_in}
+use Rattle.settings.specs.Routes.{routes_of}
 
 -- the lists as the plan of a floor, whose last stage ends with this step
 abbrev pub plan_with : Key → ℕ → List ℕ → List ℕ → List ℕ → Result Layout ConfigFault
@@ -43,7 +44,7 @@ in_order table p =
 unfoldable pub policy_of : Members → PolicyTable → Result PolicyNumbers ConfigFault
 policy_of document table = in_order table (policy_with (λ key. number_in document (keys.InPolicy table key)))
 
--- what is said fits together: the floors, and then the policy of each tier in turn
+-- what is said fits together: the floors, then the policy of each tier in turn, and then the routes
 abbrev pub chosen : Members → Result Choice ConfigFault
 chosen document = do
   front ← plan_of document keys.Front 3
@@ -52,15 +53,17 @@ chosen document = do
   tier1 ← policy_of document tables.Tier1
   tier2 ← policy_of document tables.Tier2
   tier3 ← policy_of document tables.Tier3
+  routes ← routes_of document
   Ok (record {
     front = front;
     back = back;
     batch = number_in document keys.Batch;
     cache = number_in document keys.Cache;
-    costs = costs_with (number_in document);
+    tariff = record { costs = costs_with (number_in document); routes = routes };
     policies = policy ∷ tier1
         ∷ tier2 ∷ tier3 ∷ [];
     retry_after = number_in document keys.RetryAfter;
+    speed = 100;
   })
 
 -- the settings of a document, or its first fault: a key that may not stand there, then the values of the keys in their
@@ -80,9 +83,10 @@ default_choice = record {
   back = layout_of (defaults_of keys.BackCuts) (defaults_of keys.BackWorkers) (defaults_of keys.BackCapacities);
   batch = default_of keys.Batch;
   cache = default_of keys.Cache;
-  costs = costs_with default_of;
+  tariff = record { costs = costs_with default_of; routes = [] };
   policies = default_policy ∷ default_policy ∷ default_policy ∷ default_policy ∷ [];
   retry_after = default_of keys.RetryAfter;
+  speed = 100;
 }
 
 -- the document that a text of at most 65,536 bytes writes

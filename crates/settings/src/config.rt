@@ -12,6 +12,7 @@ ghost use Rattle.settings.specs.SettingsTable.{settings_of, settings_read};
 
 use crate::document::{misplaced_in, number_in, numbers_in, values_fit};
 use crate::keys::Kind;
+use crate::routes::routes_of;
 use crate::{ConfigFault, Key, PolicyKey, PolicyTable};
 use admission::{Policy, PolicyNumbers};
 use cost_model::Costs;
@@ -99,7 +100,8 @@ fn chosen(alloc: Global, document: &Table) -> Result<Settings, ConfigFault>
     let batch = number_in(document, Key::Batch);
     let cache = number_in(document, Key::Cache);
     let retry_after = number_in(document, Key::RetryAfter);
-    Ok(Settings::in_range(
+    let routes = routes_of(alloc, document)?;
+    let settings = Settings::in_range(
         front,
         back,
         batch as usize,
@@ -107,17 +109,20 @@ fn chosen(alloc: Global, document: &Table) -> Result<Settings, ConfigFault>
         costs_of(document),
         [policy, tier1, tier2, tier3],
         retry_after,
-    ))
+    );
+    Ok(settings.with_routes(routes))
 }
 
-/// The service times of a document.
+/// The service times, servers and delay of a document.
 fn costs_of(document: &Table) -> Costs
     ensures { result ≡ costs_with (number_in (table_view document.now)) }
 {
     let file = number_in(document, Key::File);
     let kib = number_in(document, Key::Kib);
     let error = number_in(document, Key::Error);
-    Costs::in_range(file, kib, error)
+    let servers = number_in(document, Key::Servers);
+    let delay = number_in(document, Key::Delay);
+    Costs::in_range(file, kib, error).served_by(servers, delay)
 }
 
 /// The plan of a floor whose last stage ends with this step.

@@ -1,10 +1,11 @@
 //! The keys that a document may have, and the numbers that stand there.
 
-ghost use Rattle.std.specs.Prelude.{◌≡◌, Ok, Err, IfOk, MatchResult, option_map};
+ghost use Rattle.std.specs.Prelude.{◌≡◌, ◌≤◌, Ok, Err, IfOk, MatchResult, option_map};
 ghost use Rattle.toml.specs.View.{view, array_view, table_view};
 ghost use Rattle.settings.specs.Keys.{IsWithin, all_keys, key_at, row_of};
 ghost use Rattle.settings.specs.Documents.{fits, given, in_policy, misplaced_of, misplaced_among, misplaced_in};
-ghost use Rattle.settings.specs.Documents.{naturals, number, number_in, numbers, numbers_in, value_at, values_fit};
+ghost use Rattle.settings.specs.Documents.{naturals, number, number_in, number_of, numbers, numbers_in, value_at};
+ghost use Rattle.settings.specs.Documents.{values_fit};
 ghost use Rattle.settings.specs.ConfigFaults.{IsAnswer, Shows};
 
 use crate::keys::{Kind, all_keys, keys_in};
@@ -130,6 +131,23 @@ fn number(document: &Table, key: Key) -> Result<u64, ConfigFault>
     let Some(value) = given(document, key)? else {
         return Ok(default);
     };
+    number_of(key, least, greatest, value)
+}
+
+/// The integer that a value at a key is.
+///
+/// # Errors
+///
+/// `Shape` where it isn't one, `Range` where it is outside this range.
+pub(crate) fn number_of(
+    key: Key,
+    least: u64,
+    greatest: u64,
+    value: &Value,
+) -> Result<u64, ConfigFault>
+    ensures value { result ≡ number_of key least greatest (view value.now) }
+    ensures within { IfOk result (λ n. (least ≤ n) × (n ≤ greatest)) }
+{
     let Some(integer) = value.as_integer() else {
         return Err(ConfigFault::shape(key));
     };

@@ -146,7 +146,10 @@ fn value_words(alloc: Global, key: Key) -> Result<String, AllocError>
     } = key.row();
     match kind {
         Kind::Table => format!(in alloc; "{key} is to be a table"),
+        Kind::Tables => format!(in alloc; "{key} is to be a list of tables: {comment}"),
+        Kind::Text => format!(in alloc; "{key} is to be a text: {comment}"),
         Kind::Numbers(_) => format!(in alloc; "{key} is to be a list of integers: {comment}"),
+        Kind::Number(_, _, _) => format!(in alloc; "{key} is to be an integer: {comment}{scale}"),
         _ => format!(in alloc; "{key} is to be an integer: {comment}{scale}"),
     }
 }

@@ -61,6 +61,8 @@ pub enum Key {
     File,
     Kib,
     Error,
+    Servers,
+    Delay,
     /// The table of a policy.
     Policy(PolicyTable),
     /// A key of a policy, in this table.
@@ -68,6 +70,12 @@ pub enum Key {
     /// `page`.
     Page,
     RetryAfter,
+    /// `route`, a list of tables.
+    Route,
+    RoutePrefix,
+    RouteCost,
+    RouteKib,
+    RouteDelay,
 }
 
 /// What may stand at a key.
@@ -82,6 +90,12 @@ pub(crate) enum Kind {
     /// No value, but these lists of a floor, which are to fit together: where its stages end, their workers, and what
     /// their queues hold.
     Lists(Key, Key, Key),
+    /// A list of tables.
+    Tables,
+    /// A text, in such a table.
+    Text,
+    /// An integer, in such a table: the least and the greatest.
+    Each(u64, u64),
 }
 
 /// What the table says of a key.
@@ -307,6 +321,20 @@ impl Key {
                 comment: "microseconds, 1 to 1000000: how long it works on any other answer",
                 scale: "",
             },
+            Key::Servers => Row {
+                table: Key::Costs,
+                name: "servers",
+                kind: Kind::Number(1, 1, 1024),
+                comment: "servers, 1 to 1024: how many work side by side, each on one request at a time",
+                scale: "",
+            },
+            Key::Delay => Row {
+                table: Key::Costs,
+                name: "delay",
+                kind: Kind::Number(0, 0, 1_000_000_000),
+                comment: "microseconds, 0 to 1000000000: how long each response takes beside the server's work",
+                scale: "",
+            },
             Key::Policy(PolicyTable::Policy) => Row {
                 table: self,
                 name: "policy",
@@ -350,6 +378,41 @@ impl Key {
                 comment: "seconds, 0 to 86400: after how long a rejected request may be tried again (Retry-After)",
                 scale: "",
             },
+            Key::Route => Row {
+                table: self,
+                name: "route",
+                kind: Kind::Tables,
+                comment: "at most 64 of them, each below a line [[route]]",
+                scale: "",
+            },
+            Key::RoutePrefix => Row {
+                table: Key::Route,
+                name: "prefix",
+                kind: Kind::Text,
+                comment: "a decoded path from its first slash on: what is at it and below it is on the route",
+                scale: "",
+            },
+            Key::RouteCost => Row {
+                table: Key::Route,
+                name: "cost",
+                kind: Kind::Each(1, 1_000_000_000),
+                comment: "microseconds, 1 to 1000000000: how long the server works on a request, whatever its answer",
+                scale: "",
+            },
+            Key::RouteKib => Row {
+                table: Key::Route,
+                name: "kib",
+                kind: Kind::Each(0, 1_000_000),
+                comment: "microseconds, 0 to 1000000: how long it works besides on each 1024 bytes that are given",
+                scale: "",
+            },
+            Key::RouteDelay => Row {
+                table: Key::Route,
+                name: "delay",
+                kind: Kind::Each(0, 1_000_000_000),
+                comment: "microseconds, 0 to 1000000000: how long each response takes beside the server's work",
+                scale: "",
+            },
         }
     }
 
@@ -361,11 +424,11 @@ impl Key {
         self.row().name
     }
 
-    /// Whether it is a table of the document.
+    /// Whether it is a table of the document, or a list of tables.
     pub fn is_table(self) -> bool
         ensures { result ≡ is_table self }
     {
-        matches!(self.row().kind, Kind::Table)
+        matches!(self.row().kind, Kind::Table | Kind::Tables)
     }
 
     /// The table that holds it. A table is its own.
@@ -429,6 +492,7 @@ pub(crate) fn keys_in(table: Option<Key>) -> &'static [Key]
             Key::Policy(PolicyTable::Tier1),
             Key::Policy(PolicyTable::Tier2),
             Key::Policy(PolicyTable::Tier3),
+            Key::Route,
         ],
         Some(Key::Floor) => &[
             Key::FrontCuts,
@@ -440,8 +504,14 @@ pub(crate) fn keys_in(table: Option<Key>) -> &'static [Key]
             Key::Batch,
             Key::Cache,
         ],
-        Some(Key::Costs) => &[Key::File, Key::Kib, Key::Error],
+        Some(Key::Costs) => &[Key::File, Key::Kib, Key::Error, Key::Servers, Key::Delay],
         Some(Key::Page) => &[Key::RetryAfter],
+        Some(Key::Route) => &[
+            Key::RoutePrefix,
+            Key::RouteCost,
+            Key::RouteKib,
+            Key::RouteDelay,
+        ],
         Some(Key::Policy(PolicyTable::Policy)) => policy_keys!(Policy),
         Some(Key::Policy(PolicyTable::Tier1)) => policy_keys!(Tier1),
         Some(Key::Policy(PolicyTable::Tier2)) => policy_keys!(Tier2),

@@ -6,7 +6,9 @@ mod config_fault;
 mod document;
 mod in_words;
 mod keys;
+mod routes;
 mod written_out;
+mod written_routes;
 
 pub use config::{MAX_SETTINGS_BYTES, default_settings, read_settings};
 pub use config_fault::{ConfigFault, ConfigFaultKind};

@@ -1,16 +1,18 @@
 //! Settings written out as a document: each table and key with its comment.
 
-ghost use Rattle.std.specs.Prelude.{◌≡◌, ◌++◌, false, Ok, Err, OnOk, IfOk, MatchResult};
+ghost use Rattle.std.specs.Prelude.{◌≡◌, ◌++◌, codes, false, Ok, Err, OnOk, IfOk, MatchResult};
 ghost use Rattle.std.specs.String.{string_bytes};
 ghost use Rattle.toml.specs.View.{table_view};
 ghost use Rattle.settings.specs.ConfigFaults.{is_memory};
+ghost use Rattle.settings.specs.Keys.{name_of, row_of};
 ghost use Rattle.settings.specs.SettingsTable.{settings_of, settings_read};
 ghost use Rattle.settings.specs.WrittenOut.{AreSettings, document_text, list_text, row_text, settings_text, text_of};
 ghost use Rattle.settings.specs.WrittenOut.{value_text};
 
 use crate::config::{document_of, settings_of};
 use crate::document::{number_in, numbers_in};
-use crate::keys::{Kind, all_keys};
+use crate::keys::{Kind, Row, all_keys};
+use crate::written_routes::write_routes;
 use crate::{ConfigFault, Key};
 use std::alloc::{AllocError, Global};
 use toml::Table;
@@ -50,20 +52,31 @@ fn write_value(
     }
 }
 
-/// Writes the line of a table, or a key below its comment.
+/// Writes the comment of a key, its name, and what stands before its value.
+pub(crate) fn write_name(text: &mut String, key: Key) -> Result<(), AllocError>
+    ensures { OnOk result (string_bytes text.new
+        ≡ string_bytes text.old ++ (codes "# " ++ (row_of key).comment ++ codes "\n" ++ name_of key ++ codes " = ")) }
+{
+    let Row { name, comment, .. } = key.row();
+    write!(text, "# {comment}\n{name} = ")
+}
+
+/// Writes the line of a table, or a key with its value below its comment; nothing of a list of tables.
 #[tactic(auto, unfolding(crate::specs::WrittenOut::row_text))]
 fn write_row(alloc: Global, text: &mut String, document: &Table, key: Key) -> Result<(), AllocError>
     ensures { OnOk result
         (string_bytes text.new ≡ string_bytes text.old ++ row_text (table_view document.now) key) }
 {
-    let name = key.name();
-    if key.is_table() {
-        return write!(text, "\n[{name}]\n");
+    let Row { name, kind, .. } = key.row();
+    match kind {
+        Kind::Table => write!(text, "\n[{name}]\n"),
+        Kind::Number(_, _, _) | Kind::Numbers(_) => {
+            write_name(text, key)?;
+            write_value(alloc, text, document, key)?;
+            text.push_str("\n")
+        }
+        _ => Ok(()),
     }
-    let comment = key.row().comment;
-    write!(text, "# {comment}\n{name} = ")?;
-    write_value(alloc, text, document, key)?;
-    text.push_str("\n")
 }
 
 /// The document of the values in force, with all tables and keys that it may have.
@@ -86,7 +99,9 @@ fn text_of(alloc: Global, document: &Table) -> Result<String, ConfigFault>
         (λ fault. is_memory fault ≡ false → settings_of (table_view document.now) ≡ Err fault) }
 {
     let _settings = settings_of(alloc, document)?;
-    Ok(document_text(alloc, document)?)
+    let mut text = document_text(alloc, document)?;
+    write_routes(alloc, &mut text, document)?;
+    Ok(text)
 }
 
 /// The settings of a document (docs/FORMATS.md, "Settings"), written out as a document in which each key stands with

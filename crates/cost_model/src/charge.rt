@@ -1,0 +1,150 @@
+//! What a request costs: by its route, or by the table.
+
+ghost use Rattle.std.specs.Prelude.{◌≡◌, ◌≤◌, IfOk};
+ghost use Rattle.std.specs.Option.{option_map};
+ghost use Rattle.paths.specs.Snapshots.{max_file_bytes};
+ghost use Rattle.cost_model.specs.Reference.{bytes_given, charge, charge_on};
+ghost use Rattle.cost_model.specs.Services.{MAX_DELAY, longest_service};
+
+use crate::{Costs, Route, Routes, service};
+use paths::Outcome;
+use std::alloc::{AllocError, Global};
+use std::marker::Model;
+
+/// What a request comes to: how long a server works on it, at least one tick and at most 20,000,000,000, and how long
+/// its response takes besides, at most 1,000,000,000.
+#[derive(Clone, Copy, Debug, PartialEq, Eq)]
+pub struct Charge {
+    service: u64,
+    delay: u64,
+}
+
+impl Model for Charge {
+    ghost use Rattle.std.specs.Prelude.{◌≤◌};
+    ghost use Rattle.cost_model.specs.Reference.{Charge as ChargeRow};
+    ghost use Rattle.cost_model.specs.Services.{MAX_DELAY, longest_service};
+
+    ghost Value = { ChargeRow };
+
+    ghost view = { λ c. record { service = c.service; delay = c.delay } };
+
+    ghost invariant = { λ c. (1 ≤ c.service) × (c.service ≤ longest_service) × (c.delay ≤ MAX_DELAY) };
+
+    ghost inverse = { λ c. record { service = c.service; delay = c.delay } };
+}
+
+impl Charge {
+    /// How long a server works on the request, 1 to 20,000,000,000 ticks.
+    pub fn service(self) -> u64
+        ensures service { result ≡ self.service }
+        ensures range { (1 ≤ result) × (result ≤ longest_service) }
+    {
+        self.service
+    }
+
+    /// How long its response takes beside that, 0 to 1,000,000,000 ticks.
+    pub fn delay(self) -> u64
+        ensures delay { result ≡ self.delay }
+        ensures range { result ≤ MAX_DELAY }
+    {
+        self.delay
+    }
+}
+
+/// How many of a file's bytes are given, by what a request is answered with.
+fn bytes_given(outcome: &Outcome, head: bool, unmodified: bool, len: u64) -> u64
+    requires { len ≤ max_file_bytes }
+    ensures bytes { result ≡ bytes_given outcome.now head unmodified len }
+    ensures range { result ≤ max_file_bytes }
+{
+    match outcome {
+        Outcome::File(_) if !head && !unmodified => len,
+        _ => 0,
+    }
+}
+
+/// What a request on this route, or on none, comes to.
+fn charge_on(
+    costs: Costs,
+    route: Option<&Route>,
+    outcome: &Outcome,
+    head: bool,
+    unmodified: bool,
+    len: u64,
+) -> Charge
+    requires { len ≤ max_file_bytes }
+    ensures { result
+        ≡ charge_on costs (option_map (λ r. r.now) route.entry) outcome.now head unmodified len }
+{
+    match route {
+        Some(route) => Charge {
+            service: route.service(bytes_given(outcome, head, unmodified, len)),
+            delay: route.delay(),
+        },
+        None => Charge {
+            service: service(costs, outcome, head, unmodified, len),
+            delay: costs.delay(),
+        },
+    }
+}
+
+/// What requests cost: on a route as it says, on none by the table.
+#[derive(Drop)]
+pub struct Tariff {
+    costs: Costs,
+    routes: Routes,
+}
+
+impl Model for Tariff {
+    ghost use Rattle.cost_model.specs.Reference.{Tariff as TariffRow};
+
+    ghost Value = { TariffRow };
+
+    ghost view = { λ t. record { costs = t.costs; routes = t.routes } };
+}
+
+impl Tariff {
+    /// A tariff of this table and these routes.
+    pub fn new(costs: Costs, routes: Routes) -> Tariff
+        ensures { result ≡ record { costs = costs; routes = routes } }
+    {
+        Tariff { costs, routes }
+    }
+
+    /// The table.
+    pub fn costs(&self) -> Costs
+        ensures { result ≡ self.now.costs }
+    {
+        self.costs
+    }
+
+    /// The routes.
+    pub fn routes(&self) -> &Routes
+        ensures { result.now ≡ self.now.routes }
+    {
+        &self.routes
+    }
+
+    /// What a request with this target comes to, by what it is answered with: `head` and `unmodified` say that a file's
+    /// bytes are not given, `len` is its length.
+    ///
+    /// # Errors
+    ///
+    /// Memory ran out. Without routes none is taken.
+    #[inline]
+    pub fn charge(
+        &self,
+        alloc: Global,
+        target: &[u8],
+        outcome: &Outcome,
+        head: bool,
+        unmodified: bool,
+        len: u64,
+    ) -> Result<Charge, AllocError>
+        requires { len ≤ max_file_bytes }
+        ensures { IfOk result (λ c. c ≡ charge self.now target.now outcome.now head unmodified len) }
+    {
+        let route = self.routes.of_target(alloc, target)?;
+        Ok(charge_on(self.costs, route, outcome, head, unmodified, len))
+    }
+}
