@@ -3,6 +3,7 @@ pub mod Appending
 pub mod Decimals
 pub mod Inverse
 pub mod PartLemmas
+pub mod Limits
 pub mod Pieces
 pub mod Taking
 pub mod Windows

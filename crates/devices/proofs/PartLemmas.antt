@@ -1,6 +1,6 @@
 -- What was taken of a text when a read failed.
 use Rattle.std.specs.List.{prefix_len}
-use Rattle.std.proofs.Common.{◌≡◌, ℕ, ◌+◌, ◌-◌, ◌<◌, ◌≤◌, ◌==◌, not, cond, nat_lt, nat_le, Bool, true, false, List, [], ◌∷◌, ◌++◌, length, take, Option, Result, Ok, Err, refl, sym, ap, ◌∙◌, subst, arith, is_some, unwrap_or}
+use Rattle.std.proofs.Common.{◌≡◌, ℕ, ◌+◌, ◌<◌, ◌≤◌, ◌==◌, not, cond, nat_lt, nat_le, Bool, true, false, List, [], ◌∷◌, ◌++◌, length, take, Option, Result, Ok, Err, refl, sym, ap, ◌∙◌, subst, arith, is_some, unwrap_or}
 use Rattle.std.proofs.lemmas.Bool.{eqb-false}
 use Rattle.std.proofs.lemmas.Bool.Decides.{nat_tests}
 use Rattle.std.proofs.lemmas.List.{append_assoc, append-nil, length-append, length-take, get_or-take}
@@ -74,7 +74,7 @@ line_fails o n m l nl ml line t short h k =
     none_after (λ part. line_at (record { bytes = part; left = l }) ≡ Err stops.Cut) o n m l nl ml line t.takes
     (λ known. line_cut line l nl t.feeds short (t.takes.count known)) h k
 
-line_good : (a b : Ahead) (line : List ℕ) → line_at a ≡ Ok (line, b) → (prefix_len (λ c. not (c == 10)) line ≡ length line) × (length line ≤ 64)
+pub line_good : (a b : Ahead) (line : List ℕ) → line_at a ≡ Ok (line, b) → (prefix_len (λ c. not (c == 10)) line ≡ length line) × (length line ≤ 64)
 line_good a b line h =
     let full = unless_ok (length (line_start a) == 65) _ _ _ h in
     let all = unless_ok (length (line_start a) == length (available a)) _ _ _ full.1 in

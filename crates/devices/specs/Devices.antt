@@ -1,13 +1,16 @@
 -- A device that is lent to a call, and what one read of a byte and one write do to it where its bytes are known.
 use Rattle.std.specs.Prelude.{ℕ, ◌≡◌, ◌<◌, ◌≤◌, ◌+◌, ◌-◌, ◌^◌, List, [], ◌∷◌, take, length, None, Some, Option}
-use Rattle.std.specs.Prelude.{MatchResult, Result}
+use Rattle.std.specs.Prelude.{MatchResult, Result, Ok, Bool, true, false, ◌==◌, ◌&&◌, nat_lt}
+use Rattle.std.specs.Option.{is_none}
 use Rattle.std.specs.Io.KnownBytes.{Keeps, Consumes, Appends, IsAtEnd}
 use Rattle.devices.specs.declared.device.Failed.{Failed}
 
--- the bytes that a reader has left, or that a writer holds, where these are known; and how often it has failed
+-- The bytes that a reader has left, or that a writer holds, where these are known; how often it has failed; and whether
+-- it is over: a reader that met its end, a writer that failed. What is over isn't asked again.
 pub record Device : Type 0 where
   pub bytes : Option (List ℕ)
   pub failures : ℕ
+  pub over : Bool
 
 -- its count of failures can rise
 abbrev pub CanFail : Device → Type 0
@@ -23,7 +26,28 @@ BlamedOnce blamed old new r = MatchResult r (λ _. new ≡ old) (λ e. (old + bl
 
 -- a device that has not failed yet
 abbrev pub fresh : Option (List ℕ) → Device
-fresh bytes = record { bytes = bytes; failures = 0 }
+fresh bytes = record { bytes = bytes; failures = 0; over = false }
+
+-- what is ahead of an input: none once it is over
+abbrev pub ahead_unless : Bool → Option (List ℕ) → Option (List ℕ)
+ahead_unless true bytes = Some []
+ahead_unless false bytes = bytes
+
+-- A read of an input that is over gives nothing, and changes nothing. One that isn't is over exactly where a read into
+-- some room gave none.
+abbrev pub ReadsToEnd : Device → Device → Result ℕ Failed → List ℕ → Type 0
+ReadsToEnd old new r room = (old.over ≡ true → (r ≡ Ok 0) × (new ≡ old))
+    × (old.over ≡ false → MatchResult r (λ n. new.over ≡ (n == 0 && nat_lt 0 (length room))) (λ _. new.over ≡ false))
+
+-- the same of a read of one byte
+abbrev pub ByteToEnd : Device → Device → Result (Option ℕ) Failed → Type 0
+ByteToEnd old new r = (old.over ≡ true → (r ≡ Ok None) × (new ≡ old))
+    × (old.over ≡ false → MatchResult r (λ b. new.over ≡ is_none b) (λ _. new.over ≡ false))
+
+-- nothing is written to an output that is over, and an output is over from the first write on that failed
+abbrev pub WritesUnlessOver : {X E : Type 0} → Device → Device → Result X E → Type 0
+WritesUnlessOver old new r = (old.over ≡ true → new.bytes ≡ old.bytes)
+    × MatchResult r (λ _. new.over ≡ old.over) (λ _. new.over ≡ true)
 
 -- one byte was taken, or the end was met
 abbrev pub TakesByte : Option (List ℕ) → Option (List ℕ) → Option ℕ → Type 0

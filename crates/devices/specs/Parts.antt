@@ -1,7 +1,12 @@
--- What was taken of a text when a read failed.
-use Rattle.std.specs.Prelude.{◌≡◌, ℕ, ◌+◌, ◌<◌, true, List, [], ◌++◌, length, Option, Result, Err, IfErr, is_some}
+-- What was taken of a text when a read failed, and at most.
+use Rattle.std.specs.Prelude.{◌≡◌, ℕ, ◌+◌, ◌<◌, ◌≤◌, true, List, [], ◌++◌, length, Option, Result, Err, IfErr, is_some}
 use Rattle.std.specs.Prelude.{unwrap_or}
 use Rattle.devices.specs.Texts.{Ahead}
+
+-- Where the bytes of the input are known, some of the next ones were taken, at most so many.
+abbrev pub TookAtMost : ℕ → Option (List ℕ) → Option (List ℕ) → Type 0
+TookAtMost most old new = is_some old ≡ true → (part : List ℕ) × (unwrap_or old [] ≡ part ++ unwrap_or new [])
+    × (length part ≤ most) × (is_some new ≡ true)
 
 -- a part was taken of which this holds, and the rest is ahead
 pub record TookPart (Holds : List ℕ → Type 0) (old : Option (List ℕ)) (left : ℕ) (new : Option (List ℕ))

@@ -1,11 +1,12 @@
 //! A reader that is lent to a call, and the count of its failures.
 
-ghost use Rattle.std.specs.Prelude.{◌≡◌, ◌+◌, ◌-◌, ◌<◌, take, IfOk, OnOk, OnErr};
+ghost use Rattle.std.specs.Prelude.{◌≡◌, ◌+◌, ◌-◌, ◌<◌, take, length, IfOk, OnOk, OnErr};
 ghost use Rattle.std.specs.Io.{ReadsAtMost};
 ghost use Rattle.std.specs.Io.KnownBytes.{ReadConsumes};
-ghost use Rattle.devices.specs.Devices.{ByteConsumes, fresh, CanFail};
+ghost use Rattle.devices.specs.Devices.{ByteConsumes, ReadsToEnd, ByteToEnd, fresh, CanFail};
 ghost use Rattle.devices.specs.Feeds.{NoneAfterFeed};
 
+use crate::source::Source;
 use crate::window::Window;
 use std::io::Read;
 use std::marker::Model;
@@ -16,26 +17,30 @@ use thiserror::Error;
 #[error("the device failed")]
 pub struct Failed;
 
-/// A reader that is lent to a call, and how often it has failed.
+/// A reader that is lent to a call, and how often it has failed. The end is the last that is read of it: once the
+/// reader told its end, each call answers the end, and the reader isn't asked again.
 ///
-/// Contracts see the bytes that are ahead, where these are known, and the count of failures. What was read beyond a
-/// line's end, where the input reads ahead, waits in a window, and comes before what the reader has left.
+/// Contracts see the bytes that are ahead, where these are known, the count of failures, and whether it is over. What
+/// was read beyond a line's end, where the input reads ahead, waits in a window, and comes before what the reader has
+/// left.
 #[derive(Drop)]
 pub struct Input<R: Read> {
-    reader: R,
-    failures: u64,
+    source: Source<R>,
     window: Window,
     ahead: bool,
 }
 
 impl<R: Read> Model for Input<R> {
     ghost use Rattle.std.specs.Io.KnownBytes.{prepend_known};
-    ghost use Rattle.devices.specs.Devices.{Device};
-    ghost use Rattle.devices.specs.Devices.{Device};
+    ghost use Rattle.devices.specs.Devices.{Device, ahead_unless};
 
     ghost Value = { Device };
 
-    ghost view = { λ i. record { bytes = prepend_known i.window (R.remaining i.reader); failures = i.failures } };
+    ghost view = { λ i. record {
+      bytes = ahead_unless i.source.over (prepend_known i.window i.source.bytes);
+      failures = i.source.failures;
+      over = i.source.over;
+    } };
 }
 
 impl<R: Read> Input<R> {
@@ -44,8 +49,7 @@ impl<R: Read> Input<R> {
         ensures { result ≡ fresh (R.remaining reader) }
     {
         Input {
-            reader,
-            failures: 0,
+            source: Source::new(reader),
             window: Window::new(),
             ahead: false,
         }
@@ -70,33 +74,32 @@ impl<R: Read> Input<R> {
     pub fn failures(&self) -> u64
         ensures { result ≡ self.now.failures }
     {
-        self.failures
+        self.source.failures()
     }
 
     /// Makes one read into the beginning of `room`, and answers how many bytes came. None come at the end of the input
     /// alone, or where there is no room. A read that was interrupted is a failure. Where bytes wait that were read
-    /// ahead, these come, and no read is made.
+    /// ahead, these come, and no read is made; nor is one made after the end.
     pub fn read_some(&mut self, room: &mut [u8]) -> Result<usize, Failed>
         requires { CanFail self.old }
         ensures bound { ReadsAtMost result room.new }
         ensures bytes { ReadConsumes self.old.bytes self.new.bytes result room.new }
         ensures ok { OnOk result (self.new.failures ≡ self.old.failures) }
         ensures err { OnErr result (self.new.failures ≡ self.old.failures + 1) }
+        ensures end { ReadsToEnd self.old self.new result room.new }
     {
-        if !self.window.is_empty() {
-            return Ok(self.window.take(room));
+        if self.source.is_over() {
+            return Ok(0);
         }
-        match self.reader.read(room) {
-            Ok(count) => Ok(count),
-            Err(_) => {
-                self.failures += 1;
-                Err(Failed)
-            }
+        if self.window.is_empty() {
+            self.source.read(room)
+        } else {
+            Ok(self.window.take(room))
         }
     }
 
     /// Gives some of the next bytes, at most as many as the room holds, and none after a line feed. Where no byte
-    /// waits, one read is made first, of up to 64 bytes.
+    /// waits, one read is made first, of up to 64 bytes, but none after the end.
     pub(crate) fn read_to_feed(&mut self, room: &mut [u8]) -> Result<usize, Failed>
         requires { CanFail self.old }
         ensures bound { ReadsAtMost result room.new }
@@ -104,25 +107,25 @@ impl<R: Read> Input<R> {
         ensures feed { IfOk result (λ n. NoneAfterFeed (take n room.new)) }
         ensures ok { OnOk result (self.new.failures ≡ self.old.failures) }
         ensures err { OnErr result (self.new.failures ≡ self.old.failures + 1) }
+        ensures end { 0 < length room.old → ReadsToEnd self.old self.new result room.new }
     {
-        if !self.window.is_empty() {
-            return Ok(self.window.take_to_feed(room));
+        if self.source.is_over() {
+            return Ok(0);
         }
-        match self.window.fill(&mut self.reader) {
-            Ok(()) => Ok(self.window.take_to_feed(room)),
-            Err(Failed) => {
-                self.failures += 1;
-                Err(Failed)
-            }
+        if self.window.is_empty() {
+            self.window.fill(&mut self.source)?;
         }
+        Ok(self.window.take_to_feed(room))
     }
 
-    /// Makes one read of one byte, where none waits that was read ahead; `None` at the end of the input.
+    /// Makes one read of one byte, where none waits that was read ahead; `None` at the end of the input, after which no
+    /// read is made.
     pub fn read_byte(&mut self) -> Result<Option<u8>, Failed>
         requires { CanFail self.old }
         ensures bytes { ByteConsumes self.old.bytes self.new.bytes result }
         ensures ok { OnOk result (self.new.failures ≡ self.old.failures) }
         ensures err { OnErr result (self.new.failures ≡ self.old.failures + 1) }
+        ensures end { ByteToEnd self.old self.new result }
     {
         let mut room = [0];
         if self.read_some(&mut room)? == 0 {

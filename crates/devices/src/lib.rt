@@ -6,6 +6,7 @@ mod device;
 mod long_line;
 mod numbers;
 mod output;
+mod source;
 mod text;
 mod window;
 

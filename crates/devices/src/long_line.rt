@@ -1,9 +1,9 @@
 //! Reading a line that announces something, no further than it owes.
 
-ghost use Rattle.std.specs.Prelude.{◌+◌, ◌-◌, ◌<◌, ◌≤◌, length, IfErr, ◌≢◌};
+ghost use Rattle.std.specs.Prelude.{◌+◌, ◌-◌, ◌<◌, ◌≤◌, length, min, IfErr, ◌≢◌};
 ghost use Rattle.devices.specs.Devices.{CanFail};
 ghost use Rattle.devices.specs.Texts.{Counts, line_at};
-ghost use Rattle.devices.specs.Parts.{FailsWithin};
+ghost use Rattle.devices.specs.Parts.{FailsWithin, TookAtMost};
 ghost use Rattle.devices.specs.LongLines.{IsOwed, GivesLongLine};
 
 use crate::text::{read_line_ahead, read_some_of};
@@ -51,6 +51,8 @@ fn read_owed_line<R: Read>(
     ensures count { Counts input.old.failures input.new.failures result }
     // It takes no memory.
     ensures memory { IfErr result (λ e. e ≢ Stop.Memory) }
+    // At most 65 bytes were taken, and one byte past the limit.
+    ensures most { TookAtMost (min 65 (left.old + 1)) input.old.bytes input.new.bytes }
 {
     let mut line = Line::new();
     while line.as_slice().len() < 65 {
@@ -90,6 +92,8 @@ pub fn read_long_line<R: Read>(
     ensures count { Counts input.old.failures input.new.failures result }
     // It takes no memory.
     ensures memory { IfErr result (λ e. e ≢ Stop.Memory) }
+    // At most 65 bytes were taken, and one byte past the limit.
+    ensures most { TookAtMost (min 65 (left.old + 1)) input.old.bytes input.new.bytes }
 {
     if input.reads_ahead() {
         read_line_ahead(input, left)

@@ -1,12 +1,12 @@
 //! Reading lines, bytes and runs of a text of limited size.
 
 ghost use Rattle.std.specs.Prelude.{◌≡◌, ◌≢◌, ℕ, ◌+◌, ◌-◌, ◌<◌, ◌≤◌, ◌==◌, ◌++◌, [], ◌∷◌, true, false, is_some};
-ghost use Rattle.std.specs.Prelude.{take, length, nat_lt, IfOk, IfErr};
+ghost use Rattle.std.specs.Prelude.{take, length, min, nat_lt, IfOk, IfErr};
 ghost use Rattle.std.specs.List.{before_first};
 ghost use Rattle.devices.specs.Reference.{line_feed};
 ghost use Rattle.devices.specs.Devices.{CanFail};
 ghost use Rattle.devices.specs.Feeds.{NoneAfterFeed};
-ghost use Rattle.devices.specs.Parts.{TookPart, FailsAtOnce, FailsWithin};
+ghost use Rattle.devices.specs.Parts.{TookPart, TookAtMost, FailsAtOnce, FailsWithin};
 ghost use Rattle.devices.specs.Texts.{Gives, Counts, TakesSome, Fills, is_unforeseen, byte_at, line_at, run_at, ended};
 ghost use Rattle.devices.specs.Texts.{ahead_of, failures_in};
 
@@ -106,6 +106,8 @@ fn look_further<R: Read>(input: &mut Input<R>) -> Stop
     ensures count { input.new.failures ≡ input.old.failures + failures_in result }
     // It takes no memory.
     ensures memory { result ≢ Stop.Memory }
+    // At most one byte was taken.
+    ensures most { TookAtMost 1 input.old.bytes input.new.bytes }
 {
     match input.read_byte() {
         Ok(Some(_)) => Stop::TooLarge,
@@ -129,6 +131,8 @@ pub(crate) fn read_some_of<R: Read>(
     ensures count { Counts input.old.failures input.new.failures result }
     // It takes no memory.
     ensures memory { IfErr result (λ e. e ≢ Stop.Memory) }
+    // At most one byte further was taken.
+    ensures most { IfErr result (λ _. TookAtMost 1 input.old.bytes input.new.bytes) }
 {
     if *left == 0 {
         return Err(look_further(input));
@@ -160,6 +164,8 @@ fn read_to_feed_of<R: Read>(
     ensures count { Counts input.old.failures input.new.failures result }
     // It takes no memory.
     ensures memory { IfErr result (λ e. e ≢ Stop.Memory) }
+    // At most one byte further was taken.
+    ensures most { IfErr result (λ _. TookAtMost 1 input.old.bytes input.new.bytes) }
 {
     if *left == 0 {
         return Err(look_further(input));
@@ -189,6 +195,8 @@ fn read_next_of<R: Read>(
     ensures count { Counts input.old.failures input.new.failures result }
     // It takes no memory.
     ensures memory { IfErr result (λ e. e ≢ Stop.Memory) }
+    // At most one byte further was taken.
+    ensures most { IfErr result (λ _. TookAtMost 1 input.old.bytes input.new.bytes) }
 {
     if input.reads_ahead() {
         read_to_feed_of(input, left, room)
@@ -207,6 +215,8 @@ pub fn read_byte_of<R: Read>(input: &mut Input<R>, left: &mut usize) -> Result<u
     ensures count { Counts input.old.failures input.new.failures result }
     // It takes no memory.
     ensures memory { IfErr result (λ e. e ≢ Stop.Memory) }
+    // At most one byte was taken.
+    ensures most { TookAtMost 1 input.old.bytes input.new.bytes }
 {
     let mut room = [0];
     match read_next_of(input, left, &mut room) {
@@ -226,6 +236,8 @@ pub fn read_line<R: Read>(input: &mut Input<R>, left: &mut usize) -> Result<Line
     ensures count { Counts input.old.failures input.new.failures result }
     // It takes no memory.
     ensures memory { IfErr result (λ e. e ≢ Stop.Memory) }
+    // At most 65 bytes were taken, and one byte past the limit.
+    ensures most { TookAtMost (min 65 (left.old + 1)) input.old.bytes input.new.bytes }
 {
     let mut line = Line::new();
     for _ in 0..65usize {
@@ -249,6 +261,8 @@ pub(crate) fn read_line_ahead<R: Read>(input: &mut Input<R>, left: &mut usize) -
     ensures count { Counts input.old.failures input.new.failures result }
     // It takes no memory.
     ensures memory { IfErr result (λ e. e ≢ Stop.Memory) }
+    // At most 65 bytes were taken, and one byte past the limit.
+    ensures most { TookAtMost (min 65 (left.old + 1)) input.old.bytes input.new.bytes }
 {
     let mut bytes = [0; 65];
     let mut len = 0;
@@ -279,6 +293,9 @@ fn fill<R: Read>(input: &mut Input<R>, left: &mut usize, room: &mut [u8]) -> Res
     ensures count { Counts input.old.failures input.new.failures result }
     // It takes no memory.
     ensures memory { IfErr result (λ e. e ≢ Stop.Memory) }
+    // At most so many bytes were taken, and one byte past the limit.
+    ensures most { TookAtMost (min (length room.new) (left.old + 1))
+        input.old.bytes input.new.bytes }
 {
     let mut filled = 0;
     while filled < room.len() {
@@ -308,6 +325,8 @@ pub fn read_run<R: Read>(
         input.old.bytes left.old input.new.bytes left.new result }
     ensures length { IfOk result (λ run. length run ≡ count) }
     ensures count { Counts input.old.failures input.new.failures result }
+    // At most so many bytes were taken, and one byte past the limit.
+    ensures most { TookAtMost (min count (left.old + 1)) input.old.bytes input.new.bytes }
 {
     let Ok(mut bytes) = vec![in alloc; 0; count] else {
         return Err(Stop::Memory);

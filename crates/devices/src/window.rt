@@ -1,12 +1,14 @@
 //! Bytes that were read ahead of the calls that give them.
 
 ghost use Rattle.std.specs.Prelude.{◌≡◌, ◌==◌, ◌++◌, ◌+◌, ◌-◌, ◌<◌, ◌≤◌, [], take, length, position, IfSome};
-ghost use Rattle.std.specs.Prelude.{MatchResult};
+ghost use Rattle.std.specs.Prelude.{MatchResult, OnOk, OnErr, false};
 ghost use Rattle.std.specs.Io.KnownBytes.{Consumes, Keeps, IsAtEnd};
 ghost use Rattle.devices.specs.Reference.{line_feed};
+ghost use Rattle.devices.specs.Devices.{CanFail};
 ghost use Rattle.devices.specs.Feeds.{NoneAfterFeed};
 
 use crate::Failed;
+use crate::source::Source;
 use std::io::Read;
 use std::marker::Model;
 
@@ -74,22 +76,21 @@ impl Window {
     }
 
     /// Makes one read into a window in which no byte waits.
-    pub(crate) fn fill<R: Read>(&mut self, reader: &mut R) -> Result<(), Failed>
-        requires { length self.old ≡ 0 }
-        ensures { MatchResult result
-            (λ _. Consumes (R.remaining reader.old) (R.remaining reader.new) self.new
-            × (length self.new ≡ 0 → IsAtEnd (R.remaining reader.new)))
-            (λ _. Keeps (R.remaining reader.old) (R.remaining reader.new) × (length self.new ≡ 0)) }
+    pub(crate) fn fill<R: Read>(&mut self, source: &mut Source<R>) -> Result<(), Failed>
+        requires empty { length self.old ≡ 0 }
+        requires healthy { CanFail source.old }
+        requires before_the_end { source.old.over ≡ false }
+        ensures bytes { MatchResult result
+            (λ _. Consumes source.old.bytes source.new.bytes self.new
+            × (length self.new ≡ 0 → IsAtEnd source.new.bytes) × (source.new.over ≡ (length self.new == 0)))
+            (λ _. Keeps source.old.bytes source.new.bytes × (length self.new ≡ 0) × (source.new.over ≡ false)) }
+        ensures ok { OnOk result (source.new.failures ≡ source.old.failures) }
+        ensures err { OnErr result (source.new.failures ≡ source.old.failures + 1) }
     {
         self.start = 0;
         self.end = 0;
-        match reader.read(&mut self.bytes) {
-            Ok(count) => {
-                self.end = count;
-                Ok(())
-            }
-            Err(_) => Err(Failed),
-        }
+        self.end = source.read(&mut self.bytes)?;
+        Ok(())
     }
 
     /// Gives the first bytes that wait.

@@ -15,9 +15,9 @@ use Rattle.page_cache.specs.CacheLists.{IsCache}
 use Rattle.page_cache.proofs.CacheLemmas.{promoted_none, put_new}
 use Rattle.page_cache.proofs.EvictLemmas.{Evicts, evict, fitting_all}
 
--- the list and the limit that the fields stand for
+-- the list, the limit and the table's room that the fields stand for
 abbrev pub listed : {X : Type 0} → LruCache ℕ X → ℕ → CacheList
-listed pages limit = record { pages = keys_of pages.entries; limit = limit }
+listed pages limit = record { pages = keys_of pages.entries; limit = limit; table = pages.cap }
 
 -- what a promotion answers
 pub has_from_promote : {X : Type 0} (k : ℕ) (pages : LruCache ℕ X) (r answer : Bool) → r ≡ is_some (lookup (nat_eq k) pages.entries) → r ≡ answer → has k (keys_of pages.entries) ≡ answer
@@ -35,6 +35,7 @@ pub record Keeps {X : Type 0} (files : List File) (file_in : X → ℕ) (old : C
   pub list : Evicts files file (old.limit - size) old.pages pages.entries bytes
   pub room : length files ≤ pages.cap
   pub same : limit ≡ old.limit
+  pub table : pages.cap ≡ old.table
 
 -- the new page is put in front
 pub put_keeps : {X : Type 0} (files : List File) (f : X → ℕ) (k size : ℕ) (v : X) (pages new : LruCache ℕ X) (bytes limit : ℕ)
@@ -54,6 +55,7 @@ put_keeps files f k size v pages new bytes limit is key below none room put =
       list = record { others = keys_of pages.entries; shape = refl; sum = is.sum; same = refl };
       room = is.room;
       same = refl;
+      table = refl;
     })
 
 -- the last page goes, which stands under its file's number
@@ -71,6 +73,7 @@ pop_keeps files f old k size pages new bytes limit e is full last popped =
         list = step.1;
         room = is.room;
         same = is.same;
+        table = is.table;
       }),
     )
 
@@ -93,4 +96,4 @@ pub keeps_list : {X : Type 0} (files : List File) (f : X → ℕ) (old : CacheLi
 keeps_list files f old k size pages bytes limit is fit own none =
     let all = fitting_all files (old.limit - size) is.list.others (omega (arith, fit, is.list.sum)) in
     let rest : is.list.others ≡ fitting files (old.limit - page_size files k) old.pages = sym all ∙ is.list.same ∙ ap (λ n. fitting files (old.limit - n) old.pages) own in
-    rw (is.list.shape, rest, is.same, none) refl
+    rw (is.list.shape, rest, is.same, is.table, none) refl

@@ -10,11 +10,12 @@ use Rattle.page_cache.specs.declared.cache.Keeping.TheVariants.{TooBig, Kept, No
 use Rattle.std.specs.Map.{keys_of}
 use Rattle.lru.specs.LruCache.{LruCache}
 
--- the pages that are there, by the numbers of their files and the most recently used first, and how many bytes they may
--- have together
+-- the pages that are there, by the numbers of their files and the most recently used first, how many bytes they may
+-- have together, and for how many of them the table has room
 pub record CacheList : Type 0 where
   pub pages : List ℕ
   pub limit : ℕ
+  pub table : ℕ
 
 -- whether the page of a file is there
 abbrev pub has : ℕ → List ℕ → Bool
@@ -44,7 +45,7 @@ abbrev pub found : ℕ → List ℕ → Option ℕ
 found file list = if has file list then Some file else None
 
 abbrev pub looked : ℕ → CacheList → CacheList
-looked file old = record { pages = to_front file old.pages; limit = old.limit }
+looked file old = record { pages = to_front file old.pages; limit = old.limit; table = old.table }
 
 -- A page that is there becomes the first. A new one is put first, and of the others stays the longest prefix that fits
 -- beside it: the least recently used go.
@@ -53,6 +54,7 @@ kept files file old = record {
   pages = if has file old.pages then to_front file old.pages else file
       ∷ fitting files (old.limit - page_size files file) old.pages;
   limit = old.limit;
+  table = old.table;
 }
 
 -- what a keep answers, and what it leaves

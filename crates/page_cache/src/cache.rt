@@ -1,6 +1,6 @@
 //! The cache: pages by the numbers of their files, the latest used first.
 
-ghost use Rattle.std.specs.Prelude.{◌≡◌, ◌≤◌, [], length, option_map, true, IfOk, IfSome, OnErr};
+ghost use Rattle.std.specs.Prelude.{◌≡◌, ◌≤◌, [], length, max, option_map, true, IfOk, IfSome, OnErr};
 ghost use Rattle.std.specs.Arc.{arc_value};
 ghost use Rattle.page_cache.specs.CacheLists.{found, has, looked, sizes};
 
@@ -26,7 +26,7 @@ pub enum Keeping {
 }
 
 /// Pages of the snapshot that the type names, within a number of bytes. Contracts see the list of the pages, by the
-/// numbers of their files and the most recently used first, and the limit.
+/// numbers of their files and the most recently used first, the limit, and for how many pages the table has room.
 #[derive(Drop)]
 pub struct PageCache<F: Tree> {
     pages: LruCache<usize, Arc<Page<F>>>,
@@ -43,7 +43,7 @@ impl<F: Tree> Model for PageCache<F> {
 
     ghost Value = { CacheList };
 
-    ghost view = { λ c. record { pages = keys_of c.pages.entries; limit = c.limit } };
+    ghost view = { λ c. record { pages = keys_of c.pages.entries; limit = c.limit; table = c.pages.cap } };
 
     ghost invariant = { λ c. IsCache F.files (λ p. arc_value p) c.pages c.bytes c.limit };
 }
@@ -53,7 +53,7 @@ impl<F: Tree> PageCache<F> {
     /// which a snapshot has at most 65,536. A page that is kept takes memory for its own entry alone.
     pub fn new(alloc: Global, limit: usize, files: usize) -> Result<PageCache<F>, AllocError>
         requires { length F.files ≤ files }
-        ensures { IfOk result (λ c. c ≡ record { pages = []; limit = limit }) }
+        ensures { IfOk result (λ c. c ≡ record { pages = []; limit = limit; table = max files 1 }) }
     {
         let most = NonZeroUsize::new(files).unwrap_or(NonZeroUsize::MIN);
         Ok(PageCache {

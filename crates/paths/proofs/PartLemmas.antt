@@ -15,7 +15,7 @@ use Rattle.paths.specs.declared.snapshot_fault.SnapshotFaultKind.TheVariants.{Cu
 use Rattle.devices.specs.Numbers.{number_of, three_numbers}
 use Rattle.devices.specs.Texts.{Ahead, ahead_of, byte_at, run_at, line_at}
 use Rattle.paths.specs.Snapshots.{file_line, file_text, text_before_end, max_text_bytes, Follows, max_time, max_file_bytes, max_name_bytes, max_files, is_name, comes_before, IsSnapshot}
-use Rattle.paths.specs.SnapshotFaults.{kind_of, named, ◌>>=◌, file_heading, end_heading, heading_of, name_at, body_at, file_at, announced, entry_at}
+use Rattle.paths.specs.SnapshotFaults.{kind_of, header_kind_of, header_at, named, ◌>>=◌, file_heading, end_heading, heading_of, name_at, body_at, file_at, announced, entry_at}
 use Rattle.devices.specs.Parts.{TookPart}
 use Rattle.paths.specs.Parts.{FailsInSnapshot, Reached, LacksInEntry}
 use Rattle.devices.proofs.Taking.{Takes}
@@ -63,6 +63,13 @@ read_is stops.Cut kind a b = absurd cc
 read_is stops.TooLarge kind a b = absurd cc
 read_is stops.Read kind a b = refl
 read_is stops.Memory kind a b = absurd cc
+
+-- a read failed in the first line
+pub header_fails : (o n : Option (List ℕ)) (l nl : ℕ) → TookPart (λ part. line_at (record { bytes = part; left = l }) ≡ Err stops.Cut) o l n nl
+    → TookPart (λ part. header_at (record { bytes = part; left = l }) ≡ Err Cut) o l n nl
+header_fails o n l nl took =
+    part_is (λ part. line_at (record { bytes = part; left = l }) ≡ Err stops.Cut) (λ part. header_at (record { bytes = part; left = l }) ≡ Err Cut) o n l nl
+    (λ t cut. bind_err (named header_kind_of (line_at (record { bytes = t; left = l }))) _ Cut (named_err header_kind_of _ stops.Cut cut)) took
 
 body_cut : (n l nl : ℕ) (bytes : List ℕ) → length bytes ≡ n → l ≡ n + nl → body_at n (record { bytes = bytes; left = l }) ≡ Err Cut
 body_cut n l nl bytes is left =

@@ -5,7 +5,7 @@ ghost use Rattle.std.specs.List.{list_all, list_any, slice_split};
 ghost use Rattle.paths.specs.Reference.{slash};
 ghost use Rattle.devices.specs.Devices.{CanFail};
 ghost use Rattle.devices.specs.Texts.{Gives};
-ghost use Rattle.devices.specs.Parts.{FailsAtOnce, FailsWithin, LacksWithin};
+ghost use Rattle.devices.specs.Parts.{FailsAtOnce, FailsWithin, LacksWithin, TookAtMost};
 ghost use Rattle.paths.specs.Snapshots.{is_name, is_part, FitsName, Follows};
 ghost use Rattle.paths.specs.SnapshotFaults.{CountsKind, is_unforeseen_kind, header_at, name_at, body_at, file_at};
 ghost use Rattle.paths.specs.SnapshotFaults.{announced, entry_at};
@@ -62,6 +62,8 @@ pub(crate) fn read_header<R: Read>(
     ensures count { CountsKind input.old.failures input.new.failures result }
     // It takes no memory.
     ensures memory { IfErr result (λ kind. kind ≢ SnapshotFaultKind.Memory) }
+    // Of the input no more was taken than a line may have.
+    ensures most { TookAtMost 65 input.old.bytes input.new.bytes }
 {
     match read_line(input, left) {
         Ok(line) => {

@@ -33,7 +33,7 @@ passed_found days (suc most) day low lt = by_test (passed_found days most day lo
         record { high = omega (arith, found.high); begun = found.begun; open_still = found.open_still }
 
 -- the numbers of a second up to the year 9999: a valid date, of just that second
-parts_right : (second : ℕ) → second ≤ 253402300799 → IsValid (parts_at second) × (parts_secs (parts_at second) ≡ second)
+pub parts_right : (second : ℕ) → second ≤ 253402300799 → IsValid (parts_at second) × (parts_secs (parts_at second) ≡ second)
 unfolding parts_at
 parts_right second most =
     let day = second / 86400 in

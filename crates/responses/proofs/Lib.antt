@@ -1,5 +1,5 @@
 mod Bytes
-mod DateLemmas
+pub mod DateLemmas
 mod Heads
 mod Joining
 mod Reading

@@ -1,6 +1,6 @@
 //! The head of a reply, rendered in a room that is kept for the next.
 
-ghost use Rattle.std.specs.Prelude.{◌≡◌, ◌≤◌, [], OnOk};
+ghost use Rattle.std.specs.Prelude.{◌≡◌, ◌≤◌, [], OnOk, OnErr};
 ghost use Rattle.paths.specs.Snapshots.{max_time};
 ghost use Rattle.responses.specs.Reference.{head_text};
 
@@ -62,13 +62,18 @@ impl HeadRenderer {
     }
 
     /// Renders the head of a reply, with the empty line that ends it, in the place of the last one. An `Err` is out of
-    /// memory.
+    /// memory: then there is no head.
     pub fn render<F: Tree>(&mut self, slip: &Slip<F>) -> Result<(), AllocError>
         requires { slip.now.date ≤ max_time }
-        ensures { OnOk result (self.new ≡ head_text F.files slip.now) }
+        ensures ok { OnOk result (self.new ≡ head_text F.files slip.now) }
+        ensures err { OnErr result (self.new ≡ []) }
     {
         self.head.clear();
-        push_head(&mut self.head, &mut self.dates, slip)
+        let pushed = push_head(&mut self.head, &mut self.dates, slip);
+        if pushed.is_err() {
+            self.head.clear();
+        }
+        pushed
     }
 
     /// The last head.

@@ -113,6 +113,8 @@ impl SnapshotWriter {
         ensures rules { (files : List AFile) (before : Option (List ℕ))
             → Took files before output.old.bytes self
             → IsSnapshotText (snapshot_text files) files }
+        // Out of memory nothing more was written.
+        ensures lacks { IfErr result (λ f. f ≡ WriteFault.Memory → output.new ≡ output.old) }
         ensures count { Counts output.old.failures output.new.failures result }
     {
         let line = last_line(self.alloc, self.so_far.count)?;

@@ -4,6 +4,7 @@ use Rattle.devices.proofs.Taking.{line_err, line_too_long}
 use Rattle.devices.proofs.Pieces.{no_more, piece_more, piece_ends, piece_none}
 use Rattle.devices.proofs.long_line.read_owed_line.Goals as goal
 use Rattle.devices.proofs.PartLemmas.{line_fails}
+use Rattle.devices.proofs.Limits.{took_more, took_piece}
 
 pub returns-then-push_to_feed-clause-line : goal.returns-then-push_to_feed-clause-line
 returns-then-push_to_feed-clause-line g c =
@@ -42,3 +43,16 @@ returns-clause-line g c = λ k _. line_too_long _ _ _ _ _ c.loop-line.invariant.
 pub returns-in-Err-clause-part : goal.returns-in-Err-clause-part
 returns-in-Err-clause-part g c = λ failed k.
     line_fails _ _ _ _ _ _ _ c.loop-line.invariant.0 (omega (arith, ap length c.as_slice.ensures, c.loop-line-test.true)) (c.in-Err.ensures.part failed) k
+
+pub returns-then-push_to_feed-clause-most : goal.returns-then-push_to_feed-clause-most
+returns-then-push_to_feed-clause-most g c =
+    let came = c.in-Ok.ensures.some in
+    let owes = c.owed-owed.ensures in
+    let within = no_more _ _ _ _ came.1 c.read_some_of.auto.room in
+    let line_is = c.as_slice-in-loop-line.ensures in
+    let room = owes.room (omega (arith, ap length line_is, ap length c.as_slice.ensures, c.loop-line-test.true)) in
+    took_piece _ _ _ _ _ _ _ _ _ c.loop-line.invariant.0.takes came.1 came.3 (λ left. omega (arith, left, came.2, ap length line_is, room, within))
+
+pub returns-in-Err-clause-most : goal.returns-in-Err-clause-most
+returns-in-Err-clause-most g c =
+    took_more _ 1 _ _ _ _ _ _ c.loop-line.invariant.0.takes (λ left. omega (arith, left, ap length c.as_slice.ensures, c.loop-line-test.true)) c.in-Err.ensures.most

@@ -2,6 +2,7 @@ use Rattle.std.proofs.Common.{◌∙◌, rules}
 use Rattle.std.proofs.lemmas.List.{places}
 use Rattle.devices.proofs.Taking.{takes_part}
 use Rattle.devices.proofs.text.fill.Goals as goal
+use Rattle.devices.proofs.Limits.{took_more}
 
 pub loop-filled-preserved : goal.loop-filled-preserved
 loop-filled-preserved g c =
@@ -10,3 +11,6 @@ loop-filled-preserved g c =
       search (rules, places),
       c.in-Ok.ensures.count ∙ c.loop-filled.invariant.2,
     )
+
+pub returns-in-Err-clause-most : goal.returns-in-Err-clause-most
+returns-in-Err-clause-most g c = took_more _ 1 _ _ _ _ _ _ c.loop-filled.invariant.0 (λ left. search (rules, places)) c.in-Err.ensures.most

@@ -4,6 +4,7 @@ use Rattle.devices.proofs.Taking.{takes_part, goes_on, line_fed, line_unfed, lin
 use Rattle.devices.proofs.Pieces.{piece_none}
 use Rattle.devices.proofs.PartLemmas.{line_fails}
 use Rattle.devices.proofs.text.read_line_ahead.Goals as goal
+use Rattle.devices.proofs.Limits.{took_all, took_more, took_piece}
 
 pub returns-then-bytes-len-eq10-clause-line : goal.returns-then-bytes-len-eq10-clause-line
 returns-then-bytes-len-eq10-clause-line g c =
@@ -33,3 +34,15 @@ returns-in-Err-clause-part g c = λ failed k.
 
 pub returns-clause-line : goal.returns-clause-line
 returns-clause-line g c = λ k _. line_too_long _ _ _ _ _ c.loop-len.invariant.0 (omega (arith, length-take c.loop-len.len c.loop-len.bytes)) k
+
+pub returns-then-bytes-len-eq10-clause-most : goal.returns-then-bytes-len-eq10-clause-most
+returns-then-bytes-len-eq10-clause-most g c =
+    let some = c.in-Ok.ensures.some in
+    took_piece _ _ _ _ _ _ _ _ _ c.loop-len.invariant.0.takes some.1 some.3
+    (λ left. omega (arith, left, some.1, some.2, c.read_to_feed_of.auto.room, length-drop {A = ℕ}, length-take c.loop-len.len c.loop-len.bytes))
+
+pub returns-in-Err-clause-most : goal.returns-in-Err-clause-most
+returns-in-Err-clause-most g c = took_more _ 1 _ _ _ _ _ _ c.loop-len.invariant.0.takes (λ left. omega (arith, left, length-take c.loop-len.len c.loop-len.bytes)) c.in-Err.ensures.most
+
+pub returns-clause-most : goal.returns-clause-most
+returns-clause-most g c = took_all _ _ _ _ _ _ c.loop-len.invariant.0.takes (λ left. omega (arith, left, length-take c.loop-len.len c.loop-len.bytes))

@@ -1,0 +1,13 @@
+use Rattle.std.proofs.Common.{rules, arith}
+use Rattle.devices.proofs.Limits.{took_within}
+use Rattle.paths.proofs.PartLemmas.{read_is, header_fails}
+use Rattle.paths.proofs.entry.read_header.Goals as goal
+
+pub returns-in-Err : goal.returns-in-Err
+returns-in-Err g c = record {
+  line = search rules;
+  part = λ failed k. header_fails _ _ _ _ (c.in-Err.ensures.part (read_is _ _ c.from.ensures failed) k);
+  count = search rules;
+  memory = search rules;
+  most = took_within _ 65 _ _ (omega arith) c.read_line.ensures.most;
+}
