@@ -2,7 +2,6 @@
 use Rattle.std.proofs.Common.{◌≡◌, ℕ, ◌+◌, ◌<◌, ◌≤◌, inl, inr, Bool, true, false, List, [], ◌∷◌, ◌++◌, length, drop, get_or, map, Bor, refl, sym, ◌∙◌, subst, arith, length-append, length-drop, zero-add}
 use Rattle.std.specs.Prelude.{MatchBool}
 use Rattle.std.proofs.lemmas.Bool.{cases_lt}
-use Rattle.std.proofs.lemmas.Bool.Decides.{eqb_tells}
 use Rattle.std.proofs.lemmas.List.{append_assoc, append-nil, drop-append-le, get_or-map, get_or_past, length-map}
 use Rattle.std.proofs.lemmas.Grind.{flat_map-append}
 use Rattle.captures.specs.declared.record.Record.{Record}

@@ -11,7 +11,7 @@ use Rattle.arrivals.specs.declared.waiting.Waiting.{Waiting}
 use Rattle.arrivals.specs.declared.waiting.Waiting.TheVariants.{Piece as Comes, End as Ends}
 use Rattle.http_requests.specs.declared.messages.Message.{Message}
 use Rattle.arrivals.specs.Connections.{HasRead, HasRoom}
-use Rattle.arrivals.specs.Batches.{Reads, ReadsOn}
+use Rattle.arrivals.specs.Batches.{ReadsOn}
 use Rattle.arrivals.specs.declared.connections.Connection.{Connection}
 use Rattle.arrivals.specs.declared.connections.Connection.TheVariants.{Silent, Open, Closed}
 

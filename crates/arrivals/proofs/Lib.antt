@@ -9,3 +9,4 @@ pub mod PickedSeats
 pub mod Laid
 pub mod Tiered
 pub mod Gathering
+pub mod Parted

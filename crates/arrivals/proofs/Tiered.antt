@@ -1,6 +1,6 @@
 -- The tiers of the connections that numbers name, record by record.
-use Rattle.std.proofs.Common.{◌≡◌, ◌≢◌, ℕ, ◌+◌, ◌*◌, ◌<◌, ◌==◌, cond, inl, inr, Bool, true, false, List, [], ◌∷◌, ◌++◌, length, flat_map, All, refl, sym, ap, ◌∙◌, subst, arith}
-use Rattle.std.specs.Prelude.{if◌then◌else◌, Result, Ok, Err, OnOk}
+use Rattle.std.proofs.Common.{◌≡◌, ◌≢◌, ℕ, ◌+◌, ◌*◌, ◌==◌, cond, inl, inr, List, [], ◌∷◌, ◌++◌, flat_map, All, refl, sym, ap, ◌∙◌, subst}
+use Rattle.std.specs.Prelude.{if◌then◌else◌, Result, Ok, Err, OnOk, OnErr}
 use Rattle.std.proofs.lemmas.Bool.Decides.{eqb_tells}
 use Rattle.std.proofs.lemmas.List.Elements.{All-head, All-tail, All-nil, All-push}
 use Rattle.captures.specs.declared.record.Record.{Record}
@@ -100,3 +100,11 @@ on_ok (Err e) f a = tt
 pub always_on_ok : {T E : Type 0} {B : Type 0} (r : Result T E) → B → OnOk r B
 always_on_ok (Ok x) b = b
 always_on_ok (Err e) b = tt
+
+pub always_on_err : {T E : Type 0} {B : Type 0} (r : Result T E) → B → OnErr r B
+always_on_err (Ok x) b = tt
+always_on_err (Err e) b = b
+
+-- tiers that are the same at each number are the same to the records
+pub tiers_same : (records : List Record) (tiers new : List ℕ) → ((c : ℕ) → tier_at new c ≡ tier_at tiers c) → AreTiers records tiers → AreTiers records new
+tiers_same records tiers new same are = record { numbers = are.numbers; each = λ c low. same c ∙ are.each c low }

@@ -1,11 +1,11 @@
 -- What is kept of the connections between two records.
-use Rattle.std.specs.Prelude.{◌≡◌, ℕ, ◌+◌, ◌<◌, ◌≤◌, Bool, List, [], ◌++◌, length, map, slice_index_or, All}
+use Rattle.std.specs.Prelude.{◌≡◌, ℕ, ◌+◌, ◌<◌, ◌≤◌, ◌⊎◌, Bool, List, [], ◌++◌, length, map, slice_index_or, All}
 use Rattle.std.specs.List.{list_any}
 use Rattle.captures.specs.Reference.{connection_now, connection_of, tier_of, used_once}
 use Rattle.captures.specs.declared.record.Record.{Record}
 use Rattle.http_requests.specs.declared.messages.Message.{Message}
 use Rattle.http_requests.specs.Reference.{MessagesOf, closes}
-use Rattle.http_requests.specs.Cutting.{CutterAfter, EndBetween, max_text_bytes}
+use Rattle.http_requests.specs.Cutting.{CutterAfter, EndBetween, FedSome, max_text_bytes}
 use Rattle.arrivals.specs.Reference.{Arrival, text_of, messages_of}
 use Rattle.arrivals.specs.declared.incoming.Origin.{Origin}
 use Rattle.arrivals.specs.declared.connections.Connection.{Connection}
@@ -32,6 +32,15 @@ pub record ReadMore (text : List ℕ) (ms : List Message) (after : Connection) (
     (more : List Message) : Type 0 where
   pub has : HasRead after (text ++ piece) (ms ++ more)
   pub in_piece : EndBetween (length text) (length text + length piece) more
+
+-- memory ran out in a piece: these are the first of the messages that end in it
+abbrev pub ReadSome : Connection → List ℕ → List Message → Type 0
+ReadSome before piece more = (text : List ℕ) (ms : List Message) → HasRead before text ms
+    → FedSome text ms piece [] more
+
+-- it ran out before the connection was asked, or in the piece: then the connection reads nothing any more
+abbrev pub LacksAt : Connection → Connection → List ℕ → List Message → Type 0
+LacksAt before after piece more = ((after ≡ before) × (more ≡ [])) ⊎ ((after ≡ Closed) × ReadSome before piece more)
 
 -- the connection of a number, silent where none is kept
 abbrev pub connection_at : List Connection → ℕ → Connection

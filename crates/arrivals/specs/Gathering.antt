@@ -10,6 +10,7 @@ use Rattle.captures.specs.CaptureFaults.{failures_of}
 use Rattle.captures.specs.Readers.{ReaderAfter, Gave, FailsNext}
 use Rattle.arrivals.specs.Batches.{sent_to}
 use Rattle.arrivals.specs.SeatStates.{SeatState, seat_at}
+use Rattle.arrivals.specs.Tiers.{AreTiers}
 use Rattle.arrivals.specs.declared.waiting.Waiting.{Waiting}
 use Rattle.arrivals.specs.declared.batch.Ending.{Ending}
 use Rattle.arrivals.specs.declared.batch.Ending.TheVariants.{More, End, Fault}
@@ -24,6 +25,14 @@ Adds rs old new = (c : ℕ) → seat_at new c ≡ with_more (seat_at old c) (sen
 
 abbrev pub AddsOne : Record → List SeatState → List SeatState → Type 0
 AddsOne r old new = Adds (r ∷ []) old new
+
+-- Memory ran out: of the records that the reader gave the last is lost. Those before it wait, and gave their tiers.
+abbrev pub LosesOne : List SeatState → List ℕ → Progress → Option (List ℕ) → List SeatState → List ℕ → Progress
+    → Option (List ℕ) → Type 0
+LosesOne seats tiers p ahead seats_new tiers_new p_new ahead_new = (rs : List Record) × (lost : Record)
+    × Adds rs seats seats_new × ((records : List Record) → AreTiers records tiers → AreTiers (records ++ rs) tiers_new)
+    × ((v : Version) (text : Option (List ℕ)) (start : ℕ) (records : List Record)
+    → ReaderAfter v text start records p ahead → ReaderAfter v text start (records ++ rs ++ lost ∷ []) p_new ahead_new)
 
 -- the reader has given these records, and after them what the ending says
 abbrev pub EndsWith : Version → Option (List ℕ) → ℕ → List Record → Ending → Progress → Option (List ℕ) → Type 0

@@ -1,7 +1,7 @@
 //! The next pieces of a capture, each laid at the seat of its number.
 
 ghost use Rattle.std.specs.Prelude.{◌≡◌, ◌<◌, ◌≤◌, ◌-◌, ◌^◌, ◌++◌, ◌∷◌, [], ℕ, List, Option, length, vec_len, ◌+◌};
-ghost use Rattle.std.specs.Prelude.{IfOk, IfErr, OnOk, MatchResult};
+ghost use Rattle.std.specs.Prelude.{IfOk, IfErr, OnOk, OnErr, MatchResult};
 ghost use Rattle.devices.specs.Devices.{CanFail};
 ghost use Rattle.captures.specs.declared.version.Version.{Version as AVersion};
 ghost use Rattle.captures.specs.Reference.{IsRecord};
@@ -11,8 +11,9 @@ ghost use Rattle.captures.specs.Shown.{progress_of, device_of, loan_of};
 ghost use Rattle.captures.specs.declared.record.Record.{Record as ARecord};
 ghost use Rattle.captures.specs.declared.progress.ReaderState.TheVariants.{Reading};
 ghost use Rattle.arrivals.specs.Batches.{origins_after};
-ghost use Rattle.arrivals.specs.Tiers.{AreTiers};
-ghost use Rattle.arrivals.specs.Gathering.{AddsOne, Adds, ReadOn, CountsEnding, IfMore, HasSize, as_piece};
+ghost use Rattle.arrivals.specs.SeatStates.{seat_at};
+ghost use Rattle.arrivals.specs.Tiers.{AreTiers, tier_at};
+ghost use Rattle.arrivals.specs.Gathering.{AddsOne, Adds, ReadOn, CountsEnding, IfMore, HasSize, LosesOne, as_piece};
 
 use crate::incoming::Origin;
 use crate::seats::Seats;
@@ -53,7 +54,7 @@ fn bytes_of(next: &Record) -> usize
 }
 
 /// Takes a record into a batch: the bytes of a piece, and an end, wait at the seat of their number. The tier of its
-/// connection is the one that it was given.
+/// connection is the one that it was given. Where there is no memory for it, nothing changes.
 fn take_record(
     alloc: Global,
     next: Record,
@@ -68,24 +69,28 @@ fn take_record(
     ensures origins { OnOk result ((records : List ARecord) → AreTiers records tiers.old
         → origins.new.items ≡ origins.old.items ++ origins_after records (next ∷ [])) }
     ensures len { OnOk result (vec_len origins.new ≡ vec_len origins.old + as_piece next) }
+    ensures err { OnErr result (((c : ℕ) → seat_at seats.new c ≡ seat_at seats.old c)
+        × ((c : ℕ) → tier_at tiers.new c ≡ tier_at tiers.old c)) }
 {
     match next {
         Record::End { conn, .. } => {
+            seats.end(alloc, usize::from(conn))?;
             tiers.end(conn);
-            seats.end(alloc, usize::from(conn))
+            Ok(())
         }
         Record::Tier { conn, tier } => tiers.give(conn, tier),
         Record::Piece { tick, conn, bytes } => {
+            origins.reserve(1)?;
             seats.add(alloc, usize::from(conn), bytes)?;
             let tier = tiers.of(conn);
-            origins.push(Origin { conn, tick, tier })?;
+            origins.push_reserved(Origin { conn, tick, tier });
             Ok(())
         }
     }
 }
 
 /// Reads the next batch: n pieces, with the other records between them, or fewer where these have 16 MiB, or
-/// those before the end of the capture or its fault.
+/// those before the end of the capture or its fault. Where memory runs out the last record that was read is lost.
 pub fn read_batch<'a, R: Read>(
     alloc: Global,
     capture: &mut CaptureReader<'a, R>,
@@ -109,6 +114,9 @@ pub fn read_batch<'a, R: Read>(
         (λ batch. CountsEnding (device_of capture.old).failures (device_of capture.new).failures batch.ending)
         (λ _. (device_of capture.new).failures ≡ (device_of capture.old).failures) }
     ensures same { loan_of capture.new ≡ loan_of capture.old }
+    ensures lacks { OnErr result
+        (LosesOne seats.old tiers.old (progress_of capture.old) (device_of capture.old).bytes
+        seats.new tiers.new (progress_of capture.new) (device_of capture.new).bytes) }
 {
     let mut origins = Vec::new(alloc);
     let mut bytes: usize = 0;

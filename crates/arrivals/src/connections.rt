@@ -1,15 +1,15 @@
 //! The connections that numbers name, read piece by piece.
 
-ghost use Rattle.std.specs.Prelude.{◌≡◌, ◌≢◌, ◌<◌, ◌≤◌, [], ℕ, List, length, ◌+◌, OnOk, IfOk, IfSome, IfNone};
+ghost use Rattle.std.specs.Prelude.{◌≡◌, ◌≢◌, ◌<◌, ◌≤◌, [], ℕ, List, length, ◌+◌, max, OnOk, OnErr, IfOk, IfSome};
+ghost use Rattle.std.specs.Prelude.{IfNone};
 ghost use Rattle.http_requests.specs.declared.messages.Message.{Message as AMessage};
 ghost use Rattle.http_requests.specs.Cutting.{CutterAfter, max_text_bytes};
-ghost use Rattle.arrivals.specs.Connections.{HasRead, HasRoom, ReadMore, connection_at, some_closes};
+ghost use Rattle.arrivals.specs.Connections.{HasRead, HasRoom, ReadMore, ReadSome, LacksAt, connection_at, some_closes};
 ghost use Rattle.arrivals.specs.declared.connections.Connection.TheVariants.{Closed, Silent};
 
 use http_requests::{Cutter, Message};
 use std::alloc::{AllocError, Global};
 use std::marker::Model;
-use std::mem;
 
 /// Whether one of these messages is the last of its connection: nothing is read after it.
 pub fn some_closes(messages: &[Message]) -> bool
@@ -30,42 +30,47 @@ pub enum Connection {
 }
 
 impl Connection {
-    /// The cutter that reads on; none where the connection is closed.
-    fn into_cutter(self, alloc: Global) -> Option<Cutter>
-        ensures reads { IfSome result
-            (λ cutter. (text : List ℕ) (ms : List AMessage) → HasRead self text ms
-            → CutterAfter text ms cutter) }
-        ensures room { IfSome result
-            (λ cutter. (n : ℕ) → HasRoom self n → cutter.read + n ≤ max_text_bytes) }
-        ensures closed { IfNone result (self ≡ Closed) }
+    /// The first byte of its text comes, where none came yet.
+    fn begin(&mut self, alloc: Global)
+        ensures reads { (text : List ℕ) (ms : List AMessage) → HasRead self.old text ms → HasRead self.new text ms }
+        ensures room { (n : ℕ) → HasRoom self.old n → HasRoom self.new n }
+        ensures begun { self.new ≢ Silent }
     {
-        match self {
-            Connection::Silent => Some(Cutter::new(alloc)),
-            Connection::Open(cutter) => Some(cutter),
-            Connection::Closed => None,
+        if matches!(self, Connection::Silent) {
+            *self = Connection::Open(Cutter::new(alloc));
         }
     }
 
-    /// Reads one more piece, and adds the messages that end in it.
+    /// Reads one more piece, and adds the messages that end in it. Without memory it is closed.
     pub(crate) fn read(
-        self,
+        &mut self,
         alloc: Global,
         piece: &[u8],
         out: &mut Vec<Message>,
-    ) -> Result<Connection, AllocError>
+    ) -> Result<(), AllocError>
         requires empty { out.old.items ≡ [] }
-        requires room { HasRoom self (length piece.now) }
-        ensures { IfOk result (λ after. (text : List ℕ) (ms : List AMessage) → HasRead self text ms
-            → ReadMore text ms after piece.now out.new.items) }
+        requires room { HasRoom self.old (length piece.now) }
+        ensures ok { OnOk result
+            ((text : List ℕ) (ms : List AMessage) → HasRead self.old text ms
+            → ReadMore text ms self.new piece.now out.new.items) }
+        ensures lacks { OnErr result ((self.new ≡ Closed) × ReadSome self.old piece.now out.new.items) }
     {
-        let Some(mut cutter) = self.into_cutter(alloc) else {
-            return Ok(Connection::Closed);
-        };
-        cutter.feed(piece, out)?;
-        if some_closes(out) {
-            return Ok(Connection::Closed);
+        self.begin(alloc);
+        match self {
+            Connection::Open(cutter) => match cutter.feed(piece, out) {
+                Ok(()) => {
+                    if some_closes(out) {
+                        *self = Connection::Closed;
+                    }
+                    Ok(())
+                }
+                Err(refused) => {
+                    *self = Connection::Closed;
+                    Err(refused)
+                }
+            },
+            _ => Ok(()),
         }
-        Ok(Connection::Open(cutter))
     }
 }
 
@@ -99,6 +104,7 @@ impl Connections {
     fn reach(&mut self, conn: usize) -> Result<(), AllocError>
         ensures place { OnOk result (conn < length self.new) }
         ensures same { (c : ℕ) → connection_at self.new c ≡ connection_at self.old c }
+        ensures room { length self.new ≤ max (length self.old) (conn + 1) }
     {
         while self.list.len() <= conn {
             self.list.push(Connection::Silent)?;
@@ -107,7 +113,8 @@ impl Connections {
     }
 
     /// A piece came on a connection: adds the messages that end in it. Once out of memory the connections are of no
-    /// use any more.
+    /// use any more: the others stay as they were, and so does this one where its cutter wasn't asked; else it is
+    /// closed. Places are made up to its number's, and no further.
     pub fn read_piece(
         &mut self,
         alloc: Global,
@@ -120,13 +127,13 @@ impl Connections {
         ensures own { OnOk result ((text : List ℕ) (ms : List AMessage)
             → HasRead (connection_at self.old conn) text ms
             → ReadMore text ms (connection_at self.new conn) piece.now out.new.items) }
-        ensures others { OnOk result
-            ((c : ℕ) → c ≢ conn → connection_at self.new c ≡ connection_at self.old c) }
+        ensures others { (c : ℕ) → c ≢ conn → connection_at self.new c ≡ connection_at self.old c }
+        ensures lacks { OnErr result
+            (LacksAt (connection_at self.old conn) (connection_at self.new conn) piece.now out.new.items) }
+        ensures room { length self.new ≤ max (length self.old) (conn + 1) }
     {
         self.reach(conn)?;
-        let before = mem::replace(&mut self.list[conn], Connection::Closed);
-        self.list[conn] = before.read(alloc, piece, out)?;
-        Ok(())
+        self.list[conn].read(alloc, piece, out)
     }
 
     /// The connection of a number has ended: a further one comes after it. An unfinished message of it is gone.

@@ -1,6 +1,6 @@
 //! A queue of which one item takes no memory.
 
-ghost use Rattle.std.specs.Prelude.{◌≡◌, ◌↔◌, ◌++◌, [], ◌∷◌, IsTrue, OnOk, OnErr, IfSome, IfNone};
+ghost use Rattle.std.specs.Prelude.{◌≡◌, ◌↔◌, ◌++◌, [], ◌∷◌, IsTrue, IsOk, OnOk, OnErr, IfSome, IfNone};
 
 use std::alloc::{AllocError, Global};
 use std::collections::VecDeque;
@@ -15,12 +15,15 @@ pub(crate) struct Fifo<T> {
 }
 
 impl<T> Model for Fifo<T> {
-    ghost use Rattle.std.specs.Prelude.{List, [], ◌∷◌, ◌++◌};
+    ghost use Rattle.std.specs.Prelude.{List, [], ◌∷◌, ◌++◌, ◌<◌, length, IfSome};
     ghost use Rattle.std.specs.Option.{option_map_or};
 
     ghost Value = { List T };
 
     ghost view = { λ q. option_map_or (λ x. x ∷ []) q.first [] ++ option_map_or (λ r. r.items) q.rest [] };
+
+    // No memory is kept in which nothing waits.
+    ghost invariant = { λ q. IfSome q.rest (λ r. 0 < length r.items) };
 }
 
 impl<T: Drop> Fifo<T> {
@@ -47,6 +50,8 @@ impl<T: Drop> Fifo<T> {
     pub(crate) fn push(&mut self, alloc: Global, item: T) -> Result<(), AllocError>
         ensures ok { OnOk result (self.new ≡ self.old ++ item ∷ []) }
         ensures err { OnErr result (self.new ≡ self.old) }
+        // One item takes no memory.
+        ensures first { self.old ≡ [] → IsOk result }
     {
         if self.is_empty() {
             self.first = Some(item);

@@ -1,7 +1,7 @@
 //! The messages of a batch in parts of some thousands.
 
 ghost use Rattle.std.specs.Prelude.{◌≡◌, ◌++◌, [], flat_map, IfOk};
-ghost use Rattle.arrivals.specs.Batches.{incoming_from, joined};
+ghost use Rattle.arrivals.specs.Batches.{incoming_from, joined, Lays, AreParts};
 
 use crate::Series;
 use crate::incoming::{Incoming, PieceMessages};
@@ -48,8 +48,10 @@ fn laid_by(
     part: Vec<Incoming>,
     left: usize,
 ) -> Result<Vec<Incoming>, AllocError>
-    ensures { IfOk result
+    ensures joined { IfOk result
         (λ rest. joined parts.new.items ++ rest.items ≡ joined parts.old.items ++ part.items) }
+    ensures lays { IfOk result
+        (λ rest. Lays parts.old.items part.items parts.new.items rest.items) }
 {
     if part.len() < ENOUGH {
         return Ok(part);
@@ -63,7 +65,9 @@ pub fn parts_of(
     alloc: Global,
     pieces: Vec<PieceMessages>,
 ) -> Result<Vec<Series<Incoming>>, AllocError>
-    ensures { IfOk result (λ parts. joined parts.items ≡ flat_map incoming_from pieces.items) }
+    ensures joined { IfOk result
+        (λ parts. joined parts.items ≡ flat_map incoming_from pieces.items) }
+    ensures parts { IfOk result (λ parts. AreParts pieces.items parts.items) }
 {
     let mut parts = Vec::new(alloc);
     let mut left = count(&pieces);

@@ -12,7 +12,6 @@ use crate::waiting::Waiting;
 use http_requests::Message;
 use std::alloc::{AllocError, Global};
 use std::marker::Model;
-use std::mem;
 
 /// What is kept of a number on which something came: its connection, what waits to be cut, and for each piece that was
 /// cut the messages that end in it.
@@ -72,9 +71,12 @@ impl Taken {
         requires { IsReady self.old }
         ensures { OnOk result (IsCutOf self.old self.new) }
     {
-        let connection = mem::replace(&mut self.connection, Connection::Closed);
-        self.connection = cut_waiting(alloc, connection, &mut self.waiting, &mut self.lists)?;
-        Ok(())
+        cut_waiting(
+            alloc,
+            &mut self.connection,
+            &mut self.waiting,
+            &mut self.lists,
+        )
     }
 
     /// The messages that end in the next piece.
@@ -89,41 +91,42 @@ impl Taken {
 /// Cuts the piece that waited next, with a list of the messages that end in it, or ends the connection.
 fn take_next(
     alloc: Global,
-    connection: Connection,
+    connection: &mut Connection,
     next: Waiting,
     lists: &mut Fifo<Series<Message>>,
-) -> Result<Connection, AllocError>
-    requires { MayTake connection next }
-    ensures { IfOk result (TakesNext connection next lists.old lists.new) }
+) -> Result<(), AllocError>
+    requires { MayTake connection.old next }
+    ensures { OnOk result (TakesNext connection.old next lists.old lists.new connection.new) }
 {
     match next {
         Waiting::Piece(piece) => {
             let mut more = Vec::new(alloc);
-            let after = connection.read(alloc, piece.as_slice(), &mut more)?;
-            lists.push(alloc, Series::from_vec(more))?;
-            Ok(after)
+            connection.read(alloc, piece.as_slice(), &mut more)?;
+            lists.push(alloc, Series::from_vec(more))
         }
-        Waiting::End => Ok(Connection::Silent),
+        Waiting::End => {
+            *connection = Connection::Silent;
+            Ok(())
+        }
     }
 }
 
 /// Cuts what waits at a seat, with a list for each piece of the messages that end in it.
 fn cut_waiting(
     alloc: Global,
-    connection: Connection,
+    connection: &mut Connection,
     waiting: &mut Fifo<Waiting>,
     lists: &mut Fifo<Series<Message>>,
-) -> Result<Connection, AllocError>
-    requires can { 0 < length waiting.old → CanRead connection waiting.old }
+) -> Result<(), AllocError>
+    requires can { 0 < length waiting.old → CanRead connection.old waiting.old }
     requires fresh { lists.old ≡ [] }
-    ensures reads { IfOk result (ReadsOn connection waiting.old lists.new) }
+    ensures reads { OnOk result (ReadsOn connection.old waiting.old lists.new connection.new) }
     ensures done { OnOk result (waiting.new ≡ []) }
 {
-    let mut connection = connection;
     while let Some(next) = waiting.pop() {
-        connection = take_next(alloc, connection, next, lists)?;
+        take_next(alloc, connection, next, lists)?;
     }
-    Ok(connection)
+    Ok(())
 }
 
 /// The seat of a number. It takes no more than a pointer until something comes, and again once nothing is kept of it.

@@ -1,6 +1,6 @@
 //! The seats of all numbers, cut side by side, and their messages merged in the order of the pieces.
 
-ghost use Rattle.std.specs.Prelude.{◌≡◌, ◌≢◌, ◌<◌, ◌≤◌, ◌∷◌, [], ℕ, length, map, All, IfOk, OnOk, OnErr};
+ghost use Rattle.std.specs.Prelude.{◌≡◌, ◌≢◌, ◌+◌, ◌<◌, ◌≤◌, ◌∷◌, [], ℕ, length, map, max, All, IfOk, OnOk, OnErr};
 ghost use Rattle.std.specs.Prelude.{vec_len, vec_capacity};
 ghost use Rattle.std.specs.List.{AllZip};
 ghost use Rattle.arrivals.specs.Batches.{lists_to};
@@ -50,11 +50,12 @@ impl Model for Seats {
     ghost invariant = { λ s. AreNoted s.noted.items s.list.items };
 }
 
-/// Makes a place for a number.
+/// Makes a place for a number, and none beyond it.
 fn reach(list: &mut Vec<Seat>, conn: usize) -> Result<(), AllocError>
     ensures place { OnOk result (conn < length list.new.items) }
     ensures longer { length list.old.items ≤ length list.new.items }
     ensures same { (c : ℕ) → seat_at list.new.items c ≡ seat_at list.old.items c }
+    ensures room { length list.new.items ≤ max (length list.old.items) (conn + 1) }
 {
     while list.len() <= conn {
         list.push(Seat::new())?;
@@ -92,6 +93,7 @@ impl Seats {
         ensures others { OnOk result
             ((c : ℕ) → c ≢ conn → seat_at self.new c ≡ seat_at self.old c) }
         ensures err { OnErr result ((c : ℕ) → seat_at self.new c ≡ seat_at self.old c) }
+        ensures room { length self.new ≤ max (length self.old) (conn + 1) }
     {
         reach(&mut self.list, conn)?;
         self.noted.reserve(1)?;
@@ -101,13 +103,14 @@ impl Seats {
         Ok(())
     }
 
-    /// A piece came on a number.
+    /// A piece came on a number. Seats are made up to that number's, and no further.
     pub fn add(&mut self, alloc: Global, conn: usize, piece: Bytes) -> Result<(), AllocError>
         ensures own { OnOk result
             (seat_at self.new conn ≡ with_next (Comes piece) (seat_at self.old conn)) }
         ensures others { OnOk result
             ((c : ℕ) → c ≢ conn → seat_at self.new c ≡ seat_at self.old c) }
         ensures err { OnErr result ((c : ℕ) → seat_at self.new c ≡ seat_at self.old c) }
+        ensures room { length self.new ≤ max (length self.old) (conn + 1) }
     {
         let bytes = piece.as_slice().len().saturating_sub(HANDING);
         self.take(alloc, conn, Waiting::Piece(piece))?;
@@ -122,6 +125,7 @@ impl Seats {
         ensures others { OnOk result
             ((c : ℕ) → c ≢ conn → seat_at self.new c ≡ seat_at self.old c) }
         ensures err { OnErr result ((c : ℕ) → seat_at self.new c ≡ seat_at self.old c) }
+        ensures room { length self.new ≤ max (length self.old) (conn + 1) }
     {
         self.take(alloc, conn, Waiting::End)
     }
@@ -162,7 +166,8 @@ impl Seats {
         self.list[conn].next()
     }
 
-    /// The messages that were cut, for each piece in their order.
+    /// The messages that were cut, for each piece in their order. Where there is no memory for them, the seats keep
+    /// them.
     pub fn merge(
         &mut self,
         alloc: Global,
@@ -174,13 +179,14 @@ impl Seats {
             → (seat_at self.old c).lists ≡ lists_to c origins.now (map (λ p. p.messages) found.items)) }
         ensures seats { OnOk result
             ((c : ℕ) → seat_at self.new c ≡ with_lists [] (seat_at self.old c)) }
+        ensures err { OnErr result (self.new ≡ self.old) }
     {
         let mut found = Vec::with_capacity(alloc, origins.len())?;
         for origin in origins {
-            found.push(PieceMessages {
+            found.push_reserved(PieceMessages {
                 origin: *origin,
                 messages: self.next(usize::from(origin.conn)),
-            })?;
+            });
         }
         Ok(found)
     }

@@ -1,6 +1,6 @@
 //! The tier of each number's connection.
 
-ghost use Rattle.std.specs.Prelude.{◌≡◌, ◌<◌, [], ℕ, length, OnOk};
+ghost use Rattle.std.specs.Prelude.{◌≡◌, ◌+◌, ◌<◌, ◌≤◌, [], ℕ, length, max, OnOk, OnErr};
 ghost use Rattle.arrivals.specs.Tiers.{tier_at, with_tier};
 
 use std::alloc::{AllocError, Global};
@@ -47,6 +47,7 @@ impl Tiers {
     fn reach(&mut self, conn: usize) -> Result<(), AllocError>
         ensures place { OnOk result (conn < length self.new) }
         ensures same { (c : ℕ) → tier_at self.new c ≡ tier_at self.old c }
+        ensures room { length self.new ≤ max (length self.old) (conn + 1) }
     {
         while self.list.len() <= conn {
             self.list.push(0)?;
@@ -54,11 +55,13 @@ impl Tiers {
         Ok(())
     }
 
-    /// Gives a connection its tier.
+    /// Gives a connection its tier. Places are made up to its number's, and no further.
     pub fn give(&mut self, conn: u16, tier: u8) -> Result<(), AllocError>
         requires { tier < 4 }
-        ensures { OnOk result
+        ensures ok { OnOk result
             ((c : ℕ) → tier_at self.new c ≡ with_tier conn tier (tier_at self.old) c) }
+        ensures err { OnErr result ((c : ℕ) → tier_at self.new c ≡ tier_at self.old c) }
+        ensures room { length self.new ≤ max (length self.old) (conn + 1) }
     {
         let place = usize::from(conn);
         self.reach(place)?;

@@ -73,7 +73,7 @@ and_none : (b : Bool) → (b && false) ≡ false
 and_none true = refl
 and_none false = refl
 
-follows_front : (v : Version) (start : ℕ) (ss more : List Record) (r : Record) → IsCapture v start (ss ++ r ∷ more) → Follows v (past_of v ss) r
+pub follows_front : (v : Version) (start : ℕ) (ss more : List Record) (r : Record) → IsCapture v start (ss ++ r ∷ more) → Follows v (past_of v ss) r
 follows_front v start ss more r c = go r c
   where
     here : (r : Record) → IsCapture v start (ss ++ r ∷ more) → IsRecord v r

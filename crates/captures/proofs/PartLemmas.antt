@@ -1,20 +1,21 @@
 -- What was taken of a capture when a read failed.
-use Rattle.std.proofs.Common.{◌≡◌, ℕ, ◌+◌, ◌-◌, ◌||◌, ◌&&◌, ◌⊎◌, inl, inr, cond, nat_lt, Bool, true, false, List, [], ◌∷◌, ◌++◌, length, drop, Option, Some, None, Result, Ok, Err, refl, sym, ap, ◌∙◌, subst, arith, codes, nat_eq, is_some, unwrap_or}
+use Rattle.std.proofs.Common.{◌≡◌, ℕ, ◌+◌, ◌-◌, ◌≤◌, min, ◌||◌, ◌&&◌, ◌⊎◌, inl, inr, cond, nat_lt, Bool, true, false, List, [], ◌∷◌, ◌++◌, length, drop, Option, Some, None, Result, Ok, Err, refl, sym, ap, ◌∙◌, subst, arith, codes, nat_eq, is_some, unwrap_or}
 use Rattle.std.specs.List.{starts_with}
-use Rattle.std.proofs.lemmas.List.{append_assoc}
+use Rattle.std.proofs.lemmas.List.{append_assoc, length-append}
 use Rattle.devices.specs.Reference.{line_feed}
 use Rattle.devices.specs.Numbers.{number_of, three_numbers}
 use Rattle.devices.specs.Texts.{Ahead, ahead_of, byte_at, run_at, line_at}
-use Rattle.devices.specs.Parts.{TookPart}
+use Rattle.devices.specs.Parts.{TookPart, TookAtMost}
 use Rattle.devices.specs.declared.text.Stop.{Stop}
 use Rattle.devices.specs.declared.text.Stop.TheVariants as stops
 use Rattle.devices.proofs.Taking.{Takes}
 use Rattle.devices.proofs.Inverse.{line_inverse}
-use Rattle.devices.proofs.PartLemmas.{none_after, part_after, no_byte, run_alone, run_takes, line_alone}
-use Rattle.captures.specs.Reference.{format_of, max_tick, max_tier, text_before_stop}
-use Rattle.captures.specs.Captures.{Past, past_of}
+use Rattle.devices.proofs.PartLemmas.{none_after, part_after, part_is, no_byte, run_alone, run_takes, line_alone, line_good}
+use Rattle.devices.proofs.Limits.{took_more}
+use Rattle.captures.specs.Reference.{format_of, max_tick, max_tier, max_piece_bytes, text_before_stop}
+use Rattle.captures.specs.Captures.{Past, past_of, longest_record}
 use Rattle.captures.specs.declared.version.Version.{Version}
-use Rattle.captures.specs.CaptureFaults.{kind_of, named, ◌>>=◌, two_numbers, piece_heading, end_heading, tier_heading, stop_heading, heading_of, open_connection, allowed, tier_record, body_at, announced, record_at, IsUnfinished, failures_of, left_after}
+use Rattle.captures.specs.CaptureFaults.{kind_of, header_kind_of, header_at, named, ◌>>=◌, two_numbers, piece_heading, end_heading, tier_heading, stop_heading, heading_of, open_connection, allowed, tier_record, body_at, announced, record_at, IsUnfinished, failures_of, left_after}
 use Rattle.captures.specs.Readers.{seen, ReaderAfter, FailsInRecord}
 use Rattle.captures.specs.declared.record.Record.{Record}
 use Rattle.captures.specs.declared.record.Record.TheVariants.{Tier}
@@ -40,6 +41,13 @@ read_is stops.Cut kind a b = absurd cc
 read_is stops.TooLarge kind a b = absurd cc
 read_is stops.Read kind a b = refl
 read_is stops.Memory kind a b = absurd cc
+
+-- a read failed in the first line
+pub header_fails : (o n : Option (List ℕ)) (l nl : ℕ) → TookPart (λ part. line_at (record { bytes = part; left = l }) ≡ Err stops.Cut) o l n nl
+    → TookPart (λ part. header_at (record { bytes = part; left = l }) ≡ Err Cut) o l n nl
+header_fails o n l nl took =
+    part_is (λ part. line_at (record { bytes = part; left = l }) ≡ Err stops.Cut) (λ part. header_at (record { bytes = part; left = l }) ≡ Err Cut) o n l nl
+    (λ t cut. bind_err (named header_kind_of (line_at (record { bytes = t; left = l }))) _ Cut (named_err header_kind_of _ stops.Cut cut)) took
 
 -- ---- pieces
 
@@ -119,6 +127,20 @@ heading_not_read v line kind h is = elim (heading_kinds v line kind h) [ inl num
 
 pub heading_counts : (v : Version) (line : List ℕ) (kind : CaptureFaultKind) → heading_of v line ≡ Err kind → failures_of kind ≡ 0
 heading_counts v line kind h = elim (heading_kinds v line kind h) [ inl number ↦ ap failures_of number | inr other ↦ ap failures_of other ]
+
+-- no more than the longest record was taken
+pub record_most : (v : Version) (o m p : Option (List ℕ)) (l ml : ℕ) (line : List ℕ) (heading : Heading) → heading_of v line ≡ Ok heading
+    → (is_some o ≡ true → (following : Ahead) × (line_at (ahead_of o l) ≡ Ok (line, following)) × (is_some m ≡ true) × ((h : Heading) → heading_of v line ≡ Ok h → following ≡ ahead_of m ml))
+    → TookAtMost (min (max_piece_bytes + 1) (ml + 1)) m p → TookAtMost (min longest_record (l + 1)) o p
+record_most v o m p l ml line heading is read most k =
+    let got = λ (known : is_some o ≡ true). let r = read known in subst (λ (b : Ahead). line_at (ahead_of o l) ≡ Ok (line, b)) (r.3 heading is) r.1 in
+    let t : Takes o l m ml (line ++ line_feed ∷ []) = record {
+      bytes = λ known. (line_inverse (ahead_of o l) (ahead_of m ml) line (got known)).bytes;
+      count = λ known. (line_inverse (ahead_of o l) (ahead_of m ml) line (got known)).left;
+      known = λ known. (read known).2;
+    } in
+    took_more (min longest_record (l + 1)) (min (max_piece_bytes + 1) (ml + 1)) o m p l ml (line ++ line_feed ∷ []) t
+    (λ left. omega (arith, left, length-append line (line_feed ∷ []), (line_good (ahead_of o l) (ahead_of m ml) line (got k)).1)) most k
 
 -- a read failed in what a line announced
 pub record_fails : (v : Version) (past : Past) (o m p : Option (List ℕ)) (l ml pl : ℕ) (line : List ℕ) (heading : Heading) → heading_of v line ≡ Ok heading

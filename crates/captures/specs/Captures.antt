@@ -1,10 +1,11 @@
 -- What the rules ask of the records of a text, record by record.
-use Rattle.std.specs.Prelude.{◌≡◌, ℕ, ◌≤◌, ◌&&◌, Bool, false, List, length, nat_lt, sum_by}
+use Rattle.std.specs.Prelude.{◌≡◌, ℕ, ◌+◌, ◌≤◌, ◌&&◌, Bool, false, List, length, nat_lt, sum_by}
 use Rattle.std.specs.List.{list_any}
 use Rattle.captures.specs.declared.version.Version.{Version}
 use Rattle.captures.specs.declared.record.Record.{Record}
 use Rattle.captures.specs.declared.record.Record.TheVariants.{Piece, End, Tier}
-use Rattle.captures.specs.Reference.{ends_for_good, is_use_of, last_of, ticks_of, IsRecord, connection_now, used_once}
+use Rattle.captures.specs.Reference.{ends_for_good, is_use_of, last_of, max_piece_bytes, ticks_of}
+use Rattle.captures.specs.Reference.{IsRecord, connection_now, used_once}
 
 -- What the rules ask of the records so far when one more comes: how many they are, the last tick (0 where none gave
 -- one), which numbers have ended for good, and which name a connection that had a piece or a tier.
@@ -29,6 +30,10 @@ Follows v past (Piece tick conn bytes) =
 Follows v past (End tick conn) = (past.tick ≤ tick) × (past.ended conn ≡ false) × IsRecord v (End tick conn)
 Follows v past (Tier conn tier) =
     (past.ended conn ≡ false) × (past.used conn ≡ false) × IsRecord v (Tier conn tier)
+
+-- the most bytes that are read for a record: those of a line, of the longest piece, and the one after it
+abbrev pub longest_record : ℕ
+longest_record = 65 + max_piece_bytes + 1
 
 -- the bytes that a record brings, and how many all of these records bring
 abbrev pub size_of : Record → ℕ

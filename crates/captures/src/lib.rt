@@ -25,5 +25,6 @@ pub use laws::{
 pub use pass_fault::{PassFault, PassFault as UpgradeFault};
 pub use reader::CaptureReader;
 pub use record::Record;
+pub use record_writer::{write_first_line, write_last_line, write_record};
 pub use upgrading::upgrade;
 pub use version::Version;

@@ -1,8 +1,9 @@
 //! How far a reader of a capture has come, apart from its device.
 
-ghost use Rattle.std.specs.Prelude.{◌≡◌, ◌+◌, ◌<◌, ◌≤◌, ◌-◌, ◌^◌, IfNone, IfOk, IfErr, IfSome};
+ghost use Rattle.std.specs.Prelude.{◌≡◌, ◌+◌, ◌<◌, ◌≤◌, ◌-◌, ◌^◌, min, IfNone, IfOk, IfErr, IfSome};
 ghost use Rattle.devices.specs.Devices.{CanFail};
-ghost use Rattle.captures.specs.Captures.{size_of};
+ghost use Rattle.devices.specs.Parts.{TookAtMost};
+ghost use Rattle.captures.specs.Captures.{longest_record, size_of};
 ghost use Rattle.captures.specs.CaptureFaults.{CountsFault};
 ghost use Rattle.captures.specs.Readers.{ComesTo, FailsFirst, GivesNext, HasOpened, IsGiven, IsOpeningFault};
 
@@ -64,6 +65,8 @@ impl Progress {
         // Where a read failed, no whole line had been taken.
         ensures failed { IfErr result (λ f. FailsFirst input.old.bytes f input.new.bytes) }
         ensures count { CountsFault input.old.failures input.new.failures result }
+        // Of the input no more was taken than a line may have.
+        ensures most { TookAtMost 65 input.old.bytes input.new.bytes }
     {
         let mut left = LONGEST_TEXT;
         match read_header(input, &mut left) {
@@ -104,6 +107,9 @@ impl Progress {
         ensures given { IfOk result (λ next. IfSome next (IsGiven self.old self.new)) }
         ensures stands { ComesTo self.old self.new result }
         ensures count { CountsFault input.old.failures input.new.failures result }
+        // At most the longest record was taken, and one byte past the limit.
+        ensures most { TookAtMost (min longest_record (self.old.left + 1))
+            input.old.bytes input.new.bytes }
     {
         let at = self.so_far.count.saturating_add(1);
         match read_record(alloc, input, &mut self.left, self.version, &self.so_far) {

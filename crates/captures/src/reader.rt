@@ -1,9 +1,11 @@
 //! The reader of a capture, which borrows its device.
 
-ghost use Rattle.std.specs.Prelude.{◌≡◌, ◌<◌, ◌-◌, ◌^◌, IfOk, IfErr, IfSome};
+ghost use Rattle.std.specs.Prelude.{◌≡◌, ◌<◌, ◌-◌, ◌^◌, ◌+◌, min, IfOk, IfErr, IfSome};
 ghost use Rattle.std.specs.Borrow.{sem, RestsIfErr};
 ghost use Rattle.devices.specs.Devices.{CanFail};
+ghost use Rattle.devices.specs.Parts.{TookAtMost};
 ghost use Rattle.devices.specs.contracts.device.Input.{the_row};
+ghost use Rattle.captures.specs.Captures.{longest_record};
 ghost use Rattle.captures.specs.CaptureFaults.{CountsFault};
 ghost use Rattle.captures.specs.Readers.{ComesTo, CountsNext, FailsFirst, GivesNext, HasOpened, IsGiven};
 ghost use Rattle.captures.specs.Readers.{IsOpeningFault, Repeats};
@@ -31,11 +33,13 @@ impl<'a, R: Read> CaptureReader<'a, R> {
             (λ reader. HasOpened input.old (progress_of reader) (device_of reader)) }
         ensures same { IfOk result (λ reader. loan_of reader ≡ input.entry.ghost_name) }
         ensures fault { IfErr result (IsOpeningFault input.old.bytes) }
-        // At a fault the input is given back; where a read failed, no whole line had been taken from it.
+        // At a fault the input is given back; no more was taken from it than a line may have, and where a read failed,
+        // no whole line.
         ensures* refused { sem 𝓛
             (RestsIfErr (the_row R.row R.Read) input.entry loan_of result
             (λ last. CountsFault input.old.failures last.failures result
-            × IfErr result (λ f. FailsFirst input.old.bytes f last.bytes))) }
+            × IfErr result (λ f. FailsFirst input.old.bytes f last.bytes)
+            × TookAtMost 65 input.old.bytes last.bytes)) }
     {
         let progress = Progress::open(input)?;
         Ok(CaptureReader { input, progress })
@@ -69,6 +73,9 @@ impl<'a, R: Read> CaptureReader<'a, R> {
             ((progress_of self.new ≡ progress_of self.old) × (device_of self.new ≡ device_of self.old)) }
         ensures count { CountsNext (progress_of self.old).stage
             (device_of self.old).failures (device_of self.new).failures result }
+        // At most the longest record was taken, and one byte past the limit of the text.
+        ensures most { TookAtMost (min longest_record ((progress_of self.old).left + 1))
+            (device_of self.old).bytes (device_of self.new).bytes }
     {
         match self.progress.stage {
             ReaderState::Reading => self.progress.take_record(alloc, self.input),

@@ -1,11 +1,11 @@
 //! Reading a record by the line that announces it.
 
-ghost use Rattle.std.specs.Prelude.{◌≡◌, ◌<◌, ◌≤◌, ◌-◌, ◌^◌, length, IfOk, IfErr, IfSome, ◌≢◌};
+ghost use Rattle.std.specs.Prelude.{◌≡◌, ◌<◌, ◌≤◌, ◌-◌, ◌^◌, ◌+◌, length, min, IfOk, IfErr, IfSome, ◌≢◌};
 ghost use Rattle.devices.specs.Devices.{CanFail};
 ghost use Rattle.devices.specs.Texts.{Counts, Gives, line_at};
-ghost use Rattle.devices.specs.Parts.{FailsAtOnce, FailsAfter, FailsWithin};
-ghost use Rattle.captures.specs.Reference.{max_start};
-ghost use Rattle.captures.specs.Captures.{Follows};
+ghost use Rattle.devices.specs.Parts.{FailsAtOnce, FailsAfter, FailsWithin, TookAtMost};
+ghost use Rattle.captures.specs.Reference.{max_start, max_piece_bytes};
+ghost use Rattle.captures.specs.Captures.{Follows, longest_record};
 ghost use Rattle.captures.specs.CaptureFaults.{CountsKind, IsUnfinished, IsHeadingOf, is_unforeseen_kind, header_at};
 ghost use Rattle.captures.specs.CaptureFaults.{body_at, piece_at, close_at, announced, record_at};
 ghost use Rattle.captures.specs.Readers.{seen};
@@ -41,6 +41,8 @@ pub(crate) fn read_header<R: Read>(
     ensures count { CountsKind input.old.failures input.new.failures result }
     // It takes no memory.
     ensures memory { IfErr result (λ kind. kind ≢ CaptureFaultKind.Memory) }
+    // Of the input no more was taken than a line may have.
+    ensures most { TookAtMost 65 input.old.bytes input.new.bytes }
 {
     match read_line(input, left) {
         Ok(line) => read_start(line.as_slice()),
@@ -64,6 +66,8 @@ fn read_body<R: Read>(
         input.old.bytes left.old input.new.bytes left.new result }
     ensures length { IfOk result (λ bytes. length bytes ≡ len) }
     ensures count { CountsKind input.old.failures input.new.failures result }
+    // At most the bytes and one more were taken, and one byte past the limit.
+    ensures most { TookAtMost (min (len + 1) (left.old + 1)) input.old.bytes input.new.bytes }
 {
     let bytes = read_run(alloc, input, left, len)?;
     let end = read_byte_of(input, left)?;
@@ -91,6 +95,9 @@ fn read_piece<R: Read>(
         input.old.bytes left.old input.new.bytes left.new result }
     ensures fits { IfOk result (Follows version (seen so_far.now)) }
     ensures count { CountsKind input.old.failures input.new.failures result }
+    // At most the longest piece was taken, and one byte past the limit.
+    ensures most { TookAtMost (min (max_piece_bytes + 1) (left.old + 1))
+        input.old.bytes input.new.bytes }
 {
     let conn = so_far.allow(version, line.tick, line.conn)?;
     if line.len == 0 || line.len > MAX_PIECE_BYTES {
@@ -115,6 +122,8 @@ fn read_close<R: Read>(input: &mut Input<R>, left: usize) -> Result<(), CaptureF
     ensures count { CountsKind input.old.failures input.new.failures result }
     // It takes no memory.
     ensures memory { IfErr result (λ kind. kind ≢ CaptureFaultKind.Memory) }
+    // At most one byte was taken.
+    ensures most { TookAtMost 1 input.old.bytes input.new.bytes }
 {
     match input.read_byte() {
         Ok(None) => Ok(()),
@@ -142,6 +151,9 @@ fn read_announced<R: Read>(
         input.old.bytes left.old input.new.bytes left.new result }
     ensures fits { IfOk result (λ next. IfSome next (Follows version (seen so_far.now))) }
     ensures count { CountsKind input.old.failures input.new.failures result }
+    // At most the longest piece was taken, and one byte past the limit.
+    ensures most { TookAtMost (min (max_piece_bytes + 1) (left.old + 1))
+        input.old.bytes input.new.bytes }
 {
     match heading {
         Heading::Piece(line) => match read_piece(alloc, input, left, version, so_far, line) {
@@ -186,6 +198,8 @@ fn read_record_line<R: Read>(
     ensures count { Counts input.old.failures input.new.failures result }
     // It takes no memory.
     ensures memory { IfErr result (λ e. e ≢ Stop.Memory) }
+    // At most 65 bytes were taken, and one byte past the limit.
+    ensures most { TookAtMost (min 65 (left.old + 1)) input.old.bytes input.new.bytes }
 {
     read_long_line(input, left, SHORTEST_LINE, b"piece ", SHORTEST_PIECE_LINE)
 }
@@ -207,6 +221,8 @@ pub(crate) fn read_record<R: Read>(
         input.old.bytes left.old input.new.bytes left.new result }
     ensures fits { IfOk result (λ next. IfSome next (Follows version (seen so_far.now))) }
     ensures count { CountsKind input.old.failures input.new.failures result }
+    // At most the longest record was taken, and one byte past the limit.
+    ensures most { TookAtMost (min longest_record (left.old + 1)) input.old.bytes input.new.bytes }
 {
     let line = read_record_line(input, left, version)?;
     let heading = read_heading(version, line.as_slice())?;

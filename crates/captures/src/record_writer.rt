@@ -13,7 +13,11 @@ use std::alloc::{AllocError, Global};
 use std::io::Write;
 
 /// Writes the first line of a text in this format.
-pub(crate) fn write_first_line<W: Write>(
+///
+/// # Errors
+///
+/// `Write` where the writer failed, and `Memory`: a prefix of the line stands.
+pub fn write_first_line<W: Write>(
     alloc: Global,
     output: &mut Output<W>,
     version: Version,
@@ -81,7 +85,11 @@ fn write_rest<W: Write>(output: &mut Output<W>, next: &Record) -> Result<(), Pas
 }
 
 /// Writes a record.
-pub(crate) fn write_record<W: Write>(
+///
+/// # Errors
+///
+/// `Write` where the writer failed, and `Memory`: a prefix of the record's text stands.
+pub fn write_record<W: Write>(
     alloc: Global,
     output: &mut Output<W>,
     next: &Record,
@@ -98,7 +106,11 @@ pub(crate) fn write_record<W: Write>(
 }
 
 /// Writes the last line of a capture of n records.
-pub(crate) fn write_last_line<W: Write>(
+///
+/// # Errors
+///
+/// `Write` where the writer failed, and `Memory`: a prefix of the line stands.
+pub fn write_last_line<W: Write>(
     alloc: Global,
     output: &mut Output<W>,
     count: usize,

@@ -82,7 +82,7 @@ impl Version {
     }
 
     /// The later of two formats.
-    pub(crate) fn later(self, other: Version) -> Version
+    pub fn later(self, other: Version) -> Version
         ensures { result ≡ later self other }
     {
         match self {

@@ -3,6 +3,7 @@ use Rattle.captures.specs.Captures.{sizes_of}
 use Rattle.arrivals.specs.Batches.{origins_after}
 use Rattle.arrivals.specs.Gathering.{piece_count, enough_bytes}
 use Rattle.arrivals.proofs.Gathering.{adds_none, adds_more, origins_push, gave_some, count_push, sizes_push, one_piece, one_size}
+use Rattle.arrivals.proofs.Tiered.{always_on_err, tiers_same}
 use Rattle.arrivals.proofs.batch.read_batch.Goals as goal
 use Rattle.arrivals.proofs.batch.read_batch.Goals.{then-loop-alloc-test+else-bytes-lt-ENOUGH_BYTES, else-loop-alloc-test}
 
@@ -108,4 +109,18 @@ returns-clause-batch g c =
       inv.2,
       λ v text start records fits. record { progress = _; ahead = _; fits = inv.3 v text start records fits; ends = inv.3 v text start records fits },
       record { most = inv.6; bytes = inv.7; full = full },
+    )
+
+pub returns-in_err-take_record-clause-lacks : goal.returns-in_err-take_record-clause-lacks
+returns-in_err-take_record-clause-lacks g c =
+    let inv = c.loop-alloc.invariant.0 in
+    let r = c.in-Ok-Some.next in
+    let left = c.in_err-take_record.ensures.err in
+    always_on_err c.from_residual.result (
+      inv.0,
+      r,
+      (λ k. left.0 k ∙ inv.1 k),
+      (λ records are. tiers_same _ _ _ left.1 (inv.2 records are).1),
+      λ v text start records fits.
+          gave_some v text _ start (records ++ inv.0) _ _ r c.in-Ok-Some.field-0-is (c.in-Ok-Some.ensures.next v text start (records ++ inv.0) (inv.3 v text start records fits)).0,
     )

@@ -20,8 +20,8 @@ loop-next-preserved c =
     let following = c.pop.new.self in (
       inv.0 ++ next ∷ [],
       inv.1 ∙ (ap (λ v. inv.0 ++ v) c.in-Some.ensures.some ∙ sym (append_assoc inv.0 (next ∷ []) following)),
-      reads_push c.args.connection c.loop-next.connection c.in_ok-connection.connection inv.0 next c.loop-next.lists _ inv.2 c.in_ok-connection.ensures,
-      λ some. can_read_more c.loop-next.connection c.in_ok-connection.connection next following c.loop-next.lists _ (can_now c.in-Some.ensures.some inv.3) c.in_ok-connection.ensures,
+      reads_push c.args.connection.now c.loop-next.connection c.take_next.new.connection inv.0 next c.loop-next.lists _ inv.2 c.in_ok-take_next.ensures,
+      λ some. can_read_more c.loop-next.connection c.take_next.new.connection next following c.loop-next.lists _ (can_now c.in-Some.ensures.some inv.3) c.in_ok-take_next.ensures,
     )
 
 pub returns-clause-reads : goal.returns-clause-reads

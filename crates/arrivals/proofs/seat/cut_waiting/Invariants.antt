@@ -1,4 +1,4 @@
-use Rattle.std.proofs.Common.{◌≡◌, ◌<◌, ℕ, List, ◌++◌, length}
+use Rattle.std.proofs.Common.{◌≡◌, ◌<◌, List, ◌++◌, length}
 use Rattle.arrivals.specs.Batches.{ReadsOn}
 use Rattle.arrivals.specs.SeatStates.{CanRead}
 use Rattle.arrivals.specs.declared.waiting.Waiting.{Waiting}

@@ -3,7 +3,7 @@ use Rattle.std.proofs.lemmas.Result.{err_from_is_err_and, IfErr-weaker}
 use Rattle.captures.specs.CaptureFaults.{heading_of}
 use Rattle.captures.specs.Readers.{seen}
 use Rattle.captures.proofs.Lines.{heading_has}
-use Rattle.captures.proofs.PartLemmas.{heading_not_read, heading_counts, record_fails}
+use Rattle.captures.proofs.PartLemmas.{heading_not_read, heading_counts, record_fails, record_most}
 use Rattle.captures.proofs.reading.read_record.Goals as goal
 
 pub read_announced-requires-clause-version : goal.read_announced-requires-clause-version
@@ -23,3 +23,8 @@ pub returns-clause-part : goal.returns-clause-part
 returns-clause-part g c =
     let is : heading_of c.args.version c.in_ok-line.line ≡ Ok c.in_ok-heading.heading = ap (heading_of c.args.version) (sym c.as_slice.ensures) ∙ sym c.in_ok-heading.ensures in
     IfErr-weaker c.read_announced.result _ _ (λ e part failed k. record_fails c.args.version (seen c.args.so_far.now) _ _ _ _ _ _ _ _ is c.in_ok-line.ensures.line (part failed) k) c.read_announced.ensures.part
+
+pub returns-clause-most : goal.returns-clause-most
+returns-clause-most g c =
+    let is : heading_of c.args.version c.in_ok-line.line ≡ Ok c.in_ok-heading.heading = ap (heading_of c.args.version) (sym c.as_slice.ensures) ∙ sym c.in_ok-heading.ensures in
+    record_most c.args.version _ _ _ _ _ _ _ is c.in_ok-line.ensures.line c.read_announced.ensures.most

@@ -1,3 +1,4 @@
+use Rattle.std.proofs.Common.{arith}
 use Rattle.arrivals.proofs.Merges.{some_list, found_more}
 use Rattle.arrivals.proofs.seats.Seats.merge.Goals as goal
 
@@ -6,5 +7,11 @@ next-requires c = some_list c.args.origins.now c.loop-origin.origin-index _ c.fr
 
 pub loop-origin-preserved : goal.loop-origin-preserved
 loop-origin-preserved c =
-    rw c.in_ok-push.ensures.items (found_more c.args.origins.now c.loop-origin.origin-index _ c.from.result c.args.self.now c.loop-origin.self c.next.new.self c.loop-origin.found.items c.next.result
-    c.loop-origin-test.true c.from.ensures c.next.ensures.own c.next.ensures.others c.loop-origin.invariant)
+    let inv = c.loop-origin.invariant in
+    let more = found_more c.args.origins.now c.loop-origin.origin-index _ c.from.result c.args.self.now c.loop-origin.self c.next.new.self c.loop-origin.found.items c.next.result
+    c.loop-origin-test.true c.from.ensures c.next.ensures.own c.next.ensures.others (inv.0, inv.1) in (
+      rw c.push_reserved.ensures.items more.0,
+      rw c.push_reserved.ensures.items more.1,
+      omega (arith, c.push_reserved.ensures.len, inv.2),
+      omega (arith, c.push_reserved.ensures.capacity, inv.3),
+    )

@@ -1,4 +1,4 @@
-use Rattle.std.proofs.Common.{◌≡◌, ◌∙◌, ◌<◌, ℕ, List, length, arith}
+use Rattle.std.proofs.Common.{◌≡◌, ◌∙◌, ◌<◌, length, arith}
 use Rattle.std.proofs.lemmas.List.{length_push, get_or_default}
 use Rattle.arrivals.specs.SeatStates.{seat_at, empty_seat}
 use Rattle.arrivals.specs.declared.waiting.Waiting.{Waiting}
