@@ -1,5 +1,5 @@
 -- A capture of version 1 is answered as before there were tiers, and its upgraded text as it is.
-use Rattle.std.proofs.Common.{◌≡◌, ℕ, suc, ◌+◌, ◌-◌, ◌<◌, ◌≤◌, ◌%◌, ◌==◌, ◌||◌, Bool, true, false, cond, List, [], ◌∷◌, ◌++◌, length, map, take, get_or, Option, Some, unwrap_or, refl, sym, ap, ◌∙◌, subst, arith, All, append-nil, append_assoc}
+use Rattle.std.proofs.Common.{◌≡◌, ℕ, suc, ◌+◌, ◌-◌, ◌≤◌, ◌==◌, ◌||◌, Bool, true, false, cond, List, [], ◌∷◌, ◌++◌, length, map, take, get_or, Option, Some, unwrap_or, refl, sym, ap, ◌∙◌, subst, arith, All, append-nil, append_assoc}
 use Rattle.std.specs.List.{list_any, filter, range_with_len, AllPairs}
 use Rattle.std.specs.Prelude.{count_by, nat_le, slice_get}
 use Rattle.std.specs.Io.KnownBytes.{Appends}
@@ -24,7 +24,7 @@ use Rattle.captures.proofs.UpgradeLaws.{upgrade_is, numbers_once, more_messages}
 use Rattle.http_requests.specs.Reference.{MessagesOf}
 use Rattle.admission.specs.declared.policy.PolicyNumbers.{PolicyNumbers}
 use Rattle.admission.specs.declared.control.Control.{Control}
-use Rattle.admission.specs.Reference.{rules_of, Offer, Decided, of_tier, served, samples, is_rejected, control_at, controls_until, decided, tick_from}
+use Rattle.admission.specs.Reference.{Station, rules_of, Offer, Decided, of_tier, served, samples, is_rejected, control_at, controls_until, decided, tick_from}
 use Rattle.admission.specs.OneTier.{decided_alone, decided_alone_next, decided_alone_from, AreOfTier}
 use Rattle.admission.proofs.RequestLemmas.{of_tier-other, of_tier-none}
 use Rattle.admission.proofs.OneTierLemmas.{one_tier_as_before}
@@ -36,8 +36,8 @@ use Rattle.reference.specs.declared.summary.Summary.{Summary}
 use Rattle.arrivals.specs.Reference.{Arrival, text_of, messages_of, ArrivesWith, Precedes, AreArrivals}
 use Rattle.responses.specs.Reference.{statuses}
 use Rattle.reference.proofs.OneAnswer.{same_outcome}
-use Rattle.reference.specs.Reference.{outcome_of, Terms, given, Handled, offer_at, offers_of, rejects, is_turned_away, handled_next, handled_after, handled, reply_of, replies_of, replies_text, status_for, counts_of, bypassed_of, breaks_a_rule, rejected_of, samples_of, tally_of, tallies_of, summary_of, Answers}
-use Rattle.reference.specs.Former.{FormerTerms, ArrivedWith, WereArrivals, former_offer, former_offers, formerly_rejects, was_turned_away, handled_next_alone, handled_after_alone, former_handled, formerly_given, former_reply, former_replies, former_status, former_counts, former_samples, former_controls, FormerOutcome, former_outcome}
+use Rattle.reference.specs.Reference.{station_for, outcome_of, Terms, given, Handled, offer_at, offers_of, rejects, is_turned_away, handled_next, handled_after, handled, reply_of, replies_of, replies_text, status_for, counts_of, bypassed_of, breaks_a_rule, rejected_of, samples_of, tally_of, tallies_of, summary_of, Answers}
+use Rattle.reference.specs.Former.{FormerTerms, ArrivedWith, WereArrivals, former_tick, former_offer, former_offers, formerly_rejects, was_turned_away, handled_next_alone, handled_after_alone, former_handled, formerly_given, former_reply, former_replies, former_status, former_counts, former_samples, former_controls, FormerOutcome, former_outcome}
 use Rattle.reference.specs.Laws.{former_terms, no_requests, all_requests, in_tiers, told_in, SameInVersionOne, FormerAnswersHold, UpgradeKeepsAnswers, UpgradeKeepsReplies}
 
 -- ---- offers of tier 0
@@ -46,7 +46,7 @@ abbrev AreLowest : List Arrival → Type 0
 AreLowest arrivals = All (λ a. a.origin.tier ≡ 0) arrivals
 
 offer_same : (terms : Terms) (origin : Origin) (what : Meaning) → origin.tier ≡ 0
-    → offer_at terms origin what ≡ former_offer (former_terms terms) origin.tick what
+    → offer_at terms origin what ≡ former_offer (former_terms terms) (former_tick (former_terms terms) origin) what
 offer_same terms origin (Request method target version closing since) at = rw at refl
 offer_same terms origin (Bad fault) at = refl
 
@@ -65,35 +65,35 @@ former_lowest terms [] = tt
 former_lowest terms (a ∷ arrivals) = go a.message.what (former_lowest terms arrivals)
   where
     go : (what : Meaning) → AreOfTier 0 (former_offers terms arrivals)
-        → AreOfTier 0 (former_offer terms a.origin.tick what ++ former_offers terms arrivals)
+        → AreOfTier 0 (former_offer terms (former_tick terms a.origin) what ++ former_offers terms arrivals)
     go (Request method target version closing since) rest = (refl, rest)
     go (Bad fault) rest = rest
 
 -- ---- decisions
 
-rejects_same : (policies : List PolicyNumbers) (offers : List Offer) (offer : Offer) → AreOfTier 0 offers → offer.tier ≡ 0
-    → rejects policies offers offer ≡ formerly_rejects (rules_of policies 0) offers offer
+rejects_same : (station : Station) (offers : List Offer) (offer : Offer) → AreOfTier 0 offers → offer.tier ≡ 0
+    → rejects station offers offer ≡ formerly_rejects station.servers (rules_of station 0) offers offer
 unfolding rejects formerly_rejects
-rejects_same policies offers offer of at =
-    let alone = one_tier_as_before policies offers of in
+rejects_same station offers offer of at =
+    let alone = one_tier_as_before station offers of in
     rw (at, alone.1, alone.0) refl
 
 turned_same : (terms : Terms) (earlier : List Arrival) (a : Arrival) → AreLowest earlier → a.origin.tier ≡ 0
     → is_turned_away terms earlier a ≡ was_turned_away (former_terms terms) earlier a
 turned_same terms earlier a lowest at =
-    (λ i. list_any (rejects terms.policies (offers_same terms earlier lowest i))
+    (λ i. list_any (rejects (station_for terms) (offers_same terms earlier lowest i))
     (offer_same terms a.origin a.message.what at i)) ∙ go a.message.what
   where
     before : List Offer
     before = former_offers (former_terms terms) earlier
 
     go : (what : Meaning)
-        → list_any (rejects terms.policies before) (former_offer (former_terms terms) a.origin.tick what)
-        ≡ list_any (formerly_rejects (rules_of terms.policies 0) before)
-        (former_offer (former_terms terms) a.origin.tick what)
+        → list_any (rejects (station_for terms) before) (former_offer (former_terms terms) (former_tick (former_terms terms) a.origin) what)
+        ≡ list_any (formerly_rejects terms.tariff.costs.servers (rules_of (station_for terms) 0) before)
+        (former_offer (former_terms terms) (former_tick (former_terms terms) a.origin) what)
     go (Request method target version closing since) =
         ap (λ (away : Bool). away || false)
-        (rejects_same terms.policies before _ (former_lowest (former_terms terms) earlier) refl)
+        (rejects_same (station_for terms) before _ (former_lowest (former_terms terms) earlier) refl)
     go (Bad fault) = refl
 
 handled_same : (terms : Terms) (earlier arrivals : List Arrival) → AreLowest earlier → AreLowest arrivals
@@ -144,33 +144,33 @@ counts_same terms messages =
 
 -- ---- how many were turned away
 
-push_alone : (rules : PolicyNumbers) (past : List Decided) (offers : List Offer) (offer : Offer)
-    → decided_alone_from rules past (offers ++ offer ∷ [])
-    ≡ decided_alone_from rules past offers ++ decided_alone_next rules (decided_alone_from rules past offers) offer ∷ []
+push_alone : (servers : ℕ) (rules : PolicyNumbers) (past : List Decided) (offers : List Offer) (offer : Offer)
+    → decided_alone_from servers rules past (offers ++ offer ∷ [])
+    ≡ decided_alone_from servers rules past offers ++ decided_alone_next servers rules (decided_alone_from servers rules past offers) offer ∷ []
 unfolding decided_alone_from
-push_alone rules past [] offer = refl
-push_alone rules past (first ∷ offers) offer =
-    push_alone rules (past ++ decided_alone_next rules past first ∷ []) offers offer
+push_alone servers rules past [] offer = refl
+push_alone servers rules past (first ∷ offers) offer =
+    push_alone servers rules (past ++ decided_alone_next servers rules past first ∷ []) offers offer
 
-abbrev turned : PolicyNumbers → List Offer → ℕ
-turned rules offers = count_by (λ r. is_rejected r.decision) (decided_alone rules offers)
+abbrev turned : ℕ → PolicyNumbers → List Offer → ℕ
+turned servers rules offers = count_by (λ r. is_rejected r.decision) (decided_alone servers rules offers)
 
-turned_more : (rules : PolicyNumbers) (offers : List Offer) (offer : Offer)
-    → turned rules (offers ++ offer ∷ []) ≡ turned rules offers + cond (formerly_rejects rules offers offer) 1 0
+turned_more : (servers : ℕ) (rules : PolicyNumbers) (offers : List Offer) (offer : Offer)
+    → turned servers rules (offers ++ offer ∷ []) ≡ turned servers rules offers + cond (formerly_rejects servers rules offers offer) 1 0
 unfolding formerly_rejects
-turned_more rules offers offer =
-    ap (λ (ds : List Decided). count_by (λ r. is_rejected r.decision) ds) (push_alone rules [] offers offer)
-    ∙ sum_by_push (λ (r : Decided). cond (is_rejected r.decision) 1 0) (decided_alone rules offers)
-    (decided_alone_next rules (decided_alone rules offers) offer)
+turned_more servers rules offers offer =
+    ap (λ (ds : List Decided). count_by (λ r. is_rejected r.decision) ds) (push_alone servers rules [] offers offer)
+    ∙ sum_by_push (λ (r : Decided). cond (is_rejected r.decision) 1 0) (decided_alone servers rules offers)
+    (decided_alone_next servers rules (decided_alone servers rules offers) offer)
 
 turned_one : (terms : FormerTerms) (earlier : List Arrival) (a : Arrival)
-    → turned terms.rules (former_offers terms (earlier ++ a ∷ []))
-    ≡ turned terms.rules (former_offers terms earlier) + cond (was_turned_away terms earlier a) 1 0
+    → turned terms.tariff.costs.servers terms.rules (former_offers terms (earlier ++ a ∷ []))
+    ≡ turned terms.tariff.costs.servers terms.rules (former_offers terms earlier) + cond (was_turned_away terms earlier a) 1 0
 unfolding former_offers
 turned_one terms earlier a =
-    ap (λ (xs : List Offer). turned terms.rules xs)
-    (flat_map-append (λ a. former_offer terms a.origin.tick a.message.what) earlier (a ∷ [])
-    ∙ ap (λ xs. former_offers terms earlier ++ xs) (append-nil (former_offer terms a.origin.tick a.message.what)))
+    ap (λ (xs : List Offer). turned terms.tariff.costs.servers terms.rules xs)
+    (flat_map-append (λ a. former_offer terms (former_tick terms a.origin) a.message.what) earlier (a ∷ [])
+    ∙ ap (λ xs. former_offers terms earlier ++ xs) (append-nil (former_offer terms (former_tick terms a.origin) a.message.what)))
     ∙ go a.message.what
   where
     before : List Offer
@@ -181,11 +181,11 @@ turned_one terms earlier a =
     own n false = refl
 
     go : (what : Meaning)
-        → turned terms.rules (before ++ former_offer terms a.origin.tick what) ≡ turned terms.rules before
-        + cond (list_any (formerly_rejects terms.rules before) (former_offer terms a.origin.tick what)) 1 0
+        → turned terms.tariff.costs.servers terms.rules (before ++ former_offer terms (former_tick terms a.origin) what) ≡ turned terms.tariff.costs.servers terms.rules before
+        + cond (list_any (formerly_rejects terms.tariff.costs.servers terms.rules before) (former_offer terms (former_tick terms a.origin) what)) 1 0
     go (Request method target version closing since) =
-        turned_more terms.rules before _ ∙ own (turned terms.rules before) (formerly_rejects terms.rules before _)
-    go (Bad fault) = ap (λ xs. turned terms.rules xs) (append-nil before) ∙ omega arith
+        turned_more terms.tariff.costs.servers terms.rules before _ ∙ own (turned terms.tariff.costs.servers terms.rules before) (formerly_rejects terms.tariff.costs.servers terms.rules before _)
+    go (Bad fault) = ap (λ xs. turned terms.tariff.costs.servers terms.rules xs) (append-nil before) ∙ omega arith
 
 rejected_first : (h : Handled) (messages : List Handled)
     → length (rejected_of (h ∷ messages)) ≡ cond h.turned_away 1 0 + length (rejected_of messages)
@@ -197,25 +197,25 @@ rejected_first h messages = go h.turned_away refl
     go false e = rw e (omega arith)
 
 turned_all : (terms : FormerTerms) (earlier arrivals : List Arrival)
-    → turned terms.rules (former_offers terms (earlier ++ arrivals))
-    ≡ turned terms.rules (former_offers terms earlier)
+    → turned terms.tariff.costs.servers terms.rules (former_offers terms (earlier ++ arrivals))
+    ≡ turned terms.tariff.costs.servers terms.rules (former_offers terms earlier)
     + length (rejected_of (handled_after_alone terms earlier arrivals))
 unfolding handled_after_alone
-turned_all terms earlier [] = ap (λ xs. turned terms.rules (former_offers terms xs)) (append-nil earlier) ∙ omega arith
+turned_all terms earlier [] = ap (λ xs. turned terms.tariff.costs.servers terms.rules (former_offers terms xs)) (append-nil earlier) ∙ omega arith
 turned_all terms earlier (a ∷ arrivals) =
-    let along = ap (λ xs. turned terms.rules (former_offers terms xs)) (append_assoc earlier (a ∷ []) arrivals) in
+    let along = ap (λ xs. turned terms.tariff.costs.servers terms.rules (former_offers terms xs)) (append_assoc earlier (a ∷ []) arrivals) in
     let more = turned_all terms (earlier ++ a ∷ []) arrivals in
     let one = turned_one terms earlier a in
     let own =
     rejected_first (handled_next_alone terms earlier a) (handled_after_alone terms (earlier ++ a ∷ []) arrivals) in
     omega (arith, along, more, one, own)
 
-turned_none : (terms : FormerTerms) → turned terms.rules (former_offers terms []) ≡ 0
+turned_none : (terms : FormerTerms) → turned terms.tariff.costs.servers terms.rules (former_offers terms []) ≡ 0
 unfolding former_offers decided_alone_from
 turned_none terms = refl
 
 turned_is : (terms : FormerTerms) (arrivals : List Arrival)
-    → turned terms.rules (former_offers terms arrivals) ≡ length (rejected_of (former_handled terms arrivals))
+    → turned terms.tariff.costs.servers terms.rules (former_offers terms arrivals) ≡ length (rejected_of (former_handled terms arrivals))
 turned_is terms arrivals =
     let all = turned_all terms [] arrivals in
     let none = turned_none terms in
@@ -223,40 +223,40 @@ turned_is terms arrivals =
 
 -- ---- the tallies
 
-samples_same : (policies : List PolicyNumbers) (offers : List Offer) → AreOfTier 0 offers
-    → samples_of policies offers ≡ former_samples (rules_of policies 0) offers
+samples_same : (station : Station) (offers : List Offer) → AreOfTier 0 offers
+    → samples_of station offers ≡ former_samples station.servers (rules_of station 0) offers
 unfolding samples_of former_samples
-samples_same policies offers of = rw ((one_tier_as_before policies offers of).0) refl
+samples_same station offers of = rw ((one_tier_as_before station offers of).0) refl
 
 first_tally : (terms : Terms) (arrivals : List Arrival)
-    → tally_of terms.policies (former_offers (former_terms terms) arrivals) 0
+    → tally_of (station_for terms) (former_offers (former_terms terms) arrivals) 0
     ≡ all_requests (former_outcome (former_terms terms) arrivals)
 unfolding tally_of former_samples former_controls
 first_tally terms arrivals =
     let offers = former_offers (former_terms terms) arrivals in
-    let alone = one_tier_as_before terms.policies offers (former_lowest (former_terms terms) arrivals) in
-    let count = length-map (served (decided_alone (rules_of terms.policies 0) offers)) (λ r. r.finish - r.offer.tick) in
+    let alone = one_tier_as_before (station_for terms) offers (former_lowest (former_terms terms) arrivals) in
+    let count = length-map (served (decided_alone terms.tariff.costs.servers (rules_of (station_for terms) 0) offers)) (λ r. r.finish - r.offer.tick + r.offer.delay) in
     rw (alone.1, turned_is (former_terms terms) arrivals, count) refl
 
-others_none : (rules : PolicyNumbers) (tier : ℕ) (past : List Decided) (offers : List Offer) → (0 ≡ tier → ⊥)
+others_none : (servers : ℕ) (rules : PolicyNumbers) (tier : ℕ) (past : List Decided) (offers : List Offer) → (0 ≡ tier → ⊥)
     → AreOfTier 0 offers → of_tier tier past ≡ []
-    → of_tier tier (decided_alone_from rules past offers) ≡ []
+    → of_tier tier (decided_alone_from servers rules past offers) ≡ []
 unfolding decided_alone_from AreOfTier
-others_none rules tier past [] apart of none = none
-others_none rules tier past (offer ∷ offers) apart of none =
-    others_none rules tier (past ++ decided_alone_next rules past offer ∷ []) offers apart of.1
-    (of_tier-other tier past (decided_alone_next rules past offer) (λ e. apart (sym of.0 ∙ e)) ∙ none)
+others_none servers rules tier past [] apart of none = none
+others_none servers rules tier past (offer ∷ offers) apart of none =
+    others_none servers rules tier (past ++ decided_alone_next servers rules past offer ∷ []) offers apart of.1
+    (of_tier-other tier past (decided_alone_next servers rules past offer) (λ e. apart (sym of.0 ∙ e)) ∙ none)
 
-other_tally : (policies : List PolicyNumbers) (offers : List Offer) (tier : ℕ) → (0 ≡ tier → ⊥) → AreOfTier 0 offers
-    → tally_of policies offers tier ≡ no_requests
+other_tally : (station : Station) (offers : List Offer) (tier : ℕ) → (0 ≡ tier → ⊥) → AreOfTier 0 offers
+    → tally_of station offers tier ≡ no_requests
 unfolding tally_of served
-other_tally policies offers tier apart of =
-    let none : of_tier tier (decided policies offers) ≡ [] =
-    ap (of_tier tier) ((one_tier_as_before policies offers of).0)
-    ∙ others_none (rules_of policies 0) tier [] offers apart of (of_tier-none tier) in
-    let controls : controls_until (rules_of policies tier) [] (tick_from 0 offers) ≡ [] =
+other_tally station offers tier apart of =
+    let none : of_tier tier (decided station offers) ≡ [] =
+    ap (of_tier tier) ((one_tier_as_before station offers of).0)
+    ∙ others_none station.servers (rules_of station 0) tier [] offers apart of (of_tier-none tier) in
+    let controls : controls_until (rules_of station tier) [] (tick_from 0 offers) ≡ [] =
     ap (λ n. filter (λ c. nat_le c.instant (tick_from 0 offers))
-    (map (control_at (rules_of policies tier) []) (range_with_len 1 n))) (zero-div (rules_of policies tier).every) in
+    (map (control_at (rules_of station tier) []) (range_with_len 1 n))) (zero-div (rules_of station tier).every) in
     rw (none, controls) refl
 
 -- ---- the outcome
@@ -273,15 +273,15 @@ rejected_same : (terms : Terms) (arrivals : List Arrival) → AreLowest arrivals
 rejected_same terms arrivals lowest = ap rejected_of (handled_alone terms arrivals lowest)
 
 tallies_same : (terms : Terms) (arrivals : List Arrival)
-    → tallies_of terms.policies (former_offers (former_terms terms) arrivals)
+    → tallies_of (station_for terms) (former_offers (former_terms terms) arrivals)
     ≡ all_requests (former_outcome (former_terms terms) arrivals) ∷ no_requests ∷ no_requests ∷ no_requests ∷ []
 tallies_same terms arrivals =
     let offers = former_offers (former_terms terms) arrivals in
     let of = former_lowest (former_terms terms) arrivals in
     let first = first_tally terms arrivals in
-    let second = other_tally terms.policies offers 1 (λ e. omega (arith, e)) of in
-    let third = other_tally terms.policies offers 2 (λ e. omega (arith, e)) of in
-    let fourth = other_tally terms.policies offers 3 (λ e. omega (arith, e)) of in
+    let second = other_tally (station_for terms) offers 1 (λ e. omega (arith, e)) of in
+    let third = other_tally (station_for terms) offers 2 (λ e. omega (arith, e)) of in
+    let fourth = other_tally (station_for terms) offers 3 (λ e. omega (arith, e)) of in
     (λ i. first i ∷ second i ∷ third i ∷ fourth i ∷ [])
 
 summary_with : Counts → ℕ → List ℕ → List Tally → Summary
@@ -295,10 +295,10 @@ summary_same terms arrivals lowest =
     let offers = offers_same terms arrivals lowest in
     let counts = ap (counts_of terms) (handled_alone terms arrivals lowest)
     ∙ counts_same terms (former_handled (former_terms terms) arrivals) in
-    let samples = ap (samples_of terms.policies) offers
-    ∙ samples_same terms.policies (former_offers (former_terms terms) arrivals)
+    let samples = ap (samples_of (station_for terms)) offers
+    ∙ samples_same (station_for terms) (former_offers (former_terms terms) arrivals)
     (former_lowest (former_terms terms) arrivals) in
-    let tallies = ap (tallies_of terms.policies) offers ∙ tallies_same terms arrivals in
+    let tallies = ap (tallies_of (station_for terms)) offers ∙ tallies_same terms arrivals in
     (λ i. summary_with (counts i) (bypassed_of arrivals) (samples i) (tallies i))
 
 -- ---- the law of version 1
@@ -530,7 +530,7 @@ lowered_offers : (terms : FormerTerms) (arrivals : List Arrival)
 unfolding former_offers lowered
 lowered_offers terms [] = refl
 lowered_offers terms (a ∷ arrivals) =
-    ap (λ xs. former_offer terms a.origin.tick a.message.what ++ xs) (lowered_offers terms arrivals)
+    ap (λ xs. former_offer terms (former_tick terms a.origin) a.message.what ++ xs) (lowered_offers terms arrivals)
 
 lowered_next : (terms : FormerTerms) (earlier : List Arrival) (a : Arrival)
     → handled_next_alone terms (map lowered earlier) (lowered a) ≡ with_lowered (handled_next_alone terms earlier a)
@@ -603,8 +603,8 @@ lowered_outcome terms arrivals =
     let rejected = ap rejected_of messages ∙ lowered_rejected (former_handled terms arrivals) in
     let counts = ap (former_counts terms) messages ∙ lowered_counts terms (former_handled terms arrivals) in
     let bypassed = lowered_bypassed arrivals in
-    (λ i. outcome_with (rejected i) (counts i) (bypassed i) (former_samples terms.rules (offers i))
-    (former_controls terms.rules (offers i)))
+    (λ i. outcome_with (rejected i) (counts i) (bypassed i) (former_samples terms.tariff.costs.servers terms.rules (offers i))
+    (former_controls terms.tariff.costs.servers terms.rules (offers i)))
 
 pub former_answers_hold : FormerAnswersHold
 former_answers_hold terms input old new former f =

@@ -1,16 +1,31 @@
 -- What becomes of messages follows from the terms and the messages before them.
-use Rattle.std.proofs.Common.{◌≡◌, ℕ, zero, suc, List, [], ◌∷◌, ◌++◌, map, take, refl, ap, ◌∙◌, subst}
+use Rattle.std.proofs.Common.{◌≡◌, ℕ, zero, suc, Bool, true, false, List, [], ◌∷◌, ◌++◌, length, map, take, refl, ap, ◌∙◌, subst}
+use Rattle.cost_model.specs.Reference.{Tariff}
 use Rattle.std.proofs.lemmas.List.{map-append}
 use Rattle.captures.specs.Reference.{format_of, used_once, used_once_after}
 use Rattle.captures.proofs.Lives.{once_append}
-use Rattle.arrivals.specs.Reference.{AreArrivals}
+use Rattle.arrivals.specs.Reference.{Arrival, AreArrivals}
 use Rattle.arrivals.proofs.ArrivalLaws.{arrivals_begin}
-use Rattle.reference.specs.Reference.{handled, handled_after, reply_of, replies_of}
-use Rattle.reference.specs.Laws.{FloorsChangeNothing, HandledBegin, DueBegin}
+use Rattle.reference.specs.Reference.{Terms, handled, handled_after, is_turned_away, reply_of, replies_of}
+use Rattle.reference.specs.Laws.{FloorsChangeNothing, TariffsChangeNoReply, HandledBegin, DueBegin, with_tariff}
 use Rattle.reference.proofs.Offering.{handled_more}
 
 pub floors_change_nothing : FloorsChangeNothing
-floors_change_nothing files c d input old new outcome costs rules retry h = rw (← costs, ← rules, ← retry) h
+floors_change_nothing files c d input old new outcome costs rules retry speed h = rw (← costs, ← rules, ← retry, ← speed) h
+
+-- a message that was turned away, or wasn't, has one reply with each tariff
+same_reply : (terms : Terms) (tariff : Tariff) (start number : ℕ) (a : Arrival) (away : Bool)
+    → reply_of terms start (record { number = number; arrival = a; turned_away = away })
+    ≡ reply_of (with_tariff tariff terms) start (record { number = number; arrival = a; turned_away = away })
+unfolding reply_of
+same_reply terms tariff start number a true = refl
+same_reply terms tariff start number a false = refl
+
+pub tariffs_change_no_reply : TariffsChangeNoReply
+tariffs_change_no_reply terms tariff start earlier a same =
+    let other = with_tariff tariff terms in
+    same_reply terms tariff start (length earlier) a (is_turned_away terms earlier a)
+    ∙ ap (λ (away : Bool). reply_of other start (record { number = length earlier; arrival = a; turned_away = away })) same
 
 pub handled_begin : HandledBegin
 handled_begin terms arrivals more = (handled_after terms arrivals more, handled_more terms [] arrivals more)

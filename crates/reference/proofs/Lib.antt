@@ -6,3 +6,5 @@ pub mod OneAnswer
 pub mod OneOutcome
 pub mod Former
 pub mod Table
+pub mod ByMeaning
+pub mod AtSpeed

@@ -1,16 +1,15 @@
 -- One more offer, and one more message.
-use Rattle.std.proofs.Common.{◌≡◌, ℕ, suc, ◌-◌, ◌≤◌, Bool, true, false, List, [], ◌∷◌, ◌++◌, length, map, refl, ap, ◌∙◌, arith, append-nil, append_assoc}
+use Rattle.std.proofs.Common.{◌≡◌, ℕ, suc, ◌+◌, ◌-◌, ◌≤◌, Bool, true, false, List, [], ◌∷◌, ◌++◌, length, refl, ap, ◌∙◌, arith, append-nil, append_assoc}
 use Rattle.std.proofs.lemmas.Grind.{flat_map-append}
 use Rattle.std.proofs.lemmas.List.{length-append, map-append}
 use Rattle.std.specs.List.{list_any}
 use Rattle.std.specs.Prelude.{if◌then◌else◌}
 use Rattle.http_requests.specs.declared.messages.Meaning.{Meaning}
 use Rattle.http_requests.specs.declared.messages.Meaning.TheVariants.{Request, Bad}
-use Rattle.admission.specs.declared.policy.PolicyNumbers.{PolicyNumbers}
 use Rattle.admission.specs.declared.control.Decision.{Decision}
 use Rattle.admission.specs.declared.control.Decision.TheVariants.{Admitted, Rejected}
-use Rattle.admission.specs.Reference.{Offer, Decided, served, as_served, finish_after, decide, decided, decided_next}
-use Rattle.admission.proofs.RequestLemmas.{decided_from-push, served-push, last_finish-push}
+use Rattle.admission.specs.Reference.{Station, Offer, Decided, served, as_served, finish_after, decide, decided, decided_next}
+use Rattle.admission.proofs.RequestLemmas.{decided_from-push, served-push}
 use Rattle.reference.specs.Reference.{Terms, offer_at, offers_of, rejects, handled_next, handled_after, handled, samples_of}
 use Rattle.arrivals.specs.Reference.{Arrival}
 use Rattle.arrivals.specs.declared.incoming.Origin.{Origin}
@@ -38,35 +37,35 @@ offers_few terms (a ∷ arrivals) = omega (
 
 -- ---- decisions
 
-decided_more : (policies : List PolicyNumbers) (offers : List Offer) (offer : Offer) → decided policies (offers ++ offer ∷ []) ≡ decided policies offers ++ decided_next policies (decided policies offers) offer ∷ []
-decided_more policies offers offer = decided_from-push policies [] offers offer
+decided_more : (station : Station) (offers : List Offer) (offer : Offer) → decided station (offers ++ offer ∷ []) ≡ decided station offers ++ decided_next station (decided station offers) offer ∷ []
+decided_more station offers offer = decided_from-push station [] offers offer
 
--- an admitted request has a sample, which is from its arrival to its finish
-pub samples_admitted : (policies : List PolicyNumbers) (offers : List Offer) (offer : Offer) (finish : ℕ) → Admitted finish ≡ decide policies (decided policies offers) offer
-    → samples_of policies (offers ++ offer ∷ []) ≡ samples_of policies offers ++ (finish - offer.tick) ∷ []
+-- an admitted request has a sample, which is from its arrival to its finish, with its delay
+pub samples_admitted : (station : Station) (offers : List Offer) (offer : Offer) (finish : ℕ) → Admitted finish ≡ decide station (decided station offers) offer
+    → samples_of station (offers ++ offer ∷ []) ≡ samples_of station offers ++ (finish - offer.tick + offer.delay) ∷ []
 unfolding samples_of
-samples_admitted policies offers offer finish e =
-    let next = decided_next policies (decided policies offers) offer in
+samples_admitted station offers offer finish e =
+    let next = decided_next station (decided station offers) offer in
     let own : as_served offer next.decision ≡ record { offer = offer; finish = finish } ∷ [] = rw (← e) refl in
-    rw (decided_more policies offers offer, served-push (decided policies offers) next, own)
-    (map-append (λ r. r.finish - r.offer.tick) (served (decided policies offers)) (record { offer = offer; finish = finish } ∷ []))
+    rw (decided_more station offers offer, served-push (decided station offers) next, own)
+    (map-append (λ r. r.finish - r.offer.tick + r.offer.delay) (served (decided station offers)) (record { offer = offer; finish = finish } ∷ []))
 
 -- a rejected one has none
-pub samples_rejected : (policies : List PolicyNumbers) (offers : List Offer) (offer : Offer) → Rejected ≡ decide policies (decided policies offers) offer
-    → samples_of policies (offers ++ offer ∷ []) ≡ samples_of policies offers
+pub samples_rejected : (station : Station) (offers : List Offer) (offer : Offer) → Rejected ≡ decide station (decided station offers) offer
+    → samples_of station (offers ++ offer ∷ []) ≡ samples_of station offers
 unfolding samples_of
-samples_rejected policies offers offer e =
-    let next = decided_next policies (decided policies offers) offer in
+samples_rejected station offers offer e =
+    let next = decided_next station (decided station offers) offer in
     let own : as_served offer next.decision ≡ [] = rw (← e) refl in
-    rw (decided_more policies offers offer, served-push (decided policies offers) next, own, append-nil (served (decided policies offers))) refl
+    rw (decided_more station offers offer, served-push (decided station offers) next, own, append-nil (served (decided station offers))) refl
 
-pub is_admitted_one : (policies : List PolicyNumbers) (offers : List Offer) (offer : Offer) (finish : ℕ) → Admitted finish ≡ decide policies (decided policies offers) offer → false ≡ list_any (rejects policies offers) (offer ∷ [])
+pub is_admitted_one : (station : Station) (offers : List Offer) (offer : Offer) (finish : ℕ) → Admitted finish ≡ decide station (decided station offers) offer → false ≡ list_any (rejects station offers) (offer ∷ [])
 unfolding rejects
-is_admitted_one policies offers offer finish e = rw (← e) refl
+is_admitted_one station offers offer finish e = rw (← e) refl
 
-pub is_rejected_one : (policies : List PolicyNumbers) (offers : List Offer) (offer : Offer) → Rejected ≡ decide policies (decided policies offers) offer → true ≡ list_any (rejects policies offers) (offer ∷ [])
+pub is_rejected_one : (station : Station) (offers : List Offer) (offer : Offer) → Rejected ≡ decide station (decided station offers) offer → true ≡ list_any (rejects station offers) (offer ∷ [])
 unfolding rejects
-is_rejected_one policies offers offer e = rw (← e) refl
+is_rejected_one station offers offer e = rw (← e) refl
 
 abbrev pub finish_or : ℕ → Decision → ℕ
 finish_or other (Admitted finish) = finish
@@ -77,11 +76,10 @@ finish_is true own finish e = ap (finish_or own) e
 finish_is false own finish e = ap (finish_or own) e
 
 -- a request is finished no earlier than it came
-pub finish_late : (policies : List PolicyNumbers) (past : List Decided) (offer : Offer) (finish : ℕ) → Admitted finish ≡ decide policies past offer → offer.tick ≤ finish
-finish_late policies past offer finish e =
-    let is : finish ≡ finish_after (served past) offer = finish_is _ _ _ e in
-    let late = last_finish-push (map (λ r. r.offer) (served past)) offer in
-    omega (arith, is, late)
+pub finish_late : (station : Station) (past : List Decided) (offer : Offer) (finish : ℕ) → Admitted finish ≡ decide station past offer → offer.tick ≤ finish
+finish_late station past offer finish e =
+    let is : finish ≡ finish_after station.servers (served past) offer = finish_is _ _ _ e in
+    omega (arith, is)
 
 -- ---- messages
 

@@ -1,14 +1,14 @@
 -- The table of decisions, row after row, and what its rows say.
-use Rattle.std.proofs.Common.{◌≡◌, ℕ, ◌+◌, ◌-◌, max, Bool, true, false, List, [], ◌∷◌, ◌++◌, ◌||◌, map, refl, sym, ap, ◌∙◌, append-nil, append_assoc, arith}
+use Rattle.std.proofs.Common.{◌≡◌, ℕ, ◌+◌, ◌-◌, max, Bool, true, false, List, [], ◌∷◌, ◌++◌, ◌||◌, refl, sym, ap, ◌∙◌, append-nil, append_assoc, arith}
 use Rattle.std.specs.List.{list_any}
 use Rattle.http_requests.specs.declared.messages.Meaning.{Meaning}
 use Rattle.http_requests.specs.declared.messages.Meaning.TheVariants.{Request, Bad}
-use Rattle.admission.specs.Reference.{served, last_finish, finish_after, is_rejected, decide, decided}
-use Rattle.admission.proofs.RequestLemmas.{last_finish-push}
+use Rattle.paths.specs.Reference.{asked, outcome}
+use Rattle.admission.specs.Reference.{Offer, served, free_at, is_rejected, decide, decided}
 use Rattle.decision_table.specs.Rows.{heading}
 use Rattle.arrivals.specs.Reference.{Arrival}
 use Rattle.arrivals.specs.declared.incoming.Origin.{Origin}
-use Rattle.reference.specs.Reference.{Terms, offer_at, offers_of, rejects}
+use Rattle.reference.specs.Reference.{Terms, station_for, is_head, offer_of, charge_of, offer_at, offers_of, rejects}
 use Rattle.reference.specs.Texts.{AreTexts}
 use Rattle.reference.specs.Explaining.{first_offered, row_after, rows_after, table, row_texts}
 use Rattle.reference.specs.Laws.{is_row_rejected, RowsAgree, StartsOnceFree}
@@ -48,10 +48,16 @@ alone false = refl
 
 -- ---- what rows say
 
-rejected_row : (terms : Terms) (earlier : List Arrival) (origin : Origin) (what : Meaning)
-    → is_row_rejected (first_offered terms earlier (offer_at terms origin what)) ≡ list_any (rejects terms.policies (offers_of terms earlier)) (offer_at terms origin what)
+rejected_one : (terms : Terms) (earlier : List Arrival) (offer : Offer)
+    → is_row_rejected (first_offered terms earlier (offer ∷ [])) ≡ list_any (rejects (station_for terms) (offers_of terms earlier)) (offer ∷ [])
 unfolding rejects
-rejected_row terms earlier origin (Request method target version closing since) = sym (alone (is_rejected (decide terms.policies (decided terms.policies (offers_of terms earlier)) _)))
+rejected_one terms earlier offer =
+    sym (alone (is_rejected (decide (station_for terms) (decided (station_for terms) (offers_of terms earlier)) offer)))
+
+rejected_row : (terms : Terms) (earlier : List Arrival) (origin : Origin) (what : Meaning)
+    → is_row_rejected (first_offered terms earlier (offer_at terms origin what)) ≡ list_any (rejects (station_for terms) (offers_of terms earlier)) (offer_at terms origin what)
+rejected_row terms earlier origin (Request method target version closing since) =
+    rejected_one terms earlier (offer_of terms origin (charge_of terms target (is_head method) since (outcome terms.files (asked method target))))
 rejected_row terms earlier origin (Bad fault) = refl
 
 pub rows_agree : RowsAgree
@@ -59,11 +65,10 @@ rows_agree terms earlier a = rejected_row terms earlier a.origin a.message.what
 
 pub starts_once_free : StartsOnceFree
 starts_once_free terms earlier offer finish admitted =
-    let past = decided terms.policies (offers_of terms earlier) in
-    let free = last_finish (map (λ r. r.offer) (served past)) in
-    let is : finish ≡ finish_after (served past) offer = finish_is _ _ _ (sym admitted) in
-    let runs : finish_after (served past) offer ≡ max free offer.tick + offer.service = last_finish-push (map (λ r. r.offer) (served past)) offer in
-    begins free offer.tick offer.service finish (is ∙ runs)
+    let past = decided (station_for terms) (offers_of terms earlier) in
+    let free = free_at terms.tariff.costs.servers (served past) in
+    let is : finish ≡ max free offer.tick + offer.service = finish_is _ _ _ (sym admitted) in
+    begins free offer.tick offer.service finish is
   where
     begins : (free tick service finish : ℕ) → finish ≡ max free tick + service → finish - service ≡ tick + (free - tick)
     begins free tick service finish e = omega (arith, e)

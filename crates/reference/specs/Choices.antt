@@ -6,7 +6,7 @@ use Rattle.reference.specs.declared.settings.SettingsFault.TheVariants.{Front, B
 use Rattle.reference.specs.Reference.{Choice}
 
 -- how many steps a request takes on the front floor and on the back floor, the most records of a batch, the most bytes
--- of the cache, and the longest wait of a rejected request, in seconds
+-- of the cache, the longest wait of a rejected request, in seconds, and the least and the greatest speed, in percent
 abbrev pub front_steps : ℕ
 front_steps = 3
 
@@ -21,6 +21,12 @@ max_cache = 1073741824
 
 abbrev pub max_retry_after : ℕ
 max_retry_after = 86400
+
+abbrev pub min_speed : ℕ
+min_speed = 100
+
+abbrev pub max_speed : ℕ
+max_speed = 10000
 
 -- the first of the faults in their order
 abbrev pub settings_fault : Choice → Option SettingsFault
@@ -43,3 +49,4 @@ pub record IsChoice (c : Choice) : Type 0 where
   pub batch : (1 ≤ c.batch) × (c.batch ≤ max_batch)
   pub cache : c.cache ≤ max_cache
   pub retry_after : c.retry_after ≤ max_retry_after
+  pub speed : (min_speed ≤ c.speed) × (c.speed ≤ max_speed)

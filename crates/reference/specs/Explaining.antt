@@ -9,7 +9,8 @@ use Rattle.decision_table.specs.declared.row.Offered.{Offered}
 use Rattle.decision_table.specs.declared.row.Row.{Row}
 use Rattle.decision_table.specs.Rows.{heading, row_text}
 use Rattle.arrivals.specs.Reference.{Arrival}
-use Rattle.reference.specs.Reference.{Terms, offer_at, offers_of, handled_next, status_for, outcome_of, ArrivedCapture}
+use Rattle.reference.specs.Reference.{Terms, station_for, tick_in, offer_at, offers_of, handled_next, status_for}
+use Rattle.reference.specs.Reference.{ArrivedCapture, outcome_of}
 use Rattle.reference.specs.Texts.{Texts}
 use Rattle.reference.specs.declared.summary.Outcome.{Outcome}
 
@@ -17,8 +18,8 @@ use Rattle.reference.specs.declared.summary.Outcome.{Outcome}
 abbrev pub offered_after : Terms → List Arrival → Offer → Offered
 offered_after terms earlier offer = record {
   service = offer.service;
-  found = outlook terms.policies (decided terms.policies (offers_of terms earlier)) offer.tier offer.tick;
-  decision = decide terms.policies (decided terms.policies (offers_of terms earlier)) offer;
+  found = outlook (station_for terms) (decided (station_for terms) (offers_of terms earlier)) offer.tier offer.tick;
+  decision = decide (station_for terms) (decided (station_for terms) (offers_of terms earlier)) offer;
 }
 
 -- the offer that a message makes, if it makes one
@@ -31,7 +32,7 @@ abbrev pub row_of : Terms → List Arrival → Arrival → Row
 row_of terms earlier a = record {
   number = length earlier;
   conn = a.origin.conn;
-  tick = a.origin.tick;
+  tick = tick_in terms a.origin;
   tier = a.origin.tier;
   status = status_for terms (handled_next terms earlier a);
   offered = first_offered terms earlier (offer_at terms a.origin a.message.what);

@@ -1,7 +1,7 @@
 -- What the reference server did when there was one class of requests and one policy, in the words of that time. It
 -- looks at no tier.
-use Rattle.std.specs.Prelude.{◌≡◌, ℕ, ◌+◌, ◌/◌, ◌<◌, ◌≤◌, ◌==◌, Bool, true, false, List, [], ◌∷◌, ◌++◌, length, take}
-use Rattle.std.specs.Prelude.{map, count_by, flat_map, All, Some, slice_get, Option}
+use Rattle.std.specs.Prelude.{◌≡◌, ℕ, ◌+◌, ◌/◌, ◌<◌, ◌≤◌, ◌==◌, ◌*◌, Bool, true, false, List, [], ◌∷◌, ◌++◌, length}
+use Rattle.std.specs.Prelude.{take, map, count_by, flat_map, All, Some, slice_get, Option}
 use Rattle.std.specs.List.{list_any, AllPairs}
 use Rattle.std.specs.Io.KnownBytes.{Appends}
 use Rattle.captures.specs.declared.record.Record.{Record}
@@ -15,7 +15,7 @@ use Rattle.paths.specs.declared.resolution.Outcome.{Outcome as Resolved}
 use Rattle.http_requests.specs.Reference.{MessagesOf}
 use Rattle.http_requests.specs.declared.messages.Meaning.{Meaning}
 use Rattle.http_requests.specs.declared.messages.Meaning.TheVariants.{Request, Bad}
-use Rattle.cost_model.specs.Reference.{CostTable, service}
+use Rattle.cost_model.specs.Reference.{Tariff, Charge, charge}
 use Rattle.responses.specs.declared.slip.Slip.{Slip}
 use Rattle.responses.specs.declared.slip.Status.TheVariants.{ServiceUnavailable}
 use Rattle.responses.specs.declared.slip.Given.{Given}
@@ -27,6 +27,7 @@ use Rattle.admission.specs.Reference.{Offer, served, samples, is_rejected, contr
 use Rattle.admission.specs.OneTier.{decide_alone, decided_alone}
 use Rattle.reference.specs.declared.summary.Counts.{Counts}
 use Rattle.arrivals.specs.Reference.{Arrival, Precedes, text_of, messages_of}
+use Rattle.arrivals.specs.declared.incoming.Origin.{Origin}
 use Rattle.reference.specs.Reference.{is_head, answers_head, persistence_of, answer, Handled, length_given}
 use Rattle.reference.specs.Reference.{is_unmodified_file}
 use Rattle.reference.specs.Reference.{bypassed_of, rejected_of, replies_text}
@@ -34,9 +35,10 @@ use Rattle.reference.specs.Reference.{bypassed_of, rejected_of, replies_text}
 -- what an answer depended on besides its capture: the rules are those of the one policy
 pub record FormerTerms : Type 0 where
   pub files : List File
-  pub costs : CostTable
+  pub tariff : Tariff
   pub rules : PolicyNumbers
   pub retry_after : ℕ
+  pub speed : ℕ
 
 -- ---- the arrivals
 
@@ -57,35 +59,42 @@ pub record WereArrivals (records : List Record) (arrivals : List Arrival) : Type
 
 -- ---- the offers and the decisions
 
--- how long the virtual server worked on a request with this outcome
-abbrev pub former_service : FormerTerms → Bool → Option ℕ → Resolved → ℕ
-former_service terms head since o =
-    service terms.costs o head (is_unmodified_file terms.files since o) (length_given terms.files o)
+-- what a request with this target and this outcome cost
+abbrev pub former_charge : FormerTerms → List ℕ → Bool → Option ℕ → Resolved → Charge
+former_charge terms target head since o =
+    charge terms.tariff target o head (is_unmodified_file terms.files since o) (length_given terms.files o)
+
+-- the offer of a request that came at a tick and cost this
+abbrev pub former_offer_of : ℕ → Charge → Offer
+former_offer_of tick cost = record { tier = 0; tick = tick; service = cost.service; delay = cost.delay }
+
+-- the tick of a message from there (terms have a speed now: at that time it was 100)
+abbrev pub former_tick : FormerTerms → Origin → ℕ
+former_tick terms origin = origin.tick * 100 / terms.speed
 
 -- the offer of a message that came at a tick: none where it breaks a rule, and so is no request. (An offer has a tier
--- now, which no decision of that time looks at.)
+-- now, which no decision of that time looks at. And a tariff says a delay, how many servers there are, and routes: at
+-- that time there was none, one, and none.)
 abbrev pub former_offer : FormerTerms → ℕ → Meaning → List Offer
 former_offer terms tick (Request method target version closing since) =
-    record {
-      tier = 0;
-      tick = tick;
-      service = former_service terms (is_head method) since (outcome terms.files (asked method target));
-    } ∷ []
+    former_offer_of tick
+    (former_charge terms target (is_head method) since (outcome terms.files (asked method target))) ∷ []
 former_offer terms tick (Bad fault) = []
 
 -- the offers of these arrivals, in their order
 unfoldable pub former_offers : FormerTerms → List Arrival → List Offer
-former_offers terms arrivals = flat_map (λ a. former_offer terms a.origin.tick a.message.what) arrivals
+former_offers terms arrivals = flat_map (λ a. former_offer terms (former_tick terms a.origin) a.message.what) arrivals
 
 -- whether an offer that comes after these was turned away
-unfoldable pub formerly_rejects : PolicyNumbers → List Offer → Offer → Bool
-formerly_rejects rules offers offer = is_rejected (decide_alone rules (decided_alone rules offers) offer)
+unfoldable pub formerly_rejects : ℕ → PolicyNumbers → List Offer → Offer → Bool
+formerly_rejects servers rules offers offer =
+    is_rejected (decide_alone servers rules (decided_alone servers rules offers) offer)
 
 -- a message was turned away where the offer that it makes after those of the earlier ones was
 abbrev pub was_turned_away : FormerTerms → List Arrival → Arrival → Bool
 was_turned_away terms earlier a =
-    list_any (formerly_rejects terms.rules (former_offers terms earlier))
-    (former_offer terms a.origin.tick a.message.what)
+    list_any (formerly_rejects terms.tariff.costs.servers terms.rules (former_offers terms earlier))
+    (former_offer terms (former_tick terms a.origin) a.message.what)
 
 abbrev pub handled_next_alone : FormerTerms → List Arrival → Arrival → Handled
 handled_next_alone terms earlier a =
@@ -113,7 +122,7 @@ abbrev pub former_slip : {X : Type 0} → FormerTerms → ℕ → Handled → Sl
 former_slip terms start h = record {
   number = h.number;
   conn = h.arrival.origin.conn;
-  date = start + h.arrival.origin.tick / 1000000;
+  date = start + former_tick terms h.arrival.origin / 1000000;
   head = answers_head h.arrival.message.what;
   link = persistence_of h.arrival.message.what;
   what = formerly_given terms h.turned_away h.arrival.message.what;
@@ -141,12 +150,13 @@ abbrev pub former_counts : FormerTerms → List Handled → Counts
 former_counts terms messages = record { by_status = map (former_count terms messages) statuses }
 
 -- how long each admitted request took
-unfoldable pub former_samples : PolicyNumbers → List Offer → List ℕ
-former_samples rules offers = samples (served (decided_alone rules offers))
+unfoldable pub former_samples : ℕ → PolicyNumbers → List Offer → List ℕ
+former_samples servers rules offers = samples (served (decided_alone servers rules offers))
 
 -- the changes of the rate, up to the tick of the last offer
-unfoldable pub former_controls : PolicyNumbers → List Offer → List Control
-former_controls rules offers = controls_until rules (served (decided_alone rules offers)) (tick_from 0 offers)
+unfoldable pub former_controls : ℕ → PolicyNumbers → List Offer → List Control
+former_controls servers rules offers =
+    controls_until rules (served (decided_alone servers rules offers)) (tick_from 0 offers)
 
 -- the numbers of the messages that were turned away, and what became of all of them
 pub record FormerOutcome : Type 0 where
@@ -161,8 +171,8 @@ former_outcome terms arrivals = record {
   rejected = rejected_of (former_handled terms arrivals);
   counts = former_counts terms (former_handled terms arrivals);
   bypassed = bypassed_of arrivals;
-  samples = former_samples terms.rules (former_offers terms arrivals);
-  controls = former_controls terms.rules (former_offers terms arrivals);
+  samples = former_samples terms.tariff.costs.servers terms.rules (former_offers terms arrivals);
+  controls = former_controls terms.tariff.costs.servers terms.rules (former_offers terms arrivals);
 }
 
 -- The former answer to a capture, which was of version 1, and that it was written: the input is the text of a capture

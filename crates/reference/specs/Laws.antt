@@ -1,6 +1,6 @@
 -- What follows from the definitions.
 use Rattle.std.specs.Prelude.{◌≡◌, ℕ, ◌+◌, ◌-◌, Bool, List, [], ◌∷◌, ◌++◌, length, take, Option, Some, None, true}
-use Rattle.std.specs.Prelude.{false, is_some, map, filter, ◌==◌}
+use Rattle.std.specs.Prelude.{false, is_some, map, filter, ◌==◌, ◌*◌, ◌/◌}
 use Rattle.captures.specs.declared.record.Record.{Record}
 use Rattle.captures.specs.declared.version.Version.{Version}
 use Rattle.captures.specs.declared.version.Version.TheVariants.{One, Two}
@@ -17,16 +17,19 @@ use Rattle.reference.specs.declared.summary.Tally.{Tally}
 use Rattle.arrivals.specs.Reference.{Arrival, AreArrivals, text_of}
 use Rattle.arrivals.specs.Connections.{IsNumber}
 use Rattle.http_requests.specs.Reference.{MessagesOf}
-use Rattle.reference.specs.Reference.{Choice, Terms, terms_of, Handled, handled, handled_next, Answers}
-use Rattle.reference.specs.Reference.{replies_of}
-use Rattle.reference.specs.Explaining.{offered_after, row_of}
+use Rattle.http_requests.specs.declared.messages.Meaning.{Meaning}
+use Rattle.arrivals.specs.declared.incoming.Origin.{Origin}
+use Rattle.reference.specs.Reference.{Choice, Terms, terms_of, station_for, Handled, handled, handled_next, Answers}
+use Rattle.reference.specs.Reference.{replies_of, reply_of, rejected_of, summary_of}
+use Rattle.cost_model.specs.Reference.{Tariff}
+use Rattle.reference.specs.Explaining.{offered_after, row_of, table}
 use Rattle.reference.specs.Outcomes.{Stops, StopsFull}
 use Rattle.reference.specs.Former.{FormerTerms, FormerOutcome, FormerAnswers}
 
--- settings with the same service times, policies and wait have the same answers, whatever their graphs, batch and cache
+-- settings with the same tariff, policies, wait and speed have the same answers, whatever their graphs, batch and cache
 abbrev pub FloorsChangeNothing : Type 0
 FloorsChangeNothing = (files : List File) (c d : Choice) (input old new : Option (List ℕ)) (outcome : Outcome)
-    → c.costs ≡ d.costs → c.policies ≡ d.policies → c.retry_after ≡ d.retry_after
+    → c.tariff ≡ d.tariff → c.policies ≡ d.policies → c.retry_after ≡ d.retry_after → c.speed ≡ d.speed
     → Answers (terms_of files c) input old new outcome → Answers (terms_of files d) input old new outcome
 
 -- a capture has one answer: what is written to a device of known bytes, and the outcome
@@ -63,6 +66,24 @@ OneLimit = (terms : Terms) (input old new other : Option (List ℕ)) (number ano
     → is_some input ≡ true → is_some old ≡ true
     → StopsFull terms input old new number → StopsFull terms input old other another
     → (new ≡ other) × (number ≡ another)
+
+-- terms with another tariff: another table, or other routes
+abbrev pub with_tariff : Tariff → Terms → Terms
+with_tariff tariff terms = record {
+  files = terms.files;
+  tariff = tariff;
+  policies = terms.policies;
+  retry_after = terms.retry_after;
+  speed = terms.speed;
+}
+
+-- What requests cost changes no reply, and so no route does: a message that is turned away by both tariffs, or by
+-- neither, has one reply.
+abbrev pub TariffsChangeNoReply : Type 0
+TariffsChangeNoReply = (terms : Terms) (tariff : Tariff) (start : ℕ) (earlier : List Arrival) (a : Arrival)
+    → (handled_next terms earlier a).turned_away ≡ (handled_next (with_tariff tariff terms) earlier a).turned_away
+    → reply_of terms start (handled_next terms earlier a)
+    ≡ reply_of (with_tariff tariff terms) start (handled_next (with_tariff tariff terms) earlier a)
 
 -- the messages of a connection, and what became of each
 abbrev pub handled_on : ℕ → List Handled → List Handled
@@ -119,9 +140,10 @@ StartsOnceFree = (terms : Terms) (earlier : List Arrival) (offer : Offer) (finis
 abbrev pub former_terms : Terms → FormerTerms
 former_terms terms = record {
   files = terms.files;
-  costs = terms.costs;
-  rules = rules_of terms.policies 0;
+  tariff = terms.tariff;
+  rules = rules_of (station_for terms) 0;
   retry_after = terms.retry_after;
+  speed = terms.speed;
 }
 
 -- the tally of a tier that no request came in
@@ -181,3 +203,47 @@ UpgradeKeepsReplies = (terms : Terms) (to : Version) (text upgraded : List ℕ) 
     (outcome : Outcome) → (upgrade : IsUpgrade to text upgraded)
     → Answers terms (Some text) old new outcome
     → Answers terms (Some upgraded) old new (told_in (later to upgrade.version) outcome)
+
+-- what of an arrival answers depend on: its number, tick and tier, and what it means
+abbrev pub asked_by : Arrival → Origin × Meaning
+asked_by a = (a.origin, a.message.what)
+
+-- Messages that come from the same origins with the same meanings have the same replies, the same are turned away, and
+-- the summary and the table of decisions are the same, whatever the terms: neither where a message lies in a text nor
+-- which record brought it, nor how a number's connections are counted, changes an answer.
+abbrev pub AnswersByMeaning : Type 0
+AnswersByMeaning = (terms : Terms) (start : ℕ) (xs ys : List Arrival) → map asked_by xs ≡ map asked_by ys
+    → (replies_of terms start (handled terms xs) ≡ replies_of terms start (handled terms ys))
+    × (rejected_of (handled terms xs) ≡ rejected_of (handled terms ys))
+    × (summary_of terms xs ≡ summary_of terms ys)
+    × (table terms xs ≡ table terms ys)
+
+-- these terms where traffic comes as it was recorded
+abbrev pub as_recorded : Terms → Terms
+as_recorded terms = record {
+  files = terms.files;
+  tariff = terms.tariff;
+  policies = terms.policies;
+  retry_after = terms.retry_after;
+  speed = 100;
+}
+
+-- a message whose tick is divided, for so many percent of the speed
+abbrev pub hurried : ℕ → Arrival → Arrival
+hurried speed a = record {
+  origin = record { conn = a.origin.conn; tick = a.origin.tick * 100 / speed; tier = a.origin.tier };
+  connection = a.connection;
+  place = a.place;
+  message = a.message;
+}
+
+-- At a speed the replies, the messages that are turned away, the summary and the table are those of the same messages
+-- in the same order, as if they had been recorded with their ticks divided so.
+abbrev pub SpeedDividesTicks : Type 0
+SpeedDividesTicks = (terms : Terms) (start : ℕ) (arrivals : List Arrival)
+    → (replies_of terms start (handled terms arrivals)
+    ≡ replies_of (as_recorded terms) start (handled (as_recorded terms) (map (hurried terms.speed) arrivals)))
+    × (rejected_of (handled terms arrivals)
+    ≡ rejected_of (handled (as_recorded terms) (map (hurried terms.speed) arrivals)))
+    × (summary_of terms arrivals ≡ summary_of (as_recorded terms) (map (hurried terms.speed) arrivals))
+    × (table terms arrivals ≡ table (as_recorded terms) (map (hurried terms.speed) arrivals))

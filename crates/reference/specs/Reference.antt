@@ -1,13 +1,13 @@
 -- What a reader has to believe: the definitions of this crate that the headline stands on, in reading order.
 use Rattle.std.specs.Prelude.{ℕ, List, Bool, true, false, length, codes, bytes_eq, nat_le, Option, Some, None}
 use Rattle.std.specs.Prelude.{if◌then◌else◌, [], ◌∷◌, ◌++◌, flat_map, ◌+◌, ◌/◌, map, decimal, ◌==◌, filter, count_by}
-use Rattle.std.specs.Prelude.{◌≡◌, ◌≤◌}
+use Rattle.std.specs.Prelude.{◌≡◌, ◌≤◌, ◌*◌}
 use Rattle.std.specs.List.{list_any}
 use Rattle.std.specs.Io.KnownBytes.{Appends}
 use Rattle.stage_graph.specs.Layouts.{Layout}
-use Rattle.cost_model.specs.Reference.{CostTable, service}
+use Rattle.cost_model.specs.Reference.{Tariff, Charge, charge}
 use Rattle.admission.specs.declared.policy.PolicyNumbers.{PolicyNumbers}
-use Rattle.admission.specs.Reference.{Offer, is_rejected, decide, decided, rules_of, Decided, served, samples}
+use Rattle.admission.specs.Reference.{Station, Offer, is_rejected, decide, decided, rules_of, Decided, served, samples}
 use Rattle.admission.specs.Reference.{of_tier, controls_until, tick_from}
 use Rattle.paths.specs.declared.file.File.{File}
 use Rattle.paths.specs.Reference.{file_of, asked, outcome}
@@ -40,26 +40,42 @@ use Rattle.paths.specs.declared.resolution.Outcome.TheVariants as outcomes
 
 -- What an operator sets.
 
--- the graphs of the two floors, the records of a batch, the bytes of the cache, the service times, the policies of the
--- tiers, and the seconds that a rejected request is told to wait
+-- the graphs of the two floors, the records of a batch, the bytes of the cache, what requests cost, the policies of the
+-- tiers, the seconds that a rejected request is told to wait, and the percent of its speed at which traffic comes
 pub record Choice : Type 0 where
   pub front : Layout
   pub back : Layout
   pub batch : ℕ
   pub cache : ℕ
-  pub costs : CostTable
+  pub tariff : Tariff
   pub policies : List PolicyNumbers
   pub retry_after : ℕ
+  pub speed : ℕ
 
 -- What an answer depends on besides its capture. The graphs of the floors, the batch and the cache are none of it.
 pub record Terms : Type 0 where
   pub files : List File
-  pub costs : CostTable
+  pub tariff : Tariff
   pub policies : List PolicyNumbers
   pub retry_after : ℕ
+  pub speed : ℕ
 
 abbrev pub terms_of : List File → Choice → Terms
-terms_of files c = record { files = files; costs = c.costs; policies = c.policies; retry_after = c.retry_after }
+terms_of files c = record {
+  files = files;
+  tariff = c.tariff;
+  policies = c.policies;
+  retry_after = c.retry_after;
+  speed = c.speed;
+}
+
+-- the tick that a message from there counts with: traffic that comes faster has its ticks divided so, rounded down
+abbrev pub tick_in : Terms → Origin → ℕ
+tick_in terms origin = origin.tick * 100 / terms.speed
+
+-- what requests come to
+abbrev pub station_for : Terms → Station
+station_for terms = record { policies = terms.policies; servers = terms.tariff.costs.servers }
 
 -- What each message is answered with: by the reference server, which has one thread, no stages and no cache, and takes
 -- the messages one after another in the order of their arrival.
@@ -133,20 +149,24 @@ abbrev pub is_unmodified_file : List File → Option ℕ → PathOutcome → Boo
 is_unmodified_file files since (outcomes.File file) = is_unmodified since (file_of files file).mtime
 is_unmodified_file files since other = false
 
--- how long the virtual server works on a request with this outcome
-abbrev pub service_of : Terms → Bool → Option ℕ → PathOutcome → ℕ
-service_of terms head since o = service terms.costs o head (is_unmodified_file terms.files since o)
+-- what a request with this target and this outcome costs
+abbrev pub charge_of : Terms → List ℕ → Bool → Option ℕ → PathOutcome → Charge
+charge_of terms target head since o = charge terms.tariff target o head (is_unmodified_file terms.files since o)
     (length_given terms.files o)
+
+-- the offer of a request that came from there and costs this
+abbrev pub offer_of : Terms → Origin → Charge → Offer
+offer_of terms origin cost = record {
+  tier = origin.tier;
+  tick = tick_in terms origin;
+  service = cost.service;
+  delay = cost.delay;
+}
 
 -- the offer of a message that came from there: none where it breaks a rule, and so is no request
 abbrev pub offer_at : Terms → Origin → Meaning → List Offer
-offer_at terms origin (Request method target version closing since) =
-    record {
-      tier = origin.tier;
-      tick = origin.tick;
-      service = service_of terms (is_head method) since
-          (outcome terms.files (asked method target));
-    } ∷ []
+offer_at terms origin (Request method target version closing since) = offer_of terms origin
+    (charge_of terms target (is_head method) since (outcome terms.files (asked method target))) ∷ []
 offer_at terms origin (Bad fault) = []
 
 -- the offers of these arrivals, in their order
@@ -154,12 +174,12 @@ unfoldable pub offers_of : Terms → List Arrival → List Offer
 offers_of terms arrivals = flat_map (λ a. offer_at terms a.origin a.message.what) arrivals
 
 -- whether an offer that comes after these is turned away
-unfoldable pub rejects : List PolicyNumbers → List Offer → Offer → Bool
-rejects policies offers offer = is_rejected (decide policies (decided policies offers) offer)
+unfoldable pub rejects : Station → List Offer → Offer → Bool
+rejects station offers offer = is_rejected (decide station (decided station offers) offer)
 
 -- a message is turned away where the offer that it makes after those of the earlier ones is
 abbrev pub is_turned_away : Terms → List Arrival → Arrival → Bool
-is_turned_away terms earlier a = list_any (rejects terms.policies (offers_of terms earlier))
+is_turned_away terms earlier a = list_any (rejects (station_for terms) (offers_of terms earlier))
     (offer_at terms a.origin a.message.what)
 
 -- a message, its number, and whether it was turned away
@@ -191,7 +211,7 @@ abbrev pub slip_of : {X : Type 0} → Terms → ℕ → Handled → Slip X
 slip_of terms start h = record {
   number = h.number;
   conn = h.arrival.origin.conn;
-  date = start + h.arrival.origin.tick / 1000000;
+  date = start + tick_in terms h.arrival.origin / 1000000;
   head = answers_head h.arrival.message.what;
   link = persistence_of h.arrival.message.what;
   what = given terms h.turned_away h.arrival.message.what;
@@ -244,33 +264,33 @@ bypassed_of arrivals = count_by (λ a. breaks_a_rule a.message.what) arrivals
 abbrev pub rejected_of : List Handled → List ℕ
 rejected_of messages = map (λ h. h.number) (filter (λ h. h.turned_away) messages)
 
--- how long each admitted request took
-unfoldable pub samples_of : List PolicyNumbers → List Offer → List ℕ
-samples_of policies offers = samples (served (decided policies offers))
+-- how long the response to each admitted request took
+unfoldable pub samples_of : Station → List Offer → List ℕ
+samples_of station offers = samples (served (decided station offers))
 
 -- the requests of one tier, and what became of them
-abbrev pub decided_in : List PolicyNumbers → List Offer → ℕ → List Decided
-decided_in policies offers tier = of_tier tier (decided policies offers)
+abbrev pub decided_in : Station → List Offer → ℕ → List Decided
+decided_in station offers tier = of_tier tier (decided station offers)
 
 -- what became of the requests of one tier: how many were admitted and how many rejected, and the changes of its rate,
 -- up to the tick of the last offer of any tier
-unfoldable pub tally_of : List PolicyNumbers → List Offer → ℕ → Tally
-tally_of policies offers tier = record {
-  admitted = length (served (decided_in policies offers tier));
-  rejected = count_by (λ r. is_rejected r.decision) (decided_in policies offers tier);
-  controls = controls_until (rules_of policies tier) (served (decided_in policies offers tier)) (tick_from 0 offers);
+unfoldable pub tally_of : Station → List Offer → ℕ → Tally
+tally_of station offers tier = record {
+  admitted = length (served (decided_in station offers tier));
+  rejected = count_by (λ r. is_rejected r.decision) (decided_in station offers tier);
+  controls = controls_until (rules_of station tier) (served (decided_in station offers tier)) (tick_from 0 offers);
 }
 
-abbrev pub tallies_of : List PolicyNumbers → List Offer → List Tally
-tallies_of policies offers = map (tally_of policies offers) (0 ∷ 1 ∷ 2 ∷ 3 ∷ [])
+abbrev pub tallies_of : Station → List Offer → List Tally
+tallies_of station offers = map (tally_of station offers) (0 ∷ 1 ∷ 2 ∷ 3 ∷ [])
 
 -- what became of these arrivals
 abbrev pub summary_of : Terms → List Arrival → Summary
 summary_of terms arrivals = record {
   counts = counts_of terms (handled terms arrivals);
   bypassed = bypassed_of arrivals;
-  samples = samples_of terms.policies (offers_of terms arrivals);
-  tiers = tallies_of terms.policies (offers_of terms arrivals);
+  samples = samples_of (station_for terms) (offers_of terms arrivals);
+  tiers = tallies_of (station_for terms) (offers_of terms arrivals);
 }
 
 -- What a replay comes to: its outcome, or a fault, and what it has written.

@@ -2,12 +2,19 @@
 
 ghost use Rattle.reference.specs.Laws.{AnsweredNotFaulty, AnsweredNotFull, DueBegin, FaultyNotFull, OneFault, OneLimit};
 ghost use Rattle.reference.specs.Laws.{FloorsChangeNothing, FormerAnswersHold, HandledBegin, OneAnswer};
-ghost use Rattle.reference.specs.Laws.{SameInVersionOne, UpgradeKeepsReplies};
-ghost use Rattle.reference.specs.Laws.{RepliesInRequestOrder, RowsAgree, StartsOnceFree, UpgradeKeepsAnswers};
+ghost use Rattle.reference.specs.Laws.{SpeedDividesTicks};
+ghost use Rattle.reference.specs.Laws.{AnswersByMeaning, SameInVersionOne, UpgradeKeepsReplies};
+ghost use Rattle.reference.specs.Laws.{RepliesInRequestOrder, RowsAgree, StartsOnceFree, TariffsChangeNoReply};
+ghost use Rattle.reference.specs.Laws.{UpgradeKeepsAnswers};
 
 /// The graphs of the floors, the records of a batch and the bytes of the cache change no answer.
 pub fn floors_change_nothing()
     ensures { FloorsChangeNothing }
+{}
+
+/// Neither a table nor a route changes a reply: what a request costs decides who is turned away, and no more.
+pub fn tariffs_change_no_reply()
+    ensures { TariffsChangeNoReply }
 {}
 
 /// A capture has one answer.
@@ -78,4 +85,14 @@ pub fn rows_agree()
 /// The service of an admitted request begins when it came, or once it has waited as long as its row says.
 pub fn starts_once_free()
     ensures { StartsOnceFree }
+{}
+
+/// Messages of the same numbers, ticks, tiers and meanings have the same replies, summary and table, wherever they lie.
+pub fn answers_by_meaning()
+    ensures { AnswersByMeaning }
+{}
+
+/// Traffic that comes faster is answered as if it had been recorded with its ticks divided so.
+pub fn speed_divides_ticks()
+    ensures { SpeedDividesTicks }
 {}

@@ -1,13 +1,14 @@
 //! What an operator may set.
 
-ghost use Rattle.std.specs.Prelude.{◌≡◌, ◌≤◌, Some, None, IfOk, IfErr};
+ghost use Rattle.std.specs.Prelude.{◌≡◌, ◌≤◌, ◌*◌, ◌/◌, [], ℕ, Some, None, IfOk, IfErr};
 ghost use Rattle.stage_graph.specs.After.{last_cut};
 ghost use Rattle.reference.specs.Reference.{Choice};
 ghost use Rattle.reference.specs.Choices.{IsChoice, settings_fault, front_steps, back_steps, max_batch};
-ghost use Rattle.reference.specs.Choices.{max_cache, max_retry_after};
+ghost use Rattle.reference.specs.Choices.{max_cache, max_retry_after, min_speed, max_speed};
+ghost use Rattle.captures.specs.Reference.{max_tick};
 
 use admission::Policy;
-use cost_model::Costs;
+use cost_model::{Costs, Routes, Tariff};
 use stage_graph::Plan;
 use std::marker::Model;
 use thiserror::Error;
@@ -27,6 +28,12 @@ pub const MAX_CACHE: usize = 1_073_741_824;
 
 /// The longest time after which a rejected request may be tried again, in seconds.
 pub const MAX_RETRY_AFTER: u64 = 86_400;
+
+/// The speed at which traffic comes as it was recorded, in percent, and the least.
+pub const MIN_SPEED: u64 = 100;
+
+/// The greatest speed, in percent of that at which traffic was recorded.
+pub const MAX_SPEED: u64 = 10_000;
 
 /// Which of the settings is outside its range.
 #[derive(Clone, Copy, Debug, PartialEq, Eq, Error)]
@@ -50,9 +57,10 @@ pub struct Settings {
     back: Plan,
     batch: usize,
     cache: usize,
-    costs: Costs,
+    tariff: Tariff,
     policies: [Policy; 4],
     retry_after: u64,
+    speed: u64,
 }
 
 impl Model for Settings {
@@ -66,9 +74,10 @@ impl Model for Settings {
       back = s.back;
       batch = s.batch;
       cache = s.cache;
-      costs = s.costs;
+      tariff = s.tariff;
       policies = s.policies;
       retry_after = s.retry_after;
+      speed = s.speed;
     } };
 
     ghost invariant = { λ s. IsChoice (record {
@@ -76,9 +85,10 @@ impl Model for Settings {
       back = s.back;
       batch = s.batch;
       cache = s.cache;
-      costs = s.costs;
+      tariff = s.tariff;
       policies = s.policies;
       retry_after = s.retry_after;
+      speed = s.speed;
     }) };
 }
 
@@ -98,9 +108,10 @@ impl Settings {
           back = back;
           batch = batch;
           cache = cache;
-          costs = costs;
+          tariff = record { costs = costs; routes = [] };
           policies = policies;
           retry_after = retry_after;
+          speed = 100;
         }) }
         ensures { result
             ≡ record {
@@ -108,9 +119,10 @@ impl Settings {
               back = back;
               batch = batch;
               cache = cache;
-              costs = costs;
+              tariff = record { costs = costs; routes = [] };
               policies = policies;
               retry_after = retry_after;
+              speed = 100;
             } }
     {
         Settings {
@@ -118,17 +130,46 @@ impl Settings {
             back,
             batch,
             cache,
-            costs,
+            tariff: Tariff::new(costs, Routes::none()),
             policies,
             retry_after,
+            speed: MIN_SPEED,
+        }
+    }
+
+    /// The same settings with these routes, by which some requests cost something else.
+    pub fn with_routes(self, routes: Routes) -> Settings
+        ensures { result
+            ≡ record {
+              front = self.front;
+              back = self.back;
+              batch = self.batch;
+              cache = self.cache;
+              tariff = record { costs = self.tariff.costs; routes = routes };
+              policies = self.policies;
+              retry_after = self.retry_after;
+              speed = self.speed;
+            } }
+    {
+        let costs = self.tariff.costs();
+        Settings {
+            front: self.front,
+            back: self.back,
+            batch: self.batch,
+            cache: self.cache,
+            tariff: Tariff::new(costs, routes),
+            policies: self.policies,
+            retry_after: self.retry_after,
+            speed: self.speed,
         }
     }
 
     /// Settings of these values, or the first that is outside its range. `front` and `back` are the floors of the
     /// staged engine: how a request's steps are cut into stages, with their workers and queues; `batch` is how many
     /// pieces it reads at a time (1 to 65,536), `cache` the most bytes of pages that it keeps (up to 1,073,741,824).
-    /// None of these changes an answer. `costs` are the service times, `policies` are those of the tiers 0 to 3, and
-    /// `retry_after` the seconds that a rejected request is told to wait (0 to 86,400).
+    /// None of these changes an answer. `costs` are the service times ([`Settings::with_routes`] adds routes),
+    /// `policies` are those of the tiers 0 to 3, and `retry_after` the seconds that a rejected request is told to wait
+    /// (0 to 86,400). Traffic comes as it was recorded ([`Settings::with_speed`]).
     ///
     /// # Errors
     ///
@@ -149,9 +190,10 @@ impl Settings {
               back = back;
               batch = batch;
               cache = cache;
-              costs = costs;
+              tariff = record { costs = costs; routes = [] };
               policies = policies;
               retry_after = retry_after;
+              speed = 100;
             }) × (settings_fault s ≡ None)) }
         ensures fault { IfErr result
             (λ f. settings_fault (record {
@@ -159,9 +201,10 @@ impl Settings {
               back = back;
               batch = batch;
               cache = cache;
-              costs = costs;
+              tariff = record { costs = costs; routes = [] };
               policies = policies;
               retry_after = retry_after;
+              speed = 100;
             }) ≡ Some f) }
     {
         if front.steps() != FRONT_STEPS {
@@ -214,11 +257,11 @@ impl Settings {
         self.cache
     }
 
-    /// The service times.
-    pub fn costs(&self) -> Costs
-        ensures { result ≡ self.now.costs }
+    /// What requests cost.
+    pub fn tariff(&self) -> &Tariff
+        ensures { result.now ≡ self.now.tariff }
     {
-        self.costs
+        &self.tariff
     }
 
     /// The policies of the tiers 0 to 3.
@@ -234,5 +277,36 @@ impl Settings {
         ensures range { result ≤ max_retry_after }
     {
         self.retry_after
+    }
+
+    /// The same settings for traffic that comes at so many percent of the speed at which it was recorded: 100 to
+    /// 10,000.
+    pub fn with_speed(self, speed: u64) -> Settings
+        requires { (min_speed ≤ speed) × (speed ≤ max_speed) }
+        ensures { result ≡ record {
+          front = self.front;
+          back = self.back;
+          batch = self.batch;
+          cache = self.cache;
+          tariff = self.tariff;
+          policies = self.policies;
+          retry_after = self.retry_after;
+          speed = speed;
+        } }
+    {
+        Settings { speed, ..self }
+    }
+
+    /// The tick that counts for one of a capture (0 to 10^15), at this speed: divided so, and rounded down.
+    pub fn tick(&self, recorded: u64) -> u64
+        requires { recorded ≤ max_tick }
+        ensures value { result ≡ recorded * 100 / self.now.speed }
+        ensures range { result ≤ recorded }
+        ensures rises { (earlier : ℕ) → earlier ≤ recorded → earlier * 100 / self.now.speed ≤ result }
+    {
+        if self.speed == MIN_SPEED {
+            return recorded;
+        }
+        recorded * MIN_SPEED / self.speed
     }
 }

@@ -21,7 +21,7 @@ use Rattle.captures.specs.Captures.{size_of, sizes_of}
 use Rattle.captures.specs.Readers.{ReaderAfter}
 use Rattle.http_requests.specs.declared.messages.Message.{Message}
 use Rattle.reference.specs.Reference.{Terms}
-use Rattle.arrivals.specs.Reference.{Arrival, ArrivesWith, AreArrivals, Precedes, text_of, messages_of}
+use Rattle.arrivals.specs.Reference.{Arrival, ArrivesWith, AreArrivals, Precedes}
 use Rattle.arrivals.specs.Batches.{ReadsOn, sent_to, origin_now, origins_after, lists_to, arrivals_in, incoming_from, Stand}
 use Rattle.arrivals.specs.Connections.{HaveRead, connection_at, text_now, messages_now, arrivals_with}
 use Rattle.arrivals.specs.SeatStates.{SeatState, seat_at, with_lists, size, total, CanRead, IsReady, IsCutOf, count_to}

@@ -1,5 +1,5 @@
 -- What the desk makes of one more message.
-use Rattle.std.proofs.Common.{◌≡◌, ℕ, ◌+◌, ◌-◌, ◌<◌, ◌≤◌, ◌≢◌, ◌/◌, Bool, true, false, List, [], ◌∷◌, ◌++◌, length, refl, sym, ap, ◌∙◌, arith, append-nil, Option, Result, Ok, Err}
+use Rattle.std.proofs.Common.{◌≡◌, ℕ, ◌+◌, ◌-◌, ◌<◌, ◌≤◌, ◌/◌, Bool, true, false, List, [], ◌∷◌, ◌++◌, length, refl, sym, ap, ◌∙◌, arith, append-nil, Option, Result, Ok, Err}
 use Rattle.std.specs.Prelude.{IfOk, IfErr, OnErr}
 use Rattle.std.specs.Result.{IsErrAnd}
 use Rattle.std.proofs.lemmas.List.{length-append}
@@ -7,19 +7,18 @@ use Rattle.http_requests.specs.declared.messages.Meaning.{Meaning}
 use Rattle.admission.specs.declared.control.Decision.{Decision}
 use Rattle.admission.specs.declared.control.Decision.TheVariants.{Admitted, Rejected}
 use Rattle.admission.specs.Reference.{Offer, served, decide, decided, decided_from}
-use Rattle.admission.specs.Standing.{Standing, policies_of}
+use Rattle.admission.specs.Standing.{Standing, station_of}
 use Rattle.admission.specs.After.{ControllerAfter}
 use Rattle.responses.specs.declared.slip.Persistence.{Persistence}
 use Rattle.responses.specs.declared.slip.Slip.{Slip}
 use Rattle.responses.specs.Reference.{status_of, reply_text, record_text}
-use Rattle.reference.specs.Reference.{Choice, Terms, terms_of, given, answers_head, is_head, persistence_of, outcome_answer, slip_of, is_unmodified_file, length_given, offer_at, offers_of, is_turned_away, handled_next, handled_after, handled, bypassed_of, samples_of, breaks_a_rule}
+use Rattle.reference.specs.Reference.{station_for, Choice, Terms, terms_of, tick_in, given, answers_head, is_head, persistence_of, outcome_answer, slip_of, offer_at, offers_of, is_turned_away, handled_next, handled_after, handled, bypassed_of, samples_of, breaks_a_rule}
 use Rattle.arrivals.specs.Reference.{Arrival}
 use Rattle.paths.specs.Reference.{asked, outcome}
 use Rattle.paths.specs.declared.file.File.{File}
 use Rattle.paths.specs.declared.resolution.Outcome.{Outcome}
 use Rattle.http_requests.specs.declared.messages.HttpVersion.{HttpVersion}
 use Rattle.http_requests.specs.declared.messages.Meaning.TheVariants.{Request}
-use Rattle.cost_model.specs.Reference.{CostTable, service}
 use Rattle.responses.specs.declared.slip.Given.{Given}
 use Rattle.responses.specs.declared.slip.Given.TheVariants.{Plain}
 use Rattle.responses.specs.declared.slip.Status.TheVariants.{ServiceUnavailable}
@@ -45,9 +44,9 @@ use Rattle.replay.proofs.CountMore.{counts_more, bypassed_more, bypassed_few, re
 -- ---- offers
 
 -- nothing is offered
-pub decides_none : (offers : List Offer) (desk : Desk) → ControllerAfter offers desk.controller → desk.totals.samples ≡ samples_of (policies_of desk.controller) offers → Decides offers [] desk desk false
+pub decides_none : (offers : List Offer) (desk : Desk) → ControllerAfter offers desk.controller → desk.totals.samples ≡ samples_of (station_of desk.controller) offers → Decides offers [] desk desk false
 decides_none offers desk fits samples = record {
-  policies = refl;
+  station = refl;
   fits = rw (append-nil offers) fits;
   is_away = refl;
   totals = rw (append-nil offers, ← samples, append-nil desk.totals.rejected) refl;
@@ -55,32 +54,32 @@ decides_none offers desk fits samples = record {
 }
 
 pub decides_admitted : (offers : List Offer) (offer : Offer) (finish : ℕ) (decision : Decision) (old new : Desk) (controller : Standing) → decision ≡ Admitted finish
-    → decision ≡ decide (policies_of old.controller) (decided (policies_of old.controller) offers) offer
-    → policies_of controller ≡ policies_of old.controller → ControllerAfter (offers ++ offer ∷ []) controller → old.totals.samples ≡ samples_of (policies_of old.controller) offers
-    → new ≡ record { start = old.start; controller = controller; totals = decided_totals old.totals (old.totals.samples ++ (finish - offer.tick) ∷ []) false }
+    → decision ≡ decide (station_of old.controller) (decided (station_of old.controller) offers) offer
+    → station_of controller ≡ station_of old.controller → ControllerAfter (offers ++ offer ∷ []) controller → old.totals.samples ≡ samples_of (station_of old.controller) offers
+    → new ≡ record { start = old.start; controller = controller; totals = decided_totals old.totals (old.totals.samples ++ (finish - offer.tick + offer.delay) ∷ []) false }
     → Decides offers (offer ∷ []) old new false
 decides_admitted offers offer finish decision old new controller is e rules fits samples given_by =
-    let own : Admitted finish ≡ decide (policies_of old.controller) (decided (policies_of old.controller) offers) offer = sym is ∙ e in
+    let own : Admitted finish ≡ decide (station_of old.controller) (decided (station_of old.controller) offers) offer = sym is ∙ e in
     rw given_by (record {
-      policies = rules;
+      station = rules;
       fits = fits;
-      is_away = is_admitted_one (policies_of old.controller) offers offer finish own;
-      totals = ap (λ xs. decided_totals old.totals xs false) (ap (λ xs. xs ++ (finish - offer.tick) ∷ []) samples ∙ sym (samples_admitted (policies_of old.controller) offers offer finish own));
+      is_away = is_admitted_one (station_of old.controller) offers offer finish own;
+      totals = ap (λ xs. decided_totals old.totals xs false) (ap (λ xs. xs ++ (finish - offer.tick + offer.delay) ∷ []) samples ∙ sym (samples_admitted (station_of old.controller) offers offer finish own));
       start = refl;
     })
 
 pub decides_rejected : (offers : List Offer) (offer : Offer) (decision : Decision) (old new : Desk) (controller : Standing) → decision ≡ Rejected
-    → decision ≡ decide (policies_of old.controller) (decided (policies_of old.controller) offers) offer
-    → policies_of controller ≡ policies_of old.controller → ControllerAfter (offers ++ offer ∷ []) controller → old.totals.samples ≡ samples_of (policies_of old.controller) offers
+    → decision ≡ decide (station_of old.controller) (decided (station_of old.controller) offers) offer
+    → station_of controller ≡ station_of old.controller → ControllerAfter (offers ++ offer ∷ []) controller → old.totals.samples ≡ samples_of (station_of old.controller) offers
     → new ≡ record { start = old.start; controller = controller; totals = decided_totals old.totals old.totals.samples true }
     → Decides offers (offer ∷ []) old new true
 decides_rejected offers offer decision old new controller is e rules fits samples given_by =
-    let own : Rejected ≡ decide (policies_of old.controller) (decided (policies_of old.controller) offers) offer = sym is ∙ e in
+    let own : Rejected ≡ decide (station_of old.controller) (decided (station_of old.controller) offers) offer = sym is ∙ e in
     rw given_by (record {
-      policies = rules;
+      station = rules;
       fits = fits;
-      is_away = is_rejected_one (policies_of old.controller) offers offer own;
-      totals = ap (λ xs. decided_totals old.totals xs true) (samples ∙ sym (samples_rejected (policies_of old.controller) offers offer own));
+      is_away = is_rejected_one (station_of old.controller) offers offer own;
+      totals = ap (λ xs. decided_totals old.totals xs true) (samples ∙ sym (samples_rejected (station_of old.controller) offers offer own));
       start = refl;
     })
 
@@ -102,18 +101,6 @@ pub desk_rejected : (desk : Desk) (controller : Standing) (rejected : List ℕ) 
     → desk_with desk controller rejected desk.totals.samples ≡ desk_then desk controller desk.totals.samples true
 desk_rejected desk controller rejected e = rw e refl
 
--- a request is what was offered
-pub decides_request : (snapshot files : List File) (choice : Choice) (costs : CostTable) (offers : List Offer) (origin : Origin) (what : Meaning) (method target : List ℕ) (version : HttpVersion) (closing : Bool) (since : Option ℕ)
-    (o : Outcome) (cost : ℕ) (head : Bool) (old new : Desk) (away : Bool) → snapshot ≡ files → costs ≡ choice.costs → what ≡ Request method target version closing since
-    → o ≡ outcome snapshot (asked method target) → head ≡ answers_head what
-    → cost ≡ service costs o head (is_unmodified_file snapshot since o) (length_given snapshot o)
-    → Decides offers (record { tier = origin.tier; tick = origin.tick; service = cost } ∷ []) old new away → Decides offers (offer_at (terms_of files choice) origin what) old new away
-decides_request snapshot files choice costs offers origin what method target version closing since o cost head old new away same table is found heads costing decides =
-    let own : head ≡ is_head method = heads ∙ ap answers_head is in
-    let e : cost ≡ service choice.costs (outcome files (asked method target)) (is_head method) (is_unmodified_file files since (outcome files (asked method target))) (length_given files (outcome files (asked method target))) =
-    rw (found, same, own, table) at costing in
-    rw (is, ← e) decides
-
 -- a request that was turned away is told so, another is answered by its outcome
 pub given_away : (X : Type 0) (files : List File) (choice : Choice) (what : Meaning) (seconds : ℕ) (given_by : Given X) → seconds ≡ choice.retry_after → given_by ≡ Plain (ServiceUnavailable seconds)
     → given_by ≡ given (terms_of files choice) true what
@@ -134,7 +121,7 @@ if_ok (Err e) P Q f h = tt
 
 -- the totals of one more message
 totals_more : (terms : Terms) (arrivals : List Arrival) (a : Arrival) (away : Bool) → away ≡ is_turned_away terms arrivals a
-    → noted (decided_totals (totals_of terms arrivals) (samples_of terms.policies (offers_of terms arrivals ++ offer_at terms a.origin a.message.what)) away) (status_of (given {X = Unit {0}} terms away a.message.what)) (breaks_a_rule a.message.what)
+    → noted (decided_totals (totals_of terms arrivals) (samples_of (station_for terms) (offers_of terms arrivals ++ offer_at terms a.origin a.message.what)) away) (status_of (given {X = Unit {0}} terms away a.message.what)) (breaks_a_rule a.message.what)
     ≡ totals_of terms (arrivals ++ a ∷ [])
 totals_more terms arrivals a away e =
     let len : length (arrivals ++ a ∷ []) ≡ length arrivals + 1 = length-append arrivals (a ∷ []) in
@@ -154,26 +141,26 @@ pub stands_more : (terms : Terms) (arrivals : List Arrival) (a : Arrival) (away 
     → new.controller ≡ mid.controller → new.totals ≡ noted mid.totals status (breaks_a_rule a.message.what)
     → length arrivals < 536870912 → DeskAfter terms (arrivals ++ a ∷ []) new
 stands_more terms arrivals a away old mid new status stands decides given_by same counted few =
-    let away_is : away ≡ is_turned_away terms arrivals a = rw stands.policies at decides.is_away in
+    let away_is : away ≡ is_turned_away terms arrivals a = rw stands.station at decides.is_away in
     record {
-      policies = ap policies_of same ∙ decides.policies ∙ stands.policies;
+      station = ap station_of same ∙ decides.station ∙ stands.station;
       fits = rw (same, offers_more terms arrivals a) decides.fits;
-      totals = counted ∙ rw (decides.totals, stands.totals, stands.policies, given_by) (totals_more terms arrivals a away away_is);
+      totals = counted ∙ rw (decides.totals, stands.totals, stands.station, given_by) (totals_more terms arrivals a away away_is);
       few = let len = length-append arrivals (a ∷ []) in omega (arith, len, few);
     }
 
-pub stands_none : (terms : Terms) (desk : Desk) → (policies_of desk.controller) ≡ terms.policies → ControllerAfter [] desk.controller
+pub stands_none : (terms : Terms) (desk : Desk) → (station_of desk.controller) ≡ (station_for terms) → ControllerAfter [] desk.controller
     → desk.totals ≡ record { answered = 0; counts = no_counts; bypassed = 0; rejected = []; samples = [] } → DeskAfter terms [] desk
 unfolding offers_of samples_of handled_after served decided_from
-stands_none terms desk rules fits totals = record { policies = rules; fits = fits; totals = totals; few = omega arith }
+stands_none terms desk rules fits totals = record { station = rules; fits = fits; totals = totals; few = omega arith }
 
 -- ---- what the desk's calls ask
 
 pub answered_is : (terms : Terms) (arrivals : List Arrival) (desk : Desk) → DeskAfter terms arrivals desk → desk.totals.answered ≡ length arrivals
 answered_is terms arrivals desk stands = ap (λ t. t.answered) stands.totals
 
-pub samples_are : (terms : Terms) (arrivals : List Arrival) (desk : Desk) → DeskAfter terms arrivals desk → desk.totals.samples ≡ samples_of (policies_of desk.controller) (offers_of terms arrivals)
-samples_are terms arrivals desk stands = rw stands.policies (ap (λ t. t.samples) stands.totals)
+pub samples_are : (terms : Terms) (arrivals : List Arrival) (desk : Desk) → DeskAfter terms arrivals desk → desk.totals.samples ≡ samples_of (station_of desk.controller) (offers_of terms arrivals)
+samples_are terms arrivals desk stands = rw stands.station (ap (λ t. t.samples) stands.totals)
 
 pub counts_room : (terms : Terms) (arrivals : List Arrival) (desk : Desk) (n : ℕ) → DeskAfter terms arrivals desk → length arrivals < n → AreBelow n desk.totals.counts
 counts_room terms arrivals desk n stands lt =
@@ -213,10 +200,10 @@ stands_after X terms arrivals a origin what old mid totals given_by stands from 
 pub slip_is : (X : Type 0) (terms : Terms) (start : ℕ) (arrivals : List Arrival) (a : Arrival) (origin : Origin) (what : Meaning) (old mid : Desk) (given_by : Given X) (conn : ℕ) (head : Bool) (link : Persistence) (slip : Slip X)
     → DeskAfter terms arrivals old → a.origin ≡ origin → a.message.what ≡ what → Judged terms (offers_of terms arrivals) origin what old mid given_by
     → conn ≡ origin.conn → head ≡ answers_head what → link ≡ persistence_of what
-    → slip ≡ record { number = old.totals.answered; conn = conn; date = start + origin.tick / 1000000; head = head; link = link; what = given_by }
+    → slip ≡ record { number = old.totals.answered; conn = conn; date = start + tick_in terms origin / 1000000; head = head; link = link; what = given_by }
     → slip ≡ slip_of terms start (handled_next terms arrivals a)
 slip_is X terms start arrivals a origin what old mid given_by conn head link slip stands from meaning judged conns heads links slips =
-    let away_is : judged.0 ≡ is_turned_away terms arrivals a = rw (from, meaning) (rw stands.policies at judged.1.is_away) in
+    let away_is : judged.0 ≡ is_turned_away terms arrivals a = rw (from, meaning) (rw stands.station at judged.1.is_away) in
     slips ∙ rw (answered_is terms arrivals old stands, conns, heads, links, judged.2, away_is, from, meaning) refl
 
 -- what a message's reply has written

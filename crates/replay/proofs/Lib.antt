@@ -11,3 +11,4 @@ pub mod Upcoming
 pub mod Grouping
 pub mod ByBatch
 pub mod Tallies
+pub mod GroupLemmas

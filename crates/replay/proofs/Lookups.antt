@@ -22,7 +22,7 @@ use Rattle.paths.specs.declared.file.File.{File}
 use Rattle.paths.proofs.Locations.{outcome_is}
 use Rattle.http_requests.specs.declared.messages.Meaning.{Meaning}
 use Rattle.http_requests.specs.declared.messages.Meaning.TheVariants.{Request, Bad}
-use Rattle.cost_model.specs.Reference.{CostTable, service}
+use Rattle.cost_model.specs.Reference.{Tariff, Charge, charge}
 use Rattle.replay.specs.declared.lookup.Lookup.{Lookup}
 use Rattle.replay.specs.declared.lookup.Lookup.TheVariants.{Unseen, Asked, Found, Priced}
 use Rattle.arrivals.specs.declared.incoming.Incoming.{Incoming}
@@ -36,23 +36,23 @@ use Rattle.replay.specs.Fronts.{each_looked_up, floor_lookup, floor_step, front_
 abbrev pub looked_up : Incoming → Lookup → LookedUp
 looked_up message lookup = record { message = message; lookup = lookup }
 
-one_lookup : (files : List File) (costs : CostTable) (k : ℕ) (what : Meaning) (lookup : Lookup) → IsLookup files lookup → IsLookup files (floor_lookup files costs k what lookup)
-one_lookup files costs k (Bad fault) lookup h = h
-one_lookup files costs k (Request method target version closing since) Unseen h = outcome_is files (asked method target)
-one_lookup files costs k (Request method target version closing since) (Asked a) h = outcome_is files a
-one_lookup files costs k (Request method target version closing since) (Found o) h = priced_or_not (nat_lt k 2)
+one_lookup : (files : List File) (tariff : Tariff) (k : ℕ) (what : Meaning) (lookup : Lookup) → IsLookup files lookup → IsLookup files (floor_lookup files tariff k what lookup)
+one_lookup files tariff k (Bad fault) lookup h = h
+one_lookup files tariff k (Request method target version closing since) Unseen h = outcome_is files (asked method target)
+one_lookup files tariff k (Request method target version closing since) (Asked a) h = outcome_is files a
+one_lookup files tariff k (Request method target version closing since) (Found o) h = priced_or_not (nat_lt k 2)
   where
-    priced_or_not : (b : Bool) → IsLookup files (if b then Found o else Priced o (service costs o (is_head method) (is_unmodified_file files since o) (length_given files o)))
+    priced_or_not : (b : Bool) → IsLookup files (if b then Found o else Priced o (charge tariff target o (is_head method) (is_unmodified_file files since o) (length_given files o)))
     priced_or_not true = h
     priced_or_not false = h
-one_lookup files costs k (Request method target version closing since) (Priced o cost) h = h
+one_lookup files tariff k (Request method target version closing since) (Priced o cost) h = h
 
 -- an outcome that an item has found is one of the files'
-pub lookup_is : (files : List File) (costs : CostTable) (messages : List Incoming) (number k : ℕ) → IsLookup files (value_of (floor_step files costs) k (unseen_at messages number)).lookup
-lookup_is files costs messages number zero = tt
-lookup_is files costs messages number (suc k) =
-    let v = value_of (floor_step files costs) k (unseen_at messages number) in
-    one_lookup files costs k v.message.what v.lookup (lookup_is files costs messages number k)
+pub lookup_is : (files : List File) (tariff : Tariff) (messages : List Incoming) (number k : ℕ) → IsLookup files (value_of (floor_step files tariff) k (unseen_at messages number)).lookup
+lookup_is files tariff messages number zero = tt
+lookup_is files tariff messages number (suc k) =
+    let v = value_of (floor_step files tariff) k (unseen_at messages number) in
+    one_lookup files tariff k v.message.what v.lookup (lookup_is files tariff messages number k)
 
 pub as_it_is : (files : List File) (s : Lookup) → IsLookup files (seen_as files s) → IsLookup files s
 as_it_is files Unseen h = tt
@@ -60,52 +60,52 @@ as_it_is files (Asked a) h = tt
 as_it_is files (Found o) h = h
 as_it_is files (Priced o cost) h = h
 
-same_lookup : (files : List File) (costs : CostTable) (what : Meaning)
-    → floor_lookup files costs 2 what (floor_lookup files costs 1 what (floor_lookup files costs 0 what Unseen)) ≡ lookup_of files costs what
-same_lookup files costs (Bad fault) = refl
-same_lookup files costs (Request method target version closing since) = refl
+same_lookup : (files : List File) (tariff : Tariff) (what : Meaning)
+    → floor_lookup files tariff 2 what (floor_lookup files tariff 1 what (floor_lookup files tariff 0 what Unseen)) ≡ lookup_of files tariff what
+same_lookup files tariff (Bad fault) = refl
+same_lookup files tariff (Request method target version closing since) = refl
 
 -- the floor finds of a message what is to be known of it
-pub same_value : (files : List File) (costs : CostTable) (message : Incoming) → value_of (floor_step files costs) 3 (unseen message) ≡ front_value files costs message
-same_value files costs message = ap (λ s. looked_up message s) (same_lookup files costs message.what)
+pub same_value : (files : List File) (tariff : Tariff) (message : Incoming) → value_of (floor_step files tariff) 3 (unseen message) ≡ front_value files tariff message
+same_value files tariff message = ap (λ s. looked_up message s) (same_lookup files tariff message.what)
 
-never_found : (files : List File) (costs : CostTable) (what : Meaning) (o : Outcome) → Found o ≡ lookup_of files costs what → ⊥
-never_found files costs (Bad fault) o e = let z : ⊥ = grind (arith, e) in z
-never_found files costs (Request method target version closing since) o e = let z : ⊥ = grind (arith, e) in z
+never_found : (files : List File) (tariff : Tariff) (what : Meaning) (o : Outcome) → Found o ≡ lookup_of files tariff what → ⊥
+never_found files tariff (Bad fault) o e = let z : ⊥ = grind (arith, e) in z
+never_found files tariff (Request method target version closing since) o e = let z : ⊥ = grind (arith, e) in z
 
-as_known : (files : List File) (costs : CostTable) (message m : Incoming) (s : Lookup) → looked_up message (seen_as files s) ≡ front_value files costs m → looked_up message s ≡ front_value files costs m
-as_known files costs message m Unseen h = h
-as_known files costs message m (Asked a) h = absurd (never_found files costs m.what (outcome files a) (ap (λ (v : LookedUp). v.lookup) h))
-as_known files costs message m (Found o) h = h
-as_known files costs message m (Priced o cost) h = h
+as_known : (files : List File) (tariff : Tariff) (message m : Incoming) (s : Lookup) → looked_up message (seen_as files s) ≡ front_value files tariff m → looked_up message s ≡ front_value files tariff m
+as_known files tariff message m Unseen h = h
+as_known files tariff message m (Asked a) h = absurd (never_found files tariff m.what (outcome files a) (ap (λ (v : LookedUp). v.lookup) h))
+as_known files tariff message m (Found o) h = h
+as_known files tariff message m (Priced o cost) h = h
 
 -- all that is known at the end is known in full
-pub all_known : {X : Type 0} (files : List File) (costs : CostTable) (message : X → Incoming) (lookup : X → Lookup) (xs : List X) (ms : List Incoming)
-    → map (λ x. looked_up (message x) (seen_as files (lookup x))) xs ≡ map (front_value files costs) ms → map (λ x. looked_up (message x) (lookup x)) xs ≡ map (front_value files costs) ms
-all_known files costs message lookup [] ms e = e
-all_known files costs message lookup (x ∷ xs) [] e = absurd (let z : ⊥ = grind (arith, e) in z)
-all_known files costs message lookup (x ∷ xs) (m ∷ ms) e =
-    let first : looked_up (message x) (seen_as files (lookup x)) ≡ front_value files costs m = cc in
-    let rest : map (λ y. looked_up (message y) (seen_as files (lookup y))) xs ≡ map (front_value files costs) ms = cc in
-    let one = as_known files costs (message x) m (lookup x) first in
-    let all = all_known files costs message lookup xs ms rest in
+pub all_known : {X : Type 0} (files : List File) (tariff : Tariff) (message : X → Incoming) (lookup : X → Lookup) (xs : List X) (ms : List Incoming)
+    → map (λ x. looked_up (message x) (seen_as files (lookup x))) xs ≡ map (front_value files tariff) ms → map (λ x. looked_up (message x) (lookup x)) xs ≡ map (front_value files tariff) ms
+all_known files tariff message lookup [] ms e = e
+all_known files tariff message lookup (x ∷ xs) [] e = absurd (let z : ⊥ = grind (arith, e) in z)
+all_known files tariff message lookup (x ∷ xs) (m ∷ ms) e =
+    let first : looked_up (message x) (seen_as files (lookup x)) ≡ front_value files tariff m = cc in
+    let rest : map (λ y. looked_up (message y) (seen_as files (lookup y))) xs ≡ map (front_value files tariff) ms = cc in
+    let one = as_known files tariff (message x) m (lookup x) first in
+    let all = all_known files tariff message lookup xs ms rest in
     rw (one, all) refl
 
 -- the sights of what is known
-pub lookups_alone : {X : Type 0} (files : List File) (costs : CostTable) (message : X → Incoming) (lookup : X → Lookup) (xs : List X) (ms : List Incoming)
-    → map (λ x. looked_up (message x) (lookup x)) xs ≡ map (front_value files costs) ms → each_looked_up ms (map lookup xs) ≡ map (front_value files costs) ms
-lookups_alone files costs message lookup [] [] e = refl
-lookups_alone files costs message lookup [] (m ∷ ms) e = absurd (let z : ⊥ = grind (arith, e) in z)
-lookups_alone files costs message lookup (x ∷ xs) [] e = absurd (let z : ⊥ = grind (arith, e) in z)
-lookups_alone files costs message lookup (x ∷ xs) (m ∷ ms) e =
-    let first : looked_up (message x) (lookup x) ≡ front_value files costs m = cc in
-    let rest : map (λ y. looked_up (message y) (lookup y)) xs ≡ map (front_value files costs) ms = cc in
-    let own : looked_up m (lookup x) ≡ front_value files costs m = ap (λ (v : LookedUp). looked_up m v.lookup) first in
-    rw (own, lookups_alone files costs message lookup xs ms rest) refl
+pub lookups_alone : {X : Type 0} (files : List File) (tariff : Tariff) (message : X → Incoming) (lookup : X → Lookup) (xs : List X) (ms : List Incoming)
+    → map (λ x. looked_up (message x) (lookup x)) xs ≡ map (front_value files tariff) ms → each_looked_up ms (map lookup xs) ≡ map (front_value files tariff) ms
+lookups_alone files tariff message lookup [] [] e = refl
+lookups_alone files tariff message lookup [] (m ∷ ms) e = absurd (let z : ⊥ = grind (arith, e) in z)
+lookups_alone files tariff message lookup (x ∷ xs) [] e = absurd (let z : ⊥ = grind (arith, e) in z)
+lookups_alone files tariff message lookup (x ∷ xs) (m ∷ ms) e =
+    let first : looked_up (message x) (lookup x) ≡ front_value files tariff m = cc in
+    let rest : map (λ y. looked_up (message y) (lookup y)) xs ≡ map (front_value files tariff) ms = cc in
+    let own : looked_up m (lookup x) ≡ front_value files tariff m = ap (λ (v : LookedUp). looked_up m v.lookup) first in
+    rw (own, lookups_alone files tariff message lookup xs ms rest) refl
 
-pub same_values : (files : List File) (costs : CostTable) (ms : List Incoming) → map (λ m. value_of (floor_step files costs) 3 (unseen m)) ms ≡ map (front_value files costs) ms
-same_values files costs [] = refl
-same_values files costs (m ∷ ms) = rw (same_value files costs m, same_values files costs ms) refl
+pub same_values : (files : List File) (tariff : Tariff) (ms : List Incoming) → map (λ m. value_of (floor_step files tariff) 3 (unseen m)) ms ≡ map (front_value files tariff) ms
+same_values files tariff [] = refl
+same_values files tariff (m ∷ ms) = rw (same_value files tariff m, same_values files tariff ms) refl
 
 -- one more step
 pub value_more : {V : Type 0} (step : ℕ → V → V) (k : ℕ) (x : V) → value_of step (k + 1) x ≡ step k (value_of step k x)
@@ -253,16 +253,16 @@ may_render files t ready =
 
 -- ---- a request that was looked into
 
--- its outcome and its service time
-pub priced : (files : List File) (costs : CostTable) (what : Meaning) (method target : List ℕ) (version : HttpVersion) (closing : Bool) (since : Option ℕ) (head : Bool) (lookup : Lookup) (o : Outcome) (cost : ℕ)
-    → what ≡ Request method target version closing since → head ≡ answers_head what → lookup ≡ lookup_of files costs what → lookup ≡ Priced o cost
-    → (o ≡ outcome files (asked method target)) × (cost ≡ service costs o head (is_unmodified_file files since o) (length_given files o))
-priced files costs what method target version closing since head lookup o cost is heads seen priced_is =
+-- its outcome and what it costs
+pub priced : (files : List File) (tariff : Tariff) (what : Meaning) (method target : List ℕ) (version : HttpVersion) (closing : Bool) (since : Option ℕ) (head : Bool) (lookup : Lookup) (o : Outcome) (cost : Charge)
+    → what ≡ Request method target version closing since → head ≡ answers_head what → lookup ≡ lookup_of files tariff what → lookup ≡ Priced o cost
+    → (o ≡ outcome files (asked method target)) × (cost ≡ charge tariff target o head (is_unmodified_file files since o) (length_given files o))
+priced files tariff what method target version closing since head lookup o cost is heads seen priced_is =
     let own : head ≡ is_head method = heads ∙ ap answers_head is in
-    let all : Priced o cost ≡ Priced (outcome files (asked method target)) (service costs (outcome files (asked method target)) (is_head method) (is_unmodified_file files since (outcome files (asked method target))) (length_given files (outcome files (asked method target)))) =
+    let all : Priced o cost ≡ Priced (outcome files (asked method target)) (charge tariff target (outcome files (asked method target)) (is_head method) (is_unmodified_file files since (outcome files (asked method target))) (length_given files (outcome files (asked method target)))) =
     sym priced_is ∙ rw is at seen in
     let found : o ≡ outcome files (asked method target) = cc in
-    let costing : cost ≡ service costs (outcome files (asked method target)) (is_head method) (is_unmodified_file files since (outcome files (asked method target))) (length_given files (outcome files (asked method target))) = cc in
+    let costing : cost ≡ charge tariff target (outcome files (asked method target)) (is_head method) (is_unmodified_file files since (outcome files (asked method target))) (length_given files (outcome files (asked method target))) = cc in
     (found, rw (found, own) costing)
 
 abbrev is_priced : Lookup → Bool
@@ -271,6 +271,6 @@ is_priced (Asked a) = false
 is_priced (Found o) = false
 is_priced (Priced o cost) = true
 
-pub is_priced_request : (files : List File) (costs : CostTable) (what : Meaning) (method target : List ℕ) (version : HttpVersion) (closing : Bool) (since : Option ℕ) (lookup : Lookup)
-    → what ≡ Request method target version closing since → lookup ≡ lookup_of files costs what → is_priced lookup ≡ true
-is_priced_request files costs what method target version closing since lookup is seen = rw (seen, is) refl
+pub is_priced_request : (files : List File) (tariff : Tariff) (what : Meaning) (method target : List ℕ) (version : HttpVersion) (closing : Bool) (since : Option ℕ) (lookup : Lookup)
+    → what ≡ Request method target version closing since → lookup ≡ lookup_of files tariff what → is_priced lookup ≡ true
+is_priced_request files tariff what method target version closing since lookup is seen = rw (seen, is) refl

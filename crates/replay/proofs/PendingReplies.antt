@@ -3,7 +3,7 @@ use Rattle.std.proofs.Common.{◌≡◌, ℕ, zero, suc, ◌+◌, ◌<◌, ◌�
 use Rattle.std.specs.List.{list_all}
 use Rattle.std.proofs.lemmas.List.{map-append, length-append, length-map}
 use Rattle.paths.specs.declared.file.File.{File}
-use Rattle.cost_model.specs.Reference.{CostTable}
+use Rattle.cost_model.specs.Reference.{Tariff}
 use Rattle.reference.specs.Reference.{Terms, handled_next, handled_after, slip_of}
 use Rattle.arrivals.specs.Reference.{Arrival}
 use Rattle.replay.specs.Serving.{DeskAfter, AreBy}
@@ -19,11 +19,11 @@ use Rattle.reference.proofs.Offering.{handled_more, handled_one}
 use Rattle.replay.proofs.Judging.{answered_is}
 
 -- the first k of the messages are decided on
-pub record Settled {X : Type 0} (files : List File) (terms : Terms) (costs : CostTable) (lookups : List LookedUp) (old now : Desk) (rest : List LookedUp) (pending_replies : List (PendingReply X)) (k : ℕ) : Type 0 where
+pub record Settled {X : Type 0} (files : List File) (terms : Terms) (tariff : Tariff) (lookups : List LookedUp) (old now : Desk) (rest : List LookedUp) (pending_replies : List (PendingReply X)) (k : ℕ) : Type 0 where
   pub count : length pending_replies ≡ k
   pub rest_is : rest ≡ drop k lookups
-  pub stands : (arrivals more : List Arrival) → DeskAfter terms arrivals old → AreLookedUp files costs more lookups → DeskAfter terms (arrivals ++ take k more) now
-  pub slips : (arrivals more : List Arrival) → DeskAfter terms arrivals old → AreLookedUp files costs more lookups
+  pub stands : (arrivals more : List Arrival) → DeskAfter terms arrivals old → AreLookedUp files tariff more lookups → DeskAfter terms (arrivals ++ take k more) now
+  pub slips : (arrivals more : List Arrival) → DeskAfter terms arrivals old → AreLookedUp files tariff more lookups
       → map slip_of_pending pending_replies ≡ map (slip_of terms old.start) (handled_after terms arrivals (take k more))
   pub ready : list_all (λ t. is_back files (Waits t)) pending_replies ≡ true
   pub start : now.start ≡ old.start
@@ -77,12 +77,12 @@ pub record Next (terms : Terms) (desk : Desk) (message : Incoming) : Type 0 wher
   pub tier : message.origin.tier < 4
   pub few : desk.totals.answered < 536870912
 
-pub next_is : {X : Type 0} (files : List File) (terms : Terms) (costs : CostTable) (lookups : List LookedUp) (old now : Desk) (rest after : List LookedUp) (pending_replies : List (PendingReply X)) (k : ℕ)
-    (arrivals more : List Arrival) (s : LookedUp) → Settled files terms costs lookups old now rest pending_replies k → rest ≡ s ∷ after
-    → DeskAfter terms arrivals old → AreLookedUp files costs more lookups → InTime arrivals more → length arrivals + length more ≤ 536870912
-    → Next terms now s.message × (s ≡ front_value files costs s.message) × (s.lookup ≡ lookup_of files costs s.message.what)
-next_is files terms costs lookups old now rest after pending_replies k arrivals more s settled steps stands looked_up timely few =
-    let here = at_place (λ a. front_value files costs (incoming_of a)) more k s after (sym steps ∙ settled.rest_is ∙ ap (drop k) looked_up) in
+pub next_is : {X : Type 0} (files : List File) (terms : Terms) (tariff : Tariff) (lookups : List LookedUp) (old now : Desk) (rest after : List LookedUp) (pending_replies : List (PendingReply X)) (k : ℕ)
+    (arrivals more : List Arrival) (s : LookedUp) → Settled files terms tariff lookups old now rest pending_replies k → rest ≡ s ∷ after
+    → DeskAfter terms arrivals old → AreLookedUp files tariff more lookups → InTime arrivals more → length arrivals + length more ≤ 536870912
+    → Next terms now s.message × (s ≡ front_value files tariff s.message) × (s.lookup ≡ lookup_of files tariff s.message.what)
+next_is files terms tariff lookups old now rest after pending_replies k arrivals more s settled steps stands looked_up timely few =
+    let here = at_place (λ a. front_value files tariff (incoming_of a)) more k s after (sym steps ∙ settled.rest_is ∙ ap (drop k) looked_up) in
     let a = here.one in
     let own : incoming_of a ≡ s.message = ap (λ (v : LookedUp). v.message) here.is in
     let tick : a.origin.tick ≡ s.message.origin.tick = ap (λ (m : Incoming). m.origin.tick) own in
@@ -100,8 +100,8 @@ next_is files terms costs lookups old now rest after pending_replies k arrivals 
         tier = rw (ap (λ (m : Incoming). m.origin.tier) own) at timing.2;
         few = omega (arith, counted, len, short, below, few);
       },
-      sym here.is ∙ ap (front_value files costs) own,
-      ap (λ (v : LookedUp). v.lookup) (sym here.is ∙ ap (front_value files costs) own),
+      sym here.is ∙ ap (front_value files tariff) own,
+      ap (λ (v : LookedUp). v.lookup) (sym here.is ∙ ap (front_value files tariff) own),
     )
   where
     length_take_below : {A : Type 0} (k : ℕ) (xs : List A) → k < length xs → length (take k xs) ≡ k
@@ -110,20 +110,20 @@ next_is files terms costs lookups old now rest after pending_replies k arrivals 
     length_take_below (suc k) (x ∷ xs) lt = ap (λ n. suc n) (length_take_below k xs (omega (arith, lt)))
 
 -- one more of them is
-pub settled_more : {X : Type 0} (files : List File) (terms : Terms) (costs : CostTable) (lookups : List LookedUp) (old now next : Desk) (rest after : List LookedUp) (pending_replies : List (PendingReply X)) (t : PendingReply X) (k : ℕ)
-    (s : LookedUp) → Settled files terms costs lookups old now rest pending_replies k → rest ≡ s ∷ after
+pub settled_more : {X : Type 0} (files : List File) (terms : Terms) (tariff : Tariff) (lookups : List LookedUp) (old now next : Desk) (rest after : List LookedUp) (pending_replies : List (PendingReply X)) (t : PendingReply X) (k : ℕ)
+    (s : LookedUp) → Settled files terms tariff lookups old now rest pending_replies k → rest ≡ s ∷ after
     → ((arrivals : List Arrival) (a : Arrival) → DeskAfter terms arrivals now → incoming_of a ≡ s.message → DeskAfter terms (arrivals ++ a ∷ []) next)
     → ((arrivals : List Arrival) (a : Arrival) → DeskAfter terms arrivals now → incoming_of a ≡ s.message → slip_of_pending t ≡ slip_of terms now.start (handled_next terms arrivals a))
     → is_back files (Waits t) ≡ true → next.start ≡ now.start
-    → Settled files terms costs lookups old next after (pending_replies ++ t ∷ []) (k + 1)
-settled_more {X} files terms costs lookups old now next rest after pending_replies t k s settled steps stands slip ready start = rw (one_more k) (record {
+    → Settled files terms tariff lookups old next after (pending_replies ++ t ∷ []) (k + 1)
+settled_more {X} files terms tariff lookups old now next rest after pending_replies t k s settled steps stands slip ready start = rw (one_more k) (record {
   count = (let e = settled.count in let l = length-append pending_replies (t ∷ []) in omega (arith, e, l));
   rest_is = next_rest lookups k s after (sym steps ∙ settled.rest_is);
   stands = λ arrivals more begun looked_up.
-      (let here = at_place (λ a. front_value files costs (incoming_of a)) more k s after (sym steps ∙ settled.rest_is ∙ ap (drop k) looked_up) in
+      (let here = at_place (λ a. front_value files tariff (incoming_of a)) more k s after (sym steps ∙ settled.rest_is ∙ ap (drop k) looked_up) in
       rw here.taken (rw (append_assoc arrivals (take k more) (here.one ∷ [])) at (stands (arrivals ++ take k more) here.one (settled.stands arrivals more begun looked_up) (ap (λ (v : LookedUp). v.message) here.is))));
   slips = λ arrivals more begun looked_up.
-      (let here = at_place (λ a. front_value files costs (incoming_of a)) more k s after (sym steps ∙ settled.rest_is ∙ ap (drop k) looked_up) in
+      (let here = at_place (λ a. front_value files tariff (incoming_of a)) more k s after (sym steps ∙ settled.rest_is ∙ ap (drop k) looked_up) in
       let own = slip (arrivals ++ take k more) here.one (settled.stands arrivals more begun looked_up) (ap (λ (v : LookedUp). v.message) here.is) in
       rw (
         here.taken,
@@ -156,10 +156,10 @@ settled_all (x ∷ xs) (suc k) e [] l = refl
 settled_all (x ∷ xs) (suc k) e (y ∷ m) l = ap (λ ys. y ∷ ys) (settled_all xs k e m (omega (arith, l)))
 
 -- nothing is decided on yet
-pub settled_none : {X : Type 0} (files : List File) (terms : Terms) (costs : CostTable) (lookups : List LookedUp) (old : Desk) (rest : List LookedUp) (pending_replies : List (PendingReply X)) (k : ℕ)
-    → pending_replies ≡ [] → k ≡ 0 → rest ≡ lookups → Settled files terms costs lookups old old rest pending_replies k
+pub settled_none : {X : Type 0} (files : List File) (terms : Terms) (tariff : Tariff) (lookups : List LookedUp) (old : Desk) (rest : List LookedUp) (pending_replies : List (PendingReply X)) (k : ℕ)
+    → pending_replies ≡ [] → k ≡ 0 → rest ≡ lookups → Settled files terms tariff lookups old old rest pending_replies k
 unfolding handled_after
-settled_none {X} files terms costs lookups old rest pending_replies k none start all = rw (none, start) (record {
+settled_none {X} files terms tariff lookups old rest pending_replies k none start all = rw (none, start) (record {
   count = refl;
   rest_is = all;
   stands = λ arrivals more stands looked_up. rw (append-nil arrivals) stands;
@@ -169,7 +169,7 @@ settled_none {X} files terms costs lookups old rest pending_replies k none start
 })
 
 -- all are
-pub settled_last : {X : Type 0} (files : List File) (terms : Terms) (costs : CostTable) (lookups : List LookedUp) (old now : Desk) (rest : List LookedUp) (pending_replies : List (PendingReply X)) (k : ℕ) (more : List Arrival)
-    → Settled files terms costs lookups old now rest pending_replies k → rest ≡ [] → AreLookedUp files costs more lookups → take k more ≡ more
-settled_last files terms costs lookups old now rest pending_replies k more settled none looked_up =
+pub settled_last : {X : Type 0} (files : List File) (terms : Terms) (tariff : Tariff) (lookups : List LookedUp) (old now : Desk) (rest : List LookedUp) (pending_replies : List (PendingReply X)) (k : ℕ) (more : List Arrival)
+    → Settled files terms tariff lookups old now rest pending_replies k → rest ≡ [] → AreLookedUp files tariff more lookups → take k more ≡ more
+settled_last files terms tariff lookups old now rest pending_replies k more settled none looked_up =
     settled_all lookups k (sym none ∙ settled.rest_is) more (sym (ap length looked_up ∙ length-map more _))

@@ -1,5 +1,5 @@
 -- The row of one more message, and the rows of more.
-use Rattle.std.proofs.Common.{◌≡◌, ℕ, ◌+◌, ◌-◌, max, Bool, true, false, List, [], ◌∷◌, ◌++◌, ◌||◌, map, Option, Some, refl, sym, ap, ◌∙◌}
+use Rattle.std.proofs.Common.{◌≡◌, ℕ, ◌+◌, max, Bool, true, false, List, [], ◌∷◌, ◌||◌, Option, Some, refl, sym, ap, ◌∙◌}
 use Rattle.std.specs.Prelude.{if◌then◌else◌}
 use Rattle.std.specs.List.{list_any}
 use Rattle.std.specs.Option.{option_map}
@@ -7,18 +7,16 @@ use Rattle.paths.specs.Reference.{asked, outcome, file_of}
 use Rattle.paths.specs.declared.file.File.{File}
 use Rattle.paths.specs.declared.resolution.Outcome.{Outcome}
 use Rattle.paths.specs.declared.resolution.Outcome.TheVariants as outcomes
-use Rattle.cost_model.specs.Reference.{CostTable}
+use Rattle.cost_model.specs.Reference.{Tariff}
 use Rattle.http_requests.specs.declared.messages.MessageFault.TheVariants as faults
 use Rattle.http_requests.specs.declared.messages.Meaning.{Meaning}
 use Rattle.http_requests.specs.declared.messages.Meaning.TheVariants.{Request, Bad}
-use Rattle.admission.specs.declared.policy.PolicyNumbers.{PolicyNumbers}
 use Rattle.admission.specs.declared.control.Outlook.{Outlook}
 use Rattle.admission.specs.declared.control.Decision.TheVariants.{Admitted, Rejected}
-use Rattle.admission.specs.Reference.{Offer, served, last_finish, is_rejected, decide, decided}
+use Rattle.admission.specs.Reference.{Station, Offer, served, free_at, is_rejected, decide, decided}
 use Rattle.admission.specs.Decisions.{outlook}
 use Rattle.admission.specs.After.{ControllerAfter}
-use Rattle.admission.specs.Standing.{policies_of}
-use Rattle.admission.proofs.RequestLemmas.{last_finish-push}
+use Rattle.admission.specs.Standing.{station_of}
 use Rattle.responses.specs.Reference.{status_of}
 use Rattle.responses.specs.declared.slip.Given.{Given}
 use Rattle.responses.specs.declared.slip.Slip.{Slip}
@@ -26,7 +24,7 @@ use Rattle.decision_table.specs.declared.row.Row.{Row}
 use Rattle.decision_table.specs.Rows.{row_text}
 use Rattle.arrivals.specs.Reference.{Arrival}
 use Rattle.arrivals.specs.declared.incoming.Origin.{Origin}
-use Rattle.reference.specs.Reference.{Terms, given, outcome_answer, is_unmodified, is_head, service_of, offer_at, offers_of, rejects, is_turned_away, handled_next, slip_of}
+use Rattle.reference.specs.Reference.{station_for, Terms, tick_in, given, outcome_answer, is_unmodified, is_head, charge_of, offer_at, offers_of, rejects, is_turned_away, handled_next, slip_of}
 use Rattle.replay.specs.Fronts.{lookup_of}
 use Rattle.replay.specs.Serving.{DeskAfter}
 use Rattle.reference.specs.Explaining.{first_offered, row_of, method_of, target_of, row_after, rows_after}
@@ -68,41 +66,40 @@ by_away : (enough : Bool) (own : ℕ) (away : Bool) → away ≡ is_rejected (if
 by_away true own away e = rw e refl
 by_away false own away e = rw e refl
 
-decision_is : (policies : List PolicyNumbers) (offers : List Offer) (offer : Offer) (away : Bool) → away ≡ list_any (rejects policies offers) (offer ∷ [])
-    → (if away then Rejected else (Admitted (max (last_finish (map (λ r. r.offer) (served (decided policies offers)))) offer.tick + offer.service))) ≡ decide policies (decided policies offers) offer
+decision_is : (station : Station) (offers : List Offer) (offer : Offer) (away : Bool) → away ≡ list_any (rejects station offers) (offer ∷ [])
+    → (if away then Rejected else (Admitted (max (free_at station.servers (served (decided station offers))) offer.tick + offer.service))) ≡ decide station (decided station offers) offer
 unfolding rejects
-decision_is policies offers offer away e =
-    let d = decide policies (decided policies offers) offer in
-    let any : list_any (rejects policies offers) (offer ∷ []) ≡ (is_rejected d || false) = refl in
-    rw (← last_finish-push (map (λ r. r.offer) (served (decided policies offers))) offer)
-    (by_away _ _ away (e ∙ any ∙ alone (is_rejected d)))
+decision_is station offers offer away e =
+    let d = decide station (decided station offers) offer in
+    let any : list_any (rejects station offers) (offer ∷ []) ≡ (is_rejected d || false) = refl in
+    by_away _ _ away (e ∙ any ∙ alone (is_rejected d))
 
 offered_is : (terms : Terms) (arrivals : List Arrival) (origin : Origin) (what : Meaning) (service : Option ℕ) (found : Outlook) (away : Bool)
-    → service ≡ service_in (lookup_of terms.files terms.costs what) → found ≡ outlook terms.policies (decided terms.policies (offers_of terms arrivals)) origin.tier origin.tick
-    → away ≡ list_any (rejects terms.policies (offers_of terms arrivals)) (offer_at terms origin what)
-    → option_map (λ s. offered_with found origin.tick s away) service ≡ first_offered terms arrivals (offer_at terms origin what)
+    → service ≡ service_in (lookup_of terms.files terms.tariff what) → found ≡ outlook (station_for terms) (decided (station_for terms) (offers_of terms arrivals)) origin.tier (tick_in terms origin)
+    → away ≡ list_any (rejects (station_for terms) (offers_of terms arrivals)) (offer_at terms origin what)
+    → option_map (λ s. offered_with found (tick_in terms origin) s away) service ≡ first_offered terms arrivals (offer_at terms origin what)
 offered_is terms arrivals origin (Request method target version closing since) service found away costs finds is =
-    let decision = decision_is terms.policies (offers_of terms arrivals) _ away is in
-    rw (costs, finds) (ap (λ d. Some (record { service = service_of terms (is_head method) since (outcome terms.files (asked method target)); found = outlook terms.policies (decided terms.policies (offers_of terms arrivals)) origin.tier origin.tick; decision = d })) decision)
+    let decision = decision_is (station_for terms) (offers_of terms arrivals) _ away is in
+    rw (costs, finds) (ap (λ d. Some (record { service = (charge_of terms target (is_head method) since (outcome terms.files (asked method target))).service; found = outlook (station_for terms) (decided (station_for terms) (offers_of terms arrivals)) origin.tier (tick_in terms origin); decision = d })) decision)
 offered_is terms arrivals origin (Bad fault) service found away costs finds is = rw costs refl
 
-pub row_is : (X : Type 0) (terms : Terms) (start : ℕ) (arrivals : List Arrival) (a : Arrival) (origin : Origin) (service : Option ℕ) (found : Outlook) (slip : Slip X) (row : Row)
-    → a.origin ≡ origin → service ≡ service_in (lookup_of terms.files terms.costs a.message.what)
-    → found ≡ outlook terms.policies (decided terms.policies (offers_of terms arrivals)) origin.tier origin.tick → slip ≡ slip_of terms start (handled_next terms arrivals a)
-    → row ≡ record { number = slip.number; conn = slip.conn; tick = origin.tick; tier = origin.tier; status = status_of slip.what; offered = option_map (λ s. offered_with found origin.tick s (turns_away slip.what)) service }
+pub row_is : (X : Type 0) (terms : Terms) (start : ℕ) (arrivals : List Arrival) (a : Arrival) (origin : Origin) (tick : ℕ) (service : Option ℕ) (found : Outlook) (slip : Slip X) (row : Row)
+    → a.origin ≡ origin → tick ≡ tick_in terms origin → service ≡ service_in (lookup_of terms.files terms.tariff a.message.what)
+    → found ≡ outlook (station_for terms) (decided (station_for terms) (offers_of terms arrivals)) origin.tier tick → slip ≡ slip_of terms start (handled_next terms arrivals a)
+    → row ≡ record { number = slip.number; conn = slip.conn; tick = tick; tier = origin.tier; status = status_of slip.what; offered = option_map (λ s. offered_with found tick s (turns_away slip.what)) service }
     → row ≡ row_of terms arrivals a
-row_is X terms start arrivals a origin service found slip row from costs finds slips is =
+row_is X terms start arrivals a origin tick service found slip row from timed costs finds slips is =
     let away = is_turned_away terms arrivals a in
-    let given_by = offered_is terms arrivals a.origin a.message.what service found away costs (rw from finds) refl in
-    is ∙ rw (slips, ← from, away_is X terms away a.message.what, status_same X (Unit {0}) terms away a.message.what, given_by) refl
+    let given_by = offered_is terms arrivals a.origin a.message.what service found away costs (rw (from, ← timed) finds) refl in
+    is ∙ rw (timed, slips, ← from, away_is X terms away a.message.what, status_same X (Unit {0}) terms away a.message.what, given_by) refl
 
 -- ---- one row written
 
 -- what the desk foresees
 pub foreseen : (terms : Terms) (arrivals : List Arrival) (desk : Desk) (found : Outlook) (tier tick : ℕ) → DeskAfter terms arrivals desk
-    → ((offers : List Offer) → ControllerAfter offers desk.controller → found ≡ outlook (policies_of desk.controller) (decided (policies_of desk.controller) offers) tier tick)
-    → found ≡ outlook terms.policies (decided terms.policies (offers_of terms arrivals)) tier tick
-foreseen terms arrivals desk found tier tick stands finds = rw stands.policies at (finds (offers_of terms arrivals) stands.fits)
+    → ((offers : List Offer) → ControllerAfter offers desk.controller → found ≡ outlook (station_of desk.controller) (decided (station_of desk.controller) offers) tier tick)
+    → found ≡ outlook (station_for terms) (decided (station_for terms) (offers_of terms arrivals)) tier tick
+foreseen terms arrivals desk found tier tick stands finds = rw stands.station at (finds (offers_of terms arrivals) stands.fits)
 
 pub row_written : (terms : Terms) (arrivals : List Arrival) (a : Arrival) (row : Row) (what : Meaning) (method target : List ℕ) → row ≡ row_of terms arrivals a → a.message.what ≡ what
     → method ≡ method_of what → target ≡ target_of what → row_text row method target ≡ rows_after terms arrivals (a ∷ [])
@@ -112,6 +109,6 @@ row_written terms arrivals a row what method target is meaning methods targets =
     ∙ ap (λ t. row_text (row_of terms arrivals a) (method_of a.message.what) t) (targets ∙ ap target_of (sym meaning)) ∙ sym (rows_one terms arrivals a)
 
 -- how long a message takes, as it was looked into
-pub costs_known : (files : List File) (costs : CostTable) (said what : Meaning) (lookup : Lookup) (service : Option ℕ)
-    → service ≡ service_in lookup → lookup ≡ lookup_of files costs said → what ≡ said → service ≡ service_in (lookup_of files costs what)
-costs_known files costs said what lookup service is sees meaning = is ∙ ap service_in sees ∙ ap (λ w. service_in (lookup_of files costs w)) (sym meaning)
+pub costs_known : (files : List File) (tariff : Tariff) (said what : Meaning) (lookup : Lookup) (service : Option ℕ)
+    → service ≡ service_in lookup → lookup ≡ lookup_of files tariff said → what ≡ said → service ≡ service_in (lookup_of files tariff what)
+costs_known files tariff said what lookup service is sees meaning = is ∙ ap service_in sees ∙ ap (λ w. service_in (lookup_of files tariff w)) (sym meaning)

@@ -4,8 +4,7 @@ use Rattle.std.specs.List.{slice_get}
 use Rattle.std.proofs.lemmas.Option.{slice_get-map, slice_get_read}
 use lib.ListN.{get_or}
 use Rattle.admission.specs.declared.control.Control.{Control}
-use Rattle.admission.specs.declared.policy.PolicyNumbers.{PolicyNumbers}
-use Rattle.admission.specs.Reference.{Offer}
+use Rattle.admission.specs.Reference.{Station, Offer}
 use Rattle.admission.specs.Decisions.{controls_in}
 use Rattle.reference.specs.declared.summary.Tally.{Tally}
 use Rattle.reference.specs.Reference.{tally_of}
@@ -18,12 +17,12 @@ taken_at f xs ys i x four below there is =
     ∙ ap (option_map f) (slice_get_read xs 4 i x (sym four) below there)
 
 -- a tally with the counts and the controls of a tier
-pub tallied : (policies : List PolicyNumbers) (offers : List Offer) (tier : ℕ) (t : Tally) (admitted rejected : ℕ)
+pub tallied : (station : Station) (offers : List Offer) (tier : ℕ) (t : Tally) (admitted rejected : ℕ)
     (controls : List Control)
     → t ≡ record { admitted = admitted; rejected = rejected; controls = controls }
-    → admitted ≡ (tally_of policies offers tier).admitted → rejected ≡ (tally_of policies offers tier).rejected
-    → Some (controls_in policies offers tier) ≡ Some controls → t ≡ tally_of policies offers tier
+    → admitted ≡ (tally_of station offers tier).admitted → rejected ≡ (tally_of station offers tier).rejected
+    → Some (controls_in station offers tier) ≡ Some controls → t ≡ tally_of station offers tier
 unfolding tally_of
-tallied policies offers tier t admitted rejected controls is as_admitted as_rejected same =
-    let same_controls : controls ≡ controls_in policies offers tier = cc in
+tallied station offers tier t admitted rejected controls is as_admitted as_rejected same =
+    let same_controls : controls ≡ controls_in station offers tier = cc in
     rw (is, as_admitted, as_rejected, same_controls) refl

@@ -8,7 +8,7 @@ use Rattle.std.specs.Io.KnownBytes.{Appends}
 use Rattle.devices.proofs.Appending.{prefix_then, prefix_none, appends_then, prefix_first}
 use Rattle.devices.specs.Devices.{AppendsPrefix}
 use Rattle.paths.specs.declared.file.File.{File}
-use Rattle.cost_model.specs.Reference.{CostTable}
+use Rattle.cost_model.specs.Reference.{Tariff}
 use Rattle.responses.specs.Reference.{record_text}
 use Rattle.reference.specs.Reference.{Terms, Handled, slip_of, replies_of, reply_of}
 use Rattle.arrivals.specs.Reference.{Arrival}
@@ -107,10 +107,10 @@ none_written terms arrivals more messages desk old up none = rw (none_come terms
 
 -- ---- between the floors
 
-pub looked_up_are : (files : List File) (costs table : CostTable) (arrivals : List Arrival) (messages : List Incoming) (lookups : List LookedUp)
-    → table ≡ costs → AreOf arrivals messages → lookups ≡ map (front_value files table) messages → AreLookedUp files costs arrivals lookups
-looked_up_are files costs table arrivals messages lookups same are e =
-    e ∙ ap (λ (t : CostTable). map (front_value files t) messages) same ∙ ap (map (front_value files costs)) (sym are) ∙ map_map (front_value files costs) incoming_of arrivals
+pub looked_up_are : (files : List File) (tariff table : Tariff) (arrivals : List Arrival) (messages : List Incoming) (lookups : List LookedUp)
+    → table ≡ tariff → AreOf arrivals messages → lookups ≡ map (front_value files table) messages → AreLookedUp files tariff arrivals lookups
+looked_up_are files tariff table arrivals messages lookups same are e =
+    e ∙ ap (λ (t : Tariff). map (front_value files t) messages) same ∙ ap (map (front_value files tariff)) (sym are) ∙ map_map (front_value files tariff) incoming_of arrivals
 
 pub replies_are : (X : Type 0) (terms : Terms) (start : ℕ) (hs : List Handled) (pending_replies : List (PendingReply X)) (replies : List (ℕ × ℕ × List ℕ))
     → map slip_of_pending pending_replies ≡ map (slip_of {X = X} terms start) hs → replies ≡ map (λ t. reply_to terms.files (slip_of_pending t)) pending_replies → replies ≡ replies_of terms start hs

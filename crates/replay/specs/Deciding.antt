@@ -3,7 +3,7 @@ use Rattle.std.specs.Prelude.{◌≡◌, ℕ, Bool, List, [], ◌∷◌, ◌++�
 use Rattle.std.specs.List.{list_any}
 use Rattle.admission.specs.Reference.{Offer}
 use Rattle.admission.specs.After.{ControllerAfter}
-use Rattle.admission.specs.Standing.{policies_of}
+use Rattle.admission.specs.Standing.{station_of}
 use Rattle.reference.specs.Reference.{rejects, samples_of}
 use Rattle.replay.specs.declared.totals.Totals.{Totals}
 use Rattle.replay.specs.declared.desk.Desk.{Desk}
@@ -20,8 +20,8 @@ decided_totals t samples away = record {
 
 -- after these offers the next (one, or none) was decided on: whether it was turned away
 pub record Decides (offers next : List Offer) (old new : Desk) (away : Bool) : Type 0 where
-  pub policies : policies_of new.controller ≡ policies_of old.controller
+  pub station : station_of new.controller ≡ station_of old.controller
   pub fits : ControllerAfter (offers ++ next) new.controller
-  pub is_away : away ≡ list_any (rejects (policies_of old.controller) offers) next
-  pub totals : new.totals ≡ decided_totals old.totals (samples_of (policies_of old.controller) (offers ++ next)) away
+  pub is_away : away ≡ list_any (rejects (station_of old.controller) offers) next
+  pub totals : new.totals ≡ decided_totals old.totals (samples_of (station_of old.controller) (offers ++ next)) away
   pub start : new.start ≡ old.start

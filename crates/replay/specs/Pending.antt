@@ -2,7 +2,7 @@
 use Rattle.std.specs.Prelude.{◌≡◌, ◌<◌, ◌≤◌, List, [], ◌∷◌, ◌++◌, map}
 use Rattle.captures.specs.Reference.{max_tick}
 use Rattle.paths.specs.declared.file.File.{File}
-use Rattle.cost_model.specs.Reference.{CostTable}
+use Rattle.cost_model.specs.Reference.{Tariff}
 use Rattle.arrivals.specs.Reference.{Arrival}
 use Rattle.replay.specs.Serving.{AreBy}
 use Rattle.replay.specs.Fronts.{front_value}
@@ -18,8 +18,8 @@ abbrev pub AreOf : List Arrival → List Incoming → Type 0
 AreOf arrivals messages = map incoming_of arrivals ≡ messages
 
 -- these arrivals were looked up
-abbrev pub AreLookedUp : List File → CostTable → List Arrival → List LookedUp → Type 0
-AreLookedUp files costs arrivals lookups = lookups ≡ map (λ a. front_value files costs (incoming_of a)) arrivals
+abbrev pub AreLookedUp : List File → Tariff → List Arrival → List LookedUp → Type 0
+AreLookedUp files tariff arrivals lookups = lookups ≡ map (λ a. front_value files tariff (incoming_of a)) arrivals
 
 -- none of them comes before an earlier one, and each is of some tier
 abbrev pub InTime : List Arrival → List Arrival → Type 0

@@ -12,7 +12,7 @@ use Rattle.replay.specs.declared.lookup.Lookup.TheVariants.{Priced}
 
 -- how long the server works on a message that was looked up; nothing where it is no request
 abbrev pub service_in : Lookup → Option ℕ
-service_in (Priced o cost) = Some cost
+service_in (Priced o cost) = Some cost.service
 service_in lookup = None
 
 -- whether a status, and the answer to a message, turns it away

@@ -1,14 +1,15 @@
 -- How an engine stands between two messages, and between two records.
-use Rattle.std.specs.Prelude.{◌≡◌, ℕ, ◌+◌, ◌<◌, ◌≤◌, List, ◌++◌, length, take, All, Option, flat_map}
+use Rattle.std.specs.Prelude.{◌≡◌, ℕ, ◌+◌, ◌*◌, ◌/◌, ◌<◌, ◌≤◌, List, ◌++◌, length, take, All, Option}
+use Rattle.std.specs.Prelude.{flat_map}
 use Rattle.std.specs.Io.KnownBytes.{Appends}
 use Rattle.devices.specs.Devices.{AppendsPrefix}
 use Rattle.captures.specs.declared.record.Record.{Record}
 use Rattle.captures.specs.declared.record.Record.TheVariants.{Piece, End, Tier}
 use Rattle.responses.specs.Reference.{record_text}
 use Rattle.admission.specs.After.{ControllerAfter}
-use Rattle.admission.specs.Standing.{policies_of}
+use Rattle.admission.specs.Standing.{station_of}
 use Rattle.captures.specs.Reference.{used_once}
-use Rattle.reference.specs.Reference.{Terms, ArrivedCapture, offers_of, handled_after, replies_of}
+use Rattle.reference.specs.Reference.{station_for, Terms, ArrivedCapture, offers_of, handled_after, replies_of}
 use Rattle.reference.specs.Reference.{outcome_of}
 use Rattle.arrivals.specs.Reference.{Arrival, AreArrivals}
 use Rattle.arrivals.specs.Connections.{HaveRead}
@@ -24,7 +25,7 @@ most_messages = 536870912
 
 -- these messages were decided on and counted
 pub record DeskAfter (terms : Terms) (arrivals : List Arrival) (desk : Desk) : Type 0 where
-  pub policies : policies_of desk.controller ≡ terms.policies
+  pub station : station_of desk.controller ≡ (station_for terms)
   pub fits : ControllerAfter (offers_of terms arrivals) desk.controller
   pub totals : desk.totals ≡ totals_of terms arrivals
   pub few : length arrivals ≤ most_messages
@@ -32,6 +33,10 @@ pub record DeskAfter (terms : Terms) (arrivals : List Arrival) (desk : Desk) : T
 -- none of them came later than this tick
 abbrev pub AreBy : ℕ → List Arrival → Type 0
 AreBy tick arrivals = All (λ a. a.origin.tick ≤ tick) arrivals
+
+-- at this speed no tick up to the one counts later than the other
+abbrev pub CountsBy : ℕ → ℕ → ℕ → Type 0
+CountsBy speed tick counted = (earlier : ℕ) → earlier ≤ tick → earlier * 100 / speed ≤ counted
 
 -- none of them came later than this record
 abbrev pub IsLater : Record → List Arrival → Type 0

@@ -1,7 +1,8 @@
 -- What the engines count of the messages that they answered.
 use Rattle.std.specs.Prelude.{ℕ, ◌+◌, Bool, List, length, map, if◌then◌else◌}
 use Rattle.responses.specs.Reference.{statuses}
-use Rattle.reference.specs.Reference.{Terms, offers_of, handled, counts_of, bypassed_of, rejected_of, samples_of}
+use Rattle.reference.specs.Reference.{Terms, station_for, offers_of, handled, counts_of, bypassed_of, rejected_of}
+use Rattle.reference.specs.Reference.{samples_of}
 use Rattle.arrivals.specs.Reference.{Arrival}
 use Rattle.replay.specs.Counting.{with_status}
 use Rattle.reference.specs.declared.summary.Counts.{Counts}
@@ -17,7 +18,7 @@ totals_of terms arrivals = record {
   counts = counts_of terms (handled terms arrivals);
   bypassed = bypassed_of arrivals;
   rejected = rejected_of (handled terms arrivals);
-  samples = samples_of terms.policies (offers_of terms arrivals);
+  samples = samples_of (station_for terms) (offers_of terms arrivals);
 }
 
 -- the totals with one more message, of this status

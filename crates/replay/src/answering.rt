@@ -22,19 +22,18 @@ ghost use Rattle.replay.specs.Fronts.{lookup_of};
 ghost use Rattle.replay.specs.Backs.{slip_of_pending, reply_to, given_as, is_back, given_by, only_head, has_location};
 ghost use Rattle.replay.specs.Backs.{is_due};
 ghost use Rattle.replay.specs.declared.back.BackState.TheVariants.{Due as Waits};
-ghost use Rattle.admission.specs.Limits.{MAX_SERVICE};
 ghost use Rattle.paths.specs.Resolution.{IsOutcome};
 ghost use Rattle.page_cache.specs.Reference.{media_of};
-ghost use Rattle.cost_model.specs.Reference.{service};
+ghost use Rattle.cost_model.specs.Reference.{charge};
 
 use crate::desk::Desk;
 use crate::format::Format;
-use crate::lookup::{Lookup, ServiceTime};
+use crate::lookup::Lookup;
 use crate::pending::{Due, PendingReply};
 use crate::server::Server;
 use crate::{MAX_MESSAGES, ReplayFault};
 use arrivals::Origin;
-use cost_model::{Costs, service};
+use cost_model::{Charge, Tariff};
 use devices::Output;
 use http_requests::{HttpVersion, Meaning, Message, MessageFault};
 use page_cache::MediaType;
@@ -42,7 +41,7 @@ use paths::{Outcome, Snapshot, Tree, resolve};
 use responses::{
     Given, HeadRenderer, Persistence, Slip, Status, render, write_record, write_reply,
 };
-use std::alloc::AllocError;
+use std::alloc::{AllocError, Global};
 use std::io::Write;
 
 /// The status of a message that breaks a rule.
@@ -148,33 +147,34 @@ pub(crate) fn persistence_of(what: &Meaning) -> Persistence
     }
 }
 
-/// How long the virtual server works on a request with this outcome.
-pub(crate) fn service_of(
+/// What a request with this target and this outcome costs.
+pub(crate) fn charge_of(
+    alloc: Global,
     snapshot: &Snapshot,
-    costs: Costs,
+    tariff: &Tariff,
+    target: &[u8],
     head: bool,
     since: Option<u64>,
     outcome: &Outcome,
-) -> u64
+) -> Result<Charge, AllocError>
     requires { IsOutcome snapshot.now outcome.now }
-    ensures ticks { result
-        ≡ service costs outcome.now head (is_unmodified_file snapshot.now since outcome.now)
-        (length_given snapshot.now outcome.now) }
-    ensures range { (1 ≤ result) × (result ≤ MAX_SERVICE) }
+    ensures { IfOk result (λ c. c
+        ≡ charge tariff.now target.now outcome.now head (is_unmodified_file snapshot.now since outcome.now)
+        (length_given snapshot.now outcome.now)) }
 {
     match outcome {
         Outcome::File(file) => {
             let unmodified = is_unmodified(since, snapshot.mtime(*file));
             let len = snapshot.bytes(*file).len() as u64;
-            service(costs, outcome, head, unmodified, len)
+            tariff.charge(alloc, target, outcome, head, unmodified, len)
         }
-        _ => service(costs, outcome, head, false, 0),
+        _ => tariff.charge(alloc, target, outcome, head, false, 0),
     }
 }
 
 /// What is known of a message before it is decided on.
 pub(crate) fn look_up<F: Tree>(server: &Server<'_, F>, what: &Meaning) -> Result<Lookup, AllocError>
-    ensures { IfOk result (λ lookup. lookup ≡ lookup_of F.files server.now.costs what.now) }
+    ensures { IfOk result (λ lookup. lookup ≡ lookup_of F.files server.now.tariff what.now) }
 {
     let Meaning::Request {
         method,
@@ -193,14 +193,16 @@ pub(crate) fn look_up<F: Tree>(server: &Server<'_, F>, what: &Meaning) -> Result
         target.as_slice(),
     )?;
     let head = answers_head(what);
-    let service = service_of(
+    let charge = charge_of(
+        server.alloc,
         server.snapshot,
-        settings.costs(),
+        settings.tariff(),
+        target.as_slice(),
         head,
         *modified_since,
         &outcome,
-    );
-    Ok(Lookup::Priced(outcome, ServiceTime::new(service)))
+    )?;
+    Ok(Lookup::Priced(outcome, charge))
 }
 
 /// Writes the reply that gives a file, by the slip of the answer to HEAD. The bytes go to the writer as they stand in

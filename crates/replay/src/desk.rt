@@ -3,10 +3,10 @@
 ghost use Rattle.std.specs.Prelude.{◌≡◌, ◌<◌, ◌≤◌, ◌∷◌, ◌&&◌, [], true, Bool, List, length, IfOk, ◌+◌, ◌++◌, map, OnOk};
 ghost use Rattle.admission.specs.Reference.{Offer, tick_from};
 ghost use Rattle.admission.specs.After.{ControllerAfter};
-ghost use Rattle.admission.specs.Standing.{policies_of};
+ghost use Rattle.admission.specs.Standing.{station_of};
 ghost use Rattle.reference.specs.Reference.{terms_of, answers_head, given, offer_at, samples_of, handled_next};
 ghost use Rattle.reference.specs.Reference.{handled_after};
-ghost use Rattle.reference.specs.Reference.{slip_of};
+ghost use Rattle.reference.specs.Reference.{slip_of, tick_in};
 ghost use Rattle.replay.specs.Deciding.{Decides};
 ghost use Rattle.replay.specs.Fronts.{lookup_of};
 ghost use Rattle.replay.specs.Backs.{given_by, only_head, has_location, is_due, is_back, slip_of_pending};
@@ -18,18 +18,18 @@ ghost use Rattle.replay.specs.Steps.{DecidesNext};
 ghost use Rattle.replay.specs.Pending.{AreLookedUp, InTime};
 ghost use Rattle.replay.specs.declared.back.BackState.TheVariants.{Due as Waits};
 
-use crate::MAX_MESSAGES;
 use crate::answering::{answers_head, fault_status, outcome_answer, persistence_of};
 use crate::lookup::{LookedUp, Lookup};
 use crate::pending::{Due, PendingReply};
 use crate::server::Server;
 use crate::totals::Totals;
-use admission::{Controller, Decision, MAX_SERVICE, MAX_TICK};
+use crate::{MAX_MESSAGES, Settings};
+use admission::{Controller, Decision, MAX_DELAY, MAX_SERVICE, MAX_TICK};
 use arrivals::Origin;
 use http_requests::Meaning;
 use paths::Tree;
 use responses::{Given, Status};
-use std::alloc::AllocError;
+use std::alloc::{AllocError, Global};
 
 /// Where the messages of a capture are decided on and counted, in the order of their arrival.
 #[derive(Drop)]
@@ -40,23 +40,39 @@ pub struct Desk {
     pub totals: Totals,
 }
 
+/// A controller of these settings, which was offered nothing yet.
+pub(crate) fn controller_of(alloc: Global, settings: &Settings) -> Result<Controller, AllocError>
+    ensures fits { IfOk result (λ controller. ControllerAfter [] controller) }
+    ensures station { IfOk result (λ controller. station_of controller
+        ≡ record { policies = settings.now.policies; servers = settings.now.tariff.costs.servers }) }
+{
+    Controller::with_servers(
+        alloc,
+        settings.policies(),
+        settings.tariff().costs().servers(),
+    )
+}
+
 impl Desk {
-    /// Offers a request of `tier` that comes at `tick` and takes `service` ticks: whether it is turned away.
-    fn offer(&mut self, tier: u8, tick: u64, service: u64) -> Result<bool, AllocError>
+    /// Offers a request of `tier` that comes at `tick`, takes `service` ticks, and whose response takes `delay` ticks
+    /// beside that: whether it is turned away.
+    fn offer(&mut self, tier: u8, tick: u64, service: u64, delay: u64) -> Result<bool, AllocError>
         requires offers { (offers : List Offer) × ControllerAfter offers self.old.controller
             × (tick_from 0 offers ≤ tick)
             × (length offers < MAX_MESSAGES) }
         requires tier { tier < 4 }
         requires tick { tick ≤ MAX_TICK }
         requires service { (1 ≤ service) × (service ≤ MAX_SERVICE) }
+        requires delay { delay ≤ MAX_DELAY }
         ensures { IfOk result
             (λ away. (offers : List Offer) → ControllerAfter offers self.old.controller
-            → self.old.totals.samples ≡ samples_of (policies_of self.old.controller) offers
-            → Decides offers (record { tier = tier; tick = tick; service = service } ∷ []) self.old self.new away) }
+            → self.old.totals.samples ≡ samples_of (station_of self.old.controller) offers
+            → Decides offers (record { tier = tier; tick = tick; service = service; delay = delay } ∷ []) self.old
+            self.new away) }
     {
-        match self.controller.offer(tier, tick, service)? {
+        match self.controller.offer_delayed(tier, tick, service, delay)? {
             Decision::Admitted { finish } => {
-                self.totals.samples.push(finish - tick)?;
+                self.totals.samples.push(finish - tick + delay)?;
                 Ok(false)
             }
             Decision::Rejected => {
@@ -75,14 +91,14 @@ impl Desk {
         lookup: Lookup,
     ) -> Result<Due<F>, AllocError>
         requires offers { (offers : List Offer) × ControllerAfter offers self.old.controller
-            × (tick_from 0 offers ≤ origin.tick)
+            × (tick_from 0 offers ≤ tick_in (terms_of F.files server.now) origin)
             × (length offers < MAX_MESSAGES) }
         requires tier { origin.tier < 4 }
         requires tick { origin.tick ≤ MAX_TICK }
-        requires lookup { lookup ≡ lookup_of F.files server.now.costs what.now }
+        requires lookup { lookup ≡ lookup_of F.files server.now.tariff what.now }
         ensures given_by { IfOk result
             (λ due. (offers : List Offer) → ControllerAfter offers self.old.controller
-            → self.old.totals.samples ≡ samples_of (policies_of self.old.controller) offers
+            → self.old.totals.samples ≡ samples_of (station_of self.old.controller) offers
             → (away : Bool) × Decides offers
             (offer_at (terms_of F.files server.now) origin what.now) self.old self.new away
             × (given_by due ≡ given (terms_of F.files server.now) away what.now)) }
@@ -97,11 +113,12 @@ impl Desk {
             Meaning::Request { modified_since, .. } => {
                 let since = *modified_since;
                 let head = answers_head(what);
-                let Lookup::Priced(outcome, service) = lookup else {
+                let Lookup::Priced(outcome, charge) = lookup else {
                     unreachable!()
                 };
-                if self.offer(origin.tier, origin.tick, service.ticks())? {
-                    let settings = server.settings;
+                let settings = server.settings;
+                let tick = server.tick(origin);
+                if self.offer(origin.tier, tick, charge.service(), charge.delay())? {
                     let retry_after = settings.retry_after();
                     return Ok(Due::Ready(Given::Plain {
                         status: Status::ServiceUnavailable { retry_after },
@@ -128,7 +145,7 @@ pub(crate) fn settle<F: Tree>(
     requires stands { (arrivals : List Arrival)
         × DeskAfter (terms_of F.files server.now) arrivals desk.old
         × AreBy origin.tick arrivals }
-    requires lookup { lookup ≡ lookup_of F.files server.now.costs what.now }
+    requires lookup { lookup ≡ lookup_of F.files server.now.tariff what.now }
     ensures stands { OnOk result
         (DecidesNext (terms_of F.files server.now) origin what.now desk.old desk.new) }
     ensures slip { IfOk result (λ t. (arrivals : List Arrival) (a : Arrival)
@@ -140,7 +157,7 @@ pub(crate) fn settle<F: Tree>(
     ensures number { OnOk result (desk.new.totals.answered ≡ desk.old.totals.answered + 1) }
 {
     let number = desk.totals.answered;
-    let date = desk.start + origin.tick / 1_000_000;
+    let date = desk.start + server.tick(origin) / 1_000_000;
     let head = answers_head(what);
     let link = persistence_of(what);
     let due = desk.decide(server, origin, what, lookup)?;
@@ -164,15 +181,15 @@ pub(crate) fn decide_all<F: Tree>(
     requires start { desk.old.start ≤ max_start }
     requires arrived { (arrivals : List Arrival) × (more : List Arrival)
         × DeskAfter (terms_of F.files server.now) arrivals desk.old
-        × AreLookedUp F.files server.now.costs more lookups.items × InTime arrivals more
+        × AreLookedUp F.files server.now.tariff more lookups.items × InTime arrivals more
         × (length arrivals + length more ≤ MAX_MESSAGES) }
     ensures stands { OnOk result ((arrivals more : List Arrival)
         → DeskAfter (terms_of F.files server.now) arrivals desk.old
-        → AreLookedUp F.files server.now.costs more lookups.items
+        → AreLookedUp F.files server.now.tariff more lookups.items
         → DeskAfter (terms_of F.files server.now) (arrivals ++ more) desk.new) }
     ensures slips { IfOk result (λ v. (arrivals more : List Arrival)
         → DeskAfter (terms_of F.files server.now) arrivals desk.old
-        → AreLookedUp F.files server.now.costs more lookups.items
+        → AreLookedUp F.files server.now.tariff more lookups.items
         → map slip_of_pending v.items
         ≡ map (slip_of (terms_of F.files server.now) desk.old.start)
         (handled_after (terms_of F.files server.now) arrivals more)) }

@@ -12,11 +12,11 @@ ghost use Rattle.paths.specs.Resolution.{IsOutcome};
 ghost use Rattle.replay.specs.declared.lookup.Lookup.TheVariants.{Unseen, Found};
 ghost use Rattle.replay.specs.Fronts.{floor_lookup, floor_step, seen_as, message_at, each_looked_up};
 
-use crate::answering::{answers_head, service_of};
-use crate::lookup::{LookedUp, Lookup, ServiceTime};
+use crate::answering::{answers_head, charge_of};
+use crate::lookup::{LookedUp, Lookup};
 use crate::server::Server;
 use arrivals::Incoming;
-use cost_model::Costs;
+use cost_model::Tariff;
 use http_requests::Meaning;
 use paths::{Outcome, Snapshot, Tree, find_plain, inspect, locate};
 use stage_graph::{Chain, Gate, Lotted, Named, Plan, Unrun, run_through};
@@ -28,15 +28,15 @@ use std::thread::Threads;
 /// The number of the step that prices a request, after those that find what it asks for.
 const LAST_STEP: usize = 2;
 
-/// Names the messages of a front floor, and the costs.
+/// Names the messages of a front floor, and what requests cost.
 pub trait Fronts {
     ghost use Rattle.std.specs.Prelude.{List};
-    ghost use Rattle.cost_model.specs.Reference.{CostTable};
+    ghost use Rattle.cost_model.specs.Reference.{Tariff as TariffRow};
     ghost use Rattle.arrivals.specs.declared.incoming.Incoming.{Incoming};
 
     ghost messages: { List Incoming };
 
-    ghost costs: { CostTable };
+    ghost tariff: { TariffRow };
 }
 
 impl Fronts for Brand {
@@ -44,7 +44,10 @@ impl Fronts for Brand {
 
     ghost messages = { [] };
 
-    ghost costs = { record { file = 1; kib = 0; error = 1 } };
+    ghost tariff = { record {
+      costs = record { file = 1; kib = 0; error = 1; servers = 1; delay = 0 };
+      routes = [];
+    } };
 }
 
 /// What is known of a message on its way to the decision. The message is that of its number, and stays where it is.
@@ -56,7 +59,7 @@ pub struct FrontItem<F: Tree, K: Fronts> {
     tree: PhantomData<F>,
     of: PhantomData<K>,
     pub ghost own: { record { message = message_at K.messages number; lookup = seen_as F.files lookup }
-        ≡ value_of (floor_step F.files K.costs) done (unseen_at K.messages number) },
+        ≡ value_of (floor_step F.files K.tariff) done (unseen_at K.messages number) },
 }
 
 impl<F: Tree, K: Fronts> Named for FrontItem<F, K> {
@@ -73,18 +76,18 @@ impl<F: Tree, K: Fronts> Named for FrontItem<F, K> {
     }
 }
 
-/// The steps before the decision: the target is read, it is looked up, and its service time is computed. A target that
+/// The steps before the decision: the target is read, it is looked up, and what it costs is computed. A target that
 /// names a file as it stands is looked up where it is read.
 #[derive(Drop)]
 pub struct Front<'a, F: Tree, K: Fronts> {
     alloc: Global,
     snapshot: &'a Snapshot,
-    costs: Costs,
+    tariff: &'a Tariff,
     messages: &'a [Incoming],
     tree: PhantomData<F>,
     of: PhantomData<K>,
     pub ghost files: { snapshot.now ≡ F.files },
-    pub ghost table: { costs ≡ K.costs },
+    pub ghost table: { tariff.now ≡ K.tariff },
     pub ghost named: { messages.now ≡ K.messages },
 }
 
@@ -105,29 +108,46 @@ impl<'a, F: Tree, K: Fronts> Front<'a, F, K> {
         }
     }
 
-    /// What is known of a message after this step where this is what it asks for: the last step prices it.
-    fn found(&self, done: usize, what: &Meaning, outcome: Outcome) -> Lookup
+    /// What is known of a message after this step where this is what it asks for: the last step prices it. Where memory
+    /// ran out, what it asks for.
+    fn found(&self, done: usize, what: &Meaning, outcome: Outcome) -> Result<Lookup, Outcome>
         requires { IsOutcome F.files outcome }
-        ensures lookup { seen_as F.files result
-            ≡ floor_lookup F.files K.costs done what.now (Found outcome) }
-        ensures is { IsLookup F.files result }
+        ensures lookup { IfOk result (λ s. seen_as F.files s
+            ≡ floor_lookup F.files K.tariff done what.now (Found outcome)) }
+        ensures is { IfOk result (IsLookup F.files) }
+        ensures err { IfErr result (λ o. o ≡ outcome) }
     {
-        let Meaning::Request { modified_since, .. } = what else {
-            return Lookup::Found(outcome);
+        let Meaning::Request {
+            target,
+            modified_since,
+            ..
+        } = what
+        else {
+            return Ok(Lookup::Found(outcome));
         };
         if done < LAST_STEP {
-            return Lookup::Found(outcome);
+            return Ok(Lookup::Found(outcome));
         }
         let head = answers_head(what);
-        let service = service_of(self.snapshot, self.costs, head, *modified_since, &outcome);
-        Lookup::Priced(outcome, ServiceTime::new(service))
+        match charge_of(
+            self.alloc,
+            self.snapshot,
+            self.tariff,
+            target.as_slice(),
+            head,
+            *modified_since,
+            &outcome,
+        ) {
+            Ok(charge) => Ok(Lookup::Priced(outcome, charge)),
+            Err(_) => Err(outcome),
+        }
     }
 
     /// Looks one step further into a message, after so many steps.
     fn look(&self, done: usize, what: &Meaning, lookup: Lookup) -> Result<Lookup, Lookup>
         requires { IsLookup F.files lookup }
         ensures ok { IfOk result
-            (λ s. seen_as F.files s ≡ floor_lookup F.files K.costs done what.now (seen_as F.files lookup)) }
+            (λ s. seen_as F.files s ≡ floor_lookup F.files K.tariff done what.now (seen_as F.files lookup)) }
         ensures is { IfOk result (IsLookup F.files) }
         ensures err { IfErr result (λ s. s ≡ lookup) }
     {
@@ -137,11 +157,17 @@ impl<'a, F: Tree, K: Fronts> Front<'a, F, K> {
         match lookup {
             Lookup::Unseen => self.read(method.as_slice(), target.as_slice()),
             Lookup::Asked(asked) => match locate(self.alloc, self.snapshot, &asked) {
-                Ok(outcome) => Ok(self.found(done, what, outcome)),
+                Ok(outcome) => match self.found(done, what, outcome) {
+                    Ok(lookup) => Ok(lookup),
+                    Err(_) => Err(Lookup::Asked(asked)),
+                },
                 Err(_) => Err(Lookup::Asked(asked)),
             },
-            Lookup::Found(outcome) => Ok(self.found(done, what, outcome)),
-            Lookup::Priced(outcome, service) => Ok(Lookup::Priced(outcome, service)),
+            Lookup::Found(outcome) => match self.found(done, what, outcome) {
+                Ok(lookup) => Ok(lookup),
+                Err(outcome) => Err(Lookup::Found(outcome)),
+            },
+            Lookup::Priced(outcome, charge) => Ok(Lookup::Priced(outcome, charge)),
         }
     }
 
@@ -149,7 +175,7 @@ impl<'a, F: Tree, K: Fronts> Front<'a, F, K> {
     fn look_at(&self, number: usize, done: usize, lookup: Lookup) -> Result<Lookup, Lookup>
         requires { IsLookup F.files lookup }
         ensures ok { IfOk result (λ s. seen_as F.files s
-            ≡ floor_lookup F.files K.costs done (message_at K.messages number).what (seen_as F.files lookup)) }
+            ≡ floor_lookup F.files K.tariff done (message_at K.messages number).what (seen_as F.files lookup)) }
         ensures err { IfErr result (λ s. s ≡ lookup) }
     {
         match self.messages.get(number) {
@@ -166,7 +192,7 @@ impl<'a, F: Tree, K: Fronts> Chain for Front<'a, F, K> {
 
     ghost steps = { 3 };
 
-    ghost step = { floor_step F.files K.costs };
+    ghost step = { floor_step F.files K.tariff };
 
     ghost input_at = { λ n. unseen_at K.messages n };
 
@@ -297,11 +323,11 @@ fn run_front_with<
     messages: Vec<Incoming>,
     gate: &G,
 ) -> Result<Vec<LookedUp>, Unrun>
-    requires costs { server.now.costs ≡ K.costs }
+    requires tariff { server.now.tariff ≡ K.tariff }
     requires messages { messages.items ≡ K.messages }
     requires cut { last_cut plan ≡ 3 }
     ensures seen { IfOk result
-        (λ v. v.items ≡ map (front_value F.files server.now.costs) messages.items) }
+        (λ v. v.items ≡ map (front_value F.files server.now.tariff) messages.items) }
     ensures ran { IfOk result
         (λ _. (h : List Event) × HasGoneThrough plan (length messages.items) h) }
 {
@@ -312,7 +338,7 @@ fn run_front_with<
     let chain = Front::<F, K> {
         alloc,
         snapshot: server.snapshot,
-        costs: settings.costs(),
+        tariff: settings.tariff(),
         messages: &messages,
         tree: PhantomData,
         of: PhantomData,
@@ -331,7 +357,7 @@ pub(crate) fn run_front<F: Tree + Send + Sync, G: Gate + Sync, T: Threads + Wait
     gate: &G,
 ) -> Result<Vec<LookedUp>, Unrun>
     ensures seen { IfOk result
-        (λ v. v.items ≡ map (front_value F.files server.now.costs) messages.items) }
+        (λ v. v.items ≡ map (front_value F.files server.now.tariff) messages.items) }
     ensures ran { IfOk result
         (λ _. (h : List Event) × HasGoneThrough server.now.front (length messages.items) h) }
 {

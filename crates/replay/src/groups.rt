@@ -1,7 +1,7 @@
-//! Tickets in groups whose pages fit into memory.
+//! Pending replies in groups whose pages fit into memory.
 
-ghost use Rattle.std.specs.Prelude.{◌≡◌, ◌++◌, IfOk};
-ghost use Rattle.replay.specs.Groups.{all_of};
+ghost use Rattle.std.specs.Prelude.{◌≡◌, ◌≤◌, ◌++◌, ◌∷◌, [], sum_by, IfOk, IsTrue};
+ghost use Rattle.replay.specs.Groups.{all_of, page_len, room_for_pages, AreGroups, AreGroupsFor, Lays};
 
 use crate::pending::{Due, PendingReply};
 use arrivals::Series;
@@ -13,7 +13,7 @@ use std::sync::{Mutex, Wait};
 /// How many bytes of pages the replies of a group hold at most, where the cache can't hold the pages of all files.
 const MAX_HELD: usize = 33_554_432;
 
-/// More bytes than a page has besides those of its file.
+/// How many bytes of fields a page is counted with, besides those of its file: it has fewer.
 const FIELDS: usize = 256;
 
 /// How many bytes are copied in the time that a reply takes besides its page.
@@ -23,53 +23,70 @@ const REPLY: usize = 512;
 #[derive(Drop)]
 pub struct Pages<F: Tree> {
     pub cache: Mutex<PageCache<F>>,
-    /// How many bytes of pages the replies of a group may hold, each counted as often as it is due.
-    pub room: usize,
+    /// How many bytes of pages the replies of a group may hold, each counted as often as it is due: any number without
+    /// it.
+    pub room: Option<usize>,
 }
 
 /// How many bytes of pages the replies of a group may hold. Where the cache has room for the pages of all files, each
 /// stands in memory once, however many replies share it.
-pub(crate) fn room_for_pages(snapshot: &Snapshot, cache: usize) -> usize {
-    let mut all: usize = 0;
+pub(crate) fn room_for_pages(snapshot: &Snapshot, cache: usize) -> Option<usize>
+    ensures { result ≡ room_for_pages snapshot.now cache }
+{
+    let mut held: usize = 0;
     for file in 0..snapshot.len() {
-        let page = snapshot.bytes(file).len().saturating_add(FIELDS);
-        all = all.saturating_add(page);
+        let page = snapshot.bytes(file).len() + FIELDS;
+        if page > cache - held {
+            return Some(MAX_HELD);
+        }
+        held += page;
     }
-    if all <= cache { usize::MAX } else { MAX_HELD }
+    None
 }
 
 /// How many bytes of a file the page of a pending reply holds.
-pub(crate) fn page_len<F: Tree>(snapshot: &Snapshot, pending: &PendingReply<F>) -> usize {
+pub(crate) fn page_len<F: Tree>(snapshot: &Snapshot, pending: &PendingReply<F>) -> usize
+    ensures { result ≡ page_len snapshot.now pending.now }
+{
     match &pending.due {
         Due::Page { file, .. } if *file < snapshot.len() => snapshot.bytes(*file).len(),
         _ => 0,
     }
 }
 
-/// Puts a group after the others if it is full: what is left of it.
+/// Puts a group after the others if it is full: what is left of it, and how many bytes of pages that holds.
 fn laid_by<F: Tree>(
     alloc: Global,
     groups: &mut Vec<Series<PendingReply<F>>>,
     group: Vec<PendingReply<F>>,
+    held: usize,
     is_full: bool,
-) -> Result<Vec<PendingReply<F>>, AllocError>
-    ensures { IfOk result
-        (λ rest. all_of groups.new.items ++ rest.items ≡ all_of groups.old.items ++ group.items) }
+) -> Result<(Vec<PendingReply<F>>, usize), AllocError>
+    ensures all { IfOk result
+        (λ left. all_of groups.new.items ++ left.0.items ≡ all_of groups.old.items ++ group.items) }
+    ensures lays { IfOk result
+        (λ left. Lays is_full groups.old.items group.items held groups.new.items left.0.items left.1) }
 {
     if !is_full {
-        return Ok(group);
+        return Ok((group, held));
     }
     groups.push(Series::from_vec(group))?;
-    Ok(Vec::new(alloc))
+    Ok((Vec::new(alloc), 0))
 }
 
-/// How many bytes of pages the pending replies hold, each counted as often as it is due.
-fn held_by<F: Tree>(snapshot: &Snapshot, pending_replies: &[PendingReply<F>]) -> usize {
+/// Whether the pages of all pending replies have room, each counted as often as it is due.
+fn all_fit<F: Tree>(snapshot: &Snapshot, room: usize, pending_replies: &[PendingReply<F>]) -> bool
+    ensures { IsTrue result → sum_by (page_len snapshot.now) pending_replies.now ≤ room }
+{
     let mut held: usize = 0;
     for pending in pending_replies {
-        held = held.saturating_add(page_len(snapshot, pending));
+        let own = page_len(snapshot, pending);
+        if own > room - held {
+            return false;
+        }
+        held += own;
     }
-    held
+    true
 }
 
 /// How much work a group is, in bytes that are copied: what its replies cost besides their pages, and the pages that
@@ -98,38 +115,54 @@ fn one_group<F: Tree>(
     alloc: Global,
     pending_replies: Vec<PendingReply<F>>,
 ) -> Result<Vec<Series<PendingReply<F>>>, AllocError>
-    ensures { IfOk result (λ groups. all_of groups.items ≡ pending_replies.items) }
+    ensures { IfOk result (λ groups. groups.items ≡ pending_replies.items ∷ []) }
 {
     let mut whole = Vec::with_capacity(alloc, 1)?;
     whole.push(Series::from_vec(pending_replies))?;
     Ok(whole)
 }
 
-/// The pending replies in groups, one after another, whose pages take no more than `room` bytes.
+/// The pending replies in groups, one after another: the pages of a group take no more than `room` bytes, or are one
+/// alone, and it ends only where the next one has no room. Without a `room` there is one group.
 pub(crate) fn groups_of<F: Tree>(
+    alloc: Global,
+    snapshot: &Snapshot,
+    room: Option<usize>,
+    pending_replies: Vec<PendingReply<F>>,
+) -> Result<Vec<Series<PendingReply<F>>>, AllocError>
+    ensures all { IfOk result (λ groups. all_of groups.items ≡ pending_replies.items) }
+    ensures groups { IfOk result
+        (λ groups. AreGroupsFor (page_len snapshot.now) room groups.items) }
+{
+    match room {
+        Some(room) if !all_fit(snapshot, room, &pending_replies) => {
+            divided(alloc, snapshot, room, pending_replies)
+        }
+        _ => one_group(alloc, pending_replies),
+    }
+}
+
+/// The pending replies in groups whose pages take no more than `room` bytes, or are one alone.
+fn divided<F: Tree>(
     alloc: Global,
     snapshot: &Snapshot,
     room: usize,
     pending_replies: Vec<PendingReply<F>>,
 ) -> Result<Vec<Series<PendingReply<F>>>, AllocError>
-    ensures { IfOk result (λ groups. all_of groups.items ≡ pending_replies.items) }
+    ensures all { IfOk result (λ groups. all_of groups.items ≡ pending_replies.items) }
+    ensures groups { IfOk result
+        (λ groups. AreGroups (page_len snapshot.now) room groups.items) }
 {
-    if room == usize::MAX || held_by(snapshot, &pending_replies) <= room {
-        return one_group(alloc, pending_replies);
-    }
     let mut groups = Vec::new(alloc);
     let mut group = Vec::new(alloc);
     let mut held: usize = 0;
     for pending in pending_replies {
         let own = page_len(snapshot, &pending);
         let is_full = own > room.saturating_sub(held);
-        group = laid_by(alloc, &mut groups, group, is_full)?;
-        held = if is_full {
-            own
-        } else {
-            held.saturating_add(own)
-        };
-        group.push(pending)?;
+        let (mut left, before) = laid_by(alloc, &mut groups, group, held, is_full)?;
+        left.push(pending)?;
+        group = left;
+        held = before + own;
     }
     groups.push(Series::from_vec(group))?;
     Ok(groups)

@@ -1,11 +1,8 @@
 //! What is known of a message before it is decided on.
 
-ghost use Rattle.std.specs.Prelude.{◌≡◌, ◌≤◌};
-ghost use Rattle.admission.specs.Limits.{MAX_SERVICE};
-
 use arrivals::Incoming;
+use cost_model::Charge;
 use paths::{Asked, Outcome};
-use std::marker::Model;
 
 /// How far a message was looked up before it is decided on.
 #[derive(Drop)]
@@ -16,8 +13,8 @@ pub enum Lookup {
     Asked(Asked),
     /// It was looked up.
     Found(Outcome),
-    /// Its service time was computed.
-    Priced(Outcome, ServiceTime),
+    /// What it costs was computed.
+    Priced(Outcome, Charge),
 }
 
 /// A message, and how far it was looked up.
@@ -25,37 +22,4 @@ pub enum Lookup {
 pub struct LookedUp {
     pub message: Incoming,
     pub lookup: Lookup,
-}
-
-/// How long the virtual server works on a request, in ticks: at least one, and at most 20,000,000,000.
-#[derive(Drop)]
-pub struct ServiceTime {
-    ticks: u64,
-}
-
-impl Model for ServiceTime {
-    ghost use Rattle.std.specs.Prelude.{ℕ, ◌≤◌};
-    ghost use Rattle.admission.specs.Limits.{MAX_SERVICE};
-
-    ghost Value = { ℕ };
-
-    ghost view = { λ s. s.ticks };
-
-    ghost invariant = { λ s. (1 ≤ s.ticks) × (s.ticks ≤ MAX_SERVICE) };
-}
-
-impl ServiceTime {
-    pub(crate) fn new(ticks: u64) -> ServiceTime
-        requires { (1 ≤ ticks) × (ticks ≤ MAX_SERVICE) }
-        ensures { result ≡ ticks }
-    {
-        ServiceTime { ticks }
-    }
-
-    pub(crate) fn ticks(&self) -> u64
-        ensures value { result ≡ self.now }
-        ensures range { (1 ≤ result) × (result ≤ MAX_SERVICE) }
-    {
-        self.ticks
-    }
 }

@@ -18,10 +18,10 @@ ghost use Rattle.replay.specs.Steps.{AnswersRecord, FillsWithRecord, AnswersReco
 ghost use Rattle.arrivals.specs.Tiers.{AreTiers};
 ghost use Rattle.admission.specs.Reference.{Offer};
 ghost use Rattle.admission.specs.After.{ControllerAfter};
-ghost use Rattle.admission.specs.Standing.{policies_of};
+ghost use Rattle.admission.specs.Standing.{station_of};
 
 use crate::answering::answer_all;
-use crate::desk::Desk;
+use crate::desk::{Desk, controller_of};
 use crate::format::Format;
 use crate::replies::Replies;
 use crate::server::Server;
@@ -43,8 +43,8 @@ use std::marker::PhantomData;
 fn counted(controller: &Controller, tier: u8) -> (u64, u64)
     requires { tier < 4 }
     ensures { (offers : List Offer) → ControllerAfter offers controller.now
-        → (result.0 ≡ (tally_of (policies_of controller.now) offers tier).admitted)
-        × (result.1 ≡ (tally_of (policies_of controller.now) offers tier).rejected) }
+        → (result.0 ≡ (tally_of (station_of controller.now) offers tier).admitted)
+        × (result.1 ≡ (tally_of (station_of controller.now) offers tier).rejected) }
 {
     (controller.admitted(tier), controller.rejected(tier))
 }
@@ -63,7 +63,7 @@ fn tally(counted: (u64, u64), controls: Vec<Control>) -> Tally
 /// What became of the requests of each tier. Its controls are taken, and not copied.
 fn tallies_of(controller: Controller) -> [Tally; 4]
     ensures { (offers : List Offer) → ControllerAfter offers controller
-        → result ≡ tallies_of (policies_of controller) offers }
+        → result ≡ tallies_of (station_of controller) offers }
 {
     let of_zero = counted(&controller, 0);
     let of_one = counted(&controller, 1);
@@ -196,7 +196,7 @@ pub(crate) fn replay_writing<T: Format, F: Tree, R: Read, W: Write>(
     let most = version.max_messages();
     let mut desk = Desk {
         start: capture.start(),
-        controller: Controller::new(alloc, settings.policies())?,
+        controller: controller_of(alloc, settings)?,
         totals: Totals::new(alloc),
     };
     loop {

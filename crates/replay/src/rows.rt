@@ -6,7 +6,7 @@ ghost use Rattle.responses.specs.Reference.{status_of};
 ghost use Rattle.admission.specs.Reference.{decided};
 ghost use Rattle.admission.specs.Decisions.{outlook};
 ghost use Rattle.arrivals.specs.Reference.{Arrival};
-ghost use Rattle.reference.specs.Reference.{Terms, handled_next, offers_of, slip_of};
+ghost use Rattle.reference.specs.Reference.{station_for, Terms, tick_in, handled_next, offers_of, slip_of};
 ghost use Rattle.replay.specs.Fronts.{lookup_of};
 ghost use Rattle.replay.specs.Backs.{slip_of_pending, given_by};
 ghost use Rattle.reference.specs.Explaining.{row_of, method_of, target_of};
@@ -35,7 +35,7 @@ fn service_in(lookup: &Lookup) -> Option<u64>
     ensures range { IfSome result (λ service. service ≤ MAX_SERVICE) }
 {
     match lookup {
-        Lookup::Priced(_, service) => Some(service.ticks()),
+        Lookup::Priced(_, charge) => Some(charge.service()),
         _ => None,
     }
 }
@@ -98,20 +98,23 @@ fn offered_of(found: Outlook, tick: u64, service: Option<u64>, away: bool) -> Op
     }
 }
 
-/// The row of a message that came from there, takes that long, found this and has this pending reply.
+/// The row of a message that came from there and counts at this tick, takes that long, found this and has this pending
+/// reply.
 fn row_of<F: Tree>(
     origin: Origin,
+    tick: u64,
     service: Option<u64>,
     found: Outlook,
     pending: &PendingReply<F>,
 ) -> Row
     requires free { found.free ≤ MAX_TICK + MAX_SERVICE * MAX_OFFERS }
-    requires tick { origin.tick ≤ MAX_TICK }
+    requires tick { tick ≤ MAX_TICK }
     requires service { IfSome service (λ service. service ≤ MAX_SERVICE) }
     ensures { (terms : Terms) (start : ℕ) (arrivals : List Arrival) (a : Arrival)
-        → a.origin ≡ origin
-        → service ≡ service_in (lookup_of terms.files terms.costs a.message.what)
-        → found ≡ outlook terms.policies (decided terms.policies (offers_of terms arrivals)) origin.tier origin.tick
+        → a.origin ≡ origin → tick ≡ tick_in terms origin
+        → service ≡ service_in (lookup_of terms.files terms.tariff a.message.what)
+        → found ≡ outlook (station_for terms) (decided (station_for terms) (offers_of terms arrivals))
+        origin.tier tick
         → slip_of_pending pending.now ≡ slip_of terms start (handled_next terms arrivals a)
         → result ≡ row_of terms arrivals a }
 {
@@ -119,10 +122,10 @@ fn row_of<F: Tree>(
     Row {
         number: pending.number,
         conn: pending.conn,
-        tick: origin.tick,
+        tick,
         tier: origin.tier,
         status: status_of(&pending.due),
-        offered: offered_of(found, origin.tick, service, away),
+        offered: offered_of(found, tick, service, away),
     }
 }
 
@@ -167,9 +170,10 @@ impl Format for Rows {
     ) -> Result<(), ReplayFault> {
         let lookup = look_up(server, what)?;
         let service = service_in(&lookup);
-        let found = desk.controller.outlook(origin.tier, origin.tick);
+        let tick = server.tick(origin);
+        let found = desk.controller.outlook(origin.tier, tick);
         let pending = settle(server, origin, what, lookup, desk)?;
-        let row = row_of(origin, service, found, &pending);
+        let row = row_of(origin, tick, service, found, &pending);
         write_row(writer, &row, method_of(what), target_of(what))?;
         Ok(())
     }

@@ -1,6 +1,12 @@
 //! What an engine serves with.
 
+ghost use Rattle.std.specs.Prelude.{◌≡◌, ◌≤◌};
+ghost use Rattle.captures.specs.Reference.{max_tick};
+ghost use Rattle.reference.specs.Reference.{terms_of, tick_in};
+ghost use Rattle.replay.specs.Serving.{CountsBy};
+
 use crate::Settings;
+use arrivals::Origin;
 use paths::{Snapshot, Tree};
 use std::alloc::Global;
 use std::marker::{Model, PhantomData};
@@ -24,4 +30,17 @@ impl<'a, F: Tree> Model for Server<'a, F> {
     ghost view = { λ s. s.settings.now };
 
     ghost invariant = { λ s. s.snapshot.now ≡ F.files };
+}
+
+impl<'a, F: Tree> Server<'a, F> {
+    /// The tick that a message from there counts with, at the speed of the traffic.
+    pub fn tick(&self, origin: Origin) -> u64
+        requires { origin.tick ≤ max_tick }
+        ensures value { result ≡ tick_in (terms_of F.files self.now) origin }
+        ensures range { result ≤ origin.tick }
+        ensures rises { CountsBy self.now.speed origin.tick result }
+    {
+        let settings = self.settings;
+        settings.tick(origin.tick)
+    }
 }

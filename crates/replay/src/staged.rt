@@ -12,7 +12,7 @@ ghost use Rattle.reference.specs.Texts.{reply_texts};
 ghost use Rattle.replay.specs.Steps.{AnswersBatch, FillsWithBatch, AnswersBatchInPart};
 ghost use Rattle.replay.specs.Waiting.{ComeNext, Waiting};
 
-use crate::desk::Desk;
+use crate::desk::{Desk, controller_of};
 use crate::groups::{Pages, room_for_pages};
 use crate::parts::{Floors, serve_parts};
 use crate::plain::outcome_of;
@@ -20,7 +20,6 @@ use crate::replies::{write_first_line, write_last_line};
 use crate::server::Server;
 use crate::totals::Totals;
 use crate::{MAX_MESSAGES, ReplayFault, Settings};
-use admission::Controller;
 use arrivals::{Ending, Origin, Seats, Tiers, parts_of, read_batch};
 use captures::CaptureReader;
 use devices::{Input, Output};
@@ -128,7 +127,7 @@ pub fn staged_replay<
     let version = capture.version();
     let mut desk = Desk {
         start: capture.start(),
-        controller: Controller::new(alloc, settings.policies())?,
+        controller: controller_of(alloc, settings)?,
         totals: Totals::new(alloc),
     };
     let pages = Pages {

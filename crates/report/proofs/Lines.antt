@@ -1,9 +1,13 @@
 -- One line more.
 use Rattle.std.proofs.Common.{◌≡◌, ℕ, zero, suc, ◌+◌, ◌-◌, ◌<◌, List, [], ◌∷◌, ◌++◌, length, take, drop, sym, ap, ◌∙◌, refl, min, take_all, arith, rules}
-use Rattle.std.proofs.Common.{Bool, true, false, if◌then◌else◌}
+use Rattle.std.proofs.Common.{Bool, true, false, if◌then◌else◌, Option}
 use Rattle.std.specs.List.{flat_map, zip}
 use Rattle.std.proofs.lemmas.Slice.Zip.{length-zip, get_or-zip}
 use Rattle.std.proofs.lemmas.List.{append-nil, flat_map_more, take_more, length-drop}
+use Rattle.std.proofs.lemmas.Grind.{flat_map-append}
+use Rattle.devices.specs.Devices.{AppendsProperPrefix}
+use Rattle.devices.proofs.Appending.{stopped_in}
+use Rattle.std.specs.Io.KnownBytes.{Appends}
 use lib.ListN.{get_or}
 use Rattle.admission.specs.declared.control.Control.{Control}
 use Rattle.captures.specs.declared.version.Version.{Version}
@@ -97,3 +101,24 @@ pub status_lines-all : (start s codes counts : List ℕ) (n : ℕ) → n ≡ min
 status_lines-all start s codes counts n end before =
     let long : length (zip codes counts) ≡ n = length-zip codes counts ∙ sym end in
     before ∙ ap (λ pairs. start ++ flat_map line_of pairs) (take_all n (zip codes counts) (omega (arith, long)))
+
+-- ---- lines that are written one after another
+
+split_at : {X : Type 0} (xs : List X) (i : ℕ) (d : X) → i < length xs
+    → xs ≡ take i xs ++ (get_or xs i d ∷ drop (suc i) xs)
+split_at [] i d lt = absurd (omega (arith, lt))
+split_at (x ∷ xs) zero d lt = refl
+split_at (x ∷ xs) (suc i) d lt = ap (λ ys. x ∷ ys) (split_at xs i d (omega (arith, lt)))
+
+-- a write that stopped in one of the lines, after all before it
+pub stopped_among : {X : Type 0} (lines_of : X → List ℕ) (old mid new : Option (List ℕ)) (xs : List X) (i : ℕ) (d : X)
+    (text : List ℕ) → i < length xs → text ≡ lines_of (get_or xs i d)
+    → Appends old mid (flat_map lines_of (take i xs)) → AppendsProperPrefix mid new text
+    → AppendsProperPrefix old new (flat_map lines_of xs)
+stopped_among lines_of old mid new xs i d text lt is before stop =
+    let rest = flat_map lines_of (drop (suc i) xs) in
+    let whole : flat_map lines_of xs ≡ flat_map lines_of (take i xs) ++ (text ++ rest) =
+    ap (flat_map lines_of) (split_at xs i d lt)
+    ∙ flat_map-append lines_of (take i xs) (get_or xs i d ∷ drop (suc i) xs)
+    ∙ ap (λ t. flat_map lines_of (take i xs) ++ (t ++ rest)) (sym is) in
+    stopped_in old mid new (flat_map lines_of (take i xs)) text rest (flat_map lines_of xs) whole before stop

@@ -125,16 +125,21 @@ all_tier_lines version (zero ∷ above) =
     ++ tiers_above_lines version above
 
 -- a line for each request that was turned away
-abbrev pub reject_lines : List ℕ → List ℕ
-reject_lines rejected = flat_map (line (codes "reject")) rejected
+abbrev pub reject_line : ℕ → List ℕ
+reject_line number = line (codes "reject") number
 
--- the report of what a replay has come to
-unfoldable pub report_text : Outcome → List ℕ
-report_text outcome =
+abbrev pub reject_lines : List ℕ → List ℕ
+reject_lines rejected = flat_map reject_line rejected
+
+-- the lines of a report that stand before those of the rejected requests
+unfoldable pub lines_before_rejects : Outcome → List ℕ
+lines_before_rejects outcome =
     codes "haboob-report 1\n"
     ++ total_lines outcome
     ++ status_lines outcome.summary.counts
     ++ percentile_lines outcome.summary.samples
     ++ all_tier_lines outcome.version outcome.summary.tiers
-    ++ reject_lines outcome.rejected
-    ++ codes "end\n"
+
+-- the report of what a replay has come to
+abbrev pub report_text : Outcome → List ℕ
+report_text outcome = lines_before_rejects outcome ++ reject_lines outcome.rejected ++ codes "end\n"

@@ -5,10 +5,12 @@ ghost use Rattle.std.specs.String.{string_bytes};
 ghost use Rattle.report.specs.Reports.{total_lines, status_line, status_lines, percentile_line, percentile_lines};
 ghost use Rattle.report.specs.Reports.{numbered_from, numbered_lines};
 ghost use Rattle.report.specs.Reports.{control_line, control_lines, left_out, tier_line, tier_lines};
-ghost use Rattle.report.specs.Reports.{tiers_above_lines, all_tier_lines, reject_lines, report_text};
+ghost use Rattle.report.specs.Reports.{tiers_above_lines, all_tier_lines, lines_before_rejects, reject_lines};
+ghost use Rattle.report.specs.Reports.{report_text};
 
 use crate::percentiles::{percentile, sorted};
 use admission::Control;
+use arrivals::Series;
 use captures::Version;
 use reference::{Counts, Outcome, Summary, Tally};
 use responses::STATUS_CODES;
@@ -200,18 +202,15 @@ fn write_rejects(text: &mut String, rejected: &[usize]) -> Result<(), AllocError
     Ok(())
 }
 
-/// The report of a replay: how many messages there were and what became of them, how many were answered with each
-/// status, the percentiles of the admitted requests' times (in ticks of one microsecond), the changes of tier 0's rate,
-/// for each tier above it with a request that was offered what became of its requests and the changes of its rate, and
-/// the numbers of the rejected requests. docs/FORMATS.md has its format. The samples are sorted where they lie, and not
-/// kept a second time.
-///
-/// # Errors
-///
-/// There was no memory for its text.
-#[tactic(auto, unfolding(crate::specs::Reports::report_text))]
-pub fn report(alloc: Global, outcome: Outcome) -> Result<String, AllocError>
-    ensures { IfOk result (λ text. string_bytes text ≡ report_text outcome) }
+/// The lines of a report that stand before those of the rejected requests, and the numbers of these.
+#[tactic(auto, unfolding(crate::specs::Reports::lines_before_rejects))]
+pub(crate) fn lines_before_rejects(
+    alloc: Global,
+    outcome: Outcome,
+) -> Result<(String, Series<usize>), AllocError>
+    ensures lines { IfOk result
+        (λ parts. string_bytes parts.0 ≡ lines_before_rejects outcome) }
+    ensures rejected { IfOk result (λ parts. parts.1 ≡ outcome.rejected) }
 {
     let mut text = String::from_str(alloc, "haboob-report 1\n")?;
     write_totals(&mut text, &outcome)?;
@@ -229,6 +228,22 @@ pub fn report(alloc: Global, outcome: Outcome) -> Result<String, AllocError>
     write_statuses(&mut text, counts)?;
     write_percentiles(&mut text, samples.into_vec())?;
     write_tiers(&mut text, version, &tiers)?;
+    Ok((text, rejected))
+}
+
+/// The report of a replay: how many messages there were and what became of them, how many were answered with each
+/// status, the percentiles of the admitted requests' times (in ticks of one microsecond), the changes of tier 0's rate,
+/// for each tier above it with a request that was offered what became of its requests and the changes of its rate, and
+/// the numbers of the rejected requests. docs/FORMATS.md has its format. The samples are sorted where they lie, and not
+/// kept a second time. ([`crate::write_report`] writes it without the lines of the rejected requests in memory.)
+///
+/// # Errors
+///
+/// There was no memory for its text.
+pub fn report(alloc: Global, outcome: Outcome) -> Result<String, AllocError>
+    ensures { IfOk result (λ text. string_bytes text ≡ report_text outcome) }
+{
+    let (mut text, rejected) = lines_before_rejects(alloc, outcome)?;
     write_rejects(&mut text, rejected.as_slice())?;
     text.push_str("end\n")?;
     Ok(text)

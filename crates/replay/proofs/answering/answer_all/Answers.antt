@@ -1,11 +1,9 @@
-use Rattle.std.proofs.Common.{◌≡◌, ℕ, ◌+◌, List, [], ◌∷◌, ◌++◌, refl, sym, ap, ◌∙◌, subst, arith, append-nil, take, get_or}
+use Rattle.std.proofs.Common.{◌≡◌, ℕ, ◌+◌, List, [], ◌∷◌, ◌++◌, refl, sym, ap, ◌∙◌, arith, append-nil, take, get_or}
 use Rattle.std.proofs.lemmas.Grind.{common_steps}
 use Rattle.std.proofs.lemmas.List.{append_assoc}
-use Rattle.devices.specs.Devices.{Device}
 use Rattle.reference.specs.Reference.{terms_of}
 use Rattle.arrivals.specs.Reference.{Arrival}
 use Rattle.arrivals.specs.Connections.{arrivals_with}
-use Rattle.reference.specs.Texts.{Wrote}
 use Rattle.replay.proofs.Writing.{arrivals_step}
 use Rattle.replay.proofs.Texts.{wrote_none, wrote_more, wrote_part}
 use Rattle.replay.proofs.Judging.{by_more, passed_on, own_many, own_cut}

@@ -1,4 +1,5 @@
-use Rattle.std.proofs.Common.{arith}
+use Rattle.std.proofs.Common.{arith, subst, ◌≤◌}
+use Rattle.admission.specs.Reference.{tick_from}
 use Rattle.reference.specs.Reference.{terms_of, offers_of}
 use Rattle.replay.specs.Backs.{given_by}
 use Rattle.reference.proofs.Offering.{offers_few}
@@ -13,7 +14,8 @@ decide-requires-clause-offers g c =
     let below = c.requires.few in
     let is = answered_is terms given.0 c.args.desk.now given.1 in
     let few = offers_few terms given.0 in
-    (offers_of terms given.0, given.1.fits, last_by terms given.0 c.args.origin.tick given.2, omega (arith, below, is, few))
+    let by = last_by terms given.0 c.args.origin.tick c.tick.result given.2 c.tick.ensures.rises in
+    (offers_of terms given.0, given.1.fits, subst (λ t. tick_from 0 (offers_of terms given.0) ≤ t) c.tick.ensures.value by, omega (arith, below, is, few))
 
 pub note-requires-clause-counts : goal.note-requires-clause-counts
 note-requires-clause-counts g c =

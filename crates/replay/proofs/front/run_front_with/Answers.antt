@@ -18,15 +18,15 @@ pub returns-clause-seen : goal.returns-clause-seen
 returns-clause-seen g c =
     let xs = c.args.messages.items in
     let files = g.F.Tree.files in
-    let costs = c.args.server.now.costs in
+    let tariff = c.args.server.now.tariff in
     let lots = c.in_ok-carried.carried.lots.items in
     let count : c.len-count.result ≡ length xs = search rules in
     let values = sym (flat_map-mapped (λ x. looked_up (message_at g.K.Fronts.messages x.number) (seen_as files x.lookup)) (λ lot. lot.items) lots)
     ∙ (rw (c.in_ok-items.ensures.len, count) at c.in_ok-carried.ensures.values) in
     let found = values
-    ∙ (rw (← c.requires.messages, ← c.requires.costs)
-    (by_number (λ m. value_of (floor_step files costs) 3 (unseen m)) xs no_message ∙ same_values files costs xs)) in
-    let known = all_known files costs (λ x. message_at g.K.Fronts.messages x.number) (λ x. x.lookup) _ xs found in
+    ∙ (rw (← c.requires.messages, ← c.requires.tariff)
+    (by_number (λ m. value_of (floor_step files tariff) 3 (unseen m)) xs no_message ∙ same_values files tariff xs)) in
+    let known = all_known files tariff (λ x. message_at g.K.Fronts.messages x.number) (λ x. x.lookup) _ xs found in
     c.in_ok-with_lookups.ensures
     ∙ (ap (each_looked_up xs) (c.in_ok-lookups.ensures ∙ flat_map-mapped (λ x. x.lookup) (λ lot. lot.items) lots)
-    ∙ lookups_alone files costs (λ x. message_at g.K.Fronts.messages x.number) (λ x. x.lookup) _ xs known)
+    ∙ lookups_alone files tariff (λ x. message_at g.K.Fronts.messages x.number) (λ x. x.lookup) _ xs known)

@@ -26,7 +26,7 @@ pub returns-in-End-clause-tiers : goal.returns-in-End-clause-tiers
 returns-in-End-clause-tiers g c = λ records are. tiers_end _ _ _ records _ _ c.in-End.is (number_in _ _ _ c.in-End.is c.requires.record.1) c.end-in-End.ensures are
 
 pub returns-in_ok-give-in-Tier-clause-tiers : goal.returns-in_ok-give-in-Tier-clause-tiers
-returns-in_ok-give-in-Tier-clause-tiers g c = λ records are. tiers_tier _ _ _ records _ _ c.in-Tier.is (number_in _ _ _ c.in-Tier.is c.requires.record.1) c.in_ok-give-in-Tier.ensures are
+returns-in_ok-give-in-Tier-clause-tiers g c = λ records are. tiers_tier _ _ _ records _ _ c.in-Tier.is (number_in _ _ _ c.in-Tier.is c.requires.record.1) c.in_ok-give-in-Tier.ensures.ok are
 
 pub returns-in_ok-read_piece-in-Piece-clause-serves : goal.returns-in_ok-read_piece-in-Piece-clause-serves
 returns-in_ok-read_piece-in-Piece-clause-serves g c =

@@ -25,11 +25,11 @@ returns-in-Err-clause-fault g c =
     (halts_first (g.T.Format.texts (terms_of g.F.Tree.files c.args.settings.now)) c.args.reader.now.bytes _ c.args.writer.now.bytes c.begin.new.writer.bytes _ written c.in-Err.ensures.fault.at c.in-Err.ensures.fault.foreseen (rw c.in-Err.is at c.open.follows.holds-at-none).1)
     (inl (prefix_all c.args.writer.now.bytes c.begin.new.writer.bytes _ written)))
 
-pub returns-in_err-new-clause-fault : goal.returns-in_err-new-clause-fault
-returns-in_err-new-clause-fault g c =
-    passed_on c.from_residual-in_err-new.result _ _
+pub returns-in_err-controller_of-clause-fault : goal.returns-in_err-controller_of-clause-fault
+returns-in_err-controller_of-clause-fault g c =
+    passed_on c.from_residual-in_err-controller_of.result _ _
     (λ f same. rw same (inl (prefix_all c.args.writer.now.bytes c.begin.new.writer.bytes _ (c.in_ok-begin.ensures.written (terms_of g.F.Tree.files c.args.settings.now)))))
-    c.from_residual-in_err-new.ensures.1
+    c.from_residual-in_err-controller_of.ensures.1
 
 pub loop-next-init : goal.loop-next-init
 loop-next-init g c =
@@ -39,7 +39,7 @@ loop-next-init g c =
         [],
         [],
         rw c.start.ensures c.in-Ok.ensures.ok.after,
-        serves_none terms c.new-connections.result _ c.new-connections.ensures (stands_none terms _ (c.in_ok-new.ensures.policies ∙ c.policies.ensures) c.in_ok-new.ensures.fits c.new-2.ensures),
+        serves_none terms c.new-connections.result _ c.new-connections.ensures (stands_none terms _ (c.in_ok-controller_of.ensures.station) c.in_ok-controller_of.ensures.fits c.new.ensures),
         tiers_none c.new-tiers.result c.new-tiers.ensures,
         text_begun (g.T.Format.texts terms) c.start.result c.args.writer.now.bytes c.begin.new.writer.bytes (c.in_ok-begin.ensures.texts terms) (c.in_ok-begin.ensures.written terms),
         c.version-version.ensures,
@@ -48,7 +48,7 @@ loop-next-init g c =
       c.in-Ok.ensures.ok.count,
       c.in_ok-begin.ensures.failures,
       rw c.start.ensures c.in-Ok.ensures.ok.after.rules.in_time,
-      (let none = ap (λ (t : Totals). t.answered) c.new-2.ensures in omega (arith, none)),
+      (let none = ap (λ (t : Totals). t.answered) c.new.ensures in omega (arith, none)),
       c.max_messages-most.ensures,
     )
 

@@ -1,5 +1,5 @@
-use Rattle.std.proofs.Common.{refl, arith, map}
-use Rattle.admission.specs.Standing.{policies_of}
+use Rattle.std.proofs.Common.{refl, arith}
+use Rattle.admission.specs.Standing.{station_of}
 use Rattle.replay.proofs.Tallies.{taken_at, tallied}
 use Rattle.replay.proofs.plain.tallies_of.Goals as goal
 
@@ -15,8 +15,8 @@ returns c = λ offers fits.
     let counts-1 = c.counted-of_one.ensures offers fits in
     let counts-2 = c.counted-of_two.ensures offers fits in
     let counts-3 = c.counted-of_three.ensures offers fits in
-    let first = tallied (policies_of c.args.controller) offers 0 _ _ _ _ c.tally.ensures counts-0.0 counts-0.1 zero in
-    let second = tallied (policies_of c.args.controller) offers 1 _ _ _ _ c.tally-2.ensures counts-1.0 counts-1.1 one in
-    let third = tallied (policies_of c.args.controller) offers 2 _ _ _ _ c.tally-3.ensures counts-2.0 counts-2.1 two in
-    let fourth = tallied (policies_of c.args.controller) offers 3 _ _ _ _ c.tally-4.ensures counts-3.0 counts-3.1 three in
+    let first = tallied (station_of c.args.controller) offers 0 _ _ _ _ c.tally.ensures counts-0.0 counts-0.1 zero in
+    let second = tallied (station_of c.args.controller) offers 1 _ _ _ _ c.tally-2.ensures counts-1.0 counts-1.1 one in
+    let third = tallied (station_of c.args.controller) offers 2 _ _ _ _ c.tally-3.ensures counts-2.0 counts-2.1 two in
+    let fourth = tallied (station_of c.args.controller) offers 3 _ _ _ _ c.tally-4.ensures counts-3.0 counts-3.1 three in
     rw (first, second, third, fourth) refl

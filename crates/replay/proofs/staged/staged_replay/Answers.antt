@@ -25,11 +25,11 @@ returns-in-Err-clause-fault g c = rw c.from.ensures
     (stops_first (terms_of g.F.Tree.files c.args.settings.now) c.args.reader.now.bytes _ c.args.writer.now.bytes c.write_first_line.new.writer.bytes _ c.in_ok-write_first_line.ensures.written c.in-Err.ensures.fault.at c.in-Err.ensures.fault.foreseen (rw c.in-Err.is at c.open.follows.holds-at-none).1)
     (inl (prefix_all c.args.writer.now.bytes c.write_first_line.new.writer.bytes _ c.in_ok-write_first_line.ensures.written)))
 
+pub returns-in_err-controller_of-clause-fault : goal.returns-in_err-controller_of-clause-fault
+returns-in_err-controller_of-clause-fault g c = passed_on c.from_residual-in_err-controller_of.result _ _ (λ f same. rw same (inl (prefix_all c.args.writer.now.bytes c.write_first_line.new.writer.bytes _ c.in_ok-write_first_line.ensures.written))) c.from_residual-in_err-controller_of.ensures.1
+
 pub returns-in_err-new-clause-fault : goal.returns-in_err-new-clause-fault
 returns-in_err-new-clause-fault g c = passed_on c.from_residual-in_err-new.result _ _ (λ f same. rw same (inl (prefix_all c.args.writer.now.bytes c.write_first_line.new.writer.bytes _ c.in_ok-write_first_line.ensures.written))) c.from_residual-in_err-new.ensures.1
-
-pub returns-in_err-new-2-clause-fault : goal.returns-in_err-new-2-clause-fault
-returns-in_err-new-2-clause-fault g c = passed_on c.from_residual-in_err-new-2.result _ _ (λ f same. rw same (inl (prefix_all c.args.writer.now.bytes c.write_first_line.new.writer.bytes _ c.in_ok-write_first_line.ensures.written))) c.from_residual-in_err-new-2.ensures.1
 
 pub loop-floors-init : goal.loop-floors-init
 loop-floors-init g c =
@@ -39,7 +39,7 @@ loop-floors-init g c =
         [],
         [],
         rw c.start.ensures c.in-Ok.ensures.ok.after,
-        serves_none terms _ _ (ap connections_of c.new-seats.ensures) (stands_none terms _ (c.in_ok-new.ensures.policies ∙ c.policies.ensures) c.in_ok-new.ensures.fits c.new-2.ensures),
+        serves_none terms _ _ (ap connections_of c.new-seats.ensures) (stands_none terms _ (c.in_ok-controller_of.ensures.station) c.in_ok-controller_of.ensures.fits c.new.ensures),
         tiers_none c.new-tiers.result c.new-tiers.ensures,
         first_written terms c.start.result c.args.writer.now.bytes c.write_first_line.new.writer.bytes c.in_ok-write_first_line.ensures.written,
         c.version-version.ensures,
@@ -49,7 +49,7 @@ loop-floors-init g c =
       c.in_ok-write_first_line.ensures.failures,
       rw c.start.ensures c.in-Ok.ensures.ok.after.rules.in_time,
       waits_none _ c.new-seats.ensures,
-      (let none = ap (λ (t : Totals). t.answered) c.new-2.ensures in omega (arith, none)),
+      (let none = ap (λ (t : Totals). t.answered) c.new.ensures in omega (arith, none)),
       c.max_messages.ensures,
     )
 
@@ -102,7 +102,8 @@ pub returns-in-Fault-clause-fault : goal.returns-in-Fault-clause-fault
 returns-in-Fault-clause-fault g c = left_first _ _ _ c.read_batch.new.capture.input.now.bytes _ _ _ (search rules) (λ left.
     let gives = c.from-in-Fault.ensures in
     let same = c.in-Fault.fault-is in
-    let is : c.from-in-Fault.result ≡ pass_fault c.in-Fault.fault = cc in
+    let own : c.in-Fault.fault-1-own.given.0.0.0 ≡ c.in-Fault.fault = search rules in
+    let is : c.from-in-Fault.result ≡ pass_fault c.in-Fault.fault = gives ∙ ap pass_fault own in
     let inv = c.loop-floors.invariant in
     let terms = terms_of g.F.Tree.files c.args.settings.now in
     let b = c.in_ok-batch.ensures.batch in
@@ -121,7 +122,8 @@ returns-in-Fault-clause-reads g c =
     let before = c.loop-floors.invariant.2 in
     let gives = c.from-in-Fault.ensures in
     let same = c.in-Fault.fault-is in
-    let is : c.from-in-Fault.result ≡ pass_fault c.in-Fault.fault = cc in
+    let own : c.in-Fault.fault-1-own.given.0.0.0 ≡ c.in-Fault.fault = search rules in
+    let is : c.from-in-Fault.result ≡ pass_fault c.in-Fault.fault = gives ∙ ap pass_fault own in
     blamed_reported _ _ c.in-Fault.fault _ is (search rules)
 
 pub loop-floors-preserved : goal.loop-floors-preserved

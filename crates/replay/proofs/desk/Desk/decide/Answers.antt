@@ -5,5 +5,5 @@ use Rattle.replay.proofs.desk.Desk.decide.Goals as goal
 
 pub outcome_answer-requires-clause-is : goal.outcome_answer-requires-clause-is
 outcome_answer-requires-clause-is g c =
-    let p = priced g.F.Tree.files c.args.server.now.costs c.args.what.now c.in-Request.method c.in-Request.target _ _ _ _ c.args.lookup _ _ c.in-Request.is c.answers_head-head.ensures c.requires.lookup c.in-Priced.is in
+    let p = priced g.F.Tree.files c.args.server.now.tariff c.args.what.now c.in-Request.method c.in-Request.target _ _ _ _ c.args.lookup _ _ c.in-Request.is c.answers_head-head.ensures c.requires.lookup c.in-Priced.is in
     rw p.0 (outcome_is g.F.Tree.files (asked c.in-Request.method c.in-Request.target))

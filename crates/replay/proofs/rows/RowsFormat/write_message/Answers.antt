@@ -11,10 +11,11 @@ use Rattle.replay.proofs.rows.RowsFormat.write_message.Goals as goal
 pub outlook-found-requires-clause-forward : goal.outlook-found-requires-clause-forward
 outlook-found-requires-clause-forward g c =
     let given = c.requires.stands in
-    let late = last_by (terms_of g.F.Tree.files c.args.server.now) given.0 c.args.origin.tick given.2 in
+    let late = last_by (terms_of g.F.Tree.files c.args.server.now) given.0 c.args.origin.tick c.tick-tick.result given.2 c.tick-tick.ensures.rises in
     let last = given.1.fits.tick in
     let most = c.requires.tick in
-    (omega (arith, late, last), omega (arith, most))
+    let range = c.tick-tick.ensures.range in
+    (omega (arith, late, last), omega (arith, most, range))
 
 pub returns-in_err-lookup-clause-part : goal.returns-in_err-lookup-clause-part
 returns-in_err-lookup-clause-part g c =
@@ -29,9 +30,9 @@ returns-in_err-write_row-clause-part g c =
     let terms = terms_of g.F.Tree.files c.args.server.now in
     on_err c.from_residual-in_err-write_row.result _
     (λ arrivals a stands from meaning.
-    (let finds = foreseen terms arrivals c.args.desk.now c.outlook-found.result c.args.origin.tier c.args.origin.tick stands c.outlook-found.ensures.finds in
-    let costs = costs_known g.F.Tree.files c.args.server.now.costs c.args.what.now a.message.what _ _ c.service_in-service.ensures.is c.in_ok-lookup.ensures meaning in
-    let row = c.row_of-row.ensures terms c.args.desk.now.start arrivals a from costs finds (c.in_ok-pending.ensures.slip arrivals a stands from meaning) in
+    (let finds = foreseen terms arrivals c.args.desk.now c.outlook-found.result c.args.origin.tier c.tick-tick.result stands c.outlook-found.ensures.finds in
+    let costs = costs_known g.F.Tree.files c.args.server.now.tariff c.args.what.now a.message.what _ _ c.service_in-service.ensures.is c.in_ok-lookup.ensures meaning in
+    let row = c.row_of-row.ensures terms c.args.desk.now.start arrivals a from c.tick-tick.ensures.value costs finds (c.in_ok-pending.ensures.slip arrivals a stands from meaning) in
     let text = row_written terms arrivals a c.row_of-row.result c.args.what.now c.method_of.result.now c.target_of.result.now row meaning c.method_of.ensures c.target_of.ensures in
     let part = proper_is_prefix _ _ _ c.in_err-write_row.ensures.prefix in
     subst (λ v. AppendsPrefix c.args.writer.now.bytes c.write_row.new.output.bytes v) text part))
@@ -39,8 +40,8 @@ returns-in_err-write_row-clause-part g c =
 pub returns-clause-written : goal.returns-clause-written
 returns-clause-written g c = λ arrivals a stands from meaning.
     let terms = terms_of g.F.Tree.files c.args.server.now in
-    let finds = foreseen terms arrivals c.args.desk.now c.outlook-found.result c.args.origin.tier c.args.origin.tick stands c.outlook-found.ensures.finds in
-    let costs = costs_known g.F.Tree.files c.args.server.now.costs c.args.what.now a.message.what _ _ c.service_in-service.ensures.is c.in_ok-lookup.ensures meaning in
-    let row = c.row_of-row.ensures terms c.args.desk.now.start arrivals a from costs finds (c.in_ok-pending.ensures.slip arrivals a stands from meaning) in
+    let finds = foreseen terms arrivals c.args.desk.now c.outlook-found.result c.args.origin.tier c.tick-tick.result stands c.outlook-found.ensures.finds in
+    let costs = costs_known g.F.Tree.files c.args.server.now.tariff c.args.what.now a.message.what _ _ c.service_in-service.ensures.is c.in_ok-lookup.ensures meaning in
+    let row = c.row_of-row.ensures terms c.args.desk.now.start arrivals a from c.tick-tick.ensures.value costs finds (c.in_ok-pending.ensures.slip arrivals a stands from meaning) in
     let text = row_written terms arrivals a c.row_of-row.result c.args.what.now c.method_of.result.now c.target_of.result.now row meaning c.method_of.ensures c.target_of.ensures in
     subst (λ v. Appends c.args.writer.now.bytes c.write_row.new.output.bytes v) text c.in_ok-write_row.ensures.prefix
