@@ -1,0 +1,128 @@
+-- A text and its slim text have the same answers.
+use Rattle.std.proofs.Common.{◌≡◌, ℕ, List, [], ◌∷◌, length, map, Some, refl, sym, ap, ◌∙◌, subst, arith}
+use Rattle.std.specs.Io.KnownBytes.{Appends}
+use Rattle.std.proofs.lemmas.List.{length-map}
+use Rattle.captures.specs.declared.version.Version.{Version}
+use Rattle.captures.specs.declared.record.Record.{Record}
+use Rattle.captures.specs.Reference.{IsCaptureText, format_of, used_once}
+use Rattle.captures.specs.Upgrades.{later}
+use Rattle.captures.proofs.Agree.{one_list}
+use Rattle.captures.proofs.UpgradeLaws.{more_messages}
+use Rattle.http_requests.specs.declared.messages.Meaning.{Meaning}
+use Rattle.arrivals.specs.Reference.{Arrival, AreArrivals}
+use Rattle.arrivals.specs.declared.incoming.Origin.{Origin}
+use Rattle.arrivals.proofs.ArrivalLaws.{one_list_of_arrivals}
+use Rattle.reference.specs.Reference.{ArrivedCapture, Terms, replies_of, replies_text, handled, rejected_of, summary_of, outcome_of}
+use Rattle.reference.specs.Explaining.{table}
+use Rattle.reference.specs.Laws.{asked_by, told_in}
+use Rattle.reference.specs.declared.summary.Outcome.{Outcome}
+use Rattle.reference.proofs.ByMeaning.{by_meaning}
+use Rattle.reference.proofs.OneAnswer.{same_outcome}
+use Rattle.slim.specs.declared.queries.Queries.{Queries}
+use Rattle.slim.specs.declared.queries.Queries.TheVariants.{Kept}
+use Rattle.slim.specs.Targets.{kept_arrival, kept_arrivals}
+use Rattle.slim.specs.Slims.{seen, slimmed}
+use Rattle.slim.specs.Laws.{IsSlim, IsKept, SlimKeepsReplies, SlimKeepsRows, SlimKeepsDecisions}
+use Rattle.slim.proofs.KeptTargets.{kept_all}
+use Rattle.slim.proofs.SameAnswers.{change_nothing}
+
+-- what answers depend on is seen
+abbrev asked_of : Origin × ℕ × Meaning → Origin × Meaning
+asked_of q = (q.0, q.2)
+
+asked_seen : (xs : List Arrival) → map asked_by xs ≡ map asked_of (map seen xs)
+asked_seen [] = refl
+asked_seen (x ∷ xs) = ap (λ l. asked_by x ∷ l) (asked_seen xs)
+
+asked_same : (xs ys : List Arrival) → map seen xs ≡ map seen ys → map asked_by xs ≡ map asked_by ys
+asked_same xs ys same = asked_seen xs ∙ ap (map asked_of) same ∙ sym (asked_seen ys)
+
+count_same : (xs ys : List Arrival) → map seen xs ≡ map seen ys → length xs ≡ length ys
+count_same xs ys same = sym (length-map xs seen) ∙ ap length same ∙ length-map ys seen
+
+kept_count : (queries : Queries) (xs : List Arrival) → length (kept_arrivals queries xs) ≡ length xs
+unfolding kept_arrivals
+kept_count queries xs = length-map xs (kept_arrival queries)
+
+-- the capture that the slim text is, beside the one that was read
+record Beside (queries : Queries) (to : Version) (text slim : List ℕ) (s : IsSlim queries to text slim) (read : ArrivedCapture (Some text)) : Type 0 where
+  own : ArrivedCapture (Some slim)
+  version : own.capture.version ≡ later to s.version
+  start : own.capture.start ≡ read.capture.start
+  arrivals : read.arrivals ≡ s.arrivals
+  asked : map asked_by own.arrivals ≡ map asked_by (kept_arrivals queries s.arrivals)
+
+beside : (queries : Queries) (to : Version) (text slim : List ℕ) (s : IsSlim queries to text slim) → IsKept s → (read : ArrivedCapture (Some text)) → Beside queries to text slim s read
+beside queries to text slim s is read =
+    let kept = is.kept in
+    let same = one_list text read.capture.version s.version read.capture.start s.start read.capture.records s.records (read.capture.text refl) s.capture in
+    let arrived : AreArrivals (used_once s.records) read.arrivals = subst (λ (rs : List Record). AreArrivals (used_once rs) read.arrivals) same.2 read.are in
+    let one : read.arrivals ≡ s.arrivals = one_list_of_arrivals (used_once s.records) read.arrivals s.arrivals arrived s.arrived in
+    let whole : IsCaptureText (later to s.version) slim s.start (slimmed queries s.records s.arrivals) = record { text = s.text; rules = is.rules; size = is.size } in
+    let few = read.few in
+    let most = ap (λ v. (format_of v).max_messages) same.0 in
+    let wider = more_messages to s.version in
+    let count = count_same kept.slims (kept_arrivals queries s.arrivals) kept.same ∙ kept_count queries s.arrivals in
+    let count_read = ap length one in
+    record {
+      own = record {
+        capture = record { version = later to s.version; start = s.start; records = slimmed queries s.records s.arrivals; rules = is.rules; text = λ known. whole };
+        arrivals = kept.slims;
+        are = kept.arrived;
+        few = omega (arith, few, most, wider, count, count_read);
+      };
+      version = refl;
+      start = sym same.1;
+      arrivals = one;
+      asked = asked_same kept.slims (kept_arrivals queries s.arrivals) kept.same;
+    }
+
+-- what both come to
+record Alike (terms : Terms) (start : ℕ) (xs ys : List Arrival) : Type 0 where
+  replies : replies_of terms start (handled terms xs) ≡ replies_of terms start (handled terms ys)
+  rejected : rejected_of (handled terms xs) ≡ rejected_of (handled terms ys)
+  summary : summary_of terms xs ≡ summary_of terms ys
+
+alike : (queries : Queries) (to : Version) (text slim : List ℕ) (s : IsSlim queries to text slim) (read : ArrivedCapture (Some text)) (b : Beside queries to text slim s read) (terms : Terms)
+    → Alike terms read.capture.start b.own.arrivals read.arrivals
+alike queries to text slim s read b terms =
+    let start = read.capture.start in
+    let same = by_meaning terms start b.own.arrivals (kept_arrivals queries s.arrivals) b.asked in
+    let nothing = change_nothing queries terms start s.arrivals in
+    let one : s.arrivals ≡ read.arrivals = sym b.arrivals in
+    record {
+      replies = same.0 ∙ nothing.0 ∙ ap (λ xs. replies_of terms start (handled terms xs)) one;
+      rejected = same.1 ∙ nothing.1 ∙ ap (λ xs. rejected_of (handled terms xs)) one;
+      summary = same.2 ∙ nothing.2 ∙ ap (summary_of terms) one;
+    }
+
+pub keeps_replies : SlimKeepsReplies
+keeps_replies terms queries to text slim old new outcome s is a =
+    let b = beside queries to text slim s is a.read in
+    let same = alike queries to text slim s a.read b terms in
+    let replies : replies_of terms a.read.capture.start (handled terms a.read.arrivals) ≡ replies_of terms b.own.capture.start (handled terms b.own.arrivals) =
+    sym same.replies ∙ ap (λ t. replies_of terms t (handled terms b.own.arrivals)) (sym b.start) in
+    record {
+      read = b.own;
+      written = subst (λ rs. Appends old new (replies_text rs)) replies a.written;
+      outcome_is = same_outcome (told_in (later to s.version) outcome) (outcome_of b.own.capture.version terms b.own.arrivals) (sym b.version)
+          (ap (λ (o : Outcome). o.rejected) a.outcome_is ∙ sym same.rejected) (ap (λ (o : Outcome). o.summary) a.outcome_is ∙ sym same.summary);
+    }
+
+pub keeps_decisions : SlimKeepsDecisions
+keeps_decisions terms queries to text slim old new other outcome s is a written =
+    let b = beside queries to text slim s is a.read in
+    let same = alike queries to text slim s a.read b terms in
+    let rows = by_meaning terms b.own.capture.start b.own.arrivals (kept_arrivals queries s.arrivals) b.asked in
+    record {
+      read = b.own;
+      written = subst (λ (t : List ℕ). Appends old other t) (sym rows.3) written;
+      outcome_is = same_outcome (told_in (later to s.version) outcome) (outcome_of b.own.capture.version terms b.own.arrivals) (sym b.version)
+          (ap (λ (o : Outcome). o.rejected) a.outcome_is ∙ sym same.rejected) (ap (λ (o : Outcome). o.summary) a.outcome_is ∙ sym same.summary);
+    }
+
+pub keeps_rows : SlimKeepsRows
+keeps_rows terms to text slim old new outcome s is a =
+    let b = beside Kept to text slim s is a.read in
+    let rows : table terms a.read.arrivals ≡ table terms (kept_arrivals Kept s.arrivals) = ap (table terms) (b.arrivals ∙ sym (kept_all s.arrivals)) in
+    keeps_decisions terms Kept to text slim old new new outcome s is a (subst (λ (t : List ℕ). Appends old new t) rows a.written)

@@ -1,0 +1,17 @@
+pub mod DateLemmas
+pub mod Values
+pub mod WithoutQuery
+pub mod KeptTargets
+pub mod SameAnswers
+pub mod BlockLemmas
+pub mod Shapes
+pub mod Sizes
+pub mod Laid
+pub mod Placing
+pub mod Keeping
+pub mod Growth
+pub mod Ruled
+pub mod Standing
+pub mod Stopping
+pub mod AgainLaw
+pub mod AnswerLaw

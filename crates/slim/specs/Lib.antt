@@ -1,0 +1,6 @@
+pub mod Dates
+pub mod Targets
+pub mod Blocks
+pub mod Slims
+pub mod Steps
+pub mod Laws
