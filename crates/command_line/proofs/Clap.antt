@@ -9,7 +9,7 @@ use Rattle.clap.specs.declared.error.ErrorKind.TheVariants.{OutOfMemory}
 use Rattle.clap.proofs.OnLiterals.{clap_on_literals}
 use Rattle.command_line.specs.declared.words.WordFault.{WordFault}
 use Rattle.command_line.specs.declared.words.WordFault.TheVariants as faults
-use Rattle.command_line.specs.CommandLine.{Becomes, IsRefusal, command_line, explain_command, inspect_command, replay_command, settings_command, snapshot_command, upgrade_command}
+use Rattle.command_line.specs.CommandLine.{Becomes, IsRefusal, command_line, explain_command, inspect_command, replay_command, settings_command, slim_command, snapshot_command, upgrade_command}
 
 not_true : (b : Bool) → (b ≡ true → ⊥) → b ≡ false
 not_true true no_way = absurd (no_way refl)
@@ -25,11 +25,11 @@ pub still_local : (old new : Command) (a : Arg) → AddsArg old a new → a.glob
 still_local old new a adds local before = adds.globals ∙ rw (before, local) refl
 
 pub simple : is_simple command_line ≡ true
-unfolding clap_on_literals command_line replay_command upgrade_command snapshot_command inspect_command explain_command settings_command
+unfolding clap_on_literals command_line replay_command upgrade_command slim_command snapshot_command inspect_command explain_command settings_command
 simple = refl
 
 pub free : is_simple_and_free command_line ≡ true
-unfolding clap_on_literals command_line replay_command upgrade_command snapshot_command inspect_command explain_command settings_command
+unfolding clap_on_literals command_line replay_command upgrade_command slim_command snapshot_command inspect_command explain_command settings_command
 free = refl
 
 -- where no kind is among those that may come, an error is of memory
@@ -45,4 +45,5 @@ refused words kinds error (faults.Words text) same passes has becomes =
     (not_true _ (λ taken. becomes (passes taken)), λ none. becomes (only_memory kinds error (same ∙ none) has))
 refused words kinds error faults.Engine same passes has becomes = becomes
 refused words kinds error faults.Format same passes has becomes = becomes
+refused words kinds error faults.Speed same passes has becomes = becomes
 refused words kinds error faults.Memory same passes has becomes = tt

@@ -4,7 +4,8 @@ ghost use Rattle.std.specs.Prelude.{◌≡◌, false, IfOk};
 ghost use Rattle.clap.specs.Words.{app_of, rule_of};
 ghost use Rattle.clap.specs.declared.builder.Command.TheViews.{out-Command};
 ghost use Rattle.command_line.specs.CommandLine.{command_line, explain_command, flag_of, inspect_command, option_of};
-ghost use Rattle.command_line.specs.CommandLine.{replay_command, settings_command, snapshot_command, upgrade_command};
+ghost use Rattle.command_line.specs.CommandLine.{format_option, replay_command, settings_command, slim_command};
+ghost use Rattle.command_line.specs.CommandLine.{snapshot_command, speed_option, upgrade_command};
 
 use clap::{Arg, ArgAction, Command};
 use std::alloc::{AllocError, Global};
@@ -23,7 +24,8 @@ Examples:
   haboob replay --snapshot site.snapshot --capture day.capture --replies day.replies
   haboob explain --snapshot site.snapshot --capture day.capture --messages day.csv
   haboob settings --settings tight.toml
-  haboob upgrade --capture old.capture --output new.capture";
+  haboob upgrade --capture old.capture --output new.capture
+  haboob slim --capture day.capture --output day.traffic";
 
 /// What help says after the options of `replay`.
 const REPLAY_NOTES: &str = "Example:
@@ -40,8 +42,27 @@ Examples:
   haboob upgrade --capture old.capture --output new.capture
   haboob upgrade --capture new.capture --output day.traffic --to traffic";
 
+/// What help says after the options of `slim`.
+const SLIM_NOTES: &str =
+    "What no answer depends on is left out: each message becomes the shortest one that is answered the
+same, in a piece of its own. Its method and target stay, and of its fields what Connection and
+If-Modified-Since say; bodies, and messages that don't end, are gone. Ends and tiers stay. Replies,
+report and table are those of the capture; what is in a later format stays in that.
+
+With --drop-queries the query of each target goes as well, and in the table too. A target with a #
+becomes # alone, as does one that begins with a question mark: neither is a target.
+
+Examples:
+  haboob slim --capture day.capture --output day.traffic
+  haboob slim --capture day.capture --output day.slim --format 2 --drop-queries";
+
 /// What help says of the formats.
 const TARGET_HELP: &str = "2, a capture of version 2, or traffic";
+
+/// What help says of a capture that is written anew, and of the new one.
+const CAPTURE_HELP: &str = "The capture to read";
+
+const OUTPUT_HELP: &str = "Where the new capture goes; another file that is there is overwritten";
 
 /// What help says after the options of `snapshot`.
 const SNAPSHOT_NOTES: &str =
@@ -51,6 +72,10 @@ files above 16 MiB, names of more than 1024 bytes or that aren't UTF-8, and what
 
 Example:
   haboob snapshot --folder site --output site.snapshot";
+
+/// What help says of the speed.
+const SPEED_HELP: &str =
+    "How fast the traffic comes, in percent of the recorded speed, 100 to 10000";
 
 /// What help says of the engines.
 const ENGINE_HELP: &str = "plain, on one thread, or staged, on many; both answer the same";
@@ -88,6 +113,7 @@ pub(crate) fn command_line<'a>(alloc: Global) -> Result<Command<'a>, AllocError>
 {
     let replay = replay_command(alloc)?;
     let upgrade = upgrade_command(alloc)?;
+    let slim = slim_command(alloc)?;
     let snapshot = snapshot_command(alloc)?;
     let inspect = inspect_command(alloc)?;
     let explain = explain_command(alloc)?;
@@ -101,6 +127,7 @@ pub(crate) fn command_line<'a>(alloc: Global) -> Result<Command<'a>, AllocError>
         .after_help(PROGRAM_NOTES)
         .subcommand(replay)?
         .subcommand(upgrade)?
+        .subcommand(slim)?
         .subcommand(snapshot)?
         .subcommand(inspect)?
         .subcommand(explain)?
@@ -127,6 +154,7 @@ fn replay_command<'a>(alloc: Global) -> Result<Command<'a>, AllocError>
     let engine = option(alloc, "engine", "ENGINE")
         .help(ENGINE_HELP)
         .default_value("staged");
+    let speed = speed_option(alloc);
     Command::new(alloc, "replay")
         .about("Answers a capture's requests, and writes a report to standard output.")
         .after_help(REPLAY_NOTES)
@@ -134,29 +162,40 @@ fn replay_command<'a>(alloc: Global) -> Result<Command<'a>, AllocError>
         .arg(capture)?
         .arg(replies)?
         .arg(settings)?
-        .arg(engine)
+        .arg(engine)?
+        .arg(speed)
 }
 
 fn upgrade_command<'a>(alloc: Global) -> Result<Command<'a>, AllocError>
     ensures app { IfOk result (λ command. app_of command ≡ upgrade_command) }
     ensures local { IfOk result (λ command. (out-Command command).has_globals ≡ false) }
 {
-    let capture = file_option(alloc, "capture", "The capture to read").required(true);
-    let output = file_option(
-        alloc,
-        "output",
-        "Where the new capture goes; another file that is there is overwritten",
-    )
-    .required(true);
-    let to = option(alloc, "to", "FORMAT")
-        .help(TARGET_HELP)
-        .default_value("2");
+    let capture = file_option(alloc, "capture", CAPTURE_HELP).required(true);
+    let output = file_option(alloc, "output", OUTPUT_HELP).required(true);
+    let to = format_option(alloc, "to", "2");
     Command::new(alloc, "upgrade")
         .about("Writes a capture as one of version 2, or as traffic.")
         .after_help(UPGRADE_NOTES)
         .arg(capture)?
         .arg(output)?
         .arg(to)
+}
+
+fn slim_command<'a>(alloc: Global) -> Result<Command<'a>, AllocError>
+    ensures app { IfOk result (λ command. app_of command ≡ slim_command) }
+    ensures local { IfOk result (λ command. (out-Command command).has_globals ≡ false) }
+{
+    let capture = file_option(alloc, "capture", CAPTURE_HELP).required(true);
+    let output = file_option(alloc, "output", OUTPUT_HELP).required(true);
+    let format = format_option(alloc, "format", "traffic");
+    let drop_queries = flag(alloc, "drop-queries", "Leave out the query of each target");
+    Command::new(alloc, "slim")
+        .about("Writes a capture without what no answer depends on.")
+        .after_help(SLIM_NOTES)
+        .arg(capture)?
+        .arg(output)?
+        .arg(format)?
+        .arg(drop_queries)
 }
 
 fn snapshot_command<'a>(alloc: Global) -> Result<Command<'a>, AllocError>
@@ -209,13 +248,15 @@ fn explain_command<'a>(alloc: Global) -> Result<Command<'a>, AllocError>
         "settings",
         "Settings, as TOML; a key that is left out has its default",
     );
+    let speed = speed_option(alloc);
     Command::new(alloc, "explain")
         .about("Tells of each message why it was admitted or turned away.")
         .after_help(EXPLAIN_NOTES)
         .arg(snapshot)?
         .arg(capture)?
         .arg(messages)?
-        .arg(settings)
+        .arg(settings)?
+        .arg(speed)
 }
 
 fn settings_command<'a>(alloc: Global) -> Result<Command<'a>, AllocError>
@@ -242,6 +283,26 @@ fn flag<'a>(alloc: Global, name: &'a str, help: &'a str) -> Arg<'a>
         .long(name)
         .action(ArgAction::SetTrue)
         .help(help)
+}
+
+/// An option whose value is the format of a new capture, `default` where none is named.
+fn format_option<'a>(alloc: Global, name: &'a str, default: &'a str) -> Arg<'a>
+    ensures rule { rule_of result ≡ format_option name.entry.now default.entry.now }
+    ensures local { result.global ≡ false }
+{
+    option(alloc, name, "FORMAT")
+        .help(TARGET_HELP)
+        .default_value(default)
+}
+
+/// The option whose value is the speed of the traffic.
+fn speed_option<'a>(alloc: Global) -> Arg<'a>
+    ensures rule { rule_of result ≡ speed_option }
+    ensures local { result.global ≡ false }
+{
+    option(alloc, "speed", "PERCENT")
+        .help(SPEED_HELP)
+        .default_value("100")
 }
 
 /// An option whose value is the name of a file.

@@ -1,14 +1,16 @@
 //! From arguments to a job.
 
-ghost use Rattle.std.specs.Prelude.{◌≡◌, [], Ok, codes, map, option_map, IfOk, IfErr};
+ghost use Rattle.std.specs.Prelude.{◌≡◌, [], Ok, Some, codes, map, option_map, IfOk, IfErr};
 ghost use Rattle.clap.specs.Words.{fault_of, kind_of, subcommand_of, subcommand_rows_of};
-ghost use Rattle.command_line.specs.CommandLine.{Asks, AsksBy, Becomes, IsRefusal, IsValueFault, Refuses};
-ghost use Rattle.command_line.specs.CommandLine.{command_line, engine_named, file_of, is_given, subcommand_named};
-ghost use Rattle.command_line.specs.CommandLine.{subcommand_of_rows, target_named, value_of};
+ghost use Rattle.command_line.specs.CommandLine.{Asks, AsksBy, Becomes, IsNoTarget, IsRefusal, IsValueFault};
+ghost use Rattle.command_line.specs.CommandLine.{IsNoSpeed, Refuses, command_line, engine_named, file_of, is_given};
+ghost use Rattle.command_line.specs.CommandLine.{subcommand_named, subcommand_of_rows, target_named, target_of};
+ghost use Rattle.command_line.specs.CommandLine.{speed_named, speed_of, value_of};
 
 use crate::commands::command_line;
 use clap::error::ErrorKind;
 use clap::{ArgMatches, Error};
+use devices::number;
 use std::alloc::{AllocError, Global};
 use std::convert::AsStr;
 
@@ -21,7 +23,7 @@ pub enum Engine {
     Staged,
 }
 
-/// Which format an upgrade writes.
+/// Which format an upgrade or a slim text is asked for in.
 #[derive(Clone, Copy, Debug, PartialEq, Eq)]
 pub enum Target {
     /// A capture of version 2.
@@ -42,6 +44,8 @@ pub enum Job<'a> {
         replies: &'a str,
         settings: Option<&'a str>,
         engine: Engine,
+        /// In percent of that at which the traffic was recorded: 100 to 10,000.
+        speed: u64,
     },
     /// The text of a capture or of traffic stands in a file, and goes into another in this format, or in its own where
     /// that is later.
@@ -49,6 +53,14 @@ pub enum Job<'a> {
         capture: &'a str,
         output: &'a str,
         to: Target,
+    },
+    /// As `Upgrade`, with the slim text: without what no answer depends on, and without queries where that is asked
+    /// for.
+    Slim {
+        capture: &'a str,
+        output: &'a str,
+        to: Target,
+        drop_queries: bool,
     },
     /// The files of a folder go into a snapshot. What can't stand there is left out where that is asked for.
     Snapshot {
@@ -66,6 +78,8 @@ pub enum Job<'a> {
         capture: &'a str,
         messages: &'a str,
         settings: Option<&'a str>,
+        /// As of a replay.
+        speed: u64,
     },
     /// Standard output gets the settings of a file, or the default ones without it, written out in full.
     Settings {
@@ -78,6 +92,7 @@ pub enum Job<'a> {
 enum Subcommand {
     Replay,
     Upgrade,
+    Slim,
     Snapshot,
     Inspect,
     Explain,
@@ -91,8 +106,10 @@ pub enum WordFault {
     Words(String),
     /// The engine is neither `plain` nor `staged`.
     Engine,
-    /// The format of an upgrade is neither `2` nor `traffic`.
+    /// The format of an upgrade or of a slim text is neither `2` nor `traffic`.
     Format,
+    /// The speed is no decimal from 100 to 10,000.
+    Speed,
     /// There was no memory for them.
     Memory,
 }
@@ -114,7 +131,8 @@ impl From<AllocError> for WordFault {
 /// # Errors
 ///
 /// `Words` where the command doesn't take the words (or they ask for its help), `Engine` where the engine is neither
-/// `plain` nor `staged`, `Format` where that of an upgrade is neither `2` nor `traffic`, or `Memory`.
+/// `plain` nor `staged`, `Format` where that of an upgrade or of a slim text is neither `2` nor `traffic`, `Speed`
+/// where the engine is one and the speed is no decimal from 100 to 10,000, or `Memory`.
 pub fn read_words<'a, S: AsStr>(alloc: Global, words: &'a [S]) -> Result<Job<'a>, WordFault>
     ensures job { IfOk result (Asks (map S.text words.entry.now)) }
     ensures fault { IfErr result (Refuses (map S.text words.entry.now)) }
@@ -142,16 +160,22 @@ fn job_of<'a>(matches: &ArgMatches<'a>) -> Result<Job<'a>, WordFault>
                 replies: file(matches, "replies"),
                 settings: value(matches, "settings"),
                 engine,
+                speed: speed_asked(matches)?,
             })
         }
         Subcommand::Upgrade => {
-            let Some(to) = target_named(value(matches, "to").unwrap_or("")) else {
-                return Err(WordFault::Format);
-            };
             Ok(Job::Upgrade {
                 capture: file(matches, "capture"),
                 output: file(matches, "output"),
-                to,
+                to: target_asked(matches, "to")?,
+            })
+        }
+        Subcommand::Slim => {
+            Ok(Job::Slim {
+                capture: file(matches, "capture"),
+                output: file(matches, "output"),
+                to: target_asked(matches, "format")?,
+                drop_queries: is_given(matches, "drop-queries"),
             })
         }
         Subcommand::Snapshot => {
@@ -172,6 +196,7 @@ fn job_of<'a>(matches: &ArgMatches<'a>) -> Result<Job<'a>, WordFault>
                 capture: file(matches, "capture"),
                 messages: file(matches, "messages"),
                 settings: value(matches, "settings"),
+                speed: speed_asked(matches)?,
             })
         }
         Subcommand::Settings => {
@@ -202,11 +227,22 @@ fn target_named(name: &str) -> Option<Target>
     }
 }
 
+/// The speed that a word names: a decimal of its percent.
+fn speed_named(name: &str) -> Option<u64>
+    ensures { result ≡ speed_named name.now }
+{
+    match number(name.as_bytes()) {
+        Some(percent) if (100..=10_000).contains(&percent) => Some(percent),
+        _ => None,
+    }
+}
+
 fn subcommand_named(name: &str) -> Subcommand
     ensures { result ≡ subcommand_named name.now }
 {
     match name {
         "upgrade" => Subcommand::Upgrade,
+        "slim" => Subcommand::Slim,
         "snapshot" => Subcommand::Snapshot,
         "inspect" => Subcommand::Inspect,
         "explain" => Subcommand::Explain,
@@ -240,6 +276,28 @@ fn file<'a>(matches: &ArgMatches<'a>, option: &str) -> &'a str
     ensures { result.now ≡ file_of (subcommand_rows_of matches.now) option.now }
 {
     value(matches, option).unwrap_or("")
+}
+
+/// The format that an option of the subcommand asks for.
+fn target_asked(matches: &ArgMatches, option: &str) -> Result<Target, WordFault>
+    ensures to { IfOk result (λ to. target_of (subcommand_rows_of matches.now) option.now ≡ Some to) }
+    ensures fault { IfErr result (IsNoTarget (subcommand_rows_of matches.now) option.now) }
+{
+    match target_named(value(matches, option).unwrap_or("")) {
+        Some(to) => Ok(to),
+        None => Err(WordFault::Format),
+    }
+}
+
+/// The speed at which the subcommand is to let traffic come.
+fn speed_asked(matches: &ArgMatches) -> Result<u64, WordFault>
+    ensures speed { IfOk result (λ speed. speed_of (subcommand_rows_of matches.now) ≡ Some speed) }
+    ensures fault { IfErr result (IsNoSpeed (subcommand_rows_of matches.now)) }
+{
+    match speed_named(value(matches, "speed").unwrap_or("")) {
+        Some(speed) => Ok(speed),
+        None => Err(WordFault::Speed),
+    }
 }
 
 /// Whether a flag of the subcommand is given.

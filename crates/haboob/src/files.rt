@@ -6,11 +6,12 @@ use captures::Version;
 use command_line::{Job, Target, WordFault, read_words};
 use devices::Output;
 use program::{
-    Fault, Place, Wanted, inspect_files, run_files, run_program, run_snapshot, settings_files,
-    shown_name, upgrade_files, words_line, write_skipped,
+    Devices, Fault, Place, Sink, Wanted, buffered_input, bundle_into, inspect_into, replay_into,
+    run_snapshot, settings_into, shown_name, slim_into, upgrade_into, words_line, write_skipped,
 };
 use reference::Settings;
 use settings::{MAX_SETTINGS_BYTES, default_settings, read_settings};
+use slim::Queries;
 use std::alloc::{AllocError, Global};
 use std::env;
 use std::fs::File;
@@ -85,6 +86,15 @@ fn settings_in(rt: &HostRuntime, name: Option<&str>) -> Result<(Settings, Option
     Ok((read_settings(alloc, &bytes)?, Some(node)))
 }
 
+/// The same settings for traffic that comes at so many percent of its speed.
+fn at_speed(settings: Settings, percent: u64) -> Result<Settings, Fault> {
+    if (100..=10_000).contains(&percent) {
+        Ok(settings.with_speed(percent))
+    } else {
+        Err(Fault::Words(WordFault::Speed))
+    }
+}
+
 /// Refuses a standard output that is one of the inputs, before anything is written.
 fn check_standard(
     standard: Option<Node>,
@@ -100,7 +110,8 @@ fn check_standard(
 /// Replays standard input to standard output.
 fn bundle(rt: &HostRuntime, standard: Option<Node>) -> Result<(), Fault> {
     check_standard(standard, &[Node::at(rt, STANDARD_INPUT)], Place::Replies)?;
-    run_program(rt.alloc(), rt.stdin(), rt.stdout()).0
+    let input = buffered_input(rt.alloc(), rt.stdin())?;
+    bundle_into(rt.alloc(), input, Sink::new(rt.stdout())).0
 }
 
 /// Writes to standard output the settings of a file, or the default ones without it. `words` gets what is to be said
@@ -119,7 +130,7 @@ fn settings_named(
         None => (Vec::new(rt.alloc()), None),
     };
     check_standard(standard, &[node], Place::Report)?;
-    let ran = settings_files(rt.alloc(), &bytes, rt.stdout()).0;
+    let ran = settings_into(rt.alloc(), &bytes, Sink::new(rt.stdout())).0;
     if let Err(Fault::Settings(fault)) = &ran {
         // Without memory for the words the line alone tells the fault.
         if let Ok(line) = words_line(rt.alloc(), &bytes, *fault) {
@@ -134,10 +145,11 @@ fn inspect_named(rt: &HostRuntime, standard: Option<Node>, capture: &str) -> Res
     let capture = open(rt, capture, Place::Capture)?;
     let node = Node::of(&capture, Place::Capture)?;
     check_standard(standard, &[Some(node)], Place::Report)?;
-    inspect_files(rt.alloc(), capture, rt.stdout()).0
+    let input = buffered_input(rt.alloc(), capture)?;
+    inspect_into(rt.alloc(), input, Sink::new(rt.stdout())).0
 }
 
-/// The version that an upgrade is asked for.
+/// The version that an upgrade or a slim text is asked for.
 fn version_of(to: Target) -> Version {
     match to {
         Target::Two => Version::Two,
@@ -145,15 +157,47 @@ fn version_of(to: Target) -> Version {
     }
 }
 
-/// Writes the upgraded text of a capture file to another.
-fn upgrade_named(rt: &HostRuntime, capture: &str, output: &str, to: Target) -> Result<(), Fault> {
+/// A capture file, and another that is to hold a text of it.
+fn open_both(rt: &HostRuntime, capture: &str, output: &str) -> Result<(File, Overwritten), Fault> {
     let capture = open(rt, capture, Place::Capture)?;
     let inputs = [Some(Node::of(&capture, Place::Capture)?)];
     let mut output = Overwritten::open(rt, output, Place::Output, &inputs)?;
     if output.empty().is_err() {
         return Err(Fault::Open(Place::Output));
     }
-    upgrade_files(rt.alloc(), capture, output, version_of(to)).0
+    Ok((capture, output))
+}
+
+/// Writes the upgraded text of a capture file to another.
+fn upgrade_named(rt: &HostRuntime, capture: &str, output: &str, to: Target) -> Result<(), Fault> {
+    let (capture, output) = open_both(rt, capture, output)?;
+    let input = buffered_input(rt.alloc(), capture)?;
+    upgrade_into(rt.alloc(), input, Sink::new(output), version_of(to)).0
+}
+
+/// Writes the slim text of a capture file to another.
+fn slim_named(
+    rt: &HostRuntime,
+    capture: &str,
+    output: &str,
+    to: Target,
+    drop_queries: bool,
+) -> Result<(), Fault> {
+    let (capture, output) = open_both(rt, capture, output)?;
+    let queries = if drop_queries {
+        Queries::Dropped
+    } else {
+        Queries::Kept
+    };
+    let input = buffered_input(rt.alloc(), capture)?;
+    slim_into(
+        rt.alloc(),
+        input,
+        Sink::new(output),
+        version_of(to),
+        queries,
+    )
+    .0
 }
 
 /// Writes the files of a folder as a snapshot. What is in the folder is listed before the output is opened: so a new
@@ -182,6 +226,8 @@ struct Names<'a> {
     snapshot: &'a str,
     capture: &'a str,
     settings: Option<&'a str>,
+    /// In percent of that at which the traffic was recorded.
+    speed: u64,
     wanted: Wanted,
     /// The file that what is wanted goes into.
     written: &'a str,
@@ -198,6 +244,7 @@ fn replay_named<T: Threads + Wait + Sync>(
     names: &Names,
 ) -> Result<(), Fault> {
     let (settings, node) = settings_in(rt, names.settings)?;
+    let settings = at_speed(settings, names.speed)?;
     let snapshot = open(rt, names.snapshot, Place::Snapshot)?;
     let capture = open(rt, names.capture, Place::Capture)?;
     let first = Some(Node::of(&snapshot, Place::Snapshot)?);
@@ -205,18 +252,14 @@ fn replay_named<T: Threads + Wait + Sync>(
     check_standard(standard, &[first, second, node], Place::Report)?;
     let others = [first, second, node, standard];
     let written = Overwritten::open(rt, names.written, names.place, &others)?;
-    let (alloc, out) = (rt.alloc(), rt.stdout());
-    run_files(
-        threads,
-        alloc,
-        &settings,
-        names.wanted,
-        snapshot,
-        capture,
-        written,
-        out,
-    )
-    .0
+    let alloc = rt.alloc();
+    let devices = Devices {
+        snapshot: buffered_input(alloc, snapshot)?,
+        capture: buffered_input(alloc, capture)?,
+        written: Sink::new(written),
+        report: Sink::new(rt.stdout()),
+    };
+    replay_into(threads, alloc, &settings, names.wanted, devices).0
 }
 
 /// Does what the arguments ask for: a run from standard input to standard output, or one over the files that they name.
@@ -245,11 +288,13 @@ pub fn run_arguments<T: Threads + Wait + Sync>(
             replies,
             settings,
             engine,
+            speed,
         } => {
             let names = Names {
                 snapshot,
                 capture,
                 settings,
+                speed,
                 wanted: Wanted::Replies(engine),
                 written: replies,
                 place: Place::Replies,
@@ -261,11 +306,13 @@ pub fn run_arguments<T: Threads + Wait + Sync>(
             capture,
             messages,
             settings,
+            speed,
         } => {
             let names = Names {
                 snapshot,
                 capture,
                 settings,
+                speed,
                 wanted: Wanted::Rows,
                 written: messages,
                 place: Place::Messages,
@@ -278,6 +325,12 @@ pub fn run_arguments<T: Threads + Wait + Sync>(
             output,
             to,
         } => upgrade_named(rt, capture, output, to),
+        Job::Slim {
+            capture,
+            output,
+            to,
+            drop_queries,
+        } => slim_named(rt, capture, output, to, drop_queries),
         Job::Snapshot {
             folder,
             output,

@@ -12,7 +12,7 @@ use Rattle.reference.specs.Texts.{reply_texts}
 use Rattle.settings.specs.SettingsTable.{default_choice}
 use Rattle.captures.specs.Passes as passes
 use Rattle.program.specs.declared.fault.Fault.{Fault}
-use Rattle.program.specs.declared.fault.Fault.TheVariants.{Snapshot, Replay, Upgrade, Write, Memory}
+use Rattle.program.specs.declared.fault.Fault.TheVariants.{Snapshot, Replay, Upgrade, Slim, Write, Memory}
 use Rattle.program.specs.declared.fault.Place.TheVariants.{Replies}
 use Rattle.program.specs.Ports.{Port}
 use Rattle.program.specs.Upgrading.{IsTextOfSomeFormat}
@@ -54,11 +54,13 @@ abbrev pub reader_failures : Fault → ℕ
 reader_failures (Snapshot f) = failures_of f.kind
 reader_failures (Replay f) = passes.reader_failures f
 reader_failures (Upgrade f) = passes.reader_failures f
+reader_failures (Slim f) = passes.reader_failures f
 reader_failures other = 0
 
 abbrev pub writer_failures : Fault → ℕ
 writer_failures (Replay f) = passes.writer_failures f
 writer_failures (Upgrade f) = passes.writer_failures f
+writer_failures (Slim f) = passes.writer_failures f
 writer_failures other = 0
 
 -- where the bytes after the snapshot are known, they are the text of a capture

@@ -27,7 +27,7 @@ use Rattle.program.specs.declared.fault.Fault.TheVariants as faults
 use Rattle.program.specs.declared.folder.FileFault.{FileFault}
 use Rattle.program.specs.declared.folder.FileFault.TheVariants as files
 use Rattle.program.specs.declared.fault.Reported.{Reported}
-use Rattle.program.specs.declared.fault.Reported.TheVariants.{Usage, Engine, Format, Settings, Entry}
+use Rattle.program.specs.declared.fault.Reported.TheVariants.{Usage, Engine, Format, Speed, Settings, Entry}
 use Rattle.program.specs.declared.fault.Reported.TheVariants.{Record, TooMany, File}
 use Rattle.program.specs.declared.fault.Reported.TheVariants.{Open, Read}
 use Rattle.program.specs.declared.fault.Reported.TheVariants.{Write, Memory}
@@ -64,6 +64,7 @@ abbrev pub reported_words : WordFault → Reported
 reported_words (words.Words text) = Usage
 reported_words words.Engine = Engine
 reported_words words.Format = Format
+reported_words words.Speed = Speed
 reported_words words.Memory = Memory
 
 abbrev pub reported_settings : ConfigFaultKind → ConfigFault → Reported
@@ -76,6 +77,7 @@ reported (faults.Settings f) = reported_settings f.kind f
 reported (faults.Snapshot f) = reported_entry f.kind f
 reported (faults.Replay f) = reported_pass places.Replies f
 reported (faults.Upgrade f) = reported_pass places.Output f
+reported (faults.Slim f) = reported_pass places.Output f
 reported (faults.Folder f) = reported_file f.fault
 reported (faults.Open place) = Open place
 reported (faults.Read place) = Read place
@@ -87,6 +89,7 @@ abbrev pub status_of : Reported → ℕ
 status_of Usage = 2
 status_of Engine = 2
 status_of Format = 2
+status_of Speed = 2
 status_of (Settings f) = 3
 status_of (Entry f) = 4
 status_of (Record f) = 5
@@ -126,6 +129,7 @@ abbrev pub text_of : Reported → List ℕ
 text_of Usage = codes "usage"
 text_of Engine = codes "engine"
 text_of Format = codes "format"
+text_of Speed = codes "speed"
 text_of (Settings f) = codes "settings: " ++ fault_text f
 text_of (Entry f) = codes "snapshot: entry " ++ decimal f.entry ++ codes ": " ++ entry_kind f.kind
 text_of (Record f) = codes "capture: record " ++ decimal f.at ++ codes ": " ++ record_kind f.kind
@@ -161,6 +165,7 @@ abbrev pub usage_in : WordFault → Option (List ℕ)
 usage_in (words.Words text) = Some (string_bytes text)
 usage_in words.Engine = None
 usage_in words.Format = None
+usage_in words.Speed = None
 usage_in words.Memory = None
 
 abbrev pub usage_of : Fault → Option (List ℕ)

@@ -1,11 +1,12 @@
 -- What a run does at its devices, and what a buffer before one of them leaves there.
 use Rattle.devices.specs.Devices.{Device, fresh}
 use Rattle.std.specs.Prelude.{◌≡◌, ◌⊎◌, ℕ, Bool, true, false, not, is_ok, List, ◌++◌, length, take, Option, Some, None}
-use Rattle.std.specs.Prelude.{Result, Ok, Err}
+use Rattle.std.specs.Prelude.{Result, Ok, Err, OnOk}
 use Rattle.std.specs.Io.KnownBytes.{Keeps}
+use Rattle.captures.specs.Passes.{BlamesReader}
 use Rattle.captures.specs.declared.pass_fault.PassFault.TheVariants as passes
 use Rattle.program.specs.declared.fault.Fault.{Fault}
-use Rattle.program.specs.declared.fault.Fault.TheVariants.{Replay, Upgrade, Write, Memory}
+use Rattle.program.specs.declared.fault.Fault.TheVariants.{Replay, Upgrade, Slim, Write, Memory}
 use Rattle.program.specs.declared.fault.Place.{Place}
 use Rattle.program.specs.declared.fault.Place.TheVariants.{Replies, Report, Output}
 
@@ -41,14 +42,21 @@ pub data Settles (due : Bool) (place : Place) (old whole new : Option (List ℕ)
 -- a write failed at this place in a run that came to this fault
 abbrev pub is_failed_write : Place → Fault → Bool
 is_failed_write Replies (Replay passes.Write) = true
+is_failed_write Replies (Write Replies) = true
 is_failed_write Output (Upgrade passes.Write) = true
+is_failed_write Output (Slim passes.Write) = true
+is_failed_write Output (Write Output) = true
 is_failed_write Report (Write Report) = true
 is_failed_write place other = false
 
+-- whether it is told that a write failed at this place
+abbrev pub blames : Place → Result Unit Fault → Bool
+blames place (Ok done) = false
+blames place (Err f) = is_failed_write place f
+
 -- no other write is made where one failed
 abbrev pub is_due : Place → Result Unit Fault → Bool
-is_due place (Ok done) = true
-is_due place (Err f) = not (is_failed_write place f)
+is_due place ran = not (blames place ran)
 
 -- A run over one output, whose port at the buffer is `port (fresh old) whole`, came to `ran`, of which P holds.
 pub record AtDevice (place : Place) (P : Port → Result Unit Fault → Type 0) (old new : Option (List ℕ))
@@ -67,9 +75,41 @@ abbrev pub Runs : Place → (Port → Result Unit Fault → Type 0) → Option (
     → Result Unit Fault → Type 0
 Runs place P old new reported = Refused old new reported ⊎ AtDevice place P old new reported
 
+-- the same of a run that holds its input, before it and after it; where it was refused memory, it is as it was
+abbrev pub RunsJob : {J : Type 0} → Place → (J → J → Port → Result Unit Fault → Type 0) → J → J → Option (List ℕ)
+    → Option (List ℕ) → Result Unit Fault → Type 0
+RunsJob place P before after old new reported =
+    (Refused old new reported × (after ≡ before)) ⊎ AtDevice place (P before after) old new reported
+
 -- what a run says of its output that reads an input of these bytes, whatever it leaves of them
 abbrev pub Reads : (Port → Port → Result Unit Fault → Type 0) → Option (List ℕ) → Port → Result Unit Fault → Type 0
 Reads P bytes output ran = (left : Device) × P (port (fresh bytes) left) output ran
+
+-- a read that failed may go untold where what a buffer held can't be written, and where memory runs out
+abbrev pub is_cut : Fault → Bool
+is_cut (Write place) = true
+is_cut Memory = true
+is_cut other = false
+
+-- what a run says, and that its reader is blamed where it failed, but where that may go untold
+abbrev pub Blaming : (Fault → ℕ) → (Fault → Bool) → (Port → Port → Result Unit Fault → Type 0) → Port → Port
+    → Result Unit Fault → Type 0
+Blaming blamed untold P input output ran =
+    P input output ran × BlamesReader blamed untold input.old.failures input.new.failures ran
+
+-- What is told of what a run came to: this; but where it is a failed write of this place and the writer didn't fail,
+-- there was no memory for what was to wait before it.
+pub data IsTold (place : Place) (failed : Bool) (ran told : Result Unit Fault) : Type 0 where
+  Same : told ≡ ran → (blames place ran ≡ true → failed ≡ true) → IsTold place failed ran told
+  Lacks : told ≡ Err Memory → blames place ran ≡ true → failed ≡ false → IsTold place failed ran told
+
+-- P holds of what is told, or of a failed write of this place that is told as out of memory
+abbrev pub Tells : Place → (Result Unit Fault → Type 0) → Result Unit Fault → Type 0
+Tells place P told = P told ⊎ ((ran : Result Unit Fault) × P ran × (blames place ran ≡ true) × (told ≡ Err Memory))
+
+-- the writer at this place is blamed only where it failed, and didn't fail at Ok
+abbrev pub BlamesWriter : Place → Bool → Result Unit Fault → Type 0
+BlamesWriter place failed told = (blames place told ≡ true → failed ≡ true) × OnOk told (failed ≡ false)
 
 -- The same of a run over the devices of the replies and of the report. Whatever the fault, no more of the report is
 -- due.

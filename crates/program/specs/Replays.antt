@@ -1,5 +1,5 @@
 -- The run over a snapshot and a capture, each in an input of its own, with a report.
-use Rattle.std.specs.Prelude.{◌≡◌, ℕ, Bool, false, List, Option, Result, OnOk, IfErr}
+use Rattle.std.specs.Prelude.{◌≡◌, ℕ, Bool, true, false, List, Option, Result, OnOk, IfErr}
 use Rattle.std.specs.Io.KnownBytes.{Appends}
 use Rattle.devices.specs.Devices.{Device, AppendsProperPrefix, CountsBy, fresh}
 use Rattle.paths.specs.declared.file.File.{File}
@@ -18,7 +18,7 @@ use Rattle.captures.specs.declared.pass_fault.PassFault.{PassFault}
 use Rattle.command_line.specs.declared.words.Engine.TheVariants as engines
 use Rattle.report.specs.Reports.{report_text}
 use Rattle.program.specs.Bundles.{writer_failures}
-use Rattle.program.specs.Ports.{Port, port}
+use Rattle.program.specs.Ports.{Port, blames, is_cut, port}
 use Rattle.program.specs.declared.replaying.Wanted.{Wanted}
 use Rattle.program.specs.declared.replaying.Wanted.TheVariants as wants
 use Rattle.program.specs.declared.fault.Fault.{Fault}
@@ -143,12 +143,34 @@ IsFilesFault snapshot capture (Write Report) = Unit {0}
 IsFilesFault snapshot capture Memory = Unit {0}
 IsFilesFault snapshot capture other = ⊥
 
+-- what the run says of its inputs and of its outputs
+abbrev pub ReplaySays : Wanted → Choice → Port → Port → Port → Port → Result Unit Fault → Type 0
+ReplaySays wanted choice snapshot capture written report ran = (let at : Ports = record {
+  snapshot = snapshot;
+  capture = capture;
+  written = written;
+  report = report;
+} in OnOk ran (Replays wanted choice at) × IfErr ran (IsReplayFault wanted choice at))
+
 -- what a run over files says of its inputs, whatever it leaves of them, and of its outputs
 abbrev pub FilesSays : Wanted → Choice → Option (List ℕ) → Option (List ℕ) → Port → Port → Result Unit Fault → Type 0
 FilesSays wanted choice snapshot capture written report ran = (snapshot_left capture_left : Device)
-    × (let at : Ports = record {
-      snapshot = port (fresh snapshot) snapshot_left;
-      capture = port (fresh capture) capture_left;
-      written = written;
-      report = report;
-    } in OnOk ran (Replays wanted choice at) × IfErr ran (IsReplayFault wanted choice at))
+    × ReplaySays wanted choice (port (fresh snapshot) snapshot_left) (port (fresh capture) capture_left)
+    written report ran
+
+-- a read of the capture that failed may go untold where the engine may leave it so, where what a buffer held can't be
+-- written, and where memory runs out
+abbrev pub is_untold_at_files : Wanted → Fault → Bool
+is_untold_at_files wanted (Replay f) = untold_by wanted f
+is_untold_at_files wanted other = is_cut other
+
+-- each reader is blamed exactly where it failed in the call, but for such a read
+abbrev pub BlamesReaders : Wanted → Port → Port → Result Unit Fault → Type 0
+BlamesReaders wanted snapshot capture told =
+    passes.BlamesReader snapshot_failures is_cut snapshot.old.failures snapshot.new.failures told
+    × passes.BlamesReader capture_failures (is_untold_at_files wanted) capture.old.failures capture.new.failures told
+
+-- of two writers, each of which has failed or not: that of the replies is told where it failed, and at Ok the other
+-- hasn't
+abbrev pub HasToldOfBoth : Bool → Bool → Result Unit Fault → Type 0
+HasToldOfBoth written report told = (written ≡ true → blames Replies told ≡ true) × OnOk told (report ≡ false)

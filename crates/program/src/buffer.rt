@@ -1,10 +1,12 @@
-//! A buffer before a device of the program, which tries no failed write again.
+//! A buffer before a writer of the program, which tries no failed write again.
 
 ghost use Rattle.program.specs.Ports.{front_of, IsPrefix};
-ghost use Rattle.std.specs.Prelude.{◌≡◌, ◌≤◌, [], length, take, true, false};
-ghost use Rattle.std.specs.Io.KnownBytes.{Appends, Keeps, WriteAppends, append_known};
-ghost use Rattle.std.specs.Io.{WritesAtMost};
+ghost use Rattle.std.specs.Prelude.{◌≡◌, ◌≤◌, [], length, take, true, false, OnOk, MatchBool};
+ghost use Rattle.std.specs.Io.KnownBytes.{Appends, Keeps, append_known};
+ghost use Rattle.devices.specs.Devices.{WritesSome, WritesUnlessOver};
 
+use crate::sink::Sink;
+use devices::Failed;
 use std::io;
 use std::io::Write;
 use std::marker::{Brand, PhantomData};
@@ -25,44 +27,47 @@ impl Stood for Brand {
 /// A device that holds what stood at it before the run, and after it what was written since.
 #[derive(Drop)]
 pub struct Device<N: Stood, W: Write> {
-    pub writer: W,
+    pub sink: Sink<W>,
     pub(crate) of: PhantomData<N>,
-    ghost begins: { front_of N.stood (W.contents writer) ≡ N.stood },
+    ghost begins: { front_of N.stood sink.bytes ≡ N.stood },
 }
 
 impl<N: Stood, W: Write> Device<N, W> {
     /// A device that nothing was written to yet.
-    pub fn new(writer: W) -> Device<N, W>
-        requires { W.contents writer ≡ N.stood }
-        ensures { result.writer ≡ writer }
+    pub fn new(sink: Sink<W>) -> Device<N, W>
+        requires { sink.bytes ≡ N.stood }
+        ensures { result.sink ≡ sink }
     {
         Device {
-            writer,
+            sink,
             of: PhantomData,
         }
     }
 
-    /// The writer again.
-    pub fn into_writer(self) -> W
-        ensures same { result ≡ self.writer }
-        ensures begins { front_of N.stood (W.contents result) ≡ N.stood }
+    /// The sink again.
+    pub fn into_sink(self) -> Sink<W>
+        ensures same { result ≡ self.sink }
+        ensures begins { front_of N.stood result.bytes ≡ N.stood }
     {
-        self.writer
+        self.sink
     }
 
-    /// Makes one write.
-    fn write(&mut self, bytes: &[u8]) -> io::Result<usize>
-        ensures bound { WritesAtMost result bytes.now }
-        ensures bytes { WriteAppends
-            (W.contents self.old.writer) (W.contents self.new.writer) result bytes.now }
+    /// Makes one write, unless one has failed.
+    fn write(&mut self, bytes: &[u8]) -> Result<usize, Failed>
+        ensures bytes { WritesSome self.old.sink.bytes self.new.sink.bytes result bytes.now }
+        ensures over { OnOk result (self.old.sink.over ≡ false)
+            × WritesUnlessOver self.old.sink self.new.sink result }
     {
-        self.writer.write(bytes)
+        self.sink.write_some(bytes)
     }
 
-    fn flush(&mut self) -> io::Result<()>
-        ensures bytes { Keeps (W.contents self.old.writer) (W.contents self.new.writer) }
+    /// Makes one flush, unless a write has failed.
+    fn flush(&mut self) -> Result<(), Failed>
+        ensures bytes { Keeps self.old.sink.bytes self.new.sink.bytes }
+        ensures over { OnOk result (self.old.sink.over ≡ false)
+            × WritesUnlessOver self.old.sink self.new.sink result }
     {
-        self.writer.flush()
+        self.sink.flush()
     }
 
     /// Writes until all is written or a write fails, which no other follows; how many bytes were written, and whether
@@ -70,14 +75,15 @@ impl<N: Stood, W: Write> Device<N, W> {
     fn write_out(&mut self, bytes: &[u8]) -> (usize, bool)
         ensures bound { result.0 ≤ length bytes.now }
         ensures all { result.1 ≡ true → result.0 ≡ length bytes.now }
-        ensures bytes { Appends
-            (W.contents self.old.writer) (W.contents self.new.writer) (take result.0 bytes.now) }
+        ensures bytes { Appends self.old.sink.bytes self.new.sink.bytes (take result.0 bytes.now) }
+        ensures over { MatchBool result.1
+            (self.new.sink.over ≡ self.old.sink.over) (self.new.sink.over ≡ true) }
     {
         let mut written = 0;
         while written < bytes.len() {
             match self.write(&bytes[written..]) {
-                Ok(count) if count > 0 => written += count,
-                _ => return (written, false),
+                Ok(count) => written += count,
+                Err(_) => return (written, false),
             }
         }
         (written, true)
@@ -109,8 +115,10 @@ impl<N: Stood, W: Write> Buffered<N, W> {
     fn empty(&mut self) -> bool
         ensures all { result ≡ true → self.new.waiting.items ≡ [] }
         ensures bytes { Keeps
-            (append_known (W.contents self.old.device.writer) self.old.waiting.items)
-            (append_known (W.contents self.new.device.writer) self.new.waiting.items) }
+            (append_known self.old.device.sink.bytes self.old.waiting.items)
+            (append_known self.new.device.sink.bytes self.new.waiting.items) }
+        ensures over { MatchBool result
+            (self.new.device.sink.over ≡ self.old.device.sink.over) (self.new.device.sink.over ≡ true) }
     {
         let (written, all) = self.device.write_out(&self.waiting);
         if all {
@@ -123,46 +131,52 @@ impl<N: Stood, W: Write> Buffered<N, W> {
         all
     }
 
-    /// Writes what waits where it is due; whether it was and all was written.
+    /// Writes what waits where it is due, and flushes the device; whether it was due and that was done.
     fn write_rest(&mut self, due: bool) -> bool
         ensures due { result ≡ true → due ≡ true }
-        ensures kept { due ≡ false
-            → Keeps (W.contents self.old.device.writer) (W.contents self.new.device.writer) }
+        ensures kept { due ≡ false → self.new.device.sink ≡ self.old.device.sink }
         ensures all { result ≡ true → self.new.waiting.items ≡ [] }
         ensures bytes { Keeps
-            (append_known (W.contents self.old.device.writer) self.old.waiting.items)
-            (append_known (W.contents self.new.device.writer) self.new.waiting.items) }
+            (append_known self.old.device.sink.bytes self.old.waiting.items)
+            (append_known self.new.device.sink.bytes self.new.waiting.items) }
+        ensures over { due ≡ true → MatchBool result
+            (self.new.device.sink.over ≡ false) (self.new.device.sink.over ≡ true) }
     {
         due && self.empty() && self.device.flush().is_ok()
     }
 
-    /// The device, and whether all that waited was written, where it was due. Else nothing more is written.
-    pub fn finish(mut self, due: bool) -> (W, bool)
+    /// The device, and whether all that waited was written, where it was due. Else nothing more is written. It wasn't
+    /// written though it was due only where the device failed.
+    pub fn finish(mut self, due: bool) -> (Sink<W>, bool)
         ensures due { result.1 ≡ true → due ≡ true }
-        ensures kept { due ≡ false
-            → Keeps (W.contents self.device.writer) (W.contents result.0) }
+        ensures kept { due ≡ false → result.0 ≡ self.device.sink }
         ensures all { result.1 ≡ true
-            → Keeps (append_known (W.contents self.device.writer) self.waiting.items) (W.contents result.0) }
+            → Keeps (append_known self.device.sink.bytes self.waiting.items) result.0.bytes }
         ensures part { IsPrefix N.stood
-            (append_known (W.contents self.device.writer) self.waiting.items) (W.contents result.0) }
+            (append_known self.device.sink.bytes self.waiting.items) result.0.bytes }
+        ensures over { due ≡ true
+            → MatchBool result.1 (result.0.over ≡ false) (result.0.over ≡ true) }
     {
         let done = self.write_rest(due);
         let Buffered { device, waiting: _ } = self;
-        (device.into_writer(), done)
+        (device.into_sink(), done)
     }
 }
 
 impl<N: Stood, W: Write> Write for Buffered<N, W> {
     ghost use Rattle.std.specs.Io.KnownBytes.{append_known};
 
-    ghost contents = { λ b. append_known (W.contents b.device.writer) b.waiting.items };
+    ghost contents = { λ b. append_known b.device.sink.bytes b.waiting.items };
 
     fn write(&mut self, bytes: &[u8]) -> io::Result<usize> {
         if self.waiting.len() >= ROOM && !self.empty() {
             return Err(io::Error::other("unwritten"));
         }
         if self.waiting.is_empty() && bytes.len() >= ROOM {
-            return self.device.write(bytes);
+            return match self.device.write(bytes) {
+                Ok(count) => Ok(count),
+                Err(_) => Err(io::Error::other("unwritten")),
+            };
         }
         let count = bytes.len().min(ROOM - self.waiting.len().min(ROOM));
         self.waiting.extend_from_slice(&bytes[..count])?;
@@ -170,8 +184,8 @@ impl<N: Stood, W: Write> Write for Buffered<N, W> {
     }
 
     fn flush(&mut self) -> io::Result<()> {
-        if self.empty() {
-            self.device.flush()
+        if self.empty() && self.device.flush().is_ok() {
+            Ok(())
         } else {
             Err(io::Error::other("unwritten"))
         }

@@ -1,20 +1,21 @@
 //! The program without arguments: a snapshot and after it a capture, replayed from one input.
 
-ghost use Rattle.std.specs.Prelude.{◌≡◌, ◌⊎◌, ◌-◌, ◌<◌, ◌^◌, OnOk, IfErr};
+ghost use Rattle.std.specs.Prelude.{◌≡◌, ◌⊎◌, ◌-◌, ◌<◌, ◌^◌, false, OnOk, IfErr};
+ghost use Rattle.captures.specs.Passes.{BlamesReader};
 ghost use Rattle.devices.specs.Devices.{CanFail, CountsBy};
 ghost use Rattle.program.specs.Bundles.{AfterSnapshot, BundleSays, HoldsCapture, IsBundleFault, IsProgramFault};
 ghost use Rattle.program.specs.Bundles.{WritesAnswer, reader_failures, writer_failures};
-ghost use Rattle.program.specs.Ports.{Reads, Runs, port};
+ghost use Rattle.program.specs.Ports.{Reads, Runs, Tells, blames, is_cut, port};
 
-use crate::buffer::ROOM;
 use crate::fault::{Fault, Place};
-use crate::running::{Job, run_buffered};
+use crate::running::{Job, buffered_input, run_blaming, run_buffered};
+use crate::sink::Sink;
 use devices::{Input, Output};
 use paths::Snapshot;
 use replay::plain_replay;
 use settings::default_settings;
 use std::alloc::Global;
-use std::io::{BufReader, Read, Write};
+use std::io::{Read, Write};
 use std::marker::Brand;
 
 /// Replays the capture that stands after a snapshot in the same input, with default settings on one thread.
@@ -49,18 +50,46 @@ pub fn run_bundle<R: Read, W: Write>(
 #[derive(Drop)]
 struct Bundle<R: Read + Drop> {
     alloc: Global,
-    reader: BufReader<R>,
+    input: Input<R>,
 }
 
 impl<R: Read + Drop> Job for Bundle<R> {
-    ghost use Rattle.program.specs.Bundles.{BundleSays};
-    ghost use Rattle.program.specs.Ports.{Reads};
+    ghost use Rattle.std.specs.Prelude.{◌-◌, ◌<◌, ◌^◌};
+    ghost use Rattle.devices.specs.Devices.{CanFail};
+    ghost use Rattle.program.specs.Bundles.{BundleSays, reader_failures};
+    ghost use Rattle.program.specs.Ports.{Blaming, is_cut, port};
 
-    ghost says = { λ job. Reads BundleSays (⟦<BufReader<R> as Read>⟧.remaining job.reader) };
+    ghost ready = { λ job. CanFail job.input };
 
-    fn run<W: Write>(self, output: &mut Output<W>) -> Result<(), Fault> {
-        run_bundle(self.alloc, &mut Input::ahead(self.reader), output)
+    ghost says = { λ before after. Blaming reader_failures is_cut BundleSays (port before.input after.input) };
+
+    fn run<W: Write>(&mut self, output: &mut Output<W>) -> Result<(), Fault> {
+        run_bundle(self.alloc, &mut self.input, output)
     }
+}
+
+/// Replays the capture after a snapshot, as [`run_bundle`] does, with a buffer before the output, and gives input and
+/// output back. Each device is blamed only where it failed in this call.
+///
+/// # Errors
+///
+/// Those of [`run_bundle`]; `Memory` where there is none for the buffer, and then nothing is written, or for what is to
+/// wait in it; `Write` of the replies where what the buffer held at the end couldn't be written: it was due before any
+/// other fault.
+pub fn bundle_into<R: Read + Drop, W: Write + Drop>(
+    alloc: Global,
+    input: Input<R>,
+    output: Sink<W>,
+) -> (Result<(), Fault>, Input<R>, Sink<W>)
+    requires reading { CanFail input }
+    requires writing { output.over ≡ false }
+    ensures device { Tells Place.Replies (Runs Place.Replies (BundleSays (port input result.1))
+        output.bytes result.2.bytes) result.0 }
+    ensures reads { BlamesReader reader_failures is_cut input.failures result.1.failures result.0 }
+    ensures writes { result.2.over ≡ blames Place.Replies result.0 }
+{
+    let (ran, job, output) = run_blaming(alloc, Bundle { alloc, input }, Place::Replies, output);
+    (ran, job.input, output)
 }
 
 /// Replays the capture after a snapshot from a reader to a writer, with a buffer before each, and gives the
@@ -81,8 +110,12 @@ pub fn run_program<R: Read + Drop, W: Write + Drop>(
     ensures ok { OnOk result.0 (AfterSnapshot (R.remaining reader) HoldsCapture) }
     ensures fault { IfErr result.0 (IsProgramFault (R.remaining reader)) }
 {
-    match BufReader::with_capacity(alloc, ROOM, reader) {
-        Ok(reader) => run_buffered(alloc, Bundle { alloc, reader }, Place::Replies, writer),
-        Err(_) => (Err(Fault::Memory), writer),
+    match buffered_input(alloc, reader) {
+        Ok(input) => {
+            let sink = Sink::new(writer);
+            let (ran, _, sink) = run_buffered(alloc, Bundle { alloc, input }, Place::Replies, sink);
+            (ran, sink.into_writer())
+        }
+        Err(fault) => (Err(fault), writer),
     }
 }

@@ -58,6 +58,8 @@ pub enum Fault {
     Replay(ReplayFault),
     /// The upgrade came to no end.
     Upgrade(UpgradeFault),
+    /// The slim text came to no end.
+    Slim(PassFault),
     /// What was found in a folder can't be taken into a snapshot.
     Folder(FolderFault),
     /// A file couldn't be opened.
@@ -77,8 +79,10 @@ pub enum Reported {
     Usage,
     /// There is no engine of that name.
     Engine,
-    /// An upgrade writes no format of that name.
+    /// Neither an upgrade nor a slim text is written in a format of that name.
     Format,
+    /// Another speed was asked for.
+    Speed,
     /// A key of the settings is wrong, or the document.
     Settings(ConfigFault),
     /// An entry of the snapshot is wrong.
@@ -198,12 +202,14 @@ impl Fault {
             Fault::Words(WordFault::Words(_)) => Reported::Usage,
             Fault::Words(WordFault::Engine) => Reported::Engine,
             Fault::Words(WordFault::Format) => Reported::Format,
+            Fault::Words(WordFault::Speed) => Reported::Speed,
             Fault::Settings(fault) if fault.kind != ConfigFaultKind::Memory => {
                 Reported::Settings(*fault)
             }
             Fault::Snapshot(fault) => reported_entry(*fault),
             Fault::Replay(fault) => reported_pass(Place::Replies, *fault),
             Fault::Upgrade(fault) => reported_pass(Place::Output, *fault),
+            Fault::Slim(fault) => reported_pass(Place::Output, *fault),
             Fault::Folder(fault) => reported_file(fault.fault),
             Fault::Open(place) => Reported::Open(*place),
             Fault::Read(place) => Reported::Read(*place),
@@ -230,7 +236,7 @@ impl Fault {
         ensures { result ≡ status_of (reported self.now) }
     {
         match self.reported() {
-            Reported::Usage | Reported::Engine | Reported::Format => 2,
+            Reported::Usage | Reported::Engine | Reported::Format | Reported::Speed => 2,
             Reported::Settings(_) => 3,
             Reported::Entry(_) | Reported::File(_) => 4,
             Reported::Record(_) | Reported::TooMany(_) => 5,

@@ -95,6 +95,7 @@ fn line_of(reported: Reported) -> Line
         Reported::Usage => plain_line("", "usage", b'\n'),
         Reported::Engine => plain_line("", "engine", b'\n'),
         Reported::Format => plain_line("", "format", b'\n'),
+        Reported::Speed => plain_line("", "speed", b'\n'),
         Reported::Settings(fault) => settings_line(fault),
         Reported::Entry(fault) => {
             numbered_line("snapshot: entry ", fault.entry, fault.kind.name())

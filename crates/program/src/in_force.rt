@@ -1,14 +1,15 @@
 //! The settings in force, written out.
 
-ghost use Rattle.std.specs.Prelude.{◌≡◌, ◌⊎◌, ◌-◌, ◌<◌, ◌^◌, OnOk, IfErr};
+ghost use Rattle.std.specs.Prelude.{◌≡◌, ◌⊎◌, ◌-◌, ◌<◌, ◌^◌, false, OnOk, IfErr};
 ghost use Rattle.devices.specs.Devices.{CanFail, CountsBy};
 ghost use Rattle.settings.specs.WrittenOut.{AreSettings};
 ghost use Rattle.program.specs.InForce.{IsSettingsFault, IsSettingsFilesFault, SettingsSays, WritesSettings};
-ghost use Rattle.program.specs.Ports.{Runs, port};
+ghost use Rattle.program.specs.Ports.{Runs, Tells, blames, port};
 ghost use Rattle.program.specs.Replays.{report_failures};
 
 use crate::fault::{Fault, Place};
-use crate::running::{Job, run_buffered};
+use crate::running::{Job, run_blaming, run_buffered};
+use crate::sink::Sink;
 use devices::Output;
 use settings::settings_text;
 use std::alloc::Global;
@@ -50,11 +51,38 @@ struct Document<'a> {
 impl<'a> Job for Document<'a> {
     ghost use Rattle.program.specs.InForce.{SettingsSays};
 
-    ghost says = { λ job. SettingsSays job.bytes.now };
+    ghost ready = { λ job. Unit {0} };
 
-    fn run<W: Write>(self, output: &mut Output<W>) -> Result<(), Fault> {
+    ghost says = { λ before after. SettingsSays before.bytes.now };
+
+    fn run<W: Write>(&mut self, output: &mut Output<W>) -> Result<(), Fault> {
         run_settings(self.alloc, self.bytes, output)
     }
+}
+
+/// Writes out the settings of a document, as [`run_settings`] does, with a buffer before the output, and gives it back.
+/// It is blamed only where it failed in this call.
+///
+/// # Errors
+///
+/// Those of [`run_settings`]; `Memory` where there is none for the buffer, and then nothing is written, or for what is
+/// to wait in it; `Write` of the report where what the buffer held at the end couldn't be written.
+pub fn settings_into<W: Write + Drop>(
+    alloc: Global,
+    document: &[u8],
+    output: Sink<W>,
+) -> (Result<(), Fault>, Sink<W>)
+    requires writing { output.over ≡ false }
+    ensures device { Tells Place.Report (Runs Place.Report (SettingsSays document.now)
+        output.bytes result.1.bytes) result.0 }
+    ensures writes { result.1.over ≡ blames Place.Report result.0 }
+{
+    let job = Document {
+        alloc,
+        bytes: document,
+    };
+    let (ran, _, output) = run_blaming(alloc, job, Place::Report, output);
+    (ran, output)
 }
 
 /// Writes out the settings of a document, with a buffer before the device, and gives the writer back.
@@ -76,5 +104,6 @@ pub fn settings_files<W: Write + Drop>(
         alloc,
         bytes: document,
     };
-    run_buffered(alloc, job, Place::Report, writer)
+    let (ran, _, sink) = run_buffered(alloc, job, Place::Report, Sink::new(writer));
+    (ran, sink.into_writer())
 }

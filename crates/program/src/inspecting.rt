@@ -1,24 +1,24 @@
 //! What a capture holds, written out.
 
-ghost use Rattle.std.specs.Prelude.{◌≡◌, ◌⊎◌, ◌-◌, ◌<◌, ◌^◌, OnOk, IfErr};
+ghost use Rattle.std.specs.Prelude.{◌≡◌, ◌⊎◌, ◌-◌, ◌<◌, ◌^◌, false, OnOk, IfErr};
 ghost use Rattle.std.specs.Io.KnownBytes.{Appends};
 ghost use Rattle.devices.specs.Devices.{CanFail, CountsBy};
 ghost use Rattle.devices.specs.Reference.{WhereKnown};
 ghost use Rattle.inspection.specs.Texts.{inspection_text};
 ghost use Rattle.captures.specs.Passes.{BlamesReader};
 ghost use Rattle.program.specs.Inspecting.{is_untold, Inspects, IsInspectFault, IsInspectFilesFault, InspectSays};
-ghost use Rattle.program.specs.Ports.{Reads, Runs, port};
+ghost use Rattle.program.specs.Ports.{Reads, Runs, Tells, blames, port};
 ghost use Rattle.program.specs.Replays.{IsReportFault, capture_failures, report_failures};
 ghost use Rattle.program.specs.Upgrading.{IsTextOfSomeFormat};
 
-use crate::buffer::ROOM;
 use crate::fault::{Fault, Place};
-use crate::running::{Job, run_buffered};
+use crate::running::{Job, buffered_input, run_blaming, run_buffered};
+use crate::sink::Sink;
 use devices::{Input, Output};
 use inspection::{InspectFault, Inspection, inspect, inspection_text};
 use replay::ReplayFault;
 use std::alloc::Global;
-use std::io::{BufReader, Read, Write};
+use std::io::{Read, Write};
 
 /// Writes the text of an inspection.
 fn write_inspection<W: Write>(
@@ -78,18 +78,47 @@ pub fn run_inspect<R: Read, W: Write>(
 #[derive(Drop)]
 struct Inspecting<R: Read + Drop> {
     alloc: Global,
-    reader: BufReader<R>,
+    input: Input<R>,
 }
 
 impl<R: Read + Drop> Job for Inspecting<R> {
-    ghost use Rattle.program.specs.Ports.{Reads};
-    ghost use Rattle.program.specs.Inspecting.{InspectSays};
+    ghost use Rattle.std.specs.Prelude.{◌-◌, ◌<◌, ◌^◌};
+    ghost use Rattle.devices.specs.Devices.{CanFail};
+    ghost use Rattle.program.specs.Inspecting.{InspectSays, is_untold};
+    ghost use Rattle.program.specs.Ports.{Blaming, port};
+    ghost use Rattle.program.specs.Replays.{capture_failures};
 
-    ghost says = { λ job. Reads InspectSays (⟦<BufReader<R> as Read>⟧.remaining job.reader) };
+    ghost ready = { λ job. CanFail job.input };
 
-    fn run<W: Write>(self, output: &mut Output<W>) -> Result<(), Fault> {
-        run_inspect(self.alloc, &mut Input::ahead(self.reader), output)
+    ghost says = { λ before after. Blaming capture_failures is_untold InspectSays (port before.input after.input) };
+
+    fn run<W: Write>(&mut self, output: &mut Output<W>) -> Result<(), Fault> {
+        run_inspect(self.alloc, &mut self.input, output)
     }
+}
+
+/// Writes what a capture holds, as [`run_inspect`] does, with a buffer before the output, and gives input and output
+/// back. Each device is blamed only where it failed in this call.
+///
+/// # Errors
+///
+/// Those of [`run_inspect`]; `Memory` where there is none for the buffer, and then nothing is written, or for what is
+/// to wait in it; `Write` of the report where what the buffer held at the end couldn't be written: it was due before
+/// any other fault.
+pub fn inspect_into<R: Read + Drop, W: Write + Drop>(
+    alloc: Global,
+    input: Input<R>,
+    output: Sink<W>,
+) -> (Result<(), Fault>, Input<R>, Sink<W>)
+    requires reading { CanFail input }
+    requires writing { output.over ≡ false }
+    ensures device { Tells Place.Report (Runs Place.Report (InspectSays (port input result.1))
+        output.bytes result.2.bytes) result.0 }
+    ensures reads { BlamesReader capture_failures is_untold input.failures result.1.failures result.0 }
+    ensures writes { result.2.over ≡ blames Place.Report result.0 }
+{
+    let (ran, job, output) = run_blaming(alloc, Inspecting { alloc, input }, Place::Report, output);
+    (ran, job.input, output)
 }
 
 /// Writes what a capture holds, with a buffer before each device, and gives the writer back.
@@ -109,8 +138,17 @@ pub fn inspect_files<R: Read + Drop, W: Write + Drop>(
     ensures ok { OnOk result.0 (WhereKnown (R.remaining reader) IsTextOfSomeFormat) }
     ensures fault { IfErr result.0 (IsInspectFilesFault (R.remaining reader)) }
 {
-    match BufReader::with_capacity(alloc, ROOM, reader) {
-        Ok(reader) => run_buffered(alloc, Inspecting { alloc, reader }, Place::Report, writer),
-        Err(_) => (Err(Fault::Memory), writer),
+    match buffered_input(alloc, reader) {
+        Ok(input) => {
+            let sink = Sink::new(writer);
+            let (ran, _, sink) = run_buffered(
+                alloc,
+                Inspecting { alloc, input },
+                Place::Report,
+                sink,
+            );
+            (ran, sink.into_writer())
+        }
+        Err(fault) => (Err(fault), writer),
     }
 }

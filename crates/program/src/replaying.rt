@@ -1,6 +1,6 @@
 //! A replay or a table of decisions, and its report: with and without a buffer before each device.
 
-ghost use Rattle.std.specs.Prelude.{◌≡◌, ◌⊎◌, ◌-◌, ◌<◌, ◌^◌, [], OnOk, IfOk, IfErr};
+ghost use Rattle.std.specs.Prelude.{◌≡◌, ◌⊎◌, ◌-◌, ◌<◌, ◌^◌, [], false, OnOk, IfOk, IfErr};
 ghost use Rattle.std.specs.Io.KnownBytes.{Appends};
 ghost use Rattle.devices.specs.Devices.{CanFail, CountsBy};
 ghost use Rattle.reference.specs.Reference.{terms_of};
@@ -8,21 +8,23 @@ ghost use Rattle.reference.specs.Outcomes.{Leaves};
 ghost use Rattle.captures.specs.Passes as passes;
 ghost use Rattle.report.specs.Reports.{report_text};
 ghost use Rattle.program.specs.Bundles.{HoldsCapture};
-ghost use Rattle.program.specs.Ports.{AtDevices, RunsAtBoth, port};
-ghost use Rattle.program.specs.Replays.{Blames, FilesSays, HasWritten, IsFilesFault, IsReplayFault, IsReportFault};
-ghost use Rattle.program.specs.Replays.{OfSnapshot, Replays, ports, report_failures, untold_by, wanted_of};
+ghost use Rattle.program.specs.Ports.{AtDevices, BlamesWriter, RunsAtBoth, Tells, blames, port};
+ghost use Rattle.program.specs.Replays.{Blames, BlamesReaders, FilesSays, HasToldOfBoth, HasWritten, IsFilesFault};
+ghost use Rattle.program.specs.Replays.{IsReplayFault, IsReportFault, OfSnapshot, ReplaySays, Replays, ports};
+ghost use Rattle.program.specs.Replays.{report_failures, untold_by, wanted_of};
 
 use crate::buffer::{ROOM, Stood};
 use crate::fault::{Fault, Place};
-use crate::running::{buffered, is_due, settle};
+use crate::running::{buffered, buffered_input, is_due, settle, told};
+use crate::sink::Sink;
 use command_line::Engine;
 use devices::{Input, Output};
 use paths::{Snapshot, Tree};
 use replay::{Outcome, ReplayFault, Settings, explain_replay, plain_replay, staged_replay};
-use report::report;
+use report::ReportFault;
 use stage_graph::NoGate;
 use std::alloc::Global;
-use std::io::{BufReader, Read, Write};
+use std::io::{Read, Write};
 use std::marker::Brand;
 use std::sync::Wait;
 use std::thread::Threads;
@@ -43,10 +45,10 @@ fn write_report<O: Write>(alloc: Global, outcome: Outcome, out: &mut Output<O>) 
     ensures fault { IfErr result (IsReportFault (report_text outcome) (port out.old out.new)) }
     ensures count { CountsBy report_failures out.old.failures out.new.failures result }
 {
-    let text = report(alloc, outcome)?;
-    match out.write_all(text.as_bytes()) {
+    match report::write_report(alloc, outcome, out) {
         Ok(()) => Ok(()),
-        Err(_) => Err(Fault::Write(Place::Report)),
+        Err(ReportFault::Write) => Err(Fault::Write(Place::Report)),
+        Err(ReportFault::Memory) => Err(Fault::Memory),
     }
 }
 
@@ -118,9 +120,117 @@ pub fn run_replay<T: Threads + Wait + Sync, S: Read, C: Read, W: Write, O: Write
 }
 
 /// Runs over buffers that were made. After a fault, no more of the report is written.
-fn run_files_buffered<
+fn run_over_rooms<
     M: Stood,
     N: Stood,
+    T: Threads + Wait + Sync,
+    S: Read,
+    C: Read,
+    W: Write + Drop,
+    O: Write + Drop,
+>(
+    rt: &T,
+    alloc: Global,
+    settings: &Settings,
+    wanted: Wanted,
+    snapshot: &mut Input<S>,
+    capture: &mut Input<C>,
+    written: Sink<W>,
+    report: Sink<O>,
+    waiting: Vec<u8>,
+    report_waiting: Vec<u8>,
+) -> (Result<(), Fault>, Sink<W>, Sink<O>)
+    requires inputs { CanFail snapshot.old × CanFail capture.old }
+    requires written { written.bytes ≡ M.stood }
+    requires report { report.bytes ≡ N.stood }
+    requires waiting { waiting.items ≡ [] }
+    requires report_waiting { report_waiting.items ≡ [] }
+    ensures stands { AtDevices (ReplaySays wanted settings.now
+        (port snapshot.old snapshot.new) (port capture.old capture.new))
+        written.bytes result.1.bytes report.bytes result.2.bytes result.0 }
+    ensures reads { BlamesReaders wanted
+        (port snapshot.old snapshot.new) (port capture.old capture.new) result.0 }
+    ensures writes { HasToldOfBoth result.1.over result.2.over result.0 }
+{
+    let mut replies = buffered::<M, W>(written, waiting);
+    let mut rest = buffered::<N, O>(report, report_waiting);
+    let ran = run_replay(
+        rt,
+        alloc,
+        settings,
+        wanted,
+        snapshot,
+        capture,
+        &mut replies,
+        &mut rest,
+    );
+    let due = is_due(Place::Replies, &ran);
+    let (ran, written) = settle(replies, Place::Replies, due, ran);
+    let due = ran.is_ok();
+    let (ran, report) = settle(rest, Place::Report, due, ran);
+    (ran, written, report)
+}
+
+/// Runs with a buffer before each output.
+fn run_buffered<T: Threads + Wait + Sync, S: Read, C: Read, W: Write + Drop, O: Write + Drop>(
+    rt: &T,
+    alloc: Global,
+    settings: &Settings,
+    wanted: Wanted,
+    snapshot: &mut Input<S>,
+    capture: &mut Input<C>,
+    written: Sink<W>,
+    report: Sink<O>,
+) -> (Result<(), Fault>, Sink<W>, Sink<O>)
+    requires inputs { CanFail snapshot.old × CanFail capture.old }
+    requires written { written.over ≡ false }
+    requires report { report.over ≡ false }
+    ensures stands { RunsAtBoth (ReplaySays wanted settings.now
+        (port snapshot.old snapshot.new) (port capture.old capture.new))
+        written.bytes result.1.bytes report.bytes result.2.bytes result.0 }
+    ensures reads { BlamesReaders wanted
+        (port snapshot.old snapshot.new) (port capture.old capture.new) result.0 }
+    ensures writes { HasToldOfBoth result.1.over result.2.over result.0 }
+{
+    let (Ok(waiting), Ok(report_waiting)) = (
+        Vec::with_capacity(alloc, ROOM),
+        Vec::with_capacity(alloc, ROOM),
+    ) else {
+        return (Err(Fault::Memory), written, report);
+    };
+    run_over_rooms::<Brand, Brand, T, S, C, W, O>(
+        rt,
+        alloc,
+        settings,
+        wanted,
+        snapshot,
+        capture,
+        written,
+        report,
+        waiting,
+        report_waiting,
+    )
+}
+
+/// The devices of a replay or of a table of decisions.
+#[derive(Drop)]
+pub struct Devices<S: Read + Drop, C: Read + Drop, W: Write + Drop, O: Write + Drop> {
+    pub snapshot: Input<S>,
+    pub capture: Input<C>,
+    /// Where what is wanted of the messages is written.
+    pub written: Sink<W>,
+    pub report: Sink<O>,
+}
+
+/// Replays a capture against a snapshot, as [`run_replay`] does, with a buffer before each output, and gives the
+/// devices back. Each is blamed only where it failed in this call.
+///
+/// # Errors
+///
+/// Those of [`run_replay`]; `Memory` where there is none for the buffers, and then nothing is written, or for what is
+/// to wait in them; `Write` of the replies (or the rows) or of the report where what its buffer held at the end
+/// couldn't be written. The replies were due before any other fault; after one, no more of the report is written.
+pub fn replay_into<
     T: Threads + Wait + Sync,
     S: Read + Drop,
     C: Read + Drop,
@@ -131,38 +241,43 @@ fn run_files_buffered<
     alloc: Global,
     settings: &Settings,
     wanted: Wanted,
-    snapshot: BufReader<S>,
-    capture: BufReader<C>,
-    written: W,
-    out: O,
-    waiting: Vec<u8>,
-    report_waiting: Vec<u8>,
-) -> (Result<(), Fault>, W, O)
-    requires written { W.contents written ≡ M.stood }
-    requires out { O.contents out ≡ N.stood }
-    requires waiting { waiting.items ≡ [] }
-    requires report_waiting { report_waiting.items ≡ [] }
-    ensures { AtDevices (FilesSays wanted settings.now
-        (⟦<BufReader<S> as Read>⟧.remaining snapshot) (⟦<BufReader<C> as Read>⟧.remaining capture))
-        (W.contents written) (W.contents result.1) (O.contents out) (O.contents result.2) result.0 }
+    devices: Devices<S, C, W, O>,
+) -> (Result<(), Fault>, Devices<S, C, W, O>)
+    requires reading { CanFail devices.snapshot × CanFail devices.capture }
+    requires writing { (devices.written.over ≡ false) × (devices.report.over ≡ false) }
+    ensures device { Tells Place.Report (Tells Place.Replies (RunsAtBoth (ReplaySays wanted settings.now
+        (port devices.snapshot result.1.snapshot) (port devices.capture result.1.capture))
+        devices.written.bytes result.1.written.bytes devices.report.bytes result.1.report.bytes)) result.0 }
+    ensures reads { BlamesReaders wanted
+        (port devices.snapshot result.1.snapshot) (port devices.capture result.1.capture) result.0 }
+    ensures writes { result.1.written.over ≡ blames Place.Replies result.0 }
+    ensures report { BlamesWriter Place.Report result.1.report.over result.0 }
 {
-    let mut written = buffered::<M, W>(written, waiting);
-    let mut report = buffered::<N, O>(out, report_waiting);
-    let ran = run_replay(
+    let Devices {
+        mut snapshot,
+        mut capture,
+        written,
+        report,
+    } = devices;
+    let (ran, written, report) = run_buffered(
         rt,
         alloc,
         settings,
         wanted,
-        &mut Input::ahead(snapshot),
-        &mut Input::ahead(capture),
-        &mut written,
-        &mut report,
+        &mut snapshot,
+        &mut capture,
+        written,
+        report,
     );
-    let due = is_due(Place::Replies, &ran);
-    let (ran, written) = settle(written, Place::Replies, due, ran);
-    let due = ran.is_ok();
-    let (ran, out) = settle(report, Place::Report, due, ran);
-    (ran, written, out)
+    let ran = told(Place::Replies, ran, written.has_failed());
+    let ran = told(Place::Report, ran, report.has_failed());
+    let devices = Devices {
+        snapshot,
+        capture,
+        written,
+        report,
+    };
+    (ran, devices)
 }
 
 /// Replays a capture against a snapshot, with a buffer before each device, writes what is wanted of its messages, and
@@ -197,28 +312,21 @@ pub fn run_files<
         (λ files. HoldsCapture files (C.remaining capture))) }
     ensures fault { IfErr result.0 (IsFilesFault (S.remaining snapshot) (C.remaining capture)) }
 {
-    let (Ok(waiting), Ok(report_waiting)) = (
-        Vec::with_capacity(alloc, ROOM),
-        Vec::with_capacity(alloc, ROOM),
-    ) else {
+    let Ok(mut snapshot) = buffered_input(alloc, snapshot) else {
         return (Err(Fault::Memory), written, out);
     };
-    let Ok(snapshot) = BufReader::with_capacity(alloc, ROOM, snapshot) else {
+    let Ok(mut capture) = buffered_input(alloc, capture) else {
         return (Err(Fault::Memory), written, out);
     };
-    let Ok(capture) = BufReader::with_capacity(alloc, ROOM, capture) else {
-        return (Err(Fault::Memory), written, out);
-    };
-    run_files_buffered::<Brand, Brand, T, S, C, W, O>(
+    let (ran, written, report) = run_buffered(
         rt,
         alloc,
         settings,
         wanted,
-        snapshot,
-        capture,
-        written,
-        out,
-        waiting,
-        report_waiting,
-    )
+        &mut snapshot,
+        &mut capture,
+        Sink::new(written),
+        Sink::new(out),
+    );
+    (ran, written.into_writer(), report.into_writer())
 }

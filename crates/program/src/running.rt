@@ -1,16 +1,17 @@
 //! A run with a buffer before its output.
 
-ghost use Rattle.std.specs.Prelude.{◌≡◌, []};
+ghost use Rattle.std.specs.Prelude.{◌≡◌, [], true, false, IfOk, IfErr};
 ghost use Rattle.devices.specs.Devices.{fresh};
-ghost use Rattle.program.specs.Ports.{AtDevice, Runs, Settles, is_due};
+ghost use Rattle.program.specs.Ports.{AtDevice, IsTold, RunsJob, Settles, Tells, blames, is_due};
 
 use crate::buffer::{Buffered, Device, ROOM, Stood};
 use crate::fault::{Fault, Place};
-use captures::UpgradeFault;
-use devices::Output;
+use crate::sink::Sink;
+use captures::{PassFault, UpgradeFault};
+use devices::{Input, Output};
 use replay::ReplayFault;
 use std::alloc::Global;
-use std::io::Write;
+use std::io::{BufReader, Read, Write};
 use std::marker::Brand;
 
 /// What is to be done at one output. The inputs are its own.
@@ -20,13 +21,17 @@ pub(crate) trait Job {
     ghost use Rattle.program.specs.declared.fault.Fault.{Fault as AFault};
     ghost use Rattle.program.specs.Ports.{Port, port};
 
-    // what it says of the output, before and after
-    ghost says: { Self → Port → Result Unit AFault → Type 0 };
+    // its input can be read
+    ghost ready: { Self → Type 0 };
+
+    // what it says of itself, before and after, and of the output
+    ghost says: { Self → Self → Port → Result Unit AFault → Type 0 };
 
     /// Does it at an output that was lent.
-    fn run<W: Write>(self, output: &mut Output<W>) -> Result<(), Fault>
-        requires { CanFail output.old }
-        ensures { says self (port output.old output.new) result };
+    fn run<W: Write>(&mut self, output: &mut Output<W>) -> Result<(), Fault>
+        requires input { ready self.old }
+        requires output { CanFail output.old }
+        ensures { says self.old self.new (port output.old output.new) result };
 }
 
 /// Whether more may be written at this place after a run: no write has failed there.
@@ -35,56 +40,85 @@ pub(crate) fn is_due(place: Place, ran: &Result<(), Fault>) -> bool
 {
     match (place, ran) {
         (Place::Replies, Err(Fault::Replay(ReplayFault::Write)))
+        | (Place::Replies, Err(Fault::Write(Place::Replies)))
         | (Place::Output, Err(Fault::Upgrade(UpgradeFault::Write)))
+        | (Place::Output, Err(Fault::Slim(PassFault::Write)))
+        | (Place::Output, Err(Fault::Write(Place::Output)))
         | (Place::Report, Err(Fault::Write(Place::Report))) => false,
         _ => true,
     }
 }
 
+/// A reader with a buffer before it, as the input of a run.
+///
+/// # Errors
+///
+/// `Memory` where there is none for the buffer.
+pub fn buffered_input<R: Read + Drop>(
+    alloc: Global,
+    reader: R,
+) -> Result<Input<BufReader<R>>, Fault>
+    ensures input { IfOk result (λ input. input ≡ fresh (R.remaining reader)) }
+    ensures refused { IfErr result (λ fault. fault ≡ Fault.Memory) }
+{
+    match BufReader::with_capacity(alloc, ROOM, reader) {
+        Ok(reader) => Ok(Input::ahead(reader)),
+        Err(_) => Err(Fault::Memory),
+    }
+}
+
 /// An output with a buffer before its device, in this room.
-pub(crate) fn buffered<N: Stood, W: Write>(writer: W, waiting: Vec<u8>) -> Output<Buffered<N, W>>
-    requires stood { W.contents writer ≡ N.stood }
+pub(crate) fn buffered<N: Stood, W: Write>(
+    sink: Sink<W>,
+    waiting: Vec<u8>,
+) -> Output<Buffered<N, W>>
+    requires stood { sink.bytes ≡ N.stood }
     requires waiting { waiting.items ≡ [] }
     ensures { result ≡ fresh N.stood }
 {
-    Output::new(Buffered::<N, W>::new(Device::new(writer), waiting))
+    Output::new(Buffered::<N, W>::new(Device::new(sink), waiting))
 }
 
-/// Writes what the buffer before a device still holds, where it is due, and gives the device back.
+/// Writes what the buffer before a device still holds, where it is due, and gives the device back. Where it was due and
+/// the device failed, that is the fault.
 pub(crate) fn settle<N: Stood, W: Write + Drop>(
     output: Output<Buffered<N, W>>,
     place: Place,
     due: bool,
     ran: Result<(), Fault>,
-) -> (Result<(), Fault>, W)
-    ensures { Settles due place N.stood output.bytes (W.contents result.1) ran result.0 }
+) -> (Result<(), Fault>, Sink<W>)
+    ensures stands { Settles due place N.stood output.bytes result.1.bytes ran result.0 }
+    ensures failed { due ≡ true → result.1.over ≡ true → result.0 ≡ Err (Fault.Write place) }
 {
-    let (writer, done) = output.into_writer().finish(due);
+    let (sink, done) = output.into_writer().finish(due);
     if due && !done {
-        (Err(Fault::Write(place)), writer)
+        (Err(Fault::Write(place)), sink)
     } else {
-        (ran, writer)
+        (ran, sink)
     }
 }
 
 /// Does a job over a buffer that was made.
 fn run_job<N: Stood, J: Job, W: Write + Drop>(
-    job: J,
+    job: &mut J,
     place: Place,
-    writer: W,
+    sink: Sink<W>,
     waiting: Vec<u8>,
-) -> (Result<(), Fault>, W)
-    requires stood { W.contents writer ≡ N.stood }
+) -> (Result<(), Fault>, Sink<W>)
+    requires ready { J.ready job.old }
+    requires stood { sink.bytes ≡ N.stood }
     requires waiting { waiting.items ≡ [] }
-    ensures { AtDevice place (J.says job) (W.contents writer) (W.contents result.1) result.0 }
+    ensures stands { AtDevice place (J.says job.old job.new) sink.bytes result.1.bytes result.0 }
+    ensures failed { blames place (Err (Fault.Write place)) ≡ true → result.1.over ≡ true
+        → blames place result.0 ≡ true }
 {
-    let mut output = buffered::<N, W>(writer, waiting);
+    let mut output = buffered::<N, W>(sink, waiting);
     let ran = job.run(&mut output);
     let due = is_due(place, &ran);
     settle(output, place, due, ran)
 }
 
-/// Does a job with a buffer before its output, and gives the writer back.
+/// Does a job with a buffer before its output, and gives job and output back.
 ///
 /// # Errors
 ///
@@ -94,12 +128,53 @@ pub(crate) fn run_buffered<J: Job + Drop, W: Write + Drop>(
     alloc: Global,
     job: J,
     place: Place,
-    writer: W,
-) -> (Result<(), Fault>, W)
-    ensures { Runs place (J.says job) (W.contents writer) (W.contents result.1) result.0 }
+    sink: Sink<W>,
+) -> (Result<(), Fault>, J, Sink<W>)
+    requires ready { J.ready job }
+    requires place { blames place (Err (Fault.Write place)) ≡ true }
+    requires healthy { sink.over ≡ false }
+    ensures stands { RunsJob place J.says job result.1 sink.bytes result.2.bytes result.0 }
+    ensures failed { result.2.over ≡ true → blames place result.0 ≡ true }
 {
     match Vec::with_capacity(alloc, ROOM) {
-        Ok(waiting) => run_job::<Brand, J, W>(job, place, writer, waiting),
-        Err(_) => (Err(Fault::Memory), writer),
+        Ok(waiting) => {
+            let mut job = job;
+            let (ran, sink) = run_job::<Brand, J, W>(&mut job, place, sink, waiting);
+            (ran, job, sink)
+        }
+        Err(_) => (Err(Fault::Memory), job, sink),
     }
+}
+
+/// What is told of what a run came to. A buffer refuses bytes where its device failed, and where there is no memory for
+/// what is to wait: so where a write failed and the device didn't, that is told.
+pub(crate) fn told(place: Place, ran: Result<(), Fault>, failed: bool) -> Result<(), Fault>
+    ensures { IsTold place failed ran result }
+{
+    if is_due(place, &ran) || failed {
+        ran
+    } else {
+        Err(Fault::Memory)
+    }
+}
+
+/// Does a job with a buffer before its output, and blames the device only where it failed.
+///
+/// # Errors
+///
+/// Those of [`run_buffered`], but `Memory` where the buffer had none for what was to wait in it.
+pub(crate) fn run_blaming<J: Job + Drop, W: Write + Drop>(
+    alloc: Global,
+    job: J,
+    place: Place,
+    sink: Sink<W>,
+) -> (Result<(), Fault>, J, Sink<W>)
+    requires ready { J.ready job }
+    requires place { blames place (Err (Fault.Write place)) ≡ true }
+    requires healthy { sink.over ≡ false }
+    ensures stands { Tells place (RunsJob place J.says job result.1 sink.bytes result.2.bytes) result.0 }
+    ensures writes { result.2.over ≡ blames place result.0 }
+{
+    let (ran, job, sink) = run_buffered(alloc, job, place, sink);
+    (told(place, ran, sink.has_failed()), job, sink)
 }

@@ -1,20 +1,22 @@
 //! An upgrade, with a buffer before each device.
 
-ghost use Rattle.std.specs.Prelude.{◌≡◌, ◌⊎◌, ◌-◌, ◌<◌, ◌^◌, OnOk, IfErr};
+ghost use Rattle.std.specs.Prelude.{◌≡◌, ◌⊎◌, ◌-◌, ◌<◌, ◌^◌, false, OnOk, IfErr};
+ghost use Rattle.captures.specs.Passes.{BlamesReader};
 ghost use Rattle.captures.specs.Upgrades.{Upgrades};
 ghost use Rattle.devices.specs.Devices.{CanFail, CountsBy};
 ghost use Rattle.devices.specs.Reference.{WhereKnown};
 ghost use Rattle.program.specs.Bundles.{reader_failures, writer_failures};
-ghost use Rattle.program.specs.Ports.{Reads, Runs, port};
+ghost use Rattle.program.specs.declared.fault.Place.TheVariants as Place;
+ghost use Rattle.program.specs.Ports.{Reads, Runs, Tells, blames, is_cut, port};
 ghost use Rattle.program.specs.Upgrading.{IsTextOfSomeFormat, IsUpgradeFault, IsUpgradeFilesFault, UpgradeSays};
 
-use crate::buffer::ROOM;
-use crate::fault::{Fault, Place};
-use crate::running::{Job, run_buffered};
+use crate::fault::Fault;
+use crate::rewriting::{Pass, rewrite_files, rewrite_into};
+use crate::sink::Sink;
 use captures::{Version, upgrade};
 use devices::{Input, Output};
 use std::alloc::Global;
-use std::io::{BufReader, Read, Write};
+use std::io::{Read, Write};
 
 /// Writes the text of a capture or of traffic in a later format, `to` or its own where that is later, with the same
 /// start and the same records.
@@ -45,23 +47,28 @@ pub fn run_upgrade<R: Read, W: Write>(
     }
 }
 
-/// A capture to upgrade.
-#[derive(Drop)]
-struct Upgrading<R: Read + Drop> {
+/// Writes the text of a capture or of traffic in a later format, as [`run_upgrade`] does, with a buffer before the
+/// output, and gives input and output back. Each device is blamed only where it failed in this call.
+///
+/// # Errors
+///
+/// Those of [`run_upgrade`]; `Memory` where there is none for the buffer, and then nothing is written, or for what is
+/// to wait in it; `Write` of the output where what the buffer held at the end couldn't be written: it was due before
+/// any other fault.
+pub fn upgrade_into<R: Read + Drop, W: Write + Drop>(
     alloc: Global,
-    reader: BufReader<R>,
+    input: Input<R>,
+    output: Sink<W>,
     to: Version,
-}
-
-impl<R: Read + Drop> Job for Upgrading<R> {
-    ghost use Rattle.program.specs.Ports.{Reads};
-    ghost use Rattle.program.specs.Upgrading.{UpgradeSays};
-
-    ghost says = { λ job. Reads (UpgradeSays job.to) (⟦<BufReader<R> as Read>⟧.remaining job.reader) };
-
-    fn run<W: Write>(self, output: &mut Output<W>) -> Result<(), Fault> {
-        run_upgrade(self.alloc, &mut Input::ahead(self.reader), output, self.to)
-    }
+) -> (Result<(), Fault>, Input<R>, Sink<W>)
+    requires reading { CanFail input }
+    requires writing { output.over ≡ false }
+    ensures device { Tells Place.Output (Runs Place.Output (UpgradeSays to (port input result.1))
+        output.bytes result.2.bytes) result.0 }
+    ensures reads { BlamesReader reader_failures is_cut input.failures result.1.failures result.0 }
+    ensures writes { result.2.over ≡ blames Place.Output result.0 }
+{
+    rewrite_into(alloc, Pass::Upgrade, input, output, to)
 }
 
 /// Writes the text of a capture or of traffic in a later format, as [`run_upgrade`] does, with a buffer before each
@@ -83,13 +90,5 @@ pub fn upgrade_files<R: Read + Drop, W: Write + Drop>(
     ensures ok { OnOk result.0 (WhereKnown (R.remaining reader) IsTextOfSomeFormat) }
     ensures fault { IfErr result.0 (IsUpgradeFilesFault (R.remaining reader)) }
 {
-    match BufReader::with_capacity(alloc, ROOM, reader) {
-        Ok(reader) => run_buffered(
-            alloc,
-            Upgrading { alloc, reader, to },
-            Place::Output,
-            writer,
-        ),
-        Err(_) => (Err(Fault::Memory), writer),
-    }
+    rewrite_files(alloc, Pass::Upgrade, reader, writer, to)
 }

@@ -19,7 +19,8 @@ returns-clause-app c =
     let one = added c.after_help.result c.in_ok-arg.field-0 c.required-snapshot.result _ _ c.in_ok-arg.ensures (rw c.required-snapshot.ensures c.file_option.ensures.local) start snapshot in
     let two = added c.in_ok-arg.field-0 c.in_ok-arg-2.field-0 c.required-capture.result _ _ c.in_ok-arg-2.ensures (rw c.required-capture.ensures c.file_option-2.ensures.local) one capture in
     let three = added c.in_ok-arg-2.field-0 c.in_ok-arg-3.field-0 c.required-messages.result _ _ c.in_ok-arg-3.ensures (rw c.required-messages.ensures c.file_option-3.ensures.local) two messages in
-    IfOk-weaker c.arg-4.result _ _ (λ whole adds. added c.in_ok-arg-3.field-0 whole c.file_option-settings.result _ _ adds c.file_option-settings.ensures.local three c.file_option-settings.ensures.rule) c.arg-4.ensures
+    let four = added c.in_ok-arg-3.field-0 c.in_ok-arg-4.field-0 c.file_option-settings.result _ _ c.in_ok-arg-4.ensures c.file_option-settings.ensures.local three c.file_option-settings.ensures.rule in
+    IfOk-weaker c.arg-5.result _ _ (λ whole adds. added c.in_ok-arg-4.field-0 whole c.speed_option-speed.result _ _ adds c.speed_option-speed.ensures.local four c.speed_option-speed.ensures.rule) c.arg-5.ensures
 
 pub returns-clause-local : goal.returns-clause-local
 returns-clause-local c =
@@ -27,4 +28,5 @@ returns-clause-local c =
     let one = still_local c.after_help.result c.in_ok-arg.field-0 c.required-snapshot.result c.in_ok-arg.ensures (rw c.required-snapshot.ensures c.file_option.ensures.local) start in
     let two = still_local c.in_ok-arg.field-0 c.in_ok-arg-2.field-0 c.required-capture.result c.in_ok-arg-2.ensures (rw c.required-capture.ensures c.file_option-2.ensures.local) one in
     let three = still_local c.in_ok-arg-2.field-0 c.in_ok-arg-3.field-0 c.required-messages.result c.in_ok-arg-3.ensures (rw c.required-messages.ensures c.file_option-3.ensures.local) two in
-    IfOk-weaker c.arg-4.result _ _ (λ whole adds. still_local c.in_ok-arg-3.field-0 whole c.file_option-settings.result adds c.file_option-settings.ensures.local three) c.arg-4.ensures
+    let four = still_local c.in_ok-arg-3.field-0 c.in_ok-arg-4.field-0 c.file_option-settings.result c.in_ok-arg-4.ensures c.file_option-settings.ensures.local three in
+    IfOk-weaker c.arg-5.result _ _ (λ whole adds. still_local c.in_ok-arg-4.field-0 whole c.speed_option-speed.result adds c.speed_option-speed.ensures.local four) c.arg-5.ensures

@@ -22,7 +22,8 @@ returns-clause-app c =
     let two = added c.in_ok-arg.field-0 c.in_ok-arg-2.field-0 c.required-capture.result _ _ c.in_ok-arg-2.ensures (rw c.required-capture.ensures c.file_option-2.ensures.local) one capture in
     let three = added c.in_ok-arg-2.field-0 c.in_ok-arg-3.field-0 c.required-replies.result _ _ c.in_ok-arg-3.ensures (rw c.required-replies.ensures c.file_option-3.ensures.local) two replies in
     let four = added c.in_ok-arg-3.field-0 c.in_ok-arg-4.field-0 c.file_option-settings.result _ _ c.in_ok-arg-4.ensures c.file_option-settings.ensures.local three c.file_option-settings.ensures.rule in
-    IfOk-weaker c.arg-5.result _ _ (λ whole adds. added c.in_ok-arg-4.field-0 whole c.default_value-engine.result _ _ adds (rw (c.default_value-engine.ensures, c.help.ensures) c.option.ensures.local) four engine) c.arg-5.ensures
+    let five = added c.in_ok-arg-4.field-0 c.in_ok-arg-5.field-0 c.default_value-engine.result _ _ c.in_ok-arg-5.ensures (rw (c.default_value-engine.ensures, c.help.ensures) c.option.ensures.local) four engine in
+    IfOk-weaker c.arg-6.result _ _ (λ whole adds. added c.in_ok-arg-5.field-0 whole c.speed_option-speed.result _ _ adds c.speed_option-speed.ensures.local five c.speed_option-speed.ensures.rule) c.arg-6.ensures
 
 pub returns-clause-local : goal.returns-clause-local
 returns-clause-local c =
@@ -31,4 +32,5 @@ returns-clause-local c =
     let two = still_local c.in_ok-arg.field-0 c.in_ok-arg-2.field-0 c.required-capture.result c.in_ok-arg-2.ensures (rw c.required-capture.ensures c.file_option-2.ensures.local) one in
     let three = still_local c.in_ok-arg-2.field-0 c.in_ok-arg-3.field-0 c.required-replies.result c.in_ok-arg-3.ensures (rw c.required-replies.ensures c.file_option-3.ensures.local) two in
     let four = still_local c.in_ok-arg-3.field-0 c.in_ok-arg-4.field-0 c.file_option-settings.result c.in_ok-arg-4.ensures c.file_option-settings.ensures.local three in
-    IfOk-weaker c.arg-5.result _ _ (λ whole adds. still_local c.in_ok-arg-4.field-0 whole c.default_value-engine.result adds (rw (c.default_value-engine.ensures, c.help.ensures) c.option.ensures.local) four) c.arg-5.ensures
+    let five = still_local c.in_ok-arg-4.field-0 c.in_ok-arg-5.field-0 c.default_value-engine.result c.in_ok-arg-5.ensures (rw (c.default_value-engine.ensures, c.help.ensures) c.option.ensures.local) four in
+    IfOk-weaker c.arg-6.result _ _ (λ whole adds. still_local c.in_ok-arg-5.field-0 whole c.speed_option-speed.result adds c.speed_option-speed.ensures.local five) c.arg-6.ensures

@@ -1,8 +1,8 @@
-use Rattle.std.proofs.Common.{◌≡◌, codes, true, false, ap, ◌∷◌, []}
+use Rattle.std.proofs.Common.{◌≡◌, codes, true, false, ap}
 use Rattle.std.proofs.lemmas.Result.{IfOk-weaker}
 use Rattle.clap.specs.Words.{Rule, app_of, new_app, rule_of}
 use Rattle.clap.specs.declared.builder.Command.TheViews.{out-Command}
-use Rattle.command_line.specs.CommandLine.{option_of, required_of, upgrade_command}
+use Rattle.command_line.specs.CommandLine.{required_of, upgrade_command}
 use Rattle.command_line.proofs.Clap.{added, still_local}
 use Rattle.command_line.proofs.commands.upgrade_command.Goals as goal
 
@@ -13,16 +13,14 @@ returns-clause-app c =
     rw c.required-capture.ensures (ap (λ (r : Rule). record r { required = true }) c.file_option.ensures.rule) in
     let output : rule_of c.required-output.result ≡ required_of (codes "output") =
     rw c.required-output.ensures (ap (λ (r : Rule). record r { required = true }) c.file_option-2.ensures.rule) in
-    let to : rule_of c.default_value-to.result ≡ record (option_of (codes "to")) { defaults = codes "2" ∷ [] } =
-    rw (c.default_value-to.ensures, c.help.ensures) (ap (λ (r : Rule). record r { defaults = codes "2" ∷ [] }) c.option.ensures.rule) in
     let start : app_of c.after_help.result ≡ new_app (codes "upgrade") = rw (c.after_help.ensures, c.about.ensures) c.new.ensures.app in
     let one = added c.after_help.result c.in_ok-arg.field-0 c.required-capture.result _ _ c.in_ok-arg.ensures (rw c.required-capture.ensures c.file_option.ensures.local) start capture in
     let two = added c.in_ok-arg.field-0 c.in_ok-arg-2.field-0 c.required-output.result _ _ c.in_ok-arg-2.ensures (rw c.required-output.ensures c.file_option-2.ensures.local) one output in
-    IfOk-weaker c.arg-3.result _ _ (λ whole adds. added c.in_ok-arg-2.field-0 whole c.default_value-to.result _ _ adds (rw (c.default_value-to.ensures, c.help.ensures) c.option.ensures.local) two to) c.arg-3.ensures
+    IfOk-weaker c.arg-3.result _ _ (λ whole adds. added c.in_ok-arg-2.field-0 whole c.format_option-to.result _ _ adds c.format_option-to.ensures.local two c.format_option-to.ensures.rule) c.arg-3.ensures
 
 pub returns-clause-local : goal.returns-clause-local
 returns-clause-local c =
     let start : (out-Command c.after_help.result).has_globals ≡ false = rw (c.after_help.ensures, c.about.ensures) c.new.ensures.local in
     let one = still_local c.after_help.result c.in_ok-arg.field-0 c.required-capture.result c.in_ok-arg.ensures (rw c.required-capture.ensures c.file_option.ensures.local) start in
     let two = still_local c.in_ok-arg.field-0 c.in_ok-arg-2.field-0 c.required-output.result c.in_ok-arg-2.ensures (rw c.required-output.ensures c.file_option-2.ensures.local) one in
-    IfOk-weaker c.arg-3.result _ _ (λ whole adds. still_local c.in_ok-arg-2.field-0 whole c.default_value-to.result adds (rw (c.default_value-to.ensures, c.help.ensures) c.option.ensures.local) two) c.arg-3.ensures
+    IfOk-weaker c.arg-3.result _ _ (λ whole adds. still_local c.in_ok-arg-2.field-0 whole c.format_option-to.result adds c.format_option-to.ensures.local two) c.arg-3.ensures

@@ -8,10 +8,10 @@ use Rattle.program.proofs.inspecting.inspect_files.Goals as goal
 
 pub returns-in-Ok-clause-ok : goal.returns-in-Ok-clause-ok
 returns-in-Ok-clause-ok g c =
-    let runs : Runs Report (Reads InspectSays (g.R.Read.remaining c.args.reader)) (g.W.Write.contents c.args.writer) (g.W.Write.contents c.run_buffered.result.1) c.run_buffered.result.0 = search rules in
+    let runs : Runs Report (Reads InspectSays (g.R.Read.remaining c.args.reader)) (g.W.Write.contents c.args.writer) (g.W.Write.contents c.into_writer.result) c.run_buffered-ran.result.0 = search rules in
     ok_of_runs Report _ _ _ _ _ (inspected_ok _) runs
 
 pub returns-in-Ok-clause-fault : goal.returns-in-Ok-clause-fault
 returns-in-Ok-clause-fault g c =
-    let runs : Runs Report (Reads InspectSays (g.R.Read.remaining c.args.reader)) (g.W.Write.contents c.args.writer) (g.W.Write.contents c.run_buffered.result.1) c.run_buffered.result.0 = search rules in
+    let runs : Runs Report (Reads InspectSays (g.R.Read.remaining c.args.reader)) (g.W.Write.contents c.args.writer) (g.W.Write.contents c.into_writer.result) c.run_buffered-ran.result.0 = search rules in
     fault_of_runs Report _ _ _ _ _ tt tt (inspected_fault _) runs

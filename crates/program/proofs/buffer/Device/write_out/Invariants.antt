@@ -1,10 +1,10 @@
-use Rattle.std.proofs.Common.{length, ◌-◌, ◌≤◌, take}
+use Rattle.std.proofs.Common.{◌≡◌, length, ◌-◌, ◌≤◌, take}
 use Rattle.std.specs.Io.KnownBytes.{Appends}
 use Rattle.program.proofs.buffer.Device.write_out.Given as goal
 
 abbrev pub invariant-loop-written : goal.invariant-loop-written
 invariant-loop-written g l =
-    (l.written ≤ length l.bytes) × Appends (g.W.Write.contents l.initial.self.writer) (g.W.Write.contents l.self.writer) (take l.written l.bytes)
+    (l.written ≤ length l.bytes) × Appends l.initial.self.sink.bytes l.self.sink.bytes (take l.written l.bytes) × (l.self.sink.over ≡ l.initial.self.sink.over)
 
 abbrev pub decreases-loop-written : goal.decreases-loop-written
 decreases-loop-written g l = length l.bytes - l.written
