@@ -2,7 +2,7 @@
 ghost use Rattle.std.specs.Prelude.{◌≡◌, ◌<◌, ◌-◌, ◌^◌};
 ghost use Rattle.devices.specs.Devices.{CanFail};
 
-use crate::replaying::Ran;
+use crate::replaying::{Ran, TEXT_ROOM};
 use admission::Policy;
 use cost_model::Costs;
 use devices::{Input, Output};
@@ -48,7 +48,7 @@ pub fn explain_devices<R: Read, W: Write>(
 
 /// Explains a capture against a snapshot, both as texts.
 pub fn explain(alloc: Global, snapshot: &str, settings: &Settings, capture: &str) -> Option<Ran> {
-    let mut text = Vec::new(alloc);
+    let mut text = Vec::with_capacity(alloc, TEXT_ROOM).ok()?;
     let mut reader = Input::new(capture.as_bytes());
     let mut writer = Output::new(&mut text);
     let answer = explain_devices(alloc, snapshot, settings, &mut reader, &mut writer)?;

@@ -43,9 +43,13 @@ mod report_outcomes;
 #[cfg(test)]
 mod report_rows;
 #[cfg(test)]
+mod routes;
+#[cfg(test)]
 mod row_limits;
 #[cfg(test)]
 mod settings_faults;
+#[cfg(test)]
+mod sizes;
 #[cfg(test)]
 mod table_controls;
 #[cfg(test)]

@@ -73,6 +73,35 @@ fn tight_bucket(rt: HostRuntime) -> Result<(), Fail> {
     Ok(())
 }
 
+/// Traffic that comes twice as fast: the ticks are halved, and rounded down.
+#[test]
+fn twice_as_fast(rt: HostRuntime) -> Result<(), Fail> {
+    let alloc = rt.alloc();
+    let pieces = [(0, 0, A), (1, 0, A), (1_999_999, 0, A), (2_000_000, 0, A)];
+    let capture = capture_of(alloc, &pieces)?;
+    let costs = default_costs().expect(&rt, "costs");
+    let policy = tight(1).expect(&rt, "a policy");
+    let recorded = settings(alloc, costs, policy).expect(&rt, "settings");
+    let faster = recorded.with_speed(200);
+    let ran = run_settings(&rt, alloc, SNAPSHOT, &faster, capture.as_bytes()).expect(
+        &rt, "a replay",
+    );
+    let want =
+        "reply 0 0 150; 200 OK;reply 1 0 159; 503 Service Unavailable;reply 2 0 159; 503 Service Unavailable;\
+         reply 3 0 150; 200 OK;stop 4;";
+    check(&rt, &ran, want, &[1, 2], &[201, 201])?;
+    let text = String::from_utf8_lossy(alloc, &ran.text)?;
+    assert!(rt;
+        text.contains(
+            "reply 2 0 159\nHTTP/1.1 503 Service Unavailable\r\nDate: Sun, 06 Nov 1994 08:49:37 GMT"
+        )
+    );
+    assert!(rt;
+        text.contains("reply 3 0 150\nHTTP/1.1 200 OK\r\nDate: Sun, 06 Nov 1994 08:49:38 GMT")
+    );
+    Ok(())
+}
+
 #[test]
 fn rejected_head(rt: HostRuntime) -> Result<(), Fail> {
     let head = "HEAD /a.txt HTTP/1.1\r\nHost: a\r\n\r\n";
@@ -110,6 +139,20 @@ fn finishes_and_percentile(rt: HostRuntime) -> Result<(), Fail> {
     let ran = run_policy(&rt, Costs::new(5, 0, 50).ok(), policy, &pieces)?.expect(&rt, "a replay");
     let want = "reply 0 0 150; 200 OK;reply 1 1 150; 200 OK;reply 2 2 150; 200 OK;stop 3;";
     check(&rt, &ran, want, &[], &[5, 10, 5])
+}
+
+/// The third request begins when the first of two servers is free, and each response takes 7 ticks besides.
+#[test]
+fn two_servers_and_a_delay(rt: HostRuntime) -> Result<(), Fail> {
+    let policy = Policy::new(
+        10, 10, 700, 1_000_000, 50_000, 5_000_000, 2000, 120, 100_000, 90, 100,
+    )
+    .ok();
+    let costs = Costs::new(5, 0, 50).expect(&rt, "costs").served_by(2, 7);
+    let pieces = [(0, 0, A), (0, 1, A), (1, 2, A)];
+    let ran = run_policy(&rt, Some(costs), policy, &pieces)?.expect(&rt, "a replay");
+    let want = "reply 0 0 150; 200 OK;reply 1 1 150; 200 OK;reply 2 2 150; 200 OK;stop 3;";
+    check(&rt, &ran, want, &[], &[12, 12, 16])
 }
 
 #[test]

@@ -45,12 +45,15 @@ fn capture_faults(rt: HostRuntime) -> Result<(), Fail> {
     )?;
     check(&rt, &ended, 3, Kind::Ended, one)?;
     let trailing = format!(in alloc; "haboob-capture 1 784111777\npiece 0 0 32\n{A}\nstop 1\n.")?;
-    check(&rt, &trailing, 2, Kind::Trailing, one)?;
-    check(
-        &rt,
-        "haboob-capture 3 784111777\nstop 0\n",
-        0,
-        Kind::Header,
-        "",
-    )
+    check(&rt, &trailing, 2, Kind::Trailing, one)
+}
+
+/// After a fault of the first line just the first line of the replies stands.
+#[test]
+fn fault_of_the_first_line(rt: HostRuntime) -> Result<(), Fail> {
+    let third = "haboob-capture 3 784111777\nstop 0\n";
+    check(&rt, third, 0, Kind::Header, "")?;
+    let ran = run(&rt, rt.alloc(), SNAPSHOT, third).expect(&rt, "a snapshot");
+    assert_eq!(rt; ran.text.as_slice(), b"haboob-replies 1\n".as_slice());
+    Ok(())
 }

@@ -76,8 +76,8 @@ static NIMBLE_REPLIES: &str = "haboob-replies 1\n\
      \n\
      stop 3\n";
 
-/// A replay whose growth is refused says so, and has written a prefix of what it would have written. (Nor can the text
-/// in memory grow then, which is a failed write.)
+/// A replay whose growth is refused says so, and has written a prefix of what it would have written: the text in memory
+/// has its room beforehand, so no write fails.
 fn check<T: Abort + AllocGlobal + Threads + Wait + Sync>(
     rt: &T,
     engine: Engine,
@@ -101,7 +101,7 @@ fn check<T: Abort + AllocGlobal + Threads + Wait + Sync>(
     match ran.answer {
         Ok(_) => assert_eq!(rt; ran.text.as_slice(), want.as_bytes()),
         Err(fault) => {
-            assert!(rt; fault == ReplayFault::Memory || fault == ReplayFault::Write);
+            assert_eq!(rt; fault, ReplayFault::Memory);
             assert!(rt; want.as_bytes().starts_with(&ran.text));
         }
     }

@@ -133,6 +133,9 @@ pub fn run_devices<G: Gate + Sync, T: Threads + Wait + Sync, R: Read, W: Write>(
     }
 }
 
+/// The room of a text in memory, in bytes.
+pub const TEXT_ROOM: usize = 4096;
+
 /// Replays a capture against a snapshot, both as texts.
 pub fn run_engine<G: Gate + Sync, T: Threads + Wait + Sync>(
     rt: &T,
@@ -143,7 +146,8 @@ pub fn run_engine<G: Gate + Sync, T: Threads + Wait + Sync>(
     gate: &G,
     capture: &[u8],
 ) -> Option<Ran> {
-    let mut text = Vec::new(alloc);
+    // With room for the replies of a short capture, so that where memory is refused no write fails.
+    let mut text = Vec::with_capacity(alloc, TEXT_ROOM).ok()?;
     let mut reader = Input::new(capture);
     let mut writer = Output::new(&mut text);
     let answer = run_devices(

@@ -10,8 +10,8 @@ static WANT: &str =
      0,0,0,0,200,admitted,201,1000000000,1000,0,201,0,GET,/a.txt\n\
      1,3,1,0,503,rejected,50,1000,1000,,,200,GET,/\n";
 
-/// A call whose growth is refused says so, and has written a prefix of what it would have written. (Nor can the text in
-/// memory grow then, which is a failed write.)
+/// A call whose growth is refused says so, and has written a prefix of what it would have written: the text in memory
+/// has its room beforehand, so no write fails.
 #[test]
 fn each_growth_refused(rt: HostRuntime) {
     let alloc = rt.alloc();
@@ -28,7 +28,7 @@ fn each_growth_refused(rt: HostRuntime) {
     match ran.answer {
         Ok(_) => assert_eq!(rt; ran.text.as_slice(), want),
         Err(fault) => {
-            assert!(rt; fault == ReplayFault::Memory || fault == ReplayFault::Write);
+            assert_eq!(rt; fault, ReplayFault::Memory);
             assert!(rt; want.starts_with(&ran.text));
         }
     }

@@ -89,16 +89,17 @@ fn a_tier_given_late(rt: HostRuntime) -> Result<(), Fail> {
     Ok(())
 }
 
-/// Version 2 has connections up to 65,535.
+/// Version 2 has connections up to 65,535, and each may have a tier.
 #[test]
 fn last_connection(rt: HostRuntime) -> Result<(), Fail> {
     let alloc = rt.alloc();
     let policy = default_policy().expect(&rt, "a policy");
     let capture = format!(in alloc;
-        "haboob-capture 2 784111777\npiece 0 65535 32\n{A}\npiece 0 4096 32\n{A}\nstop 2\n"
+        "haboob-capture 2 784111777\ntier 65535 3\npiece 0 65535 32\n{A}\npiece 0 4096 32\n{A}\nstop 3\n"
     )?;
     let ran = run_tiers(&rt, 1024, [policy; 4], &capture);
     let want = "reply 0 65535 150; 200 OK;reply 1 4096 150; 200 OK;stop 2;";
     assert_eq!(rt; outline(alloc, &ran.text)?.as_str(), want);
+    assert_eq!(rt; tallies(&ran), [(1, 0), (0, 0), (0, 0), (1, 0)]);
     Ok(())
 }

@@ -14,6 +14,8 @@ mod device_texts;
 #[cfg(test)]
 mod failing_writes;
 #[cfg(test)]
+mod fault_texts;
+#[cfg(test)]
 mod later_upgrades;
 #[cfg(test)]
 mod names;

@@ -1,5 +1,5 @@
 //! Names that are looked up among many, or among those that an index by a hash can't tell apart.
-use paths::{Snapshot, find_plain};
+use paths::{Outcome, Snapshot, find_plain, resolve};
 use std::alloc::{AllocError, Global};
 use std::process::Abort;
 use std::test::Fail;
@@ -169,6 +169,66 @@ fn check_longest(rt: &(impl Abort + AllocGlobal), count: usize) -> Result<(), Fa
 fn names_beside_the_longest(rt: HostRuntime) -> Result<(), Fail> {
     for count in [0, 1, 2, 3, 8, 100] {
         check_longest(&rt, count)?;
+    }
+    Ok(())
+}
+
+/// A name of each length from 5 to 1,024 bytes in one folder is found at its number, and none that is longer.
+#[test]
+fn each_length_of_a_name(rt: HostRuntime) -> Result<(), Fail> {
+    let alloc = rt.alloc();
+    let mut text = String::from_str(alloc, "haboob-snapshot 1\n")?;
+    for bytes in 3..1_023usize {
+        let name = "n".repeat(alloc, bytes)?;
+        write!(text, "file 0 {} 0\nd/{name}\n\n", bytes.saturating_add(2))?;
+    }
+    text.push_str("end 1020\n")?;
+    let files = snapshot(alloc, text.as_bytes())?;
+    for bytes in 3..1_023usize {
+        let name = "n".repeat(alloc, bytes)?;
+        let target = format!(in alloc; "d/{name}")?;
+        let number = bytes.saturating_sub(3);
+        assert_eq!(rt; found(alloc, &files, &target)?, Some(number), "{bytes}");
+    }
+    for bytes in [0, 1, 2, 1_023, 1_024] {
+        let name = "n".repeat(alloc, bytes)?;
+        let target = format!(in alloc; "d/{name}")?;
+        assert_eq!(rt; found(alloc, &files, &target)?, None, "{bytes}");
+    }
+    Ok(())
+}
+
+/// Names beyond ASCII, of two, three and four bytes a character, as they stand and percent-encoded.
+#[test]
+fn names_beyond_ascii(rt: HostRuntime) -> Result<(), Fail> {
+    let alloc = rt.alloc();
+    let names = [
+        "a",
+        "\u{e9}",
+        "\u{e9}t\u{e9}.txt",
+        "\u{65e5}\u{672c}",
+        "\u{1f300}",
+    ];
+    let text = text_of(alloc, &names)?;
+    let files = snapshot(alloc, text.as_bytes())?;
+    let encoded = [
+        "a",
+        "%C3%A9",
+        "%c3%a9t%C3%a9.txt",
+        "%E6%97%A5%E6%9C%AC",
+        "%F0%9F%8C%80",
+    ];
+    for (number, (name, other)) in names.iter().zip(&encoded).enumerate() {
+        for written in [name, other] {
+            let target = format!(in alloc; "/{written}")?;
+            let outcome = resolve(alloc, &files, b"GET", target.as_bytes())?;
+            assert!(rt;
+                matches!(outcome, Outcome::File(file) if file == number),
+                "{written}"
+            );
+        }
+        assert!(rt; number < files.len());
+        assert_eq!(rt; files.name(number), name.as_bytes());
     }
     Ok(())
 }

@@ -1,7 +1,7 @@
-//! One call is one read or one write of the device, whatever comes of it.
-use devices::{Failed, Input, Output};
+//! One call is one read or one write of the device, whatever comes of it, and none after the end or a failed write.
+use devices::{Failed, Input, Output, Stop, read_byte_of, read_line, read_long_line};
 use std::io;
-use std::io::{ErrorKind, Write};
+use std::io::{ErrorKind, Read, Write};
 use test_support::Flaky;
 
 /// A writer that takes n bytes at once, fails at its second write, and counts its writes.
@@ -36,7 +36,30 @@ impl Write for Narrow {
     }
 }
 
-/// Bytes, an interruption, bytes again, and the end of the input twice: one read each.
+/// A reader that goes on after its end, as a terminal may, and counts its reads.
+#[derive(Drop)]
+struct Resuming {
+    left: &'static [u8],
+    ended: bool,
+    calls: usize,
+}
+
+impl Read for Resuming {
+    fn read(&mut self, room: &mut [u8]) -> io::Result<usize> {
+        self.calls = self.calls.wrapping_add(1);
+        if self.left.is_empty() && !self.ended {
+            self.ended = true;
+            self.left = b"cd\n";
+            return Ok(0);
+        }
+        let count = room.len().min(self.left.len());
+        room[..count].copy_from_slice(&self.left[..count]);
+        self.left = &self.left[count..];
+        Ok(count)
+    }
+}
+
+/// Bytes, an interruption, bytes again, and the end of the input, after which no read is made.
 #[test]
 fn one_read_a_call(rt: HostRuntime) {
     let mut device = Flaky::new(b"abc", 2, 1);
@@ -50,7 +73,7 @@ fn one_read_a_call(rt: HostRuntime) {
     assert_eq!(rt; (last, room), ((Ok(1), 1), *b"cb\0\0"));
     let end = (input.read_some(&mut room), input.read_byte());
     assert_eq!(rt; (end, input.failures()), ((Ok(0), Ok(None)), 1));
-    assert_eq!(rt; device.calls, 5);
+    assert_eq!(rt; device.calls, 4);
 }
 
 /// The same byte by byte.
@@ -70,7 +93,87 @@ fn one_read_a_byte(rt: HostRuntime) {
     assert_eq!(rt; device.calls, 4);
 }
 
-/// Some bytes, a failure of either kind, bytes again, and no bytes to write: one write each.
+/// Once the end was told nothing is read, whatever is asked for, and whether the input reads ahead or not.
+#[test]
+fn nothing_read_after_the_end(rt: HostRuntime) {
+    for ahead in [false, true] {
+        let mut device = Resuming {
+            left: b"a\nb",
+            ended: false,
+            calls: 0,
+        };
+        let mut input = if ahead {
+            Input::ahead(&mut device)
+        } else {
+            Input::new(&mut device)
+        };
+        let mut left = 100usize;
+        assert!(rt; read_line(&mut input, &mut left).is_ok());
+        assert_eq!(rt; read_line(&mut input, &mut left).err(), Some(Stop::Cut));
+        assert_eq!(rt; read_line(&mut input, &mut left).err(), Some(Stop::Cut));
+        assert_eq!(rt; read_byte_of(&mut input, &mut left), Err(Stop::Cut));
+        assert_eq!(rt; input.read_byte(), Ok(None));
+        let mut room = [7; 2];
+        assert_eq!(rt; (input.read_some(&mut room), room), (Ok(0), [7; 2]));
+        assert_eq!(rt; input.failures(), 0);
+        assert_eq!(rt; device.calls, if ahead { 2 } else { 4 });
+    }
+}
+
+/// An input that reads ahead makes a read for each 64 bytes of a text of lines, and one that doesn't makes one a byte;
+/// each meets the end by one more.
+#[test]
+fn reads_of_a_text_of_lines(rt: HostRuntime) {
+    for (ahead, reads) in [(false, 641), (true, 11)] {
+        let text = [b'\n'; 640];
+        let mut device = Flaky::new(&text, 1_000, 1_000);
+        let mut input = if ahead {
+            Input::ahead(&mut device)
+        } else {
+            Input::new(&mut device)
+        };
+        let mut left = 1_000usize;
+        for _ in 0..640 {
+            assert!(rt; input.failures() == 0);
+            assert!(rt;
+                matches!(read_line(&mut input, &mut left), Ok(line) if line.as_slice().is_empty())
+            );
+        }
+        assert!(rt; input.failures() == 0);
+        assert_eq!(rt; read_line(&mut input, &mut left).err(), Some(Stop::Cut));
+        assert_eq!(rt; left, 360);
+        assert_eq!(rt; device.calls, reads);
+    }
+}
+
+/// What a line owes is read at once: 7 bytes, 5 more of a piece's line, and then one at a time.
+#[test]
+fn reads_of_a_line_that_announces(rt: HostRuntime) {
+    for (text, reads) in [
+        ("stop 1\n", 1),
+        ("stop 12\n", 2),
+        ("piece 0 0 1\n", 2),
+        ("piece 0 0 12\n", 3),
+    ] {
+        let mut device = Flaky::new(text.as_bytes(), 1_000, 1_000);
+        let mut input = Input::new(&mut device);
+        let mut left = 1_000usize;
+        assert!(rt; read_long_line(&mut input, &mut left, 7, b"piece ", 12).is_ok());
+        assert_eq!(rt; device.calls, reads, "{text}");
+    }
+}
+
+/// A read into no room isn't the end.
+#[test]
+fn no_room_is_no_end(rt: HostRuntime) {
+    let mut device = Flaky::new(b"a", 9, 9);
+    let mut input = Input::new(&mut device);
+    assert_eq!(rt; input.read_some(&mut []), Ok(0));
+    assert_eq!(rt; input.read_byte(), Ok(Some(b'a')));
+    assert_eq!(rt; device.calls, 2);
+}
+
+/// Some bytes, a failure of either kind, and more to write after it: one write each, and none after the failure.
 #[test]
 fn one_write_a_call(rt: HostRuntime) {
     for kind in [ErrorKind::Interrupted, ErrorKind::Other] {
@@ -80,10 +183,22 @@ fn one_write_a_call(rt: HostRuntime) {
         let failed = (output.write_some(b"c"), output.failures());
         let second = (output.write_some(b"c"), output.failures());
         let none = (output.write_some(b""), output.failures());
+        let both = (output.write_both(b"d", b"e"), output.failures());
         assert_eq!(rt; (first, failed), ((Ok(2), 0), (Err(Failed), 1)));
-        assert_eq!(rt; (second, none), ((Ok(1), 1), (Ok(0), 1)));
-        assert_eq!(rt; device.calls, 4);
+        assert_eq!(rt; (second, none), ((Err(Failed), 2), (Err(Failed), 3)));
+        assert_eq!(rt; both, (Err(Failed), 4));
+        assert_eq!(rt; output.write_all(b""), Ok(()));
+        assert_eq!(rt; device.calls, 2);
     }
+}
+
+/// None of no bytes is no failure, and one write.
+#[test]
+fn a_write_of_no_bytes(rt: HostRuntime) {
+    let mut device = Narrow::new(2, ErrorKind::Other);
+    let mut output = Output::new(&mut device);
+    assert_eq!(rt; (output.write_some(b""), output.failures()), (Ok(0), 0));
+    assert_eq!(rt; device.calls, 1);
 }
 
 /// A writer that takes none of some bytes has failed, and isn't asked again.

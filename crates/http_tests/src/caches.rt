@@ -180,35 +180,35 @@ fn cache_of_no_file(rt: HostRuntime) -> Result<(), Fail> {
     check_steps::<Brand, HostRuntime>(&rt, rt.alloc(), &files, 0, &steps)
 }
 
-/// A snapshot of a hundred files without bytes, whose pages have 59 bytes each.
-fn hundred(alloc: Global) -> Result<Snapshot, Fail> {
+/// A snapshot of a thousand files without bytes, whose pages have 59 bytes each.
+fn thousand(alloc: Global) -> Result<Snapshot, Fail> {
     let mut text = String::from_str(alloc, "haboob-snapshot 1\n")?;
-    for n in 0..100u32 {
+    for n in 0..1_000u32 {
         let file = format!(in alloc; "file 0 3 0\n{n:03}\n\n")?;
         text.push_str(file.as_str())?;
     }
-    text.push_str("end 100\n")?;
+    text.push_str("end 1000\n")?;
     Ok(snapshot(alloc, text.as_bytes())?)
 }
 
-fn check_hundred<F: Tree, R: Abort>(rt: &R, alloc: Global, files: &Snapshot) -> Result<(), Fail>
+fn check_thousand<F: Tree, R: Abort>(rt: &R, alloc: Global, files: &Snapshot) -> Result<(), Fail>
     requires { files.now ≡ F.files }
 {
-    assert!(rt; files.len() == 100);
-    let mut cache = PageCache::<F>::new(alloc, 5_900, 100)?;
-    for file in 0..100usize {
+    assert!(rt; files.len() == 1_000);
+    let mut cache = PageCache::<F>::new(alloc, 59_000, 1_000)?;
+    for file in 0..1_000usize {
         check_keep(rt, alloc, files, &mut cache, file, Keeping::Kept)?;
     }
-    assert_eq!(rt; (cache.len(), cache.bytes()), (100, 5_900));
-    for file in 0..100usize {
+    assert_eq!(rt; (cache.len(), cache.bytes()), (1_000, 59_000));
+    for file in 0..1_000usize {
         assert!(rt; cache.look(file)?.is_some());
     }
     Ok(())
 }
 
-/// A hundred pages are in a cache at once.
+/// A thousand pages are in a cache at once.
 #[test]
-fn cache_of_a_hundred_pages(rt: HostRuntime) -> Result<(), Fail> {
-    let files = hundred(rt.alloc())?;
-    check_hundred::<Brand, HostRuntime>(&rt, rt.alloc(), &files)
+fn cache_of_a_thousand_pages(rt: HostRuntime) -> Result<(), Fail> {
+    let files = thousand(rt.alloc())?;
+    check_thousand::<Brand, HostRuntime>(&rt, rt.alloc(), &files)
 }

@@ -137,6 +137,22 @@ fn block_limit(rt: HostRuntime) -> Result<(), Fail> {
     Ok(())
 }
 
+/// The most requests that one piece can have are cut: 3,276 of 20 bytes.
+#[test]
+fn most_messages_of_a_piece(rt: HostRuntime) -> Result<(), Fail> {
+    let text = "G / HTTP/1.1\nHost:\n\n".repeat(rt.alloc(), 3_276)?;
+    assert!(rt; text.len() == 65_520);
+    let out = cut(rt.alloc(), text.as_bytes(), 65_520)?;
+    assert_eq!(rt; out.len(), 3_276);
+    let mut end: u64 = 0;
+    for message in &out {
+        end = end.saturating_add(20);
+        assert_eq!(rt; message.end, end);
+        assert!(rt; matches!(message.what, Meaning::Request { .. }));
+    }
+    Ok(())
+}
+
 /// A target of 8,100 bytes passes.
 #[test]
 fn long_target(rt: HostRuntime) -> Result<(), Fail> {

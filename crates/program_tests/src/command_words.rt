@@ -14,8 +14,10 @@ static PLAINEST: [&str; 7] = [
     "o",
 ];
 
-static WHOLE: [&str; 9] = [
+static WHOLE: [&str; 11] = [
     "replay",
+    "--speed",
+    "200",
     "--engine=plain",
     "--replies",
     "o",
@@ -45,15 +47,31 @@ static TO_TWO: [&str; 6] = ["upgrade", "--to", "2", "--output", "n", "--capture=
 
 static TO_TRAFFIC: [&str; 5] = ["upgrade", "--output=n", "--to=traffic", "--capture", "c"];
 
-/// What is no format of an upgrade.
-static OTHER_FORMATS: [&str; 7] = [
-    "--to=1",
-    "--to=3",
-    "--to=02",
-    "--to=",
-    "--to=Traffic",
-    "--to=traffi",
-    "--to=2 ",
+static SLIM: [&str; 4] = ["slim", "--output", "n", "--capture=c"];
+
+static SLIM_TO_TWO: [&str; 6] = ["slim", "--format", "2", "--output", "n", "--capture=c"];
+
+static SLIM_TO_TRAFFIC: [&str; 6] = [
+    "slim",
+    "--output=n",
+    "--drop-queries",
+    "--format=traffic",
+    "--capture",
+    "c",
+];
+
+/// What is no format of an upgrade, and of a slim text.
+static OTHER_FORMATS: [(&str, &str); 10] = [
+    ("upgrade", "--to=1"),
+    ("upgrade", "--to=3"),
+    ("upgrade", "--to=02"),
+    ("upgrade", "--to="),
+    ("upgrade", "--to=Traffic"),
+    ("upgrade", "--to=traffi"),
+    ("upgrade", "--to=2 "),
+    ("slim", "--format=1"),
+    ("slim", "--format="),
+    ("slim", "--format=traffi"),
 ];
 
 static NO_OUTPUT: [&str; 3] = ["upgrade", "--capture", "c"];
@@ -70,8 +88,9 @@ static NO_FOLDER: [&str; 3] = ["snapshot", "--output", "n"];
 
 static INSPECT: [&str; 3] = ["inspect", "--capture", "c"];
 
-static EXPLAIN: [&str; 7] = [
+static EXPLAIN: [&str; 8] = [
     "explain",
+    "--speed=10000",
     "--snapshot=s",
     "--capture=c",
     "--settings",
@@ -93,6 +112,8 @@ static VERSION: [&str; 1] = ["--version"];
 static REPLAY_HELP: [&str; 2] = ["replay", "--help"];
 
 static UPGRADE_HELP: [&str; 2] = ["upgrade", "--help"];
+
+static SLIM_HELP: [&str; 2] = ["slim", "--help"];
 
 static SNAPSHOT_HELP: [&str; 2] = ["snapshot", "--help"];
 
@@ -117,11 +138,13 @@ fn replays(rt: HostRuntime) {
                 replies,
                 settings,
                 engine,
+                speed,
             },
         ) => {
             assert!(rt; snapshot == "s" && capture == "c" && replies == "o");
             assert!(rt; settings.is_none());
             assert_eq!(rt; engine, Engine::Staged);
+            assert_eq!(rt; speed, 100);
         }
         _ => assert!(rt; false, "the plainest words"),
     }
@@ -133,11 +156,13 @@ fn replays(rt: HostRuntime) {
                 replies,
                 settings,
                 engine,
+                speed,
             },
         ) => {
             assert!(rt; snapshot == "s" && capture == "c" && replies == "o");
             assert!(rt; settings.unwrap_or("") == "t");
             assert_eq!(rt; engine, Engine::Plain);
+            assert_eq!(rt; speed, 200);
         }
         _ => assert!(rt; false, "all words"),
     }
@@ -168,9 +193,35 @@ fn upgrades(rt: HostRuntime) {
 }
 
 #[test]
+fn slim_texts(rt: HostRuntime) {
+    let table = [
+        (SLIM.as_slice(), Target::Traffic, false),
+        (SLIM_TO_TWO.as_slice(), Target::Two, false),
+        (SLIM_TO_TRAFFIC.as_slice(), Target::Traffic, true),
+    ];
+    for (words, want, drops) in table {
+        match read_words(rt.alloc(), words) {
+            Ok(
+                Job::Slim {
+                    capture,
+                    output,
+                    to,
+                    drop_queries,
+                },
+            ) => {
+                assert!(rt; capture == "c" && output == "n");
+                assert_eq!(rt; to, want);
+                assert_eq!(rt; drop_queries, drops);
+            }
+            _ => assert!(rt; false, "the words of a slim text"),
+        }
+    }
+}
+
+#[test]
 fn another_format(rt: HostRuntime) {
-    for format in OTHER_FORMATS {
-        let words = ["upgrade", "--capture=c", format, "--output=n"];
+    for (command, format) in OTHER_FORMATS {
+        let words = [command, "--capture=c", format, "--output=n"];
         let refused = read_words(rt.alloc(), words.as_slice());
         assert!(rt; matches!(refused, Err(WordFault::Format)));
     }
@@ -212,10 +263,12 @@ fn explanations(rt: HostRuntime) {
                 capture,
                 messages,
                 settings,
+                speed,
             },
         ) => {
             assert!(rt; snapshot == "s" && capture == "c" && messages == "m");
             assert!(rt; settings.unwrap_or("") == "t");
+            assert_eq!(rt; speed, 10_000);
         }
         _ => assert!(rt; false, "the words of a table"),
     }
@@ -231,6 +284,41 @@ fn settings(rt: HostRuntime) {
             Ok(Job::Settings { settings }) => assert_eq!(rt; settings, file),
             _ => assert!(rt; false, "the words of settings"),
         }
+    }
+}
+
+/// What is no speed.
+static OTHER_SPEEDS: [&str; 7] = [
+    "--speed=99",
+    "--speed=10001",
+    "--speed=0200",
+    "--speed=+200",
+    "--speed=200%",
+    "--speed=",
+    "--speed=18446744073709551816",
+];
+
+#[test]
+fn another_speed(rt: HostRuntime) {
+    for speed in OTHER_SPEEDS {
+        let words = [
+            "explain",
+            "--snapshot=s",
+            "--capture=c",
+            "--messages=m",
+            speed,
+        ];
+        let refused = read_words(rt.alloc(), words.as_slice());
+        assert!(rt; matches!(refused, Err(WordFault::Speed)));
+        let words = [
+            "replay",
+            "--snapshot=s",
+            "--capture=c",
+            "--replies=o",
+            speed,
+        ];
+        let refused = read_words(rt.alloc(), words.as_slice());
+        assert!(rt; matches!(refused, Err(WordFault::Speed)));
     }
 }
 
@@ -251,6 +339,7 @@ Usage: haboob <COMMAND>
 Commands:
   replay    Answers a capture's requests, and writes a report to standard output.
   upgrade   Writes a capture as one of version 2, or as traffic.
+  slim      Writes a capture without what no answer depends on.
   snapshot  Writes the files of a folder as a snapshot.
   inspect   Tells what a capture holds.
   explain   Tells of each message why it was admitted or turned away.
@@ -271,6 +360,7 @@ Examples:
   haboob explain --snapshot site.snapshot --capture day.capture --messages day.csv
   haboob settings --settings tight.toml
   haboob upgrade --capture old.capture --output new.capture
+  haboob slim --capture day.capture --output day.traffic
 ";
 
 static REPLAY_HELP_TEXT: &str =
@@ -284,6 +374,7 @@ Options:
       --replies <FILE>   Where the replies go; a file that is there is overwritten
       --settings <FILE>  Settings, as TOML; a key that is left out has its default
       --engine <ENGINE>  plain, on one thread, or staged, on many; both answer the same [default: staged]
+      --speed <PERCENT>  How fast the traffic comes, in percent of the recorded speed, 100 to 10000 [default: 100]
   -h, --help             Print help
 
 Example:
@@ -308,6 +399,30 @@ is in that format or a later one is written as it is.
 Examples:
   haboob upgrade --capture old.capture --output new.capture
   haboob upgrade --capture new.capture --output day.traffic --to traffic
+";
+
+static SLIM_HELP_TEXT: &str = "Writes a capture without what no answer depends on.
+
+Usage: haboob slim [OPTIONS] --capture <FILE> --output <FILE>
+
+Options:
+      --capture <FILE>   The capture to read
+      --output <FILE>    Where the new capture goes; another file that is there is overwritten
+      --format <FORMAT>  2, a capture of version 2, or traffic [default: traffic]
+      --drop-queries     Leave out the query of each target
+  -h, --help             Print help
+
+What no answer depends on is left out: each message becomes the shortest one that is answered the
+same, in a piece of its own. Its method and target stay, and of its fields what Connection and
+If-Modified-Since say; bodies, and messages that don't end, are gone. Ends and tiers stay. Replies,
+report and table are those of the capture; what is in a later format stays in that.
+
+With --drop-queries the query of each target goes as well, and in the table too. A target with a #
+becomes # alone, as does one that begins with a question mark: neither is a target.
+
+Examples:
+  haboob slim --capture day.capture --output day.traffic
+  haboob slim --capture day.capture --output day.slim --format 2 --drop-queries
 ";
 
 static SNAPSHOT_HELP_TEXT: &str = "Writes the files of a folder as a snapshot.
@@ -353,6 +468,7 @@ Options:
       --capture <FILE>   The recorded requests
       --messages <FILE>  Where the table goes, as CSV; a file that is there is overwritten
       --settings <FILE>  Settings, as TOML; a key that is left out has its default
+      --speed <PERCENT>  How fast the traffic comes, in percent of the recorded speed, 100 to 10000 [default: 100]
   -h, --help             Print help
 
 Each message is decided on as by a replay, and gets a row of a table in place of a reply: its
@@ -433,6 +549,7 @@ fn texts(rt: HostRuntime) -> Result<(), Fail> {
         (VERSION.as_slice(), "haboob 1.0.0\n"),
         (REPLAY_HELP.as_slice(), REPLAY_HELP_TEXT),
         (UPGRADE_HELP.as_slice(), UPGRADE_HELP_TEXT),
+        (SLIM_HELP.as_slice(), SLIM_HELP_TEXT),
         (SNAPSHOT_HELP.as_slice(), SNAPSHOT_HELP_TEXT),
         (INSPECT_HELP.as_slice(), INSPECT_HELP_TEXT),
         (EXPLAIN_HELP.as_slice(), EXPLAIN_HELP_TEXT),
@@ -460,6 +577,8 @@ fn each_growth_refused(rt: HostRuntime) {
     assert!(rt; matches!(answer, Ok(Job::Replay { .. }) | Err(WordFault::Memory)));
     let upgrade = read_words(rt.alloc(), UPGRADE.as_slice());
     assert!(rt; matches!(upgrade, Ok(Job::Upgrade { .. }) | Err(WordFault::Memory)));
+    let slim = read_words(rt.alloc(), SLIM.as_slice());
+    assert!(rt; matches!(slim, Ok(Job::Slim { .. }) | Err(WordFault::Memory)));
     let snapshot = read_words(rt.alloc(), SKIPPING.as_slice());
     assert!(rt; matches!(snapshot, Ok(Job::Snapshot { .. }) | Err(WordFault::Memory)));
     let settings = read_words(rt.alloc(), SETTINGS.as_slice());

@@ -22,6 +22,10 @@ mod running;
 #[cfg(test)]
 mod settings_documents;
 #[cfg(test)]
+mod sinks;
+#[cfg(test)]
+mod slim_texts;
+#[cfg(test)]
 mod traffic;
 #[cfg(test)]
 mod upgrades;

@@ -1,6 +1,6 @@
 //! How faults are reported.
 use crate::running::Narrow;
-use captures::{CaptureFault, CaptureFaultKind, UpgradeFault};
+use captures::{CaptureFault, CaptureFaultKind, PassFault, UpgradeFault};
 use command_line::WordFault;
 use devices::Output;
 use paths::{SnapshotFault, SnapshotFaultKind};
@@ -89,6 +89,26 @@ fn upgrade_lines(rt: HostRuntime) {
     );
 }
 
+#[test]
+fn slim_lines(rt: HostRuntime) {
+    let cut = CaptureFault {
+        at: 1,
+        kind: CaptureFaultKind::Cut,
+    };
+    let cut = Fault::Slim(PassFault::Capture(cut));
+    check(&rt, cut, 5, "haboob: capture: record 1: Cut\n");
+    let unread = CaptureFault {
+        at: 4,
+        kind: CaptureFaultKind::Read,
+    };
+    let unread = Fault::Slim(PassFault::Capture(unread));
+    check(&rt, unread, 6, "haboob: read: capture\n");
+    let unwritten = Fault::Slim(PassFault::Write);
+    check(&rt, unwritten, 6, "haboob: write: output\n");
+    let memory = Fault::Slim(PassFault::Memory);
+    check(&rt, memory, 7, "haboob: memory\n");
+}
+
 fn setting(kind: ConfigFaultKind, key: Option<Key>) -> Fault {
     Fault::Settings(ConfigFault { kind, key })
 }
@@ -127,6 +147,7 @@ fn lines_of_words(rt: HostRuntime) -> Result<(), Fail> {
     check(&rt, words, 2, "error: no such word\n\nUsage: haboob\n");
     check(&rt, Fault::Words(WordFault::Engine), 2, "haboob: engine\n");
     check(&rt, Fault::Words(WordFault::Format), 2, "haboob: format\n");
+    check(&rt, Fault::Words(WordFault::Speed), 2, "haboob: speed\n");
     check(&rt, Fault::Words(WordFault::Memory), 7, "haboob: memory\n");
     Ok(())
 }

@@ -7,7 +7,7 @@ use std::alloc::Global;
 use std::test::Fail;
 
 /// Documents, each with what is wrong with it, or `ok`.
-static DOCUMENTS: [(&str, &str); 22] = [
+static DOCUMENTS: [(&str, &str); 26] = [
     ("", "ok"),
     ("[policy]\ndepth = 0\n", "Range policy.depth"),
     ("colour = 3\n", "Unknown"),
@@ -25,6 +25,10 @@ static DOCUMENTS: [(&str, &str); 22] = [
         "Shape floor.front_workers",
     ),
     ("[costs]\nkib = 1.5\n", "Shape costs.kib"),
+    ("[costs]\nservers = 0\n", "Range costs.servers"),
+    ("[costs]\nservers = 1025\n", "Range costs.servers"),
+    ("[costs]\ndelay = 1000000001\n", "Range costs.delay"),
+    ("[costs]\ndelay = -1\n", "Range costs.delay"),
     ("floor = 3\n", "Shape floor"),
     ("[policy]\nrate = 49999\n", "Range policy.rate"),
     ("[policy]\nrate_max = 1000000001\n", "Range policy.rate_max"),
@@ -57,6 +61,85 @@ fn settings_and_words(rt: HostRuntime) -> Result<(), Fail> {
     for (text, line) in DOCUMENTS.iter() {
         let shown = reported(rt.alloc(), text)?;
         assert_eq!(rt; shown.as_str(), *line);
+    }
+    Ok(())
+}
+
+/// Documents with routes, each with what is wrong with it, or `ok`.
+static ROUTES: [(&str, &str); 19] = [
+    ("[[route]]\nprefix = \"/api\"\ncost = 1\n", "ok"),
+    ("route = []\n", "ok"),
+    ("route = 1\n", "Shape route"),
+    ("[route]\nprefix = \"/\"\ncost = 1\n", "Shape route"),
+    ("route = [{prefix = \"/\", cost = 1}, 2]\n", "Shape route"),
+    ("[[route]]\ncost = 0\n", "Shape route.prefix"),
+    ("[[route]]\nprefix = 1\ncost = 1\n", "Shape route.prefix"),
+    (
+        "[[route]]\nprefix = \"api\"\ncost = 0\n",
+        "Range route.prefix",
+    ),
+    (
+        "[[route]]\nprefix = \"/a//b\"\ncost = 1\n",
+        "Range route.prefix",
+    ),
+    ("[[route]]\nprefix = \"/\"\n", "Shape route.cost"),
+    (
+        "[[route]]\nprefix = \"/\"\ncost = 1.0\n",
+        "Shape route.cost",
+    ),
+    (
+        "[[route]]\nprefix = \"/\"\ncost = 0\nkib = -1\n",
+        "Range route.cost",
+    ),
+    (
+        "[[route]]\nprefix = \"/\"\ncost = 1000000001\n",
+        "Range route.cost",
+    ),
+    (
+        "[[route]]\nprefix = \"/\"\ncost = 1\nkib = 1000001\ndelay = -1\n",
+        "Range route.kib",
+    ),
+    (
+        "[[route]]\nprefix = \"/\"\ncost = 1\ndelay = \"1\"\n",
+        "Shape route.delay",
+    ),
+    (
+        "[[route]]\nprefix = \"/\"\ncost = 1\ndelay = 1000000001\n",
+        "Range route.delay",
+    ),
+    ("[[route]]\nprefix = \"/\"\ncost = 1\nrate = 1\n", "Unknown"),
+    ("[[route]]\n[costs]\ndelay = -1\n", "Range costs.delay"),
+    ("[[route]]\n[tier3]\nrate = 1\n", "Range tier3.rate"),
+];
+
+#[test]
+fn routes(rt: HostRuntime) -> Result<(), Fail> {
+    for (text, line) in ROUTES.iter() {
+        let shown = reported(rt.alloc(), text)?;
+        assert_eq!(rt; shown.as_str(), *line);
+    }
+    Ok(())
+}
+
+/// So many routes, of which the first has a fault of its own where it is to have one.
+fn many_routes(alloc: Global, count: u32, cost: u32) -> Result<String, Fail> {
+    let mut text = format!(in alloc; "[[route]]\nprefix = \"/\"\ncost = {cost}\n")?;
+    for _ in 1..count {
+        text.push_str("[[route]]\nprefix = \"/a\"\ncost = 1\n")?;
+    }
+    Ok(text)
+}
+
+#[test]
+fn most_routes(rt: HostRuntime) -> Result<(), Fail> {
+    for (count, cost, line) in [
+        (64, 1, "ok"),
+        (65, 1, "Range route"),
+        (64, 0, "Range route.cost"),
+        (65, 0, "Range route"),
+    ] {
+        let text = many_routes(rt.alloc(), count, cost)?;
+        assert_eq!(rt; reported(rt.alloc(), text.as_str())?.as_str(), line);
     }
     Ok(())
 }

@@ -4,7 +4,7 @@ use std::alloc::Global;
 use std::test::Fail;
 
 /// Documents, each with the pieces of what is said of its fault.
-static WORDS: [(&str, &[&str]); 19] = [
+static WORDS: [(&str, &[&str]); 22] = [
     (
         "[policy]\nrate = 1000\n",
         &[
@@ -42,6 +42,24 @@ static WORDS: [(&str, &[&str]); 19] = [
         ],
     ),
     ("floor = 3\n", &["floor is to be a table"]),
+    (
+        "[route]\nprefix = \"/\"\n",
+        &["route is to be a list of tables: at most 64 of them, each below a line [[route]]"],
+    ),
+    (
+        "[[route]]\ncost = 1\n",
+        &[
+            "route.prefix is to be a text: a decoded path from its first slash on: what is at it and below it is ",
+            "on the route",
+        ],
+    ),
+    (
+        "[[route]]\nprefix = \"/\"\n",
+        &[
+            "route.cost is to be an integer: microseconds, 1 to 1000000000: how long the server works on a ",
+            "request, whatever its answer",
+        ],
+    ),
     ("[[tier3]]\ndepth = 1\n", &["tier3 is to be a table"]),
     (
         "[floor]\nback_workers = 2\n",
@@ -120,7 +138,7 @@ fn each_fault(rt: HostRuntime) -> Result<(), Fail> {
 }
 
 /// The keys of each table.
-static KEYS: [(&str, &[&str]); 4] = [
+static KEYS: [(&str, &[&str]); 5] = [
     (
         "floor",
         &[
@@ -134,8 +152,9 @@ static KEYS: [(&str, &[&str]); 4] = [
             "cache",
         ],
     ),
-    ("costs", &["file", "kib", "error"]),
+    ("costs", &["file", "kib", "error", "servers", "delay"]),
     ("page", &["retry_after"]),
+    ("route", &["prefix", "cost", "kib", "delay"]),
     (
         "tier3",
         &[

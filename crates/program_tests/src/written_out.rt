@@ -63,6 +63,10 @@ file = 200
 kib = 10
 # microseconds, 1 to 1000000: how long it works on any other answer
 error = 50
+# servers, 1 to 1024: how many work side by side, each on one request at a time
+servers = 1
+# microseconds, 0 to 1000000000: how long each response takes beside the server's work
+delay = 0
 
 [policy]
 ";

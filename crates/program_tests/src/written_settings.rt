@@ -38,7 +38,7 @@ static FLOOR: [Row; 8] = [
     ),
 ];
 
-static COSTS: [Row; 3] = [
+static COSTS: [Row; 5] = [
     (
         "# microseconds, 1 to 1000000: how long the server works on a file",
         "file",
@@ -50,6 +50,14 @@ static COSTS: [Row; 3] = [
     (
         "# microseconds, 1 to 1000000: how long it works on any other answer",
         "error",
+    ),
+    (
+        "# servers, 1 to 1024: how many work side by side, each on one request at a time",
+        "servers",
+    ),
+    (
+        "# microseconds, 0 to 1000000000: how long each response takes beside the server's work",
+        "delay",
     ),
 ];
 
@@ -117,7 +125,7 @@ static FLOOR_VALUES: [&str; 8] = [
     "0",
 ];
 
-static COST_VALUES: [&str; 3] = ["1000000", "7", "1"];
+static COST_VALUES: [&str; 5] = ["1000000", "7", "1", "1024", "1000000000"];
 
 static POLICY_VALUES: [&str; 11] = [
     "4096",
@@ -168,9 +176,35 @@ static TIER3_VALUES: [&str; 11] = [
 
 static PAGE_VALUES: [&str; 1] = ["86400"];
 
+static ROUTE: [Row; 4] = [
+    (
+        "# a decoded path from its first slash on: what is at it and below it is on the route",
+        "prefix",
+    ),
+    (
+        "# microseconds, 1 to 1000000000: how long the server works on a request, whatever its answer",
+        "cost",
+    ),
+    (
+        "# microseconds, 0 to 1000000: how long it works besides on each 1024 bytes that are given",
+        "kib",
+    ),
+    (
+        "# microseconds, 0 to 1000000000: how long each response takes beside the server's work",
+        "delay",
+    ),
+];
+
+/// What the first route leaves out is as it counts: no cost of bytes, and the delay of `costs`.
+static FIRST_VALUES: [&str; 4] = ["\"/api\"", "1000000000", "0", "1000000000"];
+
+static SECOND_VALUES: [&str; 4] = ["\"/a \\\"b\\\"\\\\\\u0001/\u{e9}\"", "1", "9", "3"];
+
 /// A document that says the same with partial tables, in another order and by other forms of TOML: every key, with
 /// another value than its default.
 pub static PARTIAL: &str = "tier1.depth = 13
+route = [{prefix = \"/api\", cost = 1_000_000_000}, \
+{delay = 3, kib = 9, cost = 1, prefix = \"/a \\\"b\\\"\\\\\\u0001/\u{e9}\"}]
 tier3 = {window = 51, every = 52, smoothing = 53, rate = 540, rate_min = 54, rate_max = 5_400, \
 up = 1_000_000_000, down = 102, target = 56, low = 57, depth = 58}
 [page]
@@ -200,8 +234,10 @@ smoothing = 999
 every = 2
 window = 4096
 [costs]
+delay = 1_000_000_000
 error = 1
 kib = 7
+servers = 1024
 file = 1000000
 [floor]
 cache = 0
@@ -266,6 +302,9 @@ fn document(alloc: Global) -> Result<String, AllocError> {
         POLICY.as_slice(),
         TIER3_VALUES.as_slice(),
     )?;
+    for values in [FIRST_VALUES.as_slice(), SECOND_VALUES.as_slice()] {
+        add_table(&mut text, "[route]", ROUTE.as_slice(), values)?;
+    }
     Ok(text)
 }
 

@@ -1,0 +1,194 @@
+//! Captures that become slim texts.
+use crate::running::{Narrow, is_out_of_memory};
+use captures::{CaptureFault, CaptureFaultKind, PassFault, Version};
+use devices::{Input, Output};
+use program::{Fault, Place, run_slim, slim_files};
+use slim::Queries;
+use std::alloc::AllocGlobal;
+use std::process::Abort;
+use test_support::Flaky;
+
+/// A request in two pieces, with a body that never ends after it.
+static CAPTURE: &str =
+    "haboob-capture 2 784111777\ntier 0 1\npiece 5 0 20\nGET / HTTP/1.1\r\nHost\n\
+    piece 6 0 7\n: a\r\n\r\n\npiece 7 0 41\nPUT / HTTP/1.0\r\nContent-Length: 9\r\n\r\nabcd\nend 1000000 0\nstop 5\n";
+
+static SLIM: &str =
+    "haboob-traffic 1 784111777\ntier 0 1\npiece 6 0 22\nGET / HTTP/1.1\nHost:\n\n\nend 1000000 0\nstop 3\n";
+
+static SLIM_OF_TWO: &str =
+    "haboob-capture 2 784111777\ntier 0 1\npiece 6 0 22\nGET / HTTP/1.1\nHost:\n\n\nend 1000000 0\nstop 3\n";
+
+/// The slim text of a text, with buffers.
+fn check(
+    rt: &(impl Abort + AllocGlobal),
+    text: &str,
+    to: Version,
+    want: Result<(), Fault>,
+    stands: &str,
+) {
+    let mut output = Narrow::ample();
+    let (ran, _) = slim_files(rt.alloc(), text.as_bytes(), &mut output, to, Queries::Kept);
+    assert_eq!(rt; ran, want);
+    assert_eq!(rt; output.text(), stands.as_bytes());
+}
+
+fn capture_fault(at: usize, kind: CaptureFaultKind) -> Result<(), Fault> {
+    Err(Fault::Slim(PassFault::Capture(CaptureFault { at, kind })))
+}
+
+#[test]
+fn slimmed(rt: HostRuntime) {
+    check(&rt, CAPTURE, Version::Traffic, Ok(()), SLIM);
+    check(&rt, CAPTURE, Version::Two, Ok(()), SLIM_OF_TWO);
+    check(&rt, SLIM_OF_TWO, Version::Traffic, Ok(()), SLIM);
+    check(&rt, SLIM, Version::Two, Ok(()), SLIM);
+}
+
+/// With its query and without.
+#[test]
+fn queries(rt: HostRuntime) {
+    let capture = "haboob-traffic 1 0\npiece 3 0 20\nGET /?q HTTP/1.0\r\n\r\n\nstop 1\n";
+    let kept = "haboob-traffic 1 0\npiece 3 0 18\nGET /?q HTTP/1.0\n\n\nstop 1\n";
+    let dropped = "haboob-traffic 1 0\npiece 3 0 16\nGET / HTTP/1.0\n\n\nstop 1\n";
+    for (queries, want) in [(Queries::Kept, kept), (Queries::Dropped, dropped)] {
+        let mut output = Narrow::ample();
+        let (ran, _) = slim_files(
+            rt.alloc(),
+            capture.as_bytes(),
+            &mut output,
+            Version::Traffic,
+            queries,
+        );
+        assert!(rt; ran.is_ok());
+        assert_eq!(rt; output.text(), want.as_bytes());
+    }
+}
+
+#[test]
+fn faults(rt: HostRuntime) {
+    use CaptureFaultKind::{Count, Cut, Header, Trailing};
+    let to = Version::Traffic;
+    check(&rt, "", to, capture_fault(0, Cut), "");
+    let third = "haboob-capture 3 0\nstop 0\n";
+    check(&rt, third, to, capture_fault(0, Header), "");
+    let whole = "haboob-traffic 1 0\nend 7 5\n";
+    let count = "haboob-capture 1 0\nend 7 5\nstop 2\n";
+    check(&rt, count, to, capture_fault(2, Count), whole);
+    let trailing = "haboob-capture 1 0\nend 7 5\nstop 1\n.";
+    check(&rt, trailing, to, capture_fault(2, Trailing), whole);
+}
+
+/// Whether the capture couldn't be read.
+fn is_unread(fault: &Fault) -> bool {
+    let Fault::Slim(PassFault::Capture(fault)) = fault else {
+        return false;
+    };
+    fault.kind == CaptureFaultKind::Read
+}
+
+/// A slim text with a reader that fails after n reads; whether the run came to its end.
+fn ends_reading(rt: &(impl Abort + AllocGlobal), good: usize) -> bool {
+    let reader = Flaky::new(CAPTURE.as_bytes(), 8, good);
+    let mut output = Narrow::ample();
+    let ran = run_slim(
+        rt.alloc(),
+        &mut Input::new(reader),
+        &mut Output::new(&mut output),
+        Version::Traffic,
+        Queries::Dropped,
+    );
+    let Err(fault) = ran else {
+        assert_eq!(rt; output.text(), SLIM.as_bytes());
+        return true;
+    };
+    assert!(rt; is_unread(&fault));
+    assert!(rt; SLIM.as_bytes().starts_with(output.text()));
+    false
+}
+
+#[test]
+fn each_read_failing(rt: HostRuntime) {
+    for good in 0..100usize {
+        if ends_reading(&rt, good) {
+            assert!(rt; good > 10);
+            return;
+        }
+    }
+    assert!(rt; false, "the run comes to no end");
+}
+
+/// A slim text with a writer that fails after n writes, without a buffer and with one; whether both came to an end.
+fn ends_writing(rt: &(impl Abort + AllocGlobal), good: usize) -> bool {
+    let mut output = Narrow::new(8, good);
+    let ran = run_slim(
+        rt.alloc(),
+        &mut Input::new(CAPTURE.as_bytes()),
+        &mut Output::new(&mut output),
+        Version::Traffic,
+        Queries::Dropped,
+    );
+    let mut buffered = Narrow::new(8, good);
+    let (with_buffer, _) = slim_files(
+        rt.alloc(),
+        CAPTURE.as_bytes(),
+        &mut buffered,
+        Version::Traffic,
+        Queries::Dropped,
+    );
+    assert!(rt; SLIM.as_bytes().starts_with(output.text()));
+    assert!(rt; SLIM.as_bytes().starts_with(buffered.text()));
+    assert!(rt; matches!(ran, Ok(()) | Err(Fault::Slim(PassFault::Write))));
+    assert!(rt; matches!(with_buffer, Ok(()) | Err(Fault::Write(Place::Output))));
+    assert_eq!(rt; ran.is_ok(), output.text().len() == SLIM.len());
+    assert_eq!(rt; with_buffer.is_ok(), buffered.text().len() == SLIM.len());
+    ran.is_ok() && with_buffer.is_ok()
+}
+
+#[test]
+fn each_write_failing(rt: HostRuntime) {
+    for good in 0..100usize {
+        if ends_writing(&rt, good) {
+            assert!(rt; good > 5);
+            return;
+        }
+    }
+    assert!(rt; false, "the run comes to no end");
+}
+
+/// What the buffer holds at the end is written after a fault of the capture as well; where it can't be written, that is
+/// the fault.
+#[test]
+fn fault_with_a_dead_writer(rt: HostRuntime) {
+    let mut output = Narrow::new(8, 0);
+    let (ran, _) = slim_files(
+        rt.alloc(),
+        &CAPTURE.as_bytes()[..50],
+        &mut output,
+        Version::Traffic,
+        Queries::Kept,
+    );
+    assert_eq!(rt; ran, Err(Fault::Write(Place::Output)));
+    assert!(rt; output.text().is_empty());
+}
+
+/// `checks/refuse_growths.py` refuses each growth in turn: then a prefix stands.
+#[test]
+fn each_growth_refused(rt: HostRuntime) {
+    let mut output = Narrow::ample();
+    match slim_files(
+        rt.alloc(),
+        CAPTURE.as_bytes(),
+        &mut output,
+        Version::Traffic,
+        Queries::Dropped,
+    )
+    .0
+    {
+        Ok(()) => assert_eq!(rt; output.text(), SLIM.as_bytes()),
+        Err(fault) => {
+            assert!(rt; is_out_of_memory(&fault));
+            assert!(rt; SLIM.as_bytes().starts_with(output.text()));
+        }
+    }
+}
