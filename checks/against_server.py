@@ -10,8 +10,8 @@ both on 127.0.0.1. Then, for each backend and of both recordings:
 
   - tools/calibrate.py finds the number of processes, and costs that are those of the backend;
   - the replay under the settings of the limit turns as many away as nginx did, second by second;
-  - the percentiles of the replay are those that were measured: by the program where it has one server, or as many as
-    the backend; and by the best fit of tools/calibrate.py.
+  - the percentiles of the replay are those that were measured, under the servers, the delay and the costs that
+    tools/calibrate.py wrote; and so are those that it predicted.
 
 Prints what was measured and what was found, and then how many comparisons failed. Exits with 1 where one did. It needs
 root, nginx, tcpdump and the libraries of the tools, and takes about two minutes.
@@ -302,7 +302,7 @@ def percentile(times, percent):
 
 
 def calibrated(folder, name, port, comparisons, a_round):
-    """The fit of a recording: what was printed of the best one, and the settings."""
+    """Calibrates by a recording, and compares what was found; the settings."""
     settings, page = folder / (name + ".toml"), folder / (name + ".html")
     source = folder / {"pcap": "site.pcap", "log": "access.log"}[name]
     words = ["--port", port] if name == "pcap" else []
@@ -318,21 +318,16 @@ def calibrated(folder, name, port, comparisons, a_round):
     for percent, figure in zip((50, 90, 99), missed.groups()):
         comparisons.near("by %s p%d of the best fit, in percent" %
                          (name, percent), 100 + int(figure), 100, TIME_PERCENT)
-    return settings, found
+    return settings
 
 
-def settings_for(folder, program, a_round, costs, found):
-    """A document for the replay of a round, and whether the program has as many servers as were found."""
-    text = costs.read_text()
-    has_servers = re.search(r"^servers = ", run(program, "settings"), re.M)
-    if has_servers and int(found[1]) > 1:
-        text = "[costs]\nservers = %s\ndelay = %s\nfile = %s\nkib = %s\nerror = %s\n" % (
-            found[1], found[2] or 0, *found.groups()[2:])
+def settings_for(folder, a_round, costs):
+    """A document for the replay of a round, with the costs that were found."""
     rate = 1000 * a_round.rate
     path = folder / "replay.toml"
     path.write_text("%s\n[policy]\nrate = %d\nrate_min = %d\nrate_max = %d\ndepth = %d\n" % (
-        text, rate, rate, rate, a_round.depth))
-    return path, int(found[1]) == 1 or bool(has_servers)
+        costs.read_text(), rate, rate, rate, a_round.depth))
+    return path
 
 
 def compare_decisions(comparisons, name, real, found, times):
@@ -363,15 +358,14 @@ def compare_round(folder, program, a_round, port, comparisons, seconds):
     run(PYTHON, TOOLS / "capture_from_log.py", "--log-format", LOG_FORMAT, "--output", folder / "log.capture",
         folder / "access.log")
     for name in ("pcap", "log"):
-        costs, found = calibrated(folder, name, port, comparisons, a_round)
-        settings, is_same = settings_for(folder, program, a_round, costs, found)
+        settings = settings_for(folder, a_round, calibrated(folder, name, port, comparisons, a_round))
         table = folder / (name + ".csv")
         run(program, "explain", "--snapshot", folder / "site.snapshot", "--capture", folder / (name + ".capture"),
             "--settings", settings, "--messages", table)
         statuses, times = decisions_of_table(table)
         compare_decisions(comparisons, name, real, statuses, planned)
         answered = [time for number, time in real_times.items() if real[number] != 503]
-        for percent in (50, 90, 99) if is_same else ():
+        for percent in (50, 90, 99):
             comparisons.near("by %s replayed p%d" % (name, percent), percentile(times.values(), percent),
                              percentile(answered, percent), TIME_PERCENT, SLACK)
 

@@ -39,6 +39,7 @@ import reference
 SECONDS = 120
 HANGS = -1000
 ENGINES = [["--engine", "plain"], []]
+SPEEDS = (100, 100, 200, 100, 101, 10_000, 100, 333)  # percent, by turns
 OLD_REPLIES = b"old replies\n"
 PARTS = {
     "replay": ("status", "line", "replies", "report"),
@@ -303,6 +304,31 @@ ODD_DOCUMENTS = [
     "[floor]\nfront_cuts = [{x = 1}]\n",
     "\u00e9 = 1\n",
     "[costs]\nfile = 1 kib = 2\n",
+    "route = 1\n",
+    "route = []\n",
+    '[route]\nprefix = "/"\ncost = 1\n',
+    "[[route]]\n",
+    '[[route]]\nprefix = "/"\n',
+    "[[route]]\ncost = 1\n",
+    "[[route]]\nprefix = 1\ncost = 1\n",
+    '[[route]]\nprefix = ""\ncost = 1\n',
+    '[[route]]\nprefix = "a"\ncost = 1\n',
+    '[[route]]\nprefix = "//"\ncost = 1\n',
+    '[[route]]\nprefix = "/a//b"\ncost = 1\n',
+    '[[route]]\nprefix = "/a/."\ncost = 1\n',
+    '[[route]]\nprefix = "/../a/"\ncost = 1\n',
+    '[[route]]\nprefix = "/\\"\\\\\\u0001\\u007f\\u0000"\ncost = 1\n',
+    '[[route]]\nprefix = "/"\ncost = 0\n',
+    '[[route]]\nprefix = "/"\ncost = 1_000_000_001\n',
+    '[[route]]\nprefix = "/"\ncost = 1\nkib = -1\n',
+    '[[route]]\nprefix = "/"\ncost = 1\nkib = 1.0\n',
+    '[[route]]\nprefix = "/"\ncost = 1\ndelay = 1_000_000_001\n',
+    '[[route]]\nprefix = "/"\ncost = 1\nrate = 1\n',
+    'route = [{prefix = "/", cost = 1}, 2]\n',
+    'route = [[{prefix = "/", cost = 1}]]\n',
+    '[[route]]\nprefix = "/"\ncost = 1\n' * 64,
+    '[[route]]\nprefix = "/"\ncost = 1\n' * 65,
+    '[[route]]\nprefix = "/"\ncost = 0\n' * 65,
 ]
 
 
@@ -686,6 +712,29 @@ def random_tier(chance, policy):
     return kept | (random_rates(chance) if chance.random() < 0.5 else {}) or {"low": policy["low"]}
 
 
+def random_prefix(chance):
+    """The prefix of a route: some segments of paths that are asked for, or only a part of the last one."""
+    parts = [chance.choice(FOLDERS) for _ in range(chance.choice((0, 1, 1, 1, 2)))]
+    if chance.random() < 0.3:
+        parts.append(chance.choice(LAST_PARTS))
+    prefix = "/" + "/".join(parts)
+    if len(prefix) > 2 and not prefix.endswith(".") and chance.random() < 0.15:
+        return prefix[:-1]
+    return prefix + chance.choice(("", "/" if parts else ""))
+
+
+def random_route(chance):
+    """The lines of a route, of which some keys are left out, small enough that much happens."""
+    keys = {"cost": chance.choice((1, 50, 300, 2000))}
+    if chance.random() < 0.6:
+        keys["kib"] = chance.choice((0, 1, 1000))
+    if chance.random() < 0.6:
+        keys["delay"] = chance.choice((0, 7, 1000, 10**9))
+    lines = ['prefix = "%s"' % random_prefix(chance)]
+    lines += ["%s = %s" % (key, value_text(chance, value)) for key, value in keys.items()]
+    return chance.sample(lines, len(lines))
+
+
 def random_values(chance):
     """A value for each key, in its range, small enough that much happens."""
     policy = {
@@ -754,6 +803,11 @@ def document_text(chance, tables):
             front += "".join("%s . %s # x\r\n" % (table, line) for line in lines)
         else:
             front += "%s = { %s }\n" % (table, ", ".join(lines))
+    routes = [random_route(chance) for _ in range(chance.choice((0, 0, 0, 1, 2, 3, 8)))]
+    if chance.random() < 0.8:
+        back += "".join("[[route]]\n%s\n" % "\n".join(lines) for lines in routes)
+    elif routes:
+        front += "route = [%s]\n" % ", ".join("{ %s }" % ", ".join(lines) for lines in routes)
     return front + back
 
 
@@ -964,12 +1018,12 @@ def run_replay(program, engine, snapshot, capture, settings, seconds=SECONDS):
     return run_program(program, ["replay"] + engine, files, "replies", seconds)
 
 
-def run_explain(program, snapshot, capture, settings):
-    """Status, line on standard error, table of decisions and report."""
+def run_explain(program, snapshot, capture, settings, words=()):
+    """Status, line on standard error, table of decisions and report, with these words besides."""
     files = {"snapshot": snapshot, "capture": capture, "messages": OLD_REPLIES}
     if settings is not None:
         files["settings"] = settings
-    return run_program(program, ["explain"], files, "messages")
+    return run_program(program, ["explain", *words], files, "messages")
 
 
 def run_inspect(program, capture):
@@ -1025,6 +1079,11 @@ class Comparison:
 
     def __init__(self, program):
         self.program, self.replays, self.tables, self.upgrades, self.wrong = program, 0, 0, 0, 0
+        self.speed = 100
+
+    def words(self):
+        """The words for the speed."""
+        return [] if self.speed == 100 else ["--speed", str(self.speed)]
 
     def judge(self, verb, name, wanted, got):
         """Prints where an answer is wrong."""
@@ -1037,14 +1096,15 @@ class Comparison:
         """Replays with both engines."""
         for engine in ENGINES:
             self.replays += 1
-            self.judge("replay", " ".join([name] + engine), wanted, run_replay(self.program, engine, *texts))
+            words = engine + self.words()
+            self.judge("replay", " ".join([name] + words), wanted, run_replay(self.program, words, *texts))
 
     def explain(self, name, snapshot, capture, settings):
         """Compares the table of decisions, and what the capture holds."""
         self.tables += 1
-        status, line, table, report = reference.explain(snapshot, capture, settings or b"")
+        status, line, table, report = reference.explain(snapshot, capture, settings or b"", self.speed)
         wanted = status, line, OLD_REPLIES if table is None else table, report
-        self.judge("explain", name, wanted, run_explain(self.program, snapshot, capture, settings))
+        self.judge("explain", name, wanted, run_explain(self.program, snapshot, capture, settings, self.words()))
         status, line, text = reference.inspect(capture)
         self.judge("inspect", name, (status, line, capture, text), run_inspect(self.program, capture))
 
@@ -1077,7 +1137,7 @@ class Comparison:
 
     def compare(self, name, snapshot, capture, settings):
         """Replays and upgrades; what the reference answers to the replay."""
-        status, line, replies, report = reference.replay(snapshot, capture, settings or b"")
+        status, line, replies, report = reference.replay(snapshot, capture, settings or b"", self.speed)
         wanted = status, line, OLD_REPLIES if replies is None else replies, report
         self.replay(name, wanted, snapshot, capture, settings)
         self.explain(name, snapshot, capture, settings)
@@ -1116,7 +1176,9 @@ def compare_random(comparison, count, first):
     """Compares random replays, and prints how many of them end with which status."""
     ends = {}
     for seed in range(first, first + count):
+        comparison.speed = SPEEDS[seed % len(SPEEDS)]
         status, *_ = comparison.compare("seed %d" % seed, *random_replay(seed))
+        comparison.speed = 100
         ends[status] = ends.get(status, 0) + 1
         comparison.upgrade_all("seed %d, a fault" % seed, faulty_capture(seed))
     print("%-30s %s" % ("seeds %d to %d" % (first, first + count - 1), ends_text(ends)))

@@ -301,3 +301,23 @@ def run_over_files(program, words, folder, out, verb="replay"):
                 sys.exit("WRONG: %s: the file %s was changed" % (" ".join(words), name))
     with open(os.path.join(folder, "replies"), "rb") as file:
         return child.returncode, child.stderr, file.read(), child.stdout
+
+
+def rewrite(program, verb, capture, words, folder):
+    """The status, the text on standard error, the output, the capture after one run that writes a capture anew, and
+    standard output."""
+    os.mkdir(os.path.join(folder, "folder"))
+    for name, data in [("output", OLDEST), ("capture", capture)]:
+        with open(os.path.join(folder, name), "wb") as file:
+            file.write(data)
+    os.symlink("capture", os.path.join(folder, "link"))
+    os.link(os.path.join(folder, "capture"), os.path.join(folder, "same"))
+    child = subprocess.run(
+        [os.path.abspath(program), verb, *words],
+        cwd=folder,
+        stdin=subprocess.DEVNULL,
+        capture_output=True,
+        timeout=SECONDS,
+    )
+    with open(os.path.join(folder, "output"), "rb") as output, open(os.path.join(folder, "capture"), "rb") as kept:
+        return child.returncode, child.stderr, output.read(), kept.read(), child.stdout

@@ -34,6 +34,10 @@ READ_BACK = ["[%s]\n%s" % (table, limits(table, end)) for table in reference.SET
     "[floor]\nfront_cuts = [3]\nfront_workers = [1]\nfront_capacities = [1]\n"
     "back_cuts = [2]\nback_workers = [16]\nback_capacities = [4096]\n",
     "[floor]\nfront_cuts = [2, 3]\nfront_workers = [16, 1]\nfront_capacities = [4096, 1]\nbatch = 1\ncache = 0\n",
+    '[costs]\ndelay = 7\n[[route]]\nprefix = "/api/"\ncost = 1\n'
+    '[[route]]\nprefix = "/"\ncost = 1000000000\nkib = 1000000\ndelay = 1000000000\n',
+    'route = [{prefix = "/a \\"b\\"\\\\\\u0001\\u007f/\u00e9", cost = 1}]\n',
+    '[[route]]\nprefix = "/a"\ncost = 1\n' * 64,
 ]
 
 # A row of the page's table: the key, its default, its range.
@@ -62,6 +66,14 @@ BACK_WORDS = (
     "how many work at it; floor.back_capacities is to be a list of integers: requests, 1 to 4096 for each stage: how "
     "many its queue holds; and the three of one length"
 )
+ROUTE_WORDS = "route is to be a list of tables: at most 64 of them, each below a line [[route]]"
+PREFIX_WORDS = (
+    "route.prefix is to be a text: a decoded path from its first slash on: what is at it and below it is on the route"
+)
+COST_WORDS = (
+    "route.cost is to be an integer: microseconds, 1 to 1000000000: how long the server works on a request, whatever "
+    "its answer"
+)
 
 
 def told(fault, words):
@@ -75,6 +87,10 @@ FAULTS = [
     ("[tier1]\nrate_max = 1000000001\n", told("Range tier1.rate_max", RATE_MAX_WORDS)),
     ("[floor]\nback_workers = [2]\n", told("Range floor.back", BACK_WORDS)),
     ("costs = 1\n", told("Shape costs", "costs is to be a table")),
+    ("route = 1\n", told("Shape route", ROUTE_WORDS)),
+    ('[[route]]\nprefix = "/a"\ncost = 1\n' * 65, told("Range route", ROUTE_WORDS)),
+    ('[[route]]\nprefix = "a"\ncost = 1\n', told("Range route.prefix", PREFIX_WORDS)),
+    ('[[route]]\nprefix = "/a"\nkib = 1\n', told("Shape route.cost", COST_WORDS)),
     ("rate = 1\n", told("Unknown", UNKNOWN_WORDS % ("rate", "policy.rate"))),
     ("[tier2]\nrat = 1\n", told("Unknown", UNKNOWN_WORDS % ("tier2.rat", "tier2.rate"))),
     ("[Policy]\nrate = 1\n", told("Unknown", UNKNOWN_WORDS % ("Policy", "policy"))),
@@ -166,7 +182,8 @@ def is_read_back(program, document):
         otherwise = got["policy"] if table.startswith("tier") else values
         if got[table] != {**otherwise, **given.get(table, {})}:
             return False
-    return list(got) == list(defaults)
+    routes = [{"kib": 0, "delay": got["costs"]["delay"], **route} for route in given.get("route", [])]
+    return got.pop("route", []) == routes and list(got) == list(defaults)
 
 
 def main():

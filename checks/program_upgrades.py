@@ -1,13 +1,11 @@
 #!/usr/bin/env python3
 """Runs `haboob upgrade`, and compares status, line, output and capture with a table."""
-import os
-import subprocess
 import sys
 import tempfile
 
 # The folder stays as it is.
 sys.dont_write_bytecode = True
-from program_parts import HEADER, HEADER_TRAFFIC, LIVES, OLDEST, PIECE, SECONDS, Report, is_told, program_of
+from program_parts import HEADER, HEADER_TRAFFIC, LIVES, OLDEST, PIECE, Report, is_told, program_of, rewrite
 
 HEADER_TWO = b"haboob-capture 2 784111777\n"
 OLDER = HEADER + PIECE + b"end 5 0\nstop 2\n"
@@ -141,31 +139,12 @@ UPGRADES = [
 ]
 
 
-def upgrade(program, capture, words, folder):
-    """The status, the text on standard error, the output, the capture after one upgrade, and standard output."""
-    os.mkdir(os.path.join(folder, "folder"))
-    for name, data in [("output", OLDEST), ("capture", capture)]:
-        with open(os.path.join(folder, name), "wb") as file:
-            file.write(data)
-    os.symlink("capture", os.path.join(folder, "link"))
-    os.link(os.path.join(folder, "capture"), os.path.join(folder, "same"))
-    child = subprocess.run(
-        [os.path.abspath(program), "upgrade", *words],
-        cwd=folder,
-        stdin=subprocess.DEVNULL,
-        capture_output=True,
-        timeout=SECONDS,
-    )
-    with open(os.path.join(folder, "output"), "rb") as output, open(os.path.join(folder, "capture"), "rb") as kept:
-        return child.returncode, child.stderr, output.read(), kept.read(), child.stdout
-
-
 def main():
     program = program_of(__doc__)
     report = Report()
     for name, capture, words, status, line, output in UPGRADES:
         with tempfile.TemporaryDirectory() as folder:
-            got = upgrade(program, capture, words, folder)
+            got = rewrite(program, "upgrade", capture, words, folder)
         good = (got[0], *got[2:]) == (status, output, capture, b"") and is_told(got[1], line)
         report.see_told("upgrade: " + name, good, got)
     return report.end()

@@ -1,7 +1,7 @@
 #!/usr/bin/env python3
 """Runs each command of the program with words that are no text, with words that hold characters which act on a
-terminal, with formats that there aren't, and with inputs that aren't there: the first that is absent is told, in the
-order settings, snapshot, capture, and no new output stays behind.
+terminal, with formats and speeds that there aren't, and with inputs that aren't there: the first that is absent is
+told, in the order settings, snapshot, capture, and no new output stays behind.
 """
 import itertools
 import os
@@ -40,6 +40,9 @@ WRONG_WORDS = [
 
 # What `haboob upgrade --to` doesn't take, whether the capture is there or not.
 WRONG_FORMATS = ["1", "3", "02", "2 ", "Traffic", "traffi", "traffic 1", "haboob-traffic", "", "-1", "2,traffic"]
+
+# What `--speed` of a replay and of a table doesn't take.
+WRONG_SPEEDS = ["99", "10001", "0", "0100", "+100", "1e3", "100.0", "200%", "", " 200", "-200", "18446744073709551816"]
 
 # The inputs of each command, in the order in which they are told, and its output.
 COMMANDS = [
@@ -101,6 +104,9 @@ def main():
             got = run(program, ["upgrade", "--capture", capture, "--output", "new", "--to=" + word])
             wanted = 2, b"haboob: format\n", b"", set()
             report.see_told("upgrade to %r of %s" % (word, capture), got == wanted, got)
+    for (verb, inputs, output), word in itertools.product(COMMANDS[:2], WRONG_SPEEDS):
+        got = run(program, words_of(verb, inputs, output, ("capture",)) + ["--speed=" + word])
+        report.see_told("%s at %r" % (verb, word), got == (2, b"haboob: speed\n", b"", set()), got)
     for verb, inputs, output in COMMANDS:
         for count in range(1, len(inputs) + 1):
             for absent in itertools.combinations(inputs, count):

@@ -16,6 +16,7 @@ import collections
 import datetime
 import email.utils
 import functools
+import heapq
 import itertools
 import re
 import sys
@@ -40,6 +41,7 @@ BLOCK_LIMIT = 8192
 FIELDS_LIMIT = 64
 BODY_LIMIT = 65_536
 SETTINGS_LIMIT = 65_536
+ROUTES_LIMIT = 64
 TICKS_IN_SECOND = 10**6
 UNITS_IN_TOKEN = 10**9
 
@@ -116,6 +118,14 @@ SETTINGS = {
             10**6,
         ),
         ("error", "microseconds, 1 to 1000000: how long it works on any other answer", 50, 1, 10**6),
+        ("servers", "servers, 1 to 1024: how many work side by side, each on one request at a time", 1, 1, 1024),
+        (
+            "delay",
+            "microseconds, 0 to 1000000000: how long each response takes beside the server's work",
+            0,
+            0,
+            10**9,
+        ),
     ],
     "policy": [
         (
@@ -170,6 +180,14 @@ SETTINGS = {
         ),
     ],
 }
+
+# Each key of a route with what is said of it, and its least and greatest value where it is an integer.
+ROUTE = [
+    ("prefix", "a decoded path from its first slash on: what is at it and below it is on the route"),
+    ("cost", "microseconds, 1 to 1000000000: how long the server works on a request, whatever its answer", 1, 10**9),
+    ("kib", "microseconds, 0 to 1000000: how long it works besides on each 1024 bytes that are given", 0, 10**6),
+    ("delay", "microseconds, 0 to 1000000000: how long each response takes beside the server's work", 0, 10**9),
+]
 
 # The table of each tier's policy; those after the first take what they leave out from it.
 POLICY_TABLES = ["policy", "tier1", "tier2", "tier3"]
@@ -226,6 +244,8 @@ Recording = collections.namedtuple("Recording", "format start records fault")
 Bad = collections.namedtuple("Bad", "kind")
 Request = collections.namedtuple("Request", "method target minor link modified_since length")
 Control = collections.namedtuple("Control", "instant percentile smoothed rate")
+# A route: the text of its prefix and its segments, and its numbers by their keys.
+Route = collections.namedtuple("Route", "text segments cost kib delay")
 
 
 class Text:
@@ -682,13 +702,25 @@ def answer_of(files, folders, request):
     return status, what
 
 
-def service(settings, method, status, what):
-    """The service time of a request in ticks (docs/RULES.md, Service times and admission)."""
+def route_of(routes, target):
+    """The first route that a request with this target is on, whatever its method; None where it is on none."""
+    path = path_of(target) if routes else None
+    left = walk([urllib.parse.unquote_to_bytes(segment) for segment in path[1:].split(b"/")]) if path else None
+    if not isinstance(left, list):
+        return None
+    return next((route for route in routes if left[: len(route.segments)] == route.segments), None)
+
+
+def charge(settings, request, status, what):
+    """The service time of a request in ticks, and what its response takes besides (docs/RULES.md, Service times and
+    admission)."""
+    length = len(what.body) if status == 200 and request.method != b"HEAD" else 0
+    route = route_of(settings["route"], request.target)
+    if route:
+        return route.cost + -(-length * route.kib // 1024), route.delay
     if status not in (200, 304):
-        return settings["costs.error"]
-    if status == 304 or method == b"HEAD":
-        return settings["costs.file"]
-    return settings["costs.file"] + -(-len(what.body) * settings["costs.kib"] // 1024)
+        return settings["costs.error"], settings["costs.delay"]
+    return settings["costs.file"] + -(-length * settings["costs.kib"] // 1024), settings["costs.delay"]
 
 
 def ranked(samples, percent):
@@ -705,6 +737,7 @@ class Tier:
         self.tick = 0
         self.rejected = 0
         self.samples = []
+        self.cleared = 0
         self.controls = []
 
     def accrued(self, begin, end):
@@ -737,14 +770,15 @@ class Tier:
         self.credit -= UNITS_IN_TOKEN
         return True
 
-    def serve(self, tick, finish):
+    def serve(self, finish, sample):
         """Takes note of a request that is served."""
-        self.samples.append(finish - tick)
+        self.samples.append(sample)
+        self.cleared = max(self.cleared, finish)
         if len(self.samples) % self.policy["every"] == 0:
-            self.controls.append(self.next_control(finish))
+            self.controls.append(self.next_control())
 
-    def next_control(self, finish):
-        """The control at a finish (docs/RULES.md, Service times and admission)."""
+    def next_control(self):
+        """The control once all requests so far are finished (docs/RULES.md, Service times and admission)."""
         policy = self.policy
         before = self.controls[-1] if self.controls else Control(0, 0, 0, policy["rate"])
         percentile = ranked(self.samples[-policy["window"] :], 90)
@@ -754,27 +788,33 @@ class Tier:
             rate = max(policy["rate_min"], 100 * rate // policy["down"])
         elif 100 * smoothed < policy["low"] * policy["target"]:
             rate = min(policy["rate_max"], rate + policy["up"])
-        return Control(finish, percentile, smoothed, rate)
+        return Control(self.cleared, percentile, smoothed, rate)
 
 
 class Admission:
-    """Who is turned away, and the one server of all tiers (docs/RULES.md, Service times and admission)."""
+    """Who is turned away, and the servers of all tiers (docs/RULES.md, Service times and admission)."""
 
     def __init__(self, settings):
         self.tiers = [Tier(settings, table) for table in POLICY_TABLES]
         self.tick = 0
         self.finish = 0
+        self.free = [0] * settings["costs.servers"]
         self.samples = []
 
-    def offer(self, tier, tick, service_time):
+    def offer(self, tier, tick, service_time, delay):
         """Whether a request is admitted."""
         self.tick = tick
         if not self.tiers[tier].takes(tick):
             return False
-        self.finish = max(tick, self.finish) + service_time
-        self.samples.append(self.finish - tick)
-        self.tiers[tier].serve(tick, self.finish)
+        self.finish = max(tick, self.free_at()) + service_time
+        heapq.heapreplace(self.free, self.finish)
+        self.samples.append(self.finish - tick + delay)
+        self.tiers[tier].serve(self.finish, self.samples[-1])
         return True
+
+    def free_at(self):
+        """The tick at which the first of the servers is free."""
+        return self.free[0]
 
     def shown_controls(self, tier):
         """The controls of a tier up to the last offered tick of any (docs/DECISIONS.md, Controls)."""
@@ -824,7 +864,7 @@ def answers(files, settings, start, arrived, admission):
         else:
             status, what = answer_of(files, folders, message)
             head, link = message.method == b"HEAD", message.link
-            if not admission.offer(piece.tier, piece.tick, service(settings, message.method, status, what)):
+            if not admission.offer(piece.tier, piece.tick, *charge(settings, message, status, what)):
                 status = 503
         date = start + piece.tick // TICKS_IN_SECOND
         yield status, reply_text(status, what, head, date, link, settings["page.retry_after"])
@@ -845,11 +885,11 @@ def rows(files, settings, arrived, admission):
             status, fields = FAULTS[message.kind], ["bypassed"] + [""] * 8
         else:
             status, what = answer_of(files, folders, message)
-            cost = service(settings, message.method, status, what)
+            cost, delay = charge(settings, message, status, what)
             tier = admission.tiers[piece.tier]
             found = [cost, tier.credit_at(piece.tick), tier.rate_at(piece.tick)]
-            waited = max(0, admission.finish - piece.tick)
-            if admission.offer(piece.tier, piece.tick, cost):
+            waited = max(0, admission.free_at() - piece.tick)
+            if admission.offer(piece.tier, piece.tick, cost, delay):
                 fields = ["admitted"] + found + [admission.finish - cost, admission.finish]
             else:
                 status, fields = 503, ["rejected"] + found + ["", ""]
@@ -898,7 +938,8 @@ def read_document(data):
         raise Refused("Text") from None
     found = list(values_in(document))
     refuse_unless(all(-(2**63) <= value < 2**63 for _, value in found if type(value) is int), "Text")
-    known = {(), *((table,) for table in SETTINGS), *((table, key[0]) for table in SETTINGS for key in SETTINGS[table])}
+    tables = SETTINGS | {"route": ROUTE}
+    known = {(), *((table,) for table in tables), *((table, key[0]) for table in tables for key in tables[table])}
     refuse_unless(all(path in known for path, _ in found), "Unknown")
     return document
 
@@ -931,19 +972,59 @@ def read_values(document):
     return settings
 
 
+def prefix_segments(text):
+    """The segments of a prefix, or None where it isn't written as one (docs/FORMATS.md, Settings)."""
+    first, *segments = text.encode().split(b"/")
+    if segments[-1:] == [b""]:
+        segments.pop()
+    elif not segments:
+        return None
+    return None if first or {b"", b".", b".."} & set(segments) else segments
+
+
+def read_route(table, delay):
+    """The route of a table, whose delay is this where it gives none (docs/FORMATS.md, Settings)."""
+    refuse_unless(isinstance(table, dict), "Shape route")
+    text = table.get("prefix")
+    refuse_unless(isinstance(text, str), "Shape route.prefix")
+    segments = prefix_segments(text)
+    refuse_unless(segments is not None, "Range route.prefix")
+    values = {"kib": 0, "delay": delay} | table
+    for key, _, *bounds in ROUTE[1:]:
+        refuse_unless(type(values.get(key)) is int, "Shape route." + key)
+        refuse_unless(bounds[0] <= values[key] <= bounds[1], "Range route." + key)
+    return Route(text, segments, values["cost"], values["kib"], values["delay"])
+
+
+def read_routes(document, delay):
+    """The routes of a document, in their order (docs/FORMATS.md, Settings)."""
+    tables = document.get("route", [])
+    refuse_unless(isinstance(tables, list), "Shape route")
+    refuse_unless(len(tables) <= ROUTES_LIMIT, "Range route")
+    return [read_route(table, delay) for table in tables]
+
+
 def read_settings(data):
     """The settings of a document (docs/FORMATS.md, Settings)."""
     try:
-        settings = read_values(read_document(data))
+        document = read_document(data)
+        settings = read_values(document)
         for side, steps in (("front", 3), ("back", 2)):
             lists = [settings["floor.%s_%s" % (side, part)] for part in ("cuts", "workers", "capacities")]
             refuse_unless(is_floor(*lists, steps), "Range floor." + side)
         for table in POLICY_TABLES:
             least, rate, most = (settings[table + "." + key] for key in ("rate_min", "rate", "rate_max"))
             refuse_unless(least <= rate <= most, "Range %s.rate" % table)
+        settings["route"] = read_routes(document, settings["costs.delay"])
     except Refused as kind:
         raise Fault(3, "settings: %s" % kind) from None
     return settings
+
+
+def quoted(text):
+    """A text between quotes (TOML 1.0, basic strings)."""
+    signs = {'"': '\\"', "\\": "\\\\"} | {chr(code): "\\u%04x" % code for code in [*range(32), 127]}
+    return '"%s"' % "".join(signs.get(sign, sign) for sign in text)
 
 
 def settings_text(data):
@@ -957,6 +1038,10 @@ def settings_text(data):
         lines += ["", "[%s]" % table]
         for key, comment, *_ in SETTINGS[table]:
             lines += ["# " + comment, "%s = %s" % (key, settings[table + "." + key])]
+    for route in settings["route"]:
+        lines += ["", "[[route]]"]
+        for (key, comment, *_), value in zip(ROUTE, (quoted(route.text), route.cost, route.kib, route.delay)):
+            lines += ["# " + comment, "%s = %s" % (key, value)]
     return 0, b"", "".join(line + "\n" for line in lines).encode()
 
 
@@ -981,7 +1066,12 @@ def tell_rows(files, settings, start, arrived, admission, fault):
     return [status for status, _ in told], "".join(line + "\n" for line in lines).encode()
 
 
-def run(tell, snapshot, capture, settings):
+def faster(arrived, speed):
+    """The same messages at so many percent of their speed (docs/RULES.md, Arrival)."""
+    return [(piece._replace(tick=piece.tick * 100 // speed), message) for piece, message in arrived]
+
+
+def run(tell, snapshot, capture, settings, speed):
     """Status, line of a fault, what is told (None where the file stays as it was) and report (docs/FORMATS.md)."""
     text = None
     try:
@@ -989,7 +1079,7 @@ def run(tell, snapshot, capture, settings):
         files = read_snapshot(snapshot)
         text = b""
         form, start, pieces, fault = read_recording(capture)
-        arrived = arrivals(pieces)
+        arrived = faster(arrivals(pieces), speed)
         if form and len(arrived) > form.messages:
             arrived, fault = arrived[:form.messages], Fault(5, "capture: message %d: TooMany" % form.messages)
         admission = Admission(settings)
@@ -1001,14 +1091,14 @@ def run(tell, snapshot, capture, settings):
         return fault.status, fault.line, text, b""
 
 
-def replay(snapshot, capture, settings=b""):
-    """Status, line of a fault, replies and report."""
-    return run(tell_replies, snapshot, capture, settings)
+def replay(snapshot, capture, settings=b"", speed=100):
+    """Status, line of a fault, replies and report, at a speed in percent."""
+    return run(tell_replies, snapshot, capture, settings, speed)
 
 
-def explain(snapshot, capture, settings=b""):
-    """Status, line of a fault, table of decisions and report."""
-    return run(tell_rows, snapshot, capture, settings)
+def explain(snapshot, capture, settings=b"", speed=100):
+    """Status, line of a fault, table of decisions and report, at a speed in percent."""
+    return run(tell_rows, snapshot, capture, settings, speed)
 
 
 def contents(name):
@@ -1022,13 +1112,14 @@ def main():
     told = parser.add_mutually_exclusive_group()
     told.add_argument("--replies", help="the file that the replies are written to")
     told.add_argument("--messages", help="the file that the table of decisions is written to")
+    parser.add_argument("--speed", type=int, default=100, metavar="PERCENT")
     parser.add_argument("snapshot")
     parser.add_argument("capture")
     parser.add_argument("settings", nargs="?")
     words = parser.parse_args()
     settings = contents(words.settings) if words.settings is not None else b""
     name, call = (words.replies, replay) if words.messages is None else (words.messages, explain)
-    status, line, text, report = call(contents(words.snapshot), contents(words.capture), settings)
+    status, line, text, report = call(contents(words.snapshot), contents(words.capture), settings, words.speed)
     if name is not None and text is not None:
         with open(name, "wb") as file:
             file.write(text)

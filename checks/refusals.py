@@ -20,12 +20,13 @@ ARM = re.compile(r"(?:Memory|AllocError|OutOfMemory)\b.*=> ")
 SAID = re.compile(r"\b(?:ghost|requires|ensures|use)\b|^\s*(?:Memory|NoMemory),$")
 CALL = re.compile(r"\balloc\b|\.push\(|\.put\(|laid_out|FolderFault::new")
 FUNCTION = re.compile(r"^\s*(?:pub(?:\(crate\))? )?(?:fn|const) (\w+)")
-REACH = 6
+REACH = 8
 REASONS = {
     ("command_line", "refusal"): "clap's own out of memory has this kind, and its text takes memory",
     ("http_requests", "cut"): "a cutter that was refused memory answers so from then on",
     ("http_requests", "feed"): "a cutter that was refused memory answers so from then on",
     ("paths", "make_slots"): "more slots than a number counts; the index stays empty, and no call answers so",
+    ("program", "told"): "a buffer whose device didn't fail refuses bytes where there is no memory for them alone",
     ("program", "unwritten"): "the writer has no other fault left, by its contract",
     ("settings", "MEMORY"): "the name of this answer",
     ("stage_graph", "after"): "more numbers than 64 bits count can't be passed to the gate",

@@ -11,7 +11,7 @@ The formula adds up what a run keeps at a time, in bytes. All runs:
                        16 KiB (24 in the staged engine) for each of which a block came in several pieces; and the method
                        and the target of each whose body isn't whole
   the requests         24 for each that was decided on, and 96 for each control
-  the report           twice its text
+  the report           twice its text without the lines of rejected requests, which are written one by one
 
 The staged engine besides:
 
@@ -244,14 +244,16 @@ def inputs():
 
 
 def run(program, words, folder, bound):
-    """The status and the peak of a run, and the bytes that it wrote to standard output."""
+    """The status and the peak of a run, and the bytes that it wrote to standard output, but for the lines of rejected
+    requests."""
     def limit():
         resource.setrlimit(resource.RLIMIT_AS, (bound + SPACE, bound + SPACE))
     with open(os.path.join(folder, "out"), "wb") as out:
         ran = subprocess.run([sys.executable, "-I", "-S", "-c", RUNNER, program, *words], cwd=folder, preexec_fn=limit,
                              stdin=subprocess.DEVNULL, stdout=out, stderr=subprocess.PIPE, timeout=SECONDS)
     status, peak = json.loads(ran.stderr.splitlines()[-1])
-    return status, peak, os.path.getsize(os.path.join(folder, "out"))
+    with open(os.path.join(folder, "out"), "rb") as out:
+        return status, peak, sum(len(line) for line in out if not line.startswith(b"reject "))
 
 
 def told(name, status, wanted, peak, bound):

@@ -16,7 +16,8 @@ _haboob() {
     case $prev in
         --folder) _filedir -d; return ;;
         --engine) mapfile -t COMPREPLY < <(compgen -W "plain staged" -- "$cur"); return ;;
-        --to) mapfile -t COMPREPLY < <(compgen -W "2 traffic" -- "$cur"); return ;;
+        --speed) mapfile -t COMPREPLY < <(compgen -W "100 150 200 500 1000" -- "$cur"); return ;;
+        --to | --format) mapfile -t COMPREPLY < <(compgen -W "2 traffic" -- "$cur"); return ;;
         --snapshot | --capture | --replies | --messages | --settings | --output) _filedir; return ;;
     esac
     local offered

@@ -39,7 +39,7 @@ Either may be compressed, or - for standard input.
 
 A request's time is from its last byte to its answer's last byte. Answers 503 and 499 are left out:
 these were turned away, or nobody waited for them. SETTINGS gets a document with [costs] for a server
-that works on one request after another without delay, which is what this program has. PAGE gets what
+that works on one request after another without delay, which are the defaults. PAGE gets what
 was found besides: the number of servers (1, 2, 4, 8, 16) and the delay of each answer that fit best,
 and how well either predicts what was measured.
 
@@ -175,17 +175,18 @@ def remarks(requests, best, single):
                      "describe; perhaps others work on its machine, or its clients do")
     elif worst > GOOD:
         lines.append("NOTE: the held-out check misses by more than %d%%" % GOOD)
-    lines.append(assumed(best, single))
+    lines.append(written(best, single))
     return lines
 
 
-def assumed(best, single):
-    """What the settings assume, and how it shows where it isn't so."""
+def written(best, single):
+    """What the settings have, and how much worse the simplest server fits."""
     if single is best:
-        return "the settings assume one server and no delay, as this program has; nothing else fits better"
-    return ("NOTE: this program has one server and no delay, which the settings assume and which fits worse: the mean "
-            "difference of roots is %.2f in the place of %.2f. A replay keeps how many it answers a second, and misses "
-            "its times by the percents of the fit with one server" % (single.fit.error, best.fit.error))
+        return "the settings have one server and no delay, the defaults; nothing else fits better"
+    servers = "%d server%s" % (best.fit.servers, "s" * (best.fit.servers > 1))
+    delay = "a delay of %d microseconds" % best.fit.delay if best.fit.delay else "no delay"
+    return ("the settings have %s and %s: with one server and no delay, the defaults, the mean difference of roots is "
+            "%.2f in the place of %.2f" % (servers, delay, single.fit.error, best.fit.error))
 
 
 def without_use(requests):
@@ -193,10 +194,11 @@ def without_use(requests):
     return [name for part, name in enumerate(cost_fit.PARTS) if not requests.work[:, part].any()]
 
 
-def document_of(requests, single, lines):
-    """The settings."""
-    unused = without_use(requests)
-    costs = ["%s = %d\n" % (name, cost) for name, cost in zip(cost_fit.PARTS, single.fit.costs) if name not in unused]
+def document_of(requests, best, lines):
+    """The settings: what is as the defaults have it is left out."""
+    unused, fit = without_use(requests), best.fit
+    costs = ["%s = %d\n" % (name, cost) for name, cost in zip(cost_fit.PARTS, fit.costs) if name not in unused]
+    costs += ["servers = %d\n" % fit.servers] * (fit.servers > 1) + ["delay = %d\n" % fit.delay] * (fit.delay > 0)
     comments = "".join("# %s\n" % line for line in lines)
     absent = "".join("# costs.%s: nothing in the recording needs it\n" % name for name in unused)
     return "%s%s[costs]\n%s" % (comments, absent, "".join(costs))
@@ -204,7 +206,7 @@ def document_of(requests, single, lines):
 
 def summary_of(best, single):
     """What was found, a line each."""
-    fits = [("best", best)] + ([("written", single)] if single is not best else [])
+    fits = [("best", best)] + ([("one server", single)] if single is not best else [])
     lines = []
     for name, one in fits:
         lines.append("%s: %s (mean difference of roots %.2f)" % (name, in_words(one.fit), one.fit.error))
@@ -306,9 +308,9 @@ def work(options):
     lines = ["%d requests in %.1f seconds%s" % (
         answered, requests.arrivals[-1] / 1e6, "; left out: " + ", ".join(counts) if counts else ""), first,
         *summary_of(best, single), *remarks(requests, best, single)]
-    written = [(options.output, lambda file: file.write(document_of(requests, single, lines))),
+    outputs = [(options.output, lambda file: file.write(document_of(requests, best, lines))),
                (options.page, lambda file: file.write(page_of(options, requests, best, single, lines)))]
-    output_file.replace_all([(path, write) for path, write in written if path])
+    output_file.replace_all([(path, write) for path, write in outputs if path])
     standard_output.write("\n".join(lines) + "\n")
 
 

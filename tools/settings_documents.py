@@ -1,6 +1,7 @@
 """Documents of settings (docs/FORMATS.md, Settings): reads them, writes them, and names what is wrong in words."""
 import collections
 import difflib
+import json
 import re
 import tomllib
 
@@ -11,6 +12,7 @@ TIERS = ("policy", "tier1", "tier2", "tier3")  # the tables of the tiers 0 to 3
 RATES = ("rate", "rate_min", "rate_max", "up")  # in thousandths a second
 FIXED_RATE = "fixed_rate"  # this project's tools' own word: rate, rate_min and rate_max alike
 RATES_OF_FIXED = ("rate_min", "rate", "rate_max")
+ROUTE = "route"  # the name of the list of routes
 NAME = re.compile(r"[A-Za-z0-9_-]+")
 
 Policy = collections.namedtuple("Policy", "rate rate_min rate_max depth")
@@ -27,6 +29,16 @@ def checked(path, name, table):
     return table
 
 
+def checked_routes(path, routes):
+    """The list of routes, where each is a table that holds nothing but integers and texts."""
+    if type(routes) is not list or any(type(route) is not dict for route in routes):
+        raise Fault("%s: %s: no list of tables" % (path, ROUTE))
+    for key, value in (entry for route in routes for entry in route.items()):
+        if not NAME.fullmatch(key) or type(value) not in (int, str):
+            raise Fault("%s: %s.%s: neither an integer nor a text" % (path, ROUTE, key))
+    return routes
+
+
 def parsed(text, path):
     """The tables of a document of settings in a text of bytes, which came from this path."""
     if len(text) > SIZE_LIMIT:
@@ -35,7 +47,8 @@ def parsed(text, path):
         tables = tomllib.loads(text.decode())
     except (ValueError, RecursionError) as error:  # also of bytes that are no UTF-8
         raise Fault("%s: no TOML document: %s" % (path, error)) from None
-    return {name: checked(path, name, table) for name, table in tables.items()}
+    return {name: checked_routes(path, table) if name == ROUTE else checked(path, name, table)
+            for name, table in tables.items()}
 
 
 def read(path):
@@ -46,15 +59,23 @@ def read(path):
         return parsed(file.read(SIZE_LIMIT + 1), path)
 
 
+def value_text(value):
+    """A value as TOML writes it; a text between quotes."""
+    return json.dumps(value, ensure_ascii=False).replace("\x7f", "\\u007f") if type(value) is str else str(value)
+
+
 def text_of(base, keys=(), values=()):
-    """The settings of a base with values in the place of its own, as TOML: tables and keys by rising names."""
-    tables = collections.defaultdict(dict, {name: dict(table) for name, table in base.items()})
+    """The settings of a base with values in the place of its own, as TOML: tables and keys by rising names, and then
+    the routes in their order."""
+    tables = collections.defaultdict(dict, {name: dict(table) for name, table in base.items() if name != ROUTE})
     for key, value in zip(keys, values):
         table, _, name = key.partition(".")
         names = RATES_OF_FIXED if name == FIXED_RATE else (name,)
         tables[table].update(dict.fromkeys(names, value))
-    return "\n".join("[%s]\n" % table + "".join("%s = %s\n" % entry for entry in sorted(entries.items()))
-                     for table, entries in sorted(tables.items()))
+    parts = [("[%s]\n" % table, entries) for table, entries in sorted(tables.items())]
+    parts += [("[[%s]]\n" % ROUTE, route) for route in base.get(ROUTE, [])]
+    return "\n".join(heading + "".join("%s = %s\n" % (key, value_text(value)) for key, value in sorted(entries.items()))
+                     for heading, entries in parts)
 
 
 def keys_of(tables):

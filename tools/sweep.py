@@ -450,7 +450,8 @@ def checked_base(options, runner):
     base = settings_documents.read(options.settings)
     for key in (one.key for one in options.grid):
         settings_documents.refuse_unknown(key, known, "--set: ")
-    for key in ("%s.%s" % (table, name) for table, entries in base.items() for name in entries):
+    tables = {table: entries for table, entries in base.items() if table != settings_documents.ROUTE}
+    for key in ("%s.%s" % (table, name) for table, entries in tables.items() for name in entries):
         settings_documents.refuse_unknown(key, known[:-len(settings_documents.TIERS)], "%s: " % options.settings)
     return base, defaults
 

@@ -181,7 +181,7 @@ class Fits(Base):
         page = self.page.read_text()
         self.assertEqual(page.count("<svg"), 3)
         self.assertNotIn("src=", page)
-        for text in ("measured", "held out", "the settings assume one server and no delay",
+        for text in ("measured", "held out", "the settings have one server and no delay",
                      "Response times by percentile", "90th percentile over time", "by size"):
             self.assertIn(text, page)
 
@@ -191,21 +191,23 @@ class Fits(Base):
         self.assertEqual((servers, delay), (4, 0))
         self.check_near(found, (8000, 60, 900), 5)
         self.assertLessEqual(max(map(abs, self.held_out(output)[:3])), 5)
-        # The settings have what one server would cost, and are told as such: it gives as many a second.
-        self.assertIn("written: 1 server, no delay: file %d, kib %d, error %d" % tuple(costs.values()), output)
-        self.assertIn("NOTE: this program has one server and no delay, which the settings assume and which fits worse",
-                      output)
+        self.assertEqual(costs, {"file": found[0], "kib": found[1], "error": found[2], "servers": 4})
+        self.assertIn("the settings have 4 servers and no delay: with one server and no delay", output)
+        # One server that gives as many a second costs a quarter.
+        single = re.search(r"^one server: 1 server, no delay: file (\d+), kib (\d+)", output, re.MULTILINE)
+        self.check_near([int(single[1]) + 12 * int(single[2])], [(8000 + 12 * 60) / 4], 15)
         page = self.page.read_text()
-        self.assertIn("which the settings assume and which fits worse", page)
+        self.assertIn("the settings have 4 servers", page)
         self.assertIn("<td>best fit</td>", page)
         self.assertIn("<td>one server</td>", page)
-        self.check_near([costs["file"] + 12 * costs["kib"]], [(8000 + 12 * 60) / 4], 15)
 
     def test_delay(self):
-        output, _ = self.calibrated(log_of(simulated(3, 1, (900, 30, 300), 5_000, 2_500)))
+        output, costs = self.calibrated(log_of(simulated(3, 1, (900, 30, 300), 5_000, 2_500)))
         servers, delay, found = self.best(output)
         self.assertEqual(servers, 1)
         self.check_near([delay, *found], (5_000, 900, 30, 300), 5)
+        self.assertEqual(costs, {"file": found[0], "kib": found[1], "error": found[2], "delay": delay})
+        self.assertIn("the settings have 1 server and a delay of %d microseconds" % delay, output)
 
     def test_packets(self):
         answers = simulated(4, 1, (3000, 40, 800), 0, 8_000, 600)

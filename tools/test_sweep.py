@@ -275,6 +275,15 @@ class Documents(unittest.TestCase):
             document, "[floor]\nfront_cuts = [1, 3]\n\n[policy]\nevery = 7\nrate = 9\n\n[tier1]\ndepth = 2\n")
         self.assertEqual(base["policy"]["rate"], 5)
 
+    def test_routes(self):
+        text = b'[[route]]\nprefix = "/\\"\\u007f"\ncost = 1\n\n[[route]]\nprefix = "/"\ncost = 2\n'
+        document = settings_documents.text_of(settings_documents.parsed(text, "a"), ("costs.file",), (9,))
+        self.assertEqual(document, '[costs]\nfile = 9\n\n[[route]]\ncost = 1\nprefix = "/\\"\\u007f"\n\n'
+                         '[[route]]\ncost = 2\nprefix = "/"\n')
+        for text in ("route = 1", "route = [1]", "[[route]]\ncost = 1.5\n"):
+            with self.subTest(text), self.assertRaises(settings_documents.Fault):
+                settings_documents.parsed(text.encode(), "a")
+
     def test_fixed_rate(self):
         self.assertEqual(settings_documents.text_of({}, ("policy.fixed_rate",), (9,)),
                          "[policy]\nrate = 9\nrate_max = 9\nrate_min = 9\n")
