@@ -1,6 +1,8 @@
-//! Tests of the crate `admission`.
+//! Tests of the crates `token_bucket` and `admission`.
 #![tactic(auto)]
 
+#[cfg(test)]
+mod buckets;
 #[cfg(test)]
 mod memory;
 #[cfg(test)]

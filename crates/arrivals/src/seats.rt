@@ -191,6 +191,3 @@ impl Seats {
         Ok(found)
     }
 }
-
-#[cfg(test)]
-mod tests;

@@ -6,8 +6,6 @@ mod charge;
 mod costs;
 mod prefix;
 mod routes;
-#[cfg(test)]
-mod tests;
 
 pub use charge::{Charge, Tariff};
 pub use costs::{CostFault, Costs, service};

@@ -1,9 +1,11 @@
-//! Tests of the engines and of what is told of a capture: the crates `replay`, `decision_table`, `report` and
-//! `inspection`.
+//! Tests of the engines and of what is told of a capture: the crates `cost_model`, `replay`, `decision_table`, `report`
+//! and `inspection`.
 #![tactic(auto)]
 
 #[cfg(test)]
 mod batches;
+#[cfg(test)]
+mod charges;
 #[cfg(test)]
 mod explaining;
 #[cfg(test)]

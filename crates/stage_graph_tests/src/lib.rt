@@ -1,4 +1,4 @@
-//! Tests of the crate `stage_graph`.
+//! Tests of the crates `stage_queue` and `stage_graph`.
 #![tactic(auto)]
 
 #[cfg(test)]
@@ -11,5 +11,7 @@ mod gates;
 mod lots;
 #[cfg(test)]
 mod memory;
+#[cfg(test)]
+mod queues;
 #[cfg(test)]
 mod threads;

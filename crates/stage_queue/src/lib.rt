@@ -10,6 +10,3 @@ mod slots;
 pub use memory::Memory;
 pub use queue::Queue;
 pub use slots::{Placing, Slots};
-
-#[cfg(test)]
-mod tests;

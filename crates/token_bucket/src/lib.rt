@@ -6,8 +6,6 @@
 
 mod bucket;
 pub mod laws;
-#[cfg(test)]
-mod tests;
 
 pub use bucket::Bucket;
 

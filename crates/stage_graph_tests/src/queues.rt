@@ -1,6 +1,6 @@
 //! A queue and slots of two, and no room at all.
 
-use crate::{Memory, Placing, Queue, Slots};
+use stage_queue::{Memory, Placing, Queue, Slots};
 use std::test::*;
 
 #[test]

@@ -1,6 +1,6 @@
 //! Buckets over gaps, changed rates and the greatest values.
 
-use crate::{Bucket, MAX_DEPTH, MAX_RATE, MAX_TICK, TOKEN};
+use token_bucket::{Bucket, MAX_DEPTH, MAX_RATE, MAX_TICK, TOKEN};
 
 #[test]
 fn a_tight_bucket_lets_one_through_a_second(rt: HostRuntime) {

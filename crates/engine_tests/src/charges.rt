@@ -2,7 +2,7 @@
 
 ghost use Rattle.cost_model.specs.Services.{IsRoute};
 
-use crate::{CostFault, Costs, Prefix, Route, Routes, Tariff, service};
+use cost_model::{CostFault, Costs, Prefix, Route, Routes, Tariff, service};
 use devices::Bytes;
 use paths::Outcome;
 use std::alloc::Global;
