@@ -36,7 +36,9 @@ USER = "walker"
 SECONDS = 600
 INSTALL_SECONDS = 30
 # What changes in a system also where nothing is left: what users have, and what the package manager notes.
-OTHERS = ("/home/", "/root/", "/tmp/", "/var/cache/", "/var/log/", "/var/lib/apt/", "/var/lib/dpkg/")
+OTHERS = tuple("/%s/" % name for name in "home root tmp var/cache var/log var/lib/apt var/lib/dpkg".split())
+# Where the package and another one stand in the fresh system, from its top.
+PACKAGE, OTHER = "./root/haboob.deb", "./root/other.deb"
 # Root in the fresh system, with its own processes and devices; these are gone with the command.
 INSIDE = """
 mount -t proc proc "$0/proc" && mount --rbind /dev "$0/dev" || exit
@@ -116,16 +118,16 @@ def built(report, program, room):
 
 def refuse(report, system, package):
     """What the package manager says without what the package needs, and on another machine."""
-    shutil.copy(package, system.root / "root" / "haboob.deb")
-    status, text = system.ran("dpkg", "--install", "/root/haboob.deb")
+    shutil.copy(package, system.root / PACKAGE)
+    status, text = system.ran("dpkg", "--install", PACKAGE)
     report.see("an absent dependency is told", status != 0 and "depends on python3-dpkt" in text, text)
     system.must("dpkg", "--purge", "haboob")
-    tree = system.root / "root" / "other"
+    tree = (system.root / OTHER).with_suffix("")
     must(["dpkg-deb", "--raw-extract", package, tree])
     control = tree / "DEBIAN" / "control"
     control.write_text(re.sub("^Architecture: .*", "Architecture: s390x", control.read_text(), flags=re.MULTILINE))
     must(["dpkg-deb", "--build", tree, tree.with_suffix(".deb")])
-    status, text = system.ran("dpkg", "--install", "/root/other.deb")
+    status, text = system.ran("dpkg", "--install", OTHER)
     told = "package architecture (s390x) does not match system" in text
     report.see("another architecture is told", status != 0 and told, text)
 
@@ -134,12 +136,12 @@ def install(report, system, package):
     """Installs the package, after what it depends on; answers what stood in the system before."""
     system.must("apt-get", "update")
     report.see("apt finds all that it depends on",
-               system.ran("apt-get", "install", "--simulate", "/root/haboob.deb")[0] == 0)
+               system.ran("apt-get", "install", "--simulate", PACKAGE)[0] == 0)
     depends = must(["dpkg-deb", "--field", package, "Depends"]).strip()
     system.must("apt-get", "satisfy", "--yes", "--no-install-recommends", depends + ", bash-completion")
     before = system.files()
     begin = time.monotonic()
-    system.must("apt-get", "install", "--yes", "--no-install-recommends", "/root/haboob.deb")
+    system.must("apt-get", "install", "--yes", "--no-install-recommends", PACKAGE)
     seconds = time.monotonic() - begin
     report.see("it is installed in seconds", seconds < INSTALL_SECONDS, seconds, "%.1f seconds" % seconds)
     return before

@@ -1,7 +1,7 @@
 #!/usr/bin/env python3
 """Sorts must-fail edits by how the prover refused them, from the log of `rt ci` or `rt must-fail`.
 
-    checks/sort_edits.py [--list] [--again] LOG
+    checks/sort_edits.py [--list] [--again] [--few N] LOG
 
   goal    a goal of a contract isn't proved: what a function ensures, what a call requires, an invariant, a loop
   answer  the written proof of such a goal (proofs/../Answers.antt) doesn't fit it any more
@@ -10,10 +10,11 @@
   name    by name alone: a proof names what the edit took away, or a lemma doesn't fit, which says little of a contract
 
 A log has the first that the prover said of an edit, and which comes first isn't always the same. With --again each edit
-of the last kind is therefore tried once more, in a copy of the repository, and sorted by all that the prover says.
+of the last kind is therefore tried once more, in a copy of the repository, and sorted by all that the prover says; that
+proves the crate and those below it from nothing, so the gate says --few N instead: so many may be of the last kind.
 
-Prints how many there are of each kind, and the edits of the last two (with --list all of them). Exits with 1 where an
-edit is refused by name alone, or isn't refused, or where the log has no edit.
+Prints how many there are of each kind, and the edits of the last two (with --list all of them). Exits with 1 where more
+edits are refused by name alone than may be (none without --few), where one isn't refused, or where the log has no edit.
 """
 import argparse
 import collections
@@ -115,6 +116,7 @@ def main():
     parser.add_argument("log", help="what `rt ci` or `rt must-fail` printed")
     parser.add_argument("--list", action="store_true", help="print all edits, with what was said of them")
     parser.add_argument("--again", action="store_true", help="try each edit that was refused by name once more")
+    parser.add_argument("--few", type=int, default=0, metavar="N", help="how many may be refused by name alone")
     options = parser.parse_args()
     with open(options.log, encoding="utf-8", errors="replace") as file:
         sorted_edits = sort(file)
@@ -126,7 +128,8 @@ def main():
             for edit, said in sorted_edits[kind].items():
                 print("%-12s %s: %s" % (kind, edit, said))
     print("edits: " + ", ".join("%d %s" % (len(sorted_edits[kind]), kind) for kind in KINDS))
-    return int(not any(sorted_edits.values()) or any(sorted_edits[kind] for kind in ("name", "not refused")))
+    too_many = len(sorted_edits["name"]) > options.few
+    return int(not any(sorted_edits.values()) or too_many or bool(sorted_edits["not refused"]))
 
 
 if __name__ == "__main__":

@@ -1,6 +1,7 @@
 #!/usr/bin/env bash
 # Tries the edits of checks/edits/, which must fail as those of must-fail/ must, and stand outside the gate to save its
-# time; then sorts them by how they were refused, as .ci/run does. It works on a copy of the repository.
+# time; then sorts them by how they were refused, and tries those once more that were refused by name alone. It works on
+# a copy of the repository.
 #
 # usage: try_edits.sh [CRATE..]
 set -euo pipefail

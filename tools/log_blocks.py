@@ -107,7 +107,7 @@ class Workers:
         try:
             return call(self.pipes[number % len(self.pipes)])
         except (EOFError, OSError):
-            raise Fault("a process that reads lines has ended, perhaps for want of memory") from None
+            raise Fault("a process that reads lines has ended, perhaps out of memory") from None
 
 
 def read_all(blocks, read):
