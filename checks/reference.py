@@ -455,15 +455,17 @@ def upgrade(capture, to=TWO):
 
 
 def rests(records):
-    """How many bytes came on each connection and how many after its last message, and whether that closed it
-    (docs/FORMATS.md, Inspection)."""
+    """How many bytes came on each connection and how many after its last message, and whether that closed it. Where it
+    did not, the empty lines after the message are none of these bytes (docs/FORMATS.md, Inspection)."""
     texts = collections.defaultdict(bytes)
     for record in records:
         if record.body:
             texts[record.conn, record.life] += record.body
     for text in texts.values():
         end, last = ([(0, None)] + messages_of(text))[-1]
-        yield len(text), len(text) - end, isinstance(last, Bad) or (last is not None and last.link == b"close")
+        closed = isinstance(last, Bad) or (last is not None and last.link == b"close")
+        begin = end if closed else EMPTY_LINES.match(text, end).end()
+        yield len(text), len(text) - begin, closed
 
 
 def most_open(records):

@@ -315,32 +315,30 @@ fn the_gap_of_a_tier_is_credited_as_without_other_tiers(rt: HostRuntime) -> Resu
     Ok(())
 }
 
+/// Numbers of a policy (window, every, smoothing, rate, target, depth), and their first fault.
+type FaultRow = ([u64; 6], Option<PolicyFault>);
+
+static FAULT_ROWS: [FaultRow; 9] = [
+    ([0, 0, 1000, 49, 0, 0], Some(PolicyFault::Window)),
+    ([4097, 0, 1000, 49, 0, 0], Some(PolicyFault::Window)),
+    ([4096, 4097, 1000, 49, 0, 0], Some(PolicyFault::Every)),
+    ([4096, 4096, 1000, 49, 0, 0], Some(PolicyFault::Smoothing)),
+    ([4096, 4096, 999, 49, 0, 0], Some(PolicyFault::Rates)),
+    ([4096, 4096, 999, 5001, 0, 0], Some(PolicyFault::Rates)),
+    ([4096, 4096, 999, 5000, 0, 0], Some(PolicyFault::Target)),
+    ([4096, 4096, 999, 50, 1, 0], Some(PolicyFault::Depth)),
+    ([1, 1, 0, 50, 1, 1], None),
+];
+
 #[test]
 fn the_first_fault_of_a_policy_is_named(rt: HostRuntime) {
-    let fault = |window: u64, every: u64, smoothing: u64, rate: u64, target: u64, depth: u64| {
-        Policy::new(
+    for (numbers, fault) in FAULT_ROWS.iter() {
+        let [window, every, smoothing, rate, target, depth] = *numbers;
+        let made = Policy::new(
             window, every, smoothing, rate, 50, 5000, 20, 120, target, 90, depth,
-        )
-        .err()
-    };
-    assert_eq!(rt; fault(0, 0, 1000, 49, 0, 0), Some(PolicyFault::Window));
-    assert_eq!(rt; fault(4097, 0, 1000, 49, 0, 0), Some(PolicyFault::Window));
-    assert_eq!(rt; fault(4096, 4097, 1000, 49, 0, 0), Some(PolicyFault::Every));
-    assert_eq!(rt;
-        fault(4096, 4096, 1000, 49, 0, 0),
-        Some(PolicyFault::Smoothing)
-    );
-    assert_eq!(rt; fault(4096, 4096, 999, 49, 0, 0), Some(PolicyFault::Rates));
-    assert_eq!(rt;
-        fault(4096, 4096, 999, 5001, 0, 0),
-        Some(PolicyFault::Rates)
-    );
-    assert_eq!(rt;
-        fault(4096, 4096, 999, 5000, 0, 0),
-        Some(PolicyFault::Target)
-    );
-    assert_eq!(rt; fault(4096, 4096, 999, 50, 1, 0), Some(PolicyFault::Depth));
-    assert_eq!(rt; fault(1, 1, 0, 50, 1, 1), None);
+        );
+        assert_eq!(rt; made.err(), *fault);
+    }
 }
 
 #[test]

@@ -8,31 +8,51 @@ use paths::Outcome;
 use std::alloc::Global;
 use std::test::Fail;
 
+/// Whether only a head is given, whether the file is unmodified, its length, and what it costs by default: 200, and 10
+/// for each 1,024 bytes that are given, in whole ticks.
+type FileRow = (bool, bool, u64, u64);
+
+static FILE_ROWS: [FileRow; 6] = [
+    (false, false, 3, 201),
+    (false, false, 0, 200),
+    (false, false, 1024, 210),
+    (false, false, 1025, 211),
+    (true, false, 1025, 200),
+    (false, true, 1025, 200),
+];
+
 #[test]
 fn costs_by_the_table(rt: HostRuntime) {
-    // the defaults: a file of 3 bytes costs 200 and a begun tick for its bytes
     let costs = Costs::new(200, 10, 50).expect(&rt, "costs");
-    let file = Outcome::File(0);
-    assert_eq!(rt; service(costs, &file, false, false, 3), 201);
-    assert_eq!(rt; service(costs, &file, false, false, 0), 200);
-    assert_eq!(rt; service(costs, &file, false, false, 1024), 210);
-    assert_eq!(rt; service(costs, &file, false, false, 1025), 211);
-    assert_eq!(rt; service(costs, &file, true, false, 1025), 200);
-    assert_eq!(rt; service(costs, &file, false, true, 1025), 200);
-    assert_eq!(rt; service(costs, &Outcome::Missing, false, false, 1025), 50);
+    for (head, unmodified, len, cost) in FILE_ROWS.iter() {
+        let found = service(costs, &Outcome::File(0), *head, *unmodified, *len);
+        assert_eq!(rt; found, *cost);
+    }
+    let missing = service(costs, &Outcome::Missing, false, false, 1025);
     let to = Outcome::Move(Bytes::from_vec(Vec::new(rt.alloc())));
-    assert_eq!(rt; service(costs, &to, true, true, 1025), 50);
+    assert_eq!(rt; (missing, service(costs, &to, true, true, 1025)), (50, 50));
 }
+
+/// The costs of a file, of its bytes and of all else, and whether they are taken.
+type CostRow = ([u64; 3], bool);
+
+static COST_ROWS: [CostRow; 7] = [
+    ([0, 0, 1], false),
+    ([1, 0, 0], false),
+    ([1_000_001, 0, 1], false),
+    ([1, 1_000_001, 1], false),
+    ([1, 0, 1_000_001], false),
+    ([1, 0, 1], true),
+    ([1_000_000, 1_000_000, 1_000_000], true),
+];
 
 #[test]
 fn costs_outside_their_ranges(rt: HostRuntime) {
-    assert_eq!(rt; Costs::new(0, 0, 1), Err(CostFault::Range));
-    assert_eq!(rt; Costs::new(1, 0, 0), Err(CostFault::Range));
-    assert_eq!(rt; Costs::new(1_000_001, 0, 1), Err(CostFault::Range));
-    assert_eq!(rt; Costs::new(1, 1_000_001, 1), Err(CostFault::Range));
-    assert_eq!(rt; Costs::new(1, 0, 1_000_001), Err(CostFault::Range));
-    assert_eq!(rt; Costs::new(1, 0, 1).is_ok(), true);
-    assert_eq!(rt; Costs::new(1_000_000, 1_000_000, 1_000_000).is_ok(), true);
+    for (costs, taken) in COST_ROWS.iter() {
+        let [file, kib, other] = *costs;
+        let wanted = if *taken { None } else { Some(CostFault::Range) };
+        assert_eq!(rt; Costs::new(file, kib, other).err(), wanted);
+    }
 }
 
 #[test]

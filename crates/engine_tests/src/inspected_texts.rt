@@ -65,6 +65,17 @@ static TRAFFIC: Row = Row {
         fault Length 0\nfault BodySize 0\nafter-close 3 1\nunfinished 7 3\nbusiest 0 2\nend\n",
 };
 
+/// Number 5 names three connections: one that sends a request and an empty line after it, one that sends an empty line
+/// and a CR, and one that sends an empty line in two pieces. Number 6 names one that sends an empty line and a byte.
+static EMPTY_LINES: Row = Row {
+    capture: "haboob-traffic 1 0\npiece 1 5 29\nGET / HTTP/1.1\r\nHost: a\r\n\r\n\r\n\nend 2 5\npiece 3 5 3\n\r\n\r\n\
+        end 4 5\npiece 5 6 2\n\nG\npiece 6 5 1\n\r\npiece 7 5 1\n\n\nstop 7\n",
+    text: "haboob-inspection 1\nversion traffic\nstart 0\nrecords 7\npieces 5\nends 2\ntiers 0\nfirst 1\nlast 7\n\
+        connections 4\nopen 2\nbytes 36\nmessages 1\nrequests 1\nmethod GET 1\nmethod HEAD 0\nmethod other 0\n\
+        protocol HTTP/1.0 0\nprotocol HTTP/1.1 1\nfault TooLong 0\nfault Block 0\nfault Host 0\nfault Coding 0\n\
+        fault Length 0\nfault BodySize 0\nafter-close 0 0\nunfinished 2 2\nbusiest 0 1\nend\n",
+};
+
 /// Nothing but an end, of a number that has nothing open.
 static ONLY_AN_END: Row = Row {
     capture: "haboob-traffic 1 0\nend 3 65535\nstop 1\n",
@@ -76,7 +87,14 @@ static ONLY_AN_END: Row = Row {
 
 #[test]
 fn whole_texts(rt: HostRuntime) {
-    for row in [&EMPTY, &MIXED, &FAULTS, &TRAFFIC, &ONLY_AN_END] {
+    for row in [
+        &EMPTY,
+        &MIXED,
+        &FAULTS,
+        &TRAFFIC,
+        &EMPTY_LINES,
+        &ONLY_AN_END,
+    ] {
         let inspection = inspect_bytes(rt.alloc(), row.capture.as_bytes()).expect(&rt, "a capture");
         let text = inspection_text(rt.alloc(), &inspection).expect(&rt, "memory");
         assert_eq!(rt; text.as_str(), row.text);

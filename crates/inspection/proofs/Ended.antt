@@ -20,6 +20,7 @@ use Rattle.inspection.specs.declared.shares.Shares.{Shares}
 use Rattle.inspection.specs.declared.tails.Tail.{Tail}
 use Rattle.inspection.specs.Running.{with_bytes, with_tail, tail_of, rest_after_close, rest_unfinished, AreShares}
 use Rattle.inspection.proofs.Named.{text_of_end, text_of_tier, text_of_other, messages_of_other}
+use Rattle.inspection.proofs.Blanks.{unfinished_kept}
 use Rattle.inspection.proofs.Everyone.{same_shares}
 
 -- ---- one more record
@@ -148,5 +149,5 @@ pub shares_end : (tick conn : ℕ) (records : List Record) (arrivals : List Arri
 shares_end tick conn records arrivals old new tail kept is are = record {
   received = share_end (λ text list. length text) tick conn tail.bytes records arrivals old.received new.received are.received (ap (λ t. t.bytes) kept) (ap (λ s. s.received) is);
   after_close = share_end bytes_after_close tick conn (rest_after_close tail) records arrivals old.after_close new.after_close are.after_close (ap rest_after_close kept) (ap (λ s. s.after_close) is);
-  unfinished = share_end bytes_unfinished tick conn (rest_unfinished tail) records arrivals old.unfinished new.unfinished are.unfinished (ap rest_unfinished kept) (ap (λ s. s.unfinished) is);
+  unfinished = share_end bytes_unfinished tick conn (rest_unfinished tail) records arrivals old.unfinished new.unfinished are.unfinished (ap rest_unfinished kept ∙ sym (unfinished_kept (text_now conn records) (messages_now conn records arrivals))) (ap (λ s. s.unfinished) is);
 }

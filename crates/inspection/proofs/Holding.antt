@@ -125,12 +125,12 @@ tails_end records arrivals tick conn old new number numbers arrived are took = r
 }
 
 tails_more : (records : List Record) (arrivals : List Arrival) (tick conn : ℕ) (bytes : List ℕ) (o : Origin) (ms : List Message) (old new : Found) → IsNumber conn
-    → AreTails records arrivals old.tails → TookPiece tick conn (length bytes) ms old new
+    → AreTails records arrivals old.tails → EndBetween (length (text_now conn records)) (length (text_now conn records) + length bytes) ms → TookPiece tick conn bytes ms old new
     → AreTails (records ++ Piece tick conn bytes ∷ []) (arrivals ++ arrivals_with (length records) (connection_now conn records) o ms) new.tails
-tails_more records arrivals tick conn bytes o ms old new number are took = record {
+tails_more records arrivals tick conn bytes o ms old new number are ends took = record {
   few = took.few;
   each = λ c low. elim (eqb_tells c conn) [
-    | inl same ↦ rw same.1 (took.own (text_now conn records) bytes (messages_now conn records arrivals) (are.each conn number) refl
+    | inl same ↦ rw same.1 (took.own (text_now conn records) (messages_now conn records arrivals) (are.each conn number) ends
         ∙ both _ _ _ _ (sym (text_piece_own tick conn bytes records)) (sym (messages_piece_own tick conn (length records) bytes o records arrivals ms)))
     | inr other ↦ took.others c other.1 ∙ are.each c low
         ∙ both _ _ _ _ (sym (text_piece_other c tick conn bytes records low number other.1)) (sym (messages_piece_other c tick conn (length records) bytes o records arrivals ms low number other.1))
@@ -286,7 +286,7 @@ pub record Took (n : ℕ) (before after : List Connection) (piece : List ℕ) (o
   pub others : (c : ℕ) → c ≢ n → connection_at after c ≡ connection_at before c
 
 pub holds_piece : (tick conn : ℕ) (bytes : List ℕ) (ms : List Message) (records : List Record) (arrivals : List Arrival) (r : Record) (before after : List Connection) (old new : Found)
-    → r ≡ Piece tick conn bytes → IsNumber conn → Took conn before after bytes ms → TookPiece tick conn (length bytes) ms old new → Holds records arrivals before old → IsNoEarlier records r
+    → r ≡ Piece tick conn bytes → IsNumber conn → Took conn before after bytes ms → TookPiece tick conn bytes ms old new → Holds records arrivals before old → IsNoEarlier records r
     → HoldsMore records arrivals r after new
 holds_piece tick conn bytes ms records arrivals r before after old new is number read took holds later =
     let e = Piece tick conn bytes in
@@ -307,7 +307,7 @@ holds_piece tick conn bytes ms records arrivals r before after old new is number
       messages = rw (whats_more arrivals (length records) id origin ms) (took.messages (whats_of arrivals) found.messages);
       busy = rw (seconds_more arrivals (length records) id origin ms) (took.busy (seconds_of arrivals) found.busy (past_after old.busy.now.number (last_of (ticks_of records)) tick found.past no_earlier));
       past = rw now (let p = took.past in omega (arith, p));
-      tails = tails_more records arrivals tick conn bytes origin ms old new number found.tails took;
+      tails = tails_more records arrivals tick conn bytes origin ms old new number found.tails ends took;
       ended = shares_piece tick conn (length records) bytes origin records arrivals ms old.ended new.ended number numbers took.ended found.ended;
       opened = open_piece tick conn bytes records (tail_at old.tails conn) old.opened new.opened number (tail_bytes records arrivals old conn number found) took.opened found.opened;
       numbers = numbers_more records e number numbers;

@@ -11,3 +11,4 @@ pub mod Endings
 pub mod OneInspection
 pub mod Totals
 pub mod UsedOnce
+pub mod Blanks

@@ -1,5 +1,5 @@
 -- The shares of connections stay within 64 bits.
-use Rattle.std.proofs.Common.{◌≡◌, ℕ, ◌+◌, ◌^◌, ◌<◌, ◌≤◌, Bool, true, false, List, [], ◌∷◌, length, refl, sym, ap, arith, nat_lt}
+use Rattle.std.proofs.Common.{◌≡◌, ℕ, ◌+◌, ◌-◌, ◌^◌, ◌<◌, ◌≤◌, Bool, true, false, List, [], ◌∷◌, length, drop, length-drop, refl, sym, ap, arith, nat_lt}
 use Rattle.std.specs.Prelude.{if◌then◌else◌, sum_by}
 use Rattle.std.proofs.lemmas.List.Sums.{sum_by-cons, sum_by-le-sum_by, count_by-le-length}
 use Rattle.captures.specs.declared.record.Record.{Record}
@@ -12,7 +12,7 @@ use Rattle.arrivals.specs.Connections.{IsNumber, text_now, some_closes}
 use Rattle.inspection.specs.declared.inspection.Share.{Share}
 use Rattle.inspection.specs.declared.tails.Tail.{Tail}
 use Rattle.inspection.specs.declared.found.Found.{Found}
-use Rattle.inspection.specs.Figures.{share_over, ended, every_number, bytes_after, bytes_after_close, bytes_unfinished}
+use Rattle.inspection.specs.Figures.{share_over, ended, every_number, bytes_after, bytes_after_close, bytes_begun, bytes_unfinished, end_of}
 use Rattle.inspection.specs.Running.{CanAdd, CanAddAll, IsFound, tail_at, rest_of, rest_after_close, rest_unfinished}
 use Rattle.inspection.proofs.Named.{now_below}
 use Rattle.inspection.proofs.Everyone.{sum_over_tails}
@@ -31,7 +31,7 @@ after_close_part t = go t.closed
 unfinished_part : (t : Tail) → rest_unfinished t ≤ t.bytes
 unfinished_part t = go t.closed
   where
-    go : (b : Bool) → (if b then 0 else rest_of t) ≤ t.bytes
+    go : (b : Bool) → (if b then 0 else t.bytes - t.next) ≤ t.bytes
     go true = omega arith
     go false = omega arith
 
@@ -45,9 +45,9 @@ closed_within text ms = go (some_closes ms)
 unfinished_within : (text : List ℕ) (ms : List Message) → bytes_unfinished text ms ≤ length text
 unfinished_within text ms = go (some_closes ms)
   where
-    go : (b : Bool) → (if b then 0 else bytes_after text ms) ≤ length text
+    go : (b : Bool) → (if b then 0 else bytes_begun (drop (end_of ms) text)) ≤ length text
     go true = omega arith
-    go false = omega arith
+    go false = let l = length-drop (end_of ms) text in omega (arith, l)
 
 -- the bytes that came on connections that have ended, and on those that numbers name
 abbrev came_on : List Record → ℕ → ℕ

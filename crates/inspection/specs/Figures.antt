@@ -1,6 +1,7 @@
 -- What recorded traffic holds: figures of its records, of the texts of its connections and of the messages that arrive.
 use Rattle.std.specs.Prelude.{◌≡◌, ℕ, ◌+◌, ◌-◌, ◌/◌, ◌≤◌, ◌==◌, Bool, true, false, not, List, [], ◌∷◌, ◌++◌, length}
-use Rattle.std.specs.Prelude.{map, count_by, sum_by, flat_map, take, slice_get, nat_lt, bytes_eq, codes, if◌then◌else◌}
+use Rattle.std.specs.Prelude.{map, count_by, sum_by, flat_map, take, drop, slice_get, nat_lt, bytes_eq, codes}
+use Rattle.std.specs.Prelude.{if◌then◌else◌}
 use Rattle.std.specs.List.{range_with_len}
 use Rattle.captures.specs.declared.version.Version.TheVariants.{Traffic}
 use Rattle.captures.specs.declared.record.Record.{Record}
@@ -12,7 +13,7 @@ use Rattle.http_requests.specs.declared.messages.Meaning.TheVariants.{Request, B
 use Rattle.http_requests.specs.declared.messages.HttpVersion.TheVariants.{Http10, Http11}
 use Rattle.http_requests.specs.declared.messages.MessageFault.TheVariants.{TooLong, Block, Host, Coding}
 use Rattle.http_requests.specs.declared.messages.MessageFault.TheVariants.{Length, BodySize}
-use Rattle.http_requests.specs.Reference.{is_get_or_head}
+use Rattle.http_requests.specs.Reference.{is_get_or_head, blank_len}
 use Rattle.arrivals.specs.Reference.{Arrival, text_of, messages_of}
 use Rattle.arrivals.specs.Connections.{some_closes, text_now}
 use Rattle.inspection.specs.declared.counts.RecordCounts.{RecordCounts}
@@ -136,12 +137,18 @@ end_of ms = last_of (map (λ m. m.end) ms)
 abbrev pub bytes_after : List ℕ → List Message → ℕ
 bytes_after text ms = length text - end_of ms
 
--- those after a message that closes the connection, and those of one that none closes
+-- those after a message that closes the connection
 abbrev pub bytes_after_close : List ℕ → List Message → ℕ
 bytes_after_close text ms = if some_closes ms then bytes_after text ms else 0
 
+-- how many bytes of a text come after the empty lines that it begins with
+abbrev pub bytes_begun : List ℕ → ℕ
+bytes_begun rest = length rest - blank_len rest
+
+-- Of a connection that none closes: those of a message that began after its last one. A server ignores empty lines
+-- before a request line (RFC 9112, 2.2), so they are part of no message
 abbrev pub bytes_unfinished : List ℕ → List Message → ℕ
-bytes_unfinished text ms = if some_closes ms then 0 else bytes_after text ms
+bytes_unfinished text ms = if some_closes ms then 0 else bytes_begun (drop (end_of ms) text)
 
 -- n bytes on each, summed up; and on how many there are some
 abbrev pub share_over : {X : Type 0} → (X → ℕ) → List X → Share
@@ -170,7 +177,7 @@ ended records = flat_map ended_by (used_once records)
 abbrev pub every_connection : List Record → List ℕ
 every_connection records = ended records ++ map (λ c. connection_now c records) every_number
 
--- how many bytes came on a connection; those after a message that closes it, and those of one that none closes
+-- how many bytes came on a connection; those after a message that closes it, and those of a message that is unfinished
 abbrev pub received_on : List Record → ℕ → ℕ
 received_on records c = length (text_of c (used_once records))
 

@@ -1,7 +1,7 @@
 -- What is kept of a capture while its records are read.
 use Rattle.std.specs.Prelude.{◌≡◌, ◌≢◌, ℕ, ◌+◌, ◌-◌, ◌/◌, ◌^◌, ◌<◌, ◌≤◌, false, List, [], ◌∷◌, ◌++◌, length, map}
 use Rattle.std.specs.Prelude.{replicate, sum_by, slice_get, slice_index_or, codes, bytes_eq, nat_lt, if◌then◌else◌}
-use Rattle.std.specs.Prelude.{Some, unwrap_or}
+use Rattle.std.specs.Prelude.{Some, unwrap_or, drop, ◌==◌, ◌&&◌}
 use Rattle.captures.specs.declared.record.Record.{Record}
 use Rattle.captures.specs.declared.record.Record.TheVariants.{Piece, End, Tier}
 use Rattle.captures.specs.Reference.{last_of, ticks_of, used_once}
@@ -15,6 +15,8 @@ use Rattle.http_requests.specs.declared.messages.HttpVersion.TheVariants.{Http10
 use Rattle.http_requests.specs.declared.messages.MessageFault.{MessageFault}
 use Rattle.http_requests.specs.declared.messages.MessageFault.TheVariants.{TooLong, Block, Host, Coding}
 use Rattle.http_requests.specs.declared.messages.MessageFault.TheVariants.{Length, BodySize}
+use Rattle.http_requests.specs.Reference.{blank_len, begins_lf, carriage_return}
+use Rattle.http_requests.specs.Cutting.{EndBetween}
 use Rattle.arrivals.specs.Reference.{Arrival, AreArrivals}
 use Rattle.arrivals.specs.Connections.{HaveRead, HaveNumbers, IsNumber, some_closes, text_now, messages_now}
 use Rattle.arrivals.specs.declared.connections.Connection.{Connection}
@@ -123,26 +125,50 @@ pub record IsBusy (seconds : List ℕ) (busy : Busy) : Type 0 where
 
 -- ---- connections
 
+-- where the next message begins: after the last one, and the empty lines there
+abbrev pub next_of : List ℕ → List Message → ℕ
+next_of text ms = end_of ms + blank_len (drop (end_of ms) text)
+
 -- what is kept of a connection that has read this text, whose messages are these
 abbrev pub tail_of : List ℕ → List Message → Tail
-tail_of text ms = record { bytes = length text; end = end_of ms; closed = some_closes ms }
+tail_of text ms = record {
+  bytes = length text;
+  end = end_of ms;
+  next = next_of text ms;
+  closed = some_closes ms;
+  cr = last_of text == carriage_return;
+}
 
 abbrev pub empty_tail : Tail
-empty_tail = record { bytes = 0; end = 0; closed = false }
+empty_tail = record { bytes = 0; end = 0; next = 0; closed = false; cr = false }
+
+-- how many of its bytes come after the last message and the empty lines there
+abbrev pub begun_of : Tail → ℕ
+begun_of t = t.bytes - t.next
+
+-- the place after the empty lines that begin at a place of a text, of which n bytes came before this piece
+abbrev pub after_blanks : ℕ → ℕ → List ℕ → ℕ
+after_blanks bytes from piece = if nat_lt from bytes then from else from + blank_len (drop (from - bytes) piece)
+
+-- Where empty lines can go on with a piece: where the next message begins, or at the piece where its LF makes a line of
+-- the CR before it
+abbrev pub blanks_from : Tail → List ℕ → ℕ
+blanks_from t piece = if begun_of t == 1 && (t.cr && begins_lf piece) then t.bytes else t.next
 
 -- what is kept of a connection by its number
 abbrev pub tail_at : List Tail → ℕ → Tail
 tail_at tails c = slice_index_or tails c empty_tail
 
--- how many of its bytes come after its last message; those where a message has closed it, and those where none has
+-- how many of its bytes come after its last message; those where a message has closed it
 abbrev pub rest_of : Tail → ℕ
 rest_of t = t.bytes - t.end
 
 abbrev pub rest_after_close : Tail → ℕ
 rest_after_close t = if t.closed then rest_of t else 0
 
+-- how many of them are part of a message, where none has closed it
 abbrev pub rest_unfinished : Tail → ℕ
-rest_unfinished t = if t.closed then 0 else rest_of t
+rest_unfinished t = if t.closed then 0 else begun_of t
 
 -- a share with n bytes of one more connection, and two shares together
 abbrev pub with_bytes : Share → ℕ → Share
@@ -230,8 +256,8 @@ pub record IsFound (records : List Record) (arrivals : List Arrival) (f : Found)
   pub numbers : HaveNumbers records
   pub few : length arrivals ≤ sizes_of records
 
--- a piece of n bytes was taken, in which these messages end
-pub record TookPiece (tick conn bytes : ℕ) (ms : List Message) (old new : Found) : Type 0 where
+-- a piece was taken, in which these messages end
+pub record TookPiece (tick conn : ℕ) (piece : List ℕ) (ms : List Message) (old new : Found) : Type 0 where
   pub counts : new.records ≡ with_piece old.records
   pub first_tick : new.first_tick ≡ Some (unwrap_or old.first_tick tick)
   pub last_tick : new.last_tick ≡ Some tick
@@ -241,11 +267,12 @@ pub record TookPiece (tick conn bytes : ℕ) (ms : List Message) (old new : Foun
       → IsBusy (seconds ++ replicate (length ms) (tick / ticks_of_a_second)) new.busy
   pub past : new.busy.now.number ≡ tick / ticks_of_a_second
   pub few : length new.tails ≤ most_connections
-  pub own : (text piece : List ℕ) (sofar : List Message) → tail_at old.tails conn ≡ tail_of text sofar
-      → length piece ≡ bytes → tail_at new.tails conn ≡ tail_of (text ++ piece) (sofar ++ ms)
+  pub own : (text : List ℕ) (sofar : List Message) → tail_at old.tails conn ≡ tail_of text sofar
+      → EndBetween (length text) (length text + length piece) ms
+      → tail_at new.tails conn ≡ tail_of (text ++ piece) (sofar ++ ms)
   pub others : (c : ℕ) → c ≢ conn → tail_at new.tails c ≡ tail_at old.tails c
   pub ended : new.ended ≡ old.ended
-  pub opened : new.opened ≡ opened_after_piece (tail_at old.tails conn) bytes old.opened
+  pub opened : new.opened ≡ opened_after_piece (tail_at old.tails conn) (length piece) old.opened
 
 -- a record gave a tick
 abbrev pub with_tick : Found → ℕ → Found

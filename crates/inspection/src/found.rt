@@ -127,12 +127,12 @@ impl Found {
         self.records.note_tier();
     }
 
-    /// A piece of n bytes came on a connection, and these messages ended in it.
+    /// A piece came on a connection, and these messages ended in it.
     pub(crate) fn take_piece(
         &mut self,
         tick: u64,
         conn: u16,
-        bytes: usize,
+        piece: &[u8],
         messages: &[Message],
     ) -> Result<(), AllocError>
         requires counts { FewRecords (2 ^ 64 - 1) self.old.records }
@@ -140,14 +140,14 @@ impl Found {
             × (length whats + length messages.now < 2 ^ 64) }
         requires busy { self.old.busy.now.messages + length messages.now < 2 ^ 64 }
         requires few { length self.old.tails ≤ most_connections }
-        requires room { (tail_at self.old.tails conn).bytes + bytes < 2 ^ 64 }
+        requires room { (tail_at self.old.tails conn).bytes + length piece.now < 2 ^ 64 }
         requires opened { self.old.opened.now + 1 < 2 ^ 64 }
-        ensures { OnOk result (TookPiece tick conn bytes messages.now self.old self.new) }
+        ensures { OnOk result (TookPiece tick conn piece.now messages.now self.old self.new) }
     {
-        if bytes > 0 && !self.tails.is_open(conn) {
+        if !piece.is_empty() && !self.tails.is_open(conn) {
             self.opened.note_opened();
         }
-        self.tails.take(conn, bytes, messages)?;
+        self.tails.take(conn, piece, messages)?;
         self.note_tick(tick);
         self.records.note_piece();
         self.messages.note_all(messages);

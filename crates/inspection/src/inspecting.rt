@@ -45,7 +45,7 @@ fn take_record(
             let bytes = bytes.as_slice();
             let mut messages = Vec::new(alloc);
             connections.read_piece(alloc, usize::from(*conn), bytes, &mut messages)?;
-            found.take_piece(*tick, *conn, bytes.len(), &messages)
+            found.take_piece(*tick, *conn, bytes, &messages)
         }
     }
 }
@@ -61,7 +61,7 @@ fn stopped(held: Inspection, fault: CaptureFault) -> InspectFault
 }
 
 /// Reads a capture or a text of traffic, record by record, and answers what it holds. It keeps what the open
-/// connections need, and 24 bytes for each number, however many connections it names one after the other.
+/// connections need, and 32 bytes for each number, however many connections it names one after the other.
 ///
 /// # Errors
 ///

@@ -1,10 +1,14 @@
-//! The bytes of each connection that belong to no message.
+//! The bytes of each connection that belong to no whole message.
 
-ghost use Rattle.std.specs.Prelude.{◌≡◌, ◌≢◌, ℕ, ◌+◌, ◌<◌, ◌≤◌, ◌^◌, ◌++◌, [], List, length, nat_lt, OnOk};
+ghost use Rattle.std.specs.Prelude.{◌≡◌, ◌≢◌, ℕ, ◌+◌, ◌<◌, ◌≤◌, ◌^◌, ◌==◌, ◌++◌, [], List, length, nat_lt, OnOk};
+ghost use Rattle.captures.specs.Reference.{last_of};
 ghost use Rattle.http_requests.specs.declared.messages.Message.{Message as AMessage};
+ghost use Rattle.http_requests.specs.Reference.{blank_len, carriage_return};
+ghost use Rattle.http_requests.specs.Cutting.{EndBetween};
+ghost use Rattle.arrivals.specs.Connections.{some_closes};
 ghost use Rattle.inspection.specs.Figures.{end_of};
 ghost use Rattle.inspection.specs.Running.{tail_of, tail_at, empty_tail, rest_of, rest_after_close, rest_unfinished};
-ghost use Rattle.inspection.specs.Running.{most_connections};
+ghost use Rattle.inspection.specs.Running.{most_connections, next_of, begun_of, after_blanks, blanks_from};
 
 use arrivals::some_closes;
 use http_requests::Message;
@@ -19,15 +23,21 @@ pub struct Tail {
     pub bytes: u64,
     /// The place after the last byte of its last message.
     pub end: u64,
+    /// The place at which its next message begins: after the last one, and the empty lines there.
+    pub next: u64,
     /// Whether a message has closed it.
     pub closed: bool,
+    /// Whether its last byte is CR, which begins an empty line where LF follows.
+    pub cr: bool,
 }
 
 /// Nothing came yet.
 const NO_TAIL: Tail = Tail {
     bytes: 0,
     end: 0,
+    next: 0,
     closed: false,
+    cr: false,
 };
 
 /// Where the last message ends, once these came after others.
@@ -40,18 +50,100 @@ fn end_of(before: u64, messages: &[Message]) -> u64
     }
 }
 
+/// How many bytes the empty lines take with which a text begins (RFC 9112, 2.2).
+#[tactic(auto, using(http_requests::proofs::FrontLemmas::blank_le, http_requests::proofs::FrontLemmas::blank_at))]
+fn blanks(s: &[u8]) -> usize
+    ensures is { result ≡ blank_len s.now }
+    ensures within { result ≤ length s.now }
+{
+    let mut i: usize = 0;
+    while i < s.len()
+        && (s[i] == b'\n' || (s[i] == b'\r' && s.len() - i > 1 && s[i + 1] == b'\n'))
+    {
+        i += 1;
+    }
+    i
+}
+
+/// The place after the empty lines that begin at a place of a text, of which n bytes came before this piece.
+#[tactic(auto, using(std::proofs::lemmas::List::drop_min))]
+fn after_blanks(bytes: u64, from: u64, piece: &[u8]) -> u64
+    requires { bytes + length piece.now < 2 ^ 64 }
+    ensures { result ≡ after_blanks bytes from piece.now }
+{
+    if from < bytes {
+        return from;
+    }
+    let skipped = (from - bytes).min(piece.len() as u64) as usize;
+    from + blanks(&piece[skipped..]) as u64
+}
+
 impl Tail {
-    /// n bytes more came, and these messages ended in them.
-    fn after(self, bytes: usize, messages: &[Message]) -> Tail
-        requires { self.bytes + bytes < 2 ^ 64 }
-        ensures { (text piece : List ℕ) (ms : List AMessage) → self ≡ tail_of text ms
-            → length piece ≡ bytes
-            → result ≡ tail_of (text ++ piece) (ms ++ messages.now) }
+    /// How many bytes came after the last message and the empty lines there.
+    fn begun(self) -> u64
+        ensures { result ≡ begun_of self }
+    {
+        self.bytes.saturating_sub(self.next)
+    }
+
+    /// Where empty lines can go on with a piece: where the next message begins, or at the piece where its LF makes a
+    /// line of the CR before it.
+    fn blanks_from(self, piece: &[u8]) -> u64
+        ensures { result ≡ blanks_from self piece.now }
+    {
+        match piece.first() {
+            Some(b'\n') if self.begun() == 1 && self.cr => self.bytes,
+            _ => self.next,
+        }
+    }
+
+    /// Where the next message begins, once a piece came and these messages ended in it. Only bytes after the last
+    /// message are looked at, as long as they are empty lines.
+    fn next_after(self, piece: &[u8], messages: &[Message]) -> u64
+        requires { self.bytes + length piece.now < 2 ^ 64 }
+        ensures { (text : List ℕ) (ms : List AMessage) → self ≡ tail_of text ms
+            → EndBetween (length text) (length text + length piece.now) messages.now
+            → result ≡ next_of (text ++ piece.now) (ms ++ messages.now) }
+    {
+        if messages.is_empty() {
+            after_blanks(self.bytes, self.blanks_from(piece), piece)
+        } else {
+            after_blanks(self.bytes, end_of(self.end, messages), piece)
+        }
+    }
+
+    /// Whether the last byte is CR, once a piece came.
+    fn cr_after(self, piece: &[u8]) -> bool
+        ensures { (text : List ℕ) (ms : List AMessage) → self ≡ tail_of text ms
+            → result ≡ (last_of (text ++ piece.now) == carriage_return) }
+    {
+        match piece.last() {
+            Some(byte) => *byte == b'\r',
+            None => self.cr,
+        }
+    }
+
+    /// Whether a message has closed it, once these came.
+    fn closed_after(self, messages: &[Message]) -> bool
+        ensures { (text : List ℕ) (ms : List AMessage) → self ≡ tail_of text ms
+            → result ≡ some_closes (ms ++ messages.now) }
+    {
+        self.closed || some_closes(messages)
+    }
+
+    /// A piece came, and these messages ended in it.
+    fn after(self, piece: &[u8], messages: &[Message]) -> Tail
+        requires { self.bytes + length piece.now < 2 ^ 64 }
+        ensures { (text : List ℕ) (ms : List AMessage) → self ≡ tail_of text ms
+            → EndBetween (length text) (length text + length piece.now) messages.now
+            → result ≡ tail_of (text ++ piece.now) (ms ++ messages.now) }
     {
         Tail {
-            bytes: self.bytes + bytes as u64,
+            bytes: self.bytes + piece.len() as u64,
             end: end_of(self.end, messages),
-            closed: self.closed || some_closes(messages),
+            next: self.next_after(piece, messages),
+            closed: self.closed_after(messages),
+            cr: self.cr_after(piece),
         }
     }
 
@@ -69,11 +161,11 @@ impl Tail {
         if self.closed { self.rest() } else { 0 }
     }
 
-    /// How many bytes came after the last message, where none has closed the connection.
+    /// How many bytes came of a message that is unfinished, where none has closed the connection.
     pub(crate) fn rest_unfinished(self) -> u64
         ensures { result ≡ rest_unfinished self }
     {
-        if self.closed { 0 } else { self.rest() }
+        if self.closed { 0 } else { self.begun() }
     }
 }
 
@@ -123,25 +215,26 @@ impl Tails {
         Ok(())
     }
 
-    /// n bytes came on a connection, and these messages ended in them.
+    /// A piece came on a connection, and these messages ended in it.
     pub(crate) fn take(
         &mut self,
         conn: u16,
-        bytes: usize,
+        piece: &[u8],
         messages: &[Message],
     ) -> Result<(), AllocError>
         requires few { length self.old ≤ most_connections }
-        requires room { (tail_at self.old conn).bytes + bytes < 2 ^ 64 }
+        requires room { (tail_at self.old conn).bytes + length piece.now < 2 ^ 64 }
         ensures few { OnOk result (length self.new ≤ most_connections) }
-        ensures own { OnOk result ((text piece : List ℕ) (ms : List AMessage)
-            → tail_at self.old conn ≡ tail_of text ms → length piece ≡ bytes
-            → tail_at self.new conn ≡ tail_of (text ++ piece) (ms ++ messages.now)) }
+        ensures own { OnOk result ((text : List ℕ) (ms : List AMessage)
+            → tail_at self.old conn ≡ tail_of text ms
+            → EndBetween (length text) (length text + length piece.now) messages.now
+            → tail_at self.new conn ≡ tail_of (text ++ piece.now) (ms ++ messages.now)) }
         ensures others { OnOk result
             ((c : ℕ) → c ≢ conn → tail_at self.new c ≡ tail_at self.old c) }
     {
         let place = usize::from(conn);
         self.reach(place)?;
-        self.list[place] = self.list[place].after(bytes, messages);
+        self.list[place] = self.list[place].after(piece, messages);
         Ok(())
     }
 

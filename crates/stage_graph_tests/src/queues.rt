@@ -3,34 +3,54 @@
 use stage_queue::{Memory, Placing, Queue, Slots};
 use std::test::*;
 
+/// What is pushed, or that a value is popped; what comes back; and then the front and the length.
+type QueueStep = (Option<u64>, Option<u64>, Option<u64>, usize);
+
+static QUEUE_STEPS: [QueueStep; 8] = [
+    (Some(1), None, Some(1), 1),
+    (Some(2), None, Some(1), 2),
+    (Some(3), Some(3), Some(1), 2),
+    (None, Some(1), Some(2), 1),
+    (Some(4), None, Some(2), 2),
+    (None, Some(2), Some(4), 1),
+    (None, Some(4), None, 0),
+    (None, None, None, 0),
+];
+
 #[test]
 fn queue_of_two(rt: HostRuntime) -> Result<(), Fail> {
     let mut queue = Queue::new(rt.alloc(), 2)?;
-    assert!(rt; queue.is_empty());
-    assert_eq!(rt; queue.capacity(), 2);
-    assert_eq!(rt; queue.push(1u64), Ok(()));
-    assert_eq!(rt; queue.push(2), Ok(()));
-    assert!(rt; queue.is_full());
-    assert_eq!(rt; queue.push(3), Err(3));
-    assert_eq!(rt; queue.len(), 2);
-    assert_eq!(rt; queue.front().copied(), Some(1));
-    assert_eq!(rt; queue.pop(), Some(1));
-    assert_eq!(rt; queue.push(4), Ok(()));
-    assert_eq!(rt; queue.pop(), Some(2));
-    assert_eq!(rt; queue.pop(), Some(4));
-    assert_eq!(rt; queue.pop(), None);
+    for (pushed, back, front, len) in QUEUE_STEPS.iter() {
+        let told = match pushed {
+            Some(value) => queue.push(*value).err(),
+            None => queue.pop(),
+        };
+        let found = (queue.front().copied(), queue.len());
+        assert_eq!(rt; (told, found), (*back, (*front, *len)));
+        let ends = (queue.is_empty(), queue.is_full(), queue.capacity());
+        assert_eq!(rt; ends, (*len == 0, *len == 2, 2));
+    }
     Ok(())
 }
+
+/// A place, the value for it, and why it is refused.
+type SlotStep = (usize, char, Option<(Placing, char)>);
+
+static SLOT_STEPS: [SlotStep; 4] = [
+    (1, 'b', None),
+    (1, 'c', Some((Placing::Double, 'c'))),
+    (2, 'c', Some((Placing::Stranger, 'c'))),
+    (0, 'a', None),
+];
 
 #[test]
 fn two_slots(rt: HostRuntime) -> Result<(), Fail> {
     let mut slots = Slots::new(rt.alloc(), 2)?;
     assert_eq!(rt; slots.len(), 2);
-    assert_eq!(rt; slots.place(1, 'b'), Ok(()));
-    assert_eq!(rt; slots.place(1, 'c'), Err((Placing::Double, 'c')));
-    assert_eq!(rt; slots.place(2, 'c'), Err((Placing::Stranger, 'c')));
-    assert!(rt; !slots.is_full());
-    assert_eq!(rt; slots.place(0, 'a'), Ok(()));
+    for (place, value, refused) in SLOT_STEPS.iter() {
+        assert!(rt; !slots.is_full());
+        assert_eq!(rt; slots.place(*place, *value).err(), *refused);
+    }
     assert!(rt; slots.is_full());
     if slots.is_full() {
         assert!(rt; slots.into_list().as_slice() == ['a', 'b'].as_slice());
