@@ -87,38 +87,73 @@ fn check_look<F: Tree, R: Abort>(
     file: usize,
 ) -> Result<(), Fail> {
     let there = bring(list, file)?;
-    assert_eq!(rt; cache.look(file)?.is_some(), there);
+    let found = cache.look(file)?;
+    assert_eq!(rt; found.is_some(), there);
     Ok(())
 }
 
-/// A page is kept, and stands in the list.
-fn check_keep<F: Tree, R: Abort>(
-    rt: &R,
-    alloc: Global,
-    cache: &mut PageCache<F>,
-    list: &mut Vec<usize>,
-    page: Arc<Page<F>>,
-    limit: usize,
-) -> Result<(), Fail> {
-    let file = page.file();
-    assert_eq!(rt; page.size(), size_of(file));
-    let answer = cache.keep(page);
+/// What is answered where a page of a file is kept.
+fn answer_of(file: usize, limit: usize) -> Keeping {
     if size_of(file) > limit {
-        assert_eq!(rt; answer, Keeping::TooBig);
-        return Ok(());
+        Keeping::TooBig
+    } else {
+        Keeping::Kept
     }
-    assert_eq!(rt; answer, Keeping::Kept);
-    if !bring(list, file)? {
+}
+
+/// The list, once a page of a file was kept.
+fn keep_in(
+    alloc: Global,
+    list: &mut Vec<usize>,
+    file: usize,
+    limit: usize,
+) -> Result<(), AllocError> {
+    if size_of(file) <= limit && !bring(list, file)? {
         *list = put(alloc, list, file, limit)?;
     }
     Ok(())
 }
 
+/// A page is kept where it isn't too large.
+fn check_keep<F: Tree, R: Abort>(
+    rt: &R,
+    cache: &mut PageCache<F>,
+    page: Arc<Page<F>>,
+    limit: usize,
+) {
+    let (file, size) = (page.file(), page.size());
+    let answer = cache.keep(page);
+    assert_eq!(rt; (size, answer), (size_of(file), answer_of(file, limit)));
+}
+
 /// The pages that are there are those of the list.
 fn check_there<F: Tree, R: Abort>(rt: &R, cache: &PageCache<F>, list: &[usize]) {
+    assert_eq!(rt; (cache.len(), cache.bytes()), (list.len(), total(list)));
     for file in 0..6usize {
         assert_eq!(rt; cache.holds(file), list.contains(&file));
     }
+}
+
+/// A look, or a keep of a page, as a number says.
+fn check_turn<F: Tree, R: Abort>(
+    rt: &R,
+    files: &Snapshot,
+    alloc: Global,
+    cache: &mut PageCache<F>,
+    list: &mut Vec<usize>,
+    number: u32,
+    limit: usize,
+) -> Result<(), Fail>
+    requires { files.now ≡ F.files }
+{
+    let file = (number >> 16) as usize % 6;
+    if number >> 31 == 0 {
+        return check_look(rt, cache, list, file);
+    }
+    assert!(rt; files.len() == 6);
+    let page = Page::build(alloc, files, file)?;
+    check_keep(rt, cache, page, limit);
+    Ok(keep_in(alloc, list, file, limit)?)
 }
 
 /// Makes looks and keeps of files by turns that a generator picks, and compares.
@@ -136,14 +171,7 @@ fn check_sequence<F: Tree, R: Abort>(
     let mut seed: u32 = 1;
     for _ in 0..400u32 {
         seed = seed.wrapping_mul(1_664_525).wrapping_add(1_013_904_223);
-        let file = (seed >> 16) as usize % 6;
-        if seed >> 31 == 0 {
-            check_look(rt, &mut cache, &mut list, file)?;
-        } else {
-            let page = Page::build(alloc, files, file)?;
-            check_keep(rt, alloc, &mut cache, &mut list, page, limit)?;
-        }
-        assert_eq!(rt; (cache.len(), cache.bytes()), (list.len(), total(&list)));
+        check_turn(rt, files, alloc, &mut cache, &mut list, seed, limit)?;
         check_there(rt, &cache, &list);
     }
     Ok(())
