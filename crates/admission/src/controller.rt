@@ -116,8 +116,9 @@ impl Controller {
             (λ decision. (offers : List Offer) → ControllerAfter offers self.old
             → decision ≡ decide (station_of self.old) (decided (station_of self.old) offers)
             (record { tier = tier; tick = tick; service = service; delay = 0 })) }
-        ensures fits { OnOk result ((offers : List Offer) → ControllerAfter offers self.old → ControllerAfter
-            (offers ++ record { tier = tier; tick = tick; service = service; delay = 0 } ∷ []) self.new) }
+        ensures fits { OnOk result
+            ((offers : List Offer) → ControllerAfter offers self.old → ControllerAfter (offers
+            ++ record { tier = tier; tick = tick; service = service; delay = 0 } ∷ []) self.new) }
         ensures next { OnOk result
             ((last_tick self.new ≡ tick) × (self.new.offers ≡ self.old.offers + 1)
             × (station_of self.new ≡ station_of self.old)) }
@@ -142,8 +143,9 @@ impl Controller {
             (λ decision. (offers : List Offer) → ControllerAfter offers self.old
             → decision ≡ decide (station_of self.old) (decided (station_of self.old) offers)
             (record { tier = tier; tick = tick; service = service; delay = delay })) }
-        ensures fits { OnOk result ((offers : List Offer) → ControllerAfter offers self.old → ControllerAfter
-            (offers ++ record { tier = tier; tick = tick; service = service; delay = delay } ∷ []) self.new) }
+        ensures fits { OnOk result
+            ((offers : List Offer) → ControllerAfter offers self.old → ControllerAfter (offers
+            ++ record { tier = tier; tick = tick; service = service; delay = delay } ∷ []) self.new) }
 
         // What the next offer asks.
         ensures next { OnOk result
@@ -151,7 +153,8 @@ impl Controller {
             × (station_of self.new ≡ station_of self.old)) }
 
         // It fits beside its delay.
-        ensures finish { IfOk result (λ decision. finish_or 0 decision ≤ MAX_TICK + MAX_SERVICE * MAX_OFFERS) }
+        ensures finish { IfOk result
+            (λ decision. finish_or 0 decision ≤ MAX_TICK + MAX_SERVICE * MAX_OFFERS) }
 
         // Without memory nothing has changed.
         ensures err { OnErr result (self.new ≡ self.old) }

@@ -61,7 +61,8 @@ fn fill(others: &mut BinaryHeap<Reverse<u64>>, servers: usize) -> Result<(), All
     requires none { (heap_items others.old ≡ []) × (heap_len others.old ≡ 0) }
     requires order { IsOrdered (heap_items others.old) }
     requires some { 1 ≤ servers }
-    ensures ticks { OnOk result (0 ∷ sorted (ticks_of (heap_items others.new)) ≡ replicate servers 0) }
+    ensures ticks { OnOk result
+        (0 ∷ sorted (ticks_of (heap_items others.new)) ≡ replicate servers 0) }
     ensures order { OnOk result (IsOrdered (heap_items others.new)) }
     ensures len { OnOk result (heap_len others.new + 1 ≡ servers) }
     ensures capacity { OnOk result (servers ≤ heap_capacity others.new) }

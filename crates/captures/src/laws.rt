@@ -60,6 +60,6 @@ pub fn upgrade_of_a_capture()
 
 /// An upgraded text given again comes out unchanged.
 pub fn upgrade_again()
-    ensures { (to : AVersion) (old new again : List ℕ) → IsUpgrade to old new → IsUpgrade to new again
-        → again ≡ new }
+    ensures { (to : AVersion) (old new again : List ℕ)
+        → IsUpgrade to old new → IsUpgrade to new again → again ≡ new }
 {}

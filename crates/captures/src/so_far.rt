@@ -92,7 +92,8 @@ impl SoFar {
 
     /// Takes one more record into account.
     pub(crate) fn add(&mut self, version: Version, next: &Record)
-        ensures { self.old.count < 2 ^ 64 - 1 → seen self.new ≡ after version (seen self.old) next.now }
+        ensures { self.old.count < 2 ^ 64 - 1
+            → seen self.new ≡ after version (seen self.old) next.now }
     {
         self.count = self.count.saturating_add(1);
         match next {

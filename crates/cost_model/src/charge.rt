@@ -142,7 +142,8 @@ impl Tariff {
         len: u64,
     ) -> Result<Charge, AllocError>
         requires { len ≤ max_file_bytes }
-        ensures { IfOk result (λ c. c ≡ charge self.now target.now outcome.now head unmodified len) }
+        ensures { IfOk result
+            (λ c. c ≡ charge self.now target.now outcome.now head unmodified len) }
     {
         let route = self.routes.of_target(alloc, target)?;
         Ok(charge_on(self.costs, route, outcome, head, unmodified, len))

@@ -54,8 +54,10 @@ impl Costs {
     /// The costs of numbers that are in their ranges: of a file, of each 1,024 bytes of it that are given, and of every
     /// other answer; of one server, without a delay.
     pub fn in_range(file: u64, kib: u64, error: u64) -> Costs
-        requires { is_in_range (record { file = file; kib = kib; error = error; servers = 1; delay = 0 }) ≡ true }
-        ensures { result ≡ record { file = file; kib = kib; error = error; servers = 1; delay = 0 } }
+        requires { is_in_range
+            (record { file = file; kib = kib; error = error; servers = 1; delay = 0 }) ≡ true }
+        ensures { result
+            ≡ record { file = file; kib = kib; error = error; servers = 1; delay = 0 } }
     {
         Costs {
             file,

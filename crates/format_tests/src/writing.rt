@@ -39,7 +39,8 @@ pub fn write_files<W: Write>(
     files: &[File],
 ) -> Result<(), WriteFault>
     requires { CanFail output.old }
-    ensures text { OnOk result (Appends output.old.bytes output.new.bytes (snapshot_text files.now)) }
+    ensures text { OnOk result
+        (Appends output.old.bytes output.new.bytes (snapshot_text files.now)) }
     ensures rules { OnOk result (IsSnapshotText (snapshot_text files.now) files.now) }
     ensures count { Counts output.old.failures output.new.failures result }
 {

@@ -114,7 +114,8 @@ pub fn inspect_into<R: Read + Drop, W: Write + Drop>(
     requires writing { output.over ≡ false }
     ensures device { Tells Place.Report (Runs Place.Report (InspectSays (port input result.1))
         output.bytes result.2.bytes) result.0 }
-    ensures reads { BlamesReader capture_failures is_untold input.failures result.1.failures result.0 }
+    ensures reads { BlamesReader capture_failures is_untold
+        input.failures result.1.failures result.0 }
     ensures writes { result.2.over ≡ blames Place.Report result.0 }
 {
     let (ran, job, output) = run_blaming(alloc, Inspecting { alloc, input }, Place::Report, output);

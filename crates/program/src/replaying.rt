@@ -245,9 +245,11 @@ pub fn replay_into<
 ) -> (Result<(), Fault>, Devices<S, C, W, O>)
     requires reading { CanFail devices.snapshot × CanFail devices.capture }
     requires writing { (devices.written.over ≡ false) × (devices.report.over ≡ false) }
-    ensures device { Tells Place.Report (Tells Place.Replies (RunsAtBoth (ReplaySays wanted settings.now
+    ensures device { Tells Place.Report (Tells Place.Replies (RunsAtBoth
+        (ReplaySays wanted settings.now
         (port devices.snapshot result.1.snapshot) (port devices.capture result.1.capture))
-        devices.written.bytes result.1.written.bytes devices.report.bytes result.1.report.bytes)) result.0 }
+        devices.written.bytes result.1.written.bytes
+        devices.report.bytes result.1.report.bytes)) result.0 }
     ensures reads { BlamesReaders wanted
         (port devices.snapshot result.1.snapshot) (port devices.capture result.1.capture) result.0 }
     ensures writes { result.1.written.over ≡ blames Place.Replies result.0 }

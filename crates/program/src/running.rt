@@ -172,7 +172,8 @@ pub(crate) fn run_blaming<J: Job + Drop, W: Write + Drop>(
     requires ready { J.ready job }
     requires place { blames place (Err (Fault.Write place)) ≡ true }
     requires healthy { sink.over ≡ false }
-    ensures stands { Tells place (RunsJob place J.says job result.1 sink.bytes result.2.bytes) result.0 }
+    ensures stands { Tells place
+        (RunsJob place J.says job result.1 sink.bytes result.2.bytes) result.0 }
     ensures writes { result.2.over ≡ blames place result.0 }
 {
     let (ran, job, sink) = run_buffered(alloc, job, place, sink);

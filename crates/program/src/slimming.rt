@@ -67,8 +67,9 @@ pub fn slim_into<R: Read + Drop, W: Write + Drop>(
 ) -> (Result<(), Fault>, Input<R>, Sink<W>)
     requires reading { CanFail input }
     requires writing { output.over ≡ false }
-    ensures device { Tells Place.Output (Runs Place.Output (SlimSays queries to (port input result.1))
-        output.bytes result.2.bytes) result.0 }
+    ensures device { Tells Place.Output
+        (Runs Place.Output (SlimSays queries to (port input result.1)) output.bytes result.2.bytes)
+        result.0 }
     ensures reads { BlamesReader reader_failures is_cut input.failures result.1.failures result.0 }
     ensures writes { result.2.over ≡ blames Place.Output result.0 }
 {

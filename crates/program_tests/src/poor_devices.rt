@@ -216,7 +216,8 @@ fn answer_at_a_vector(rt: HostRuntime) -> Result<(), Fail> {
 /// The replies to what a reader gives whose type tells no bytes: these are the whole answer all the same, to a capture
 /// after a snapshot that keeps the rules.
 fn replies_to(alloc: Global, reader: Flaky<'_>) -> Result<Vec<u8>, Fault>
-    ensures { IfOk result (λ replies. AfterSnapshot None (WritesAnswer (Some []) (Some replies.items))) }
+    ensures { IfOk result
+        (λ replies. AfterSnapshot None (WritesAnswer (Some []) (Some replies.items))) }
 {
     let mut replies = Output::new(Vec::new(alloc));
     run_bundle(alloc, &mut Input::new(reader), &mut replies)?;

@@ -302,7 +302,8 @@ impl Settings {
         requires { recorded ≤ max_tick }
         ensures value { result ≡ recorded * 100 / self.now.speed }
         ensures range { result ≤ recorded }
-        ensures rises { (earlier : ℕ) → earlier ≤ recorded → earlier * 100 / self.now.speed ≤ result }
+        ensures rises { (earlier : ℕ) → earlier ≤ recorded
+            → earlier * 100 / self.now.speed ≤ result }
     {
         if self.speed == MIN_SPEED {
             return recorded;

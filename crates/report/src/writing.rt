@@ -55,7 +55,8 @@ fn reject_line(number: usize) -> Line
 /// Writes the lines of the rejected requests, one after another. It takes no memory.
 fn write_rejects<W: Write>(out: &mut Output<W>, rejected: &[usize]) -> Result<(), Failed>
     requires { CanFail out.old }
-    ensures lines { WritesProperPrefix out.old.bytes out.new.bytes result (reject_lines rejected.now) }
+    ensures lines { WritesProperPrefix out.old.bytes out.new.bytes result
+        (reject_lines rejected.now) }
     ensures count { CountsFailed out.old.failures out.new.failures result }
 {
     for number in rejected {

@@ -19,7 +19,8 @@ use toml::{Table, Value};
 
 /// What a table has at a key.
 pub(crate) fn member_of(table: &Table, key: Key) -> Option<&Value>
-    ensures { option_map (λ v. view v.now) result ≡ get_member (name_of key) (table_view table.now) }
+    ensures { option_map (λ v. view v.now) result
+        ≡ get_member (name_of key) (table_view table.now) }
 {
     table.get(key.name())
 }
@@ -54,7 +55,8 @@ pub(crate) fn route_number(
 ///
 /// `Shape` where it is left out or no text, `Range` where no prefix is written so, or `Memory`.
 fn prefix_in(alloc: Global, table: &Table) -> Result<Prefix, ConfigFault>
-    ensures { IsAnswer (prefix_in (get_member (name_of Key.RoutePrefix) (table_view table.now))) result }
+    ensures { IsAnswer
+        (prefix_in (get_member (name_of Key.RoutePrefix) (table_view table.now))) result }
 {
     let Some(value) = member_of(table, Key::RoutePrefix) else {
         return Err(ConfigFault::shape(Key::RoutePrefix));
@@ -86,7 +88,8 @@ fn route_in(alloc: Global, delay: u64, value: &Value) -> Result<Route, ConfigFau
 /// The routes of a list, in their order.
 fn each_route(alloc: Global, delay: u64, items: &Array) -> Result<Vec<Route>, ConfigFault>
     requires { delay ≤ MAX_DELAY }
-    ensures routes { Shows (λ routes. routes.items) (each_route delay (array_view items.now)) result }
+    ensures routes { Shows (λ routes. routes.items)
+        (each_route delay (array_view items.now)) result }
     ensures len { IfOk result (λ routes. length routes.items ≡ length items.now.items) }
 {
     let mut routes = Vec::new(alloc);

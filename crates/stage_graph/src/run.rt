@@ -236,7 +236,8 @@ fn next_item<C: Chain, N: RunName, L: Ledger, R: Wait>(
     seat: &mut Share<L>,
     taken: Option<C::Item>,
 ) -> Option<C::Item>
-    requires worker { (worker < workers N.plan) × (stage ≡ stage_at N.plan worker) × (stage < stages N.plan) }
+    requires worker { (worker < workers N.plan) × (stage ≡ stage_at N.plan worker)
+        × (stage < stages N.plan) }
     requires part { 0 < seat.old.parts }
     requires begun { IfSome taken (λ x. C.Item.done_of x ≡ cut_before N.plan stage) }
     ensures begun { IfSome result (λ x. C.Item.done_of x ≡ cut_before N.plan stage) }

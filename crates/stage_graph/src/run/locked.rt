@@ -48,7 +48,8 @@ impl<C: Chain, N: RunName, L: Ledger> Locked<C, N, L> {
     // The stage of a worker, and the steps that are done where it ends.
     pub(super) fn place(&self, worker: usize) -> (usize, usize)
         requires { worker < workers N.plan }
-        ensures { IsTask N.plan worker result.0 result.1 (cut_before N.plan (stage_at N.plan worker)) }
+        ensures { IsTask N.plan worker result.0 result.1
+            (cut_before N.plan (stage_at N.plan worker)) }
     {
         self.floor.place(worker)
     }

@@ -182,8 +182,10 @@ fn carry_one<C: Chain, N: RunName, L: Ledger, G: Gate, R: Wait>(
     picked: Picked<C>,
 )
     requires cut { last_cut N.plan ≡ C.steps }
-    requires picked { IsTask N.plan picked.worker picked.stage picked.cut (C.Item.done_of picked.item) }
-    requires visit { (visit.old.stage ≡ picked.stage) × (visit.old.number ≡ C.Item.number_of picked.item)
+    requires picked { IsTask N.plan picked.worker picked.stage picked.cut
+        (C.Item.done_of picked.item) }
+    requires visit { (visit.old.stage ≡ picked.stage)
+        × (visit.old.number ≡ C.Item.number_of picked.item)
         × (visit.old.stand ≡ Stand.Held) }
     ensures { visit.new.stand ≡ Stand.Left }
 {

@@ -127,7 +127,8 @@ impl<C: Chain, N: RunName, L: Ledger> Shared<C, N, L> {
     // The stage of a worker, and the steps that are done where it ends.
     pub(super) fn place<R: Wait>(&self, rt: &R, worker: usize) -> (usize, usize)
         requires { worker < workers N.plan }
-        ensures { IsTask N.plan worker result.0 result.1 (cut_before N.plan (stage_at N.plan worker)) }
+        ensures { IsTask N.plan worker result.0 result.1
+            (cut_before N.plan (stage_at N.plan worker)) }
     {
         self.locked.lock(rt).place(worker)
     }
@@ -381,7 +382,8 @@ impl<C: Chain, N: RunName, L: Ledger> Shared<C, N, L> {
         stage: usize,
         locked: MutexGuard<'a, Locked<C, N, L>>,
     ) -> MutexGuard<'a, Locked<C, N, L>>
-        requires { HasNoRoom N.plan (standing N.plan N.count (mutex_guard_value locked).floor) stage }
+        requires { HasNoRoom N.plan
+            (standing N.plan N.count (mutex_guard_value locked).floor) stage }
     {
         self.for_room_of(stage).sleep(rt, locked)
     }
