@@ -6,10 +6,11 @@ status, line on standard error and what is written.
 
 Two runs of 100,000 requests come first, then replays at the limits and just past them, then COUNT random ones (40
 without it), made from the seeds FIRST (0 without it), FIRST + 1 and so on: the same seed gives the same replay. About
-a third of these have a fault. Then come HEAVY heavy ones, from the seeds FIRST, FIRST + 1 and so on too: most have
-batches so large that the staged engine shares the work among threads. Each is run with both engines, and compared byte
-for byte. The cuts of the steps into stages, the workers, the capacities, the batch and the cache are drawn at random
-for each, but for the first, which has those of the default settings: nothing that is written may depend on them.
+a third of these have a fault. One of LONG_TURN is long: it has small pieces for several batches of a usual size. Then
+come HEAVY heavy ones, from the seeds FIRST, FIRST + 1 and so on too: most have batches so large that the staged engine
+shares the work among threads. Each is run with both engines, and compared byte for byte. The cuts of the steps into
+stages, the workers, the capacities, the batch and the cache are drawn at random for each, but for the first, which has
+those of the default settings: nothing that is written may depend on them.
 
 Of each the table of decisions is compared too, with its report, and what its capture holds; and its settings, which are
 written out, and once more from the text that was written.
@@ -50,6 +51,9 @@ PARTS = {
 }
 START = 784111777
 FAULTS = ("", "", "", "", "", "snapshot", "capture", "settings")
+# One seed in so many gives a long replay; half of their captures have a fault.
+LONG_TURN = 12
+LONG_FAULTS = ("", "capture")
 HEAVY = 20
 HEAVY_FAULTS = ("", "", "", "capture")
 # What an upgrade is asked for, and the format that it writes where the recording's own isn't a later one.
@@ -919,6 +923,46 @@ def heavy_replay(seed, faults=HEAVY_FAULTS):
     return snapshot_text(chance, files, False), capture, heavy_settings(chance)
 
 
+def long_records(chance, names, times, form):
+    """600 to 2,500 small pieces on 1 to 200 connections, with their ends and tiers: requests, often cut elsewhere, of
+    which few are odd."""
+    conns = chance.sample(range(form.last + 1), chance.choice((1, 3, 20, 200)))
+    counts = collections.Counter(chance.choices(conns, k=chance.randint(600, 2500)))
+    waiting = {}
+    for conn, count in counts.items():
+        texts = [plain_request(chance, names) for _ in range(count)]
+        if chance.random() < 0.3:
+            texts[chance.randrange(count)] = random_request(chance, names, times)
+        waiting[conn] = cut_elsewhere(chance, texts) if chance.random() < 0.4 else texts
+    if form.again:
+        waiting = {conn: in_lives(chance, pieces) for conn, pieces in waiting.items()}
+    records = mixed(chance, waiting)
+    return with_tiers(chance, records) if form.tiers else records
+
+
+def long_settings(chance):
+    """A document of settings with a batch of 512 to 2,048 pieces, and often with room for all pages; or none."""
+    if chance.random() < 0.3:
+        return b""
+    tables = random_values(chance)
+    tables["floor"]["batch"] = chance.choice((512, 513, 640, 1024, chance.randint(512, 2048)))
+    if chance.random() < 0.8:
+        tables["floor"]["cache"] = 2**30
+    return document_text(chance, tables).encode()
+
+
+def long_replay(seed, faults=LONG_FAULTS):
+    """Snapshot, capture and settings of a seed: small pieces for several batches, of a usual size."""
+    chance = random.Random("long, %d" % seed)
+    files = random_files(chance, START)
+    names = [name for name, _, _ in files]
+    times = [START, START + 1] + [time for _, time, _ in files]
+    form = chance.choice(reference.FORMATS)
+    records = long_records(chance, names, times, form)
+    capture = capture_text(chance, form, START, records, chance.choice(faults) == "capture")
+    return snapshot_text(chance, files, False), capture, long_settings(chance)
+
+
 def faulty_capture(seed):
     """The text of a recording with a fault, that a seed gives."""
     chance = random.Random("a fault, %d" % seed)
@@ -1177,7 +1221,8 @@ def compare_random(comparison, count, first):
     ends = {}
     for seed in range(first, first + count):
         comparison.speed = SPEEDS[seed % len(SPEEDS)]
-        status, *_ = comparison.compare("seed %d" % seed, *random_replay(seed))
+        drawn = long_replay(seed) if seed % LONG_TURN == 3 else random_replay(seed)
+        status, *_ = comparison.compare("seed %d" % seed, *drawn)
         comparison.speed = 100
         ends[status] = ends.get(status, 0) + 1
         comparison.upgrade_all("seed %d, a fault" % seed, faulty_capture(seed))

@@ -1,7 +1,8 @@
 #!/usr/bin/env python3
 """Ties the promises of docs/PROMISES.md to the edits that must be refused.
 
-    checks/promises.py            checks that each edit names a promise, and that each test that a row names is there
+    checks/promises.py            checks that each edit names a promise and still fits its sources, and that each test
+                                  that a row names is there
     checks/promises.py --print    prints each promise with its edits
 
 An edit names its promise by a line `promise: KEY`, or `promise: CRATE/KEY` where that is another crate's. Exits with 1
@@ -56,7 +57,25 @@ def named():
     return names
 
 
+def fits(path, crate):
+    """Whether each `old:` text of an edit stands just once in its file, as the pairs before it left that."""
+    texts, place, old = {}, "", ""
+    for line in read(path).split("\n"):
+        word, _, rest = line.partition(": ")
+        if word == "file":
+            place = os.path.join(TOP, "crates", crate, rest.strip())
+            texts.setdefault(place, read(place) if os.path.exists(place) else "")
+        elif word == "old":
+            old = rest
+            if texts.get(place, "").count(old) != 1:
+                return False
+        elif word == "new":
+            texts[place] = texts[place].replace(old, rest, 1)
+    return True
+
+
 def amiss(rows, refused, unnamed):
+    yield from ("%s: doesn't fit" % os.path.relpath(path, TOP) for path, crate in edits() if not fits(path, crate))
     yield from ("%s: names no promise" % os.path.relpath(path, TOP) for path in unnamed)
     for place, paths in refused.items():
         if place not in rows:
