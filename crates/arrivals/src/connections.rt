@@ -32,7 +32,8 @@ pub enum Connection {
 impl Connection {
     /// The first byte of its text comes, where none came yet.
     fn begin(&mut self, alloc: Global)
-        ensures reads { (text : List ℕ) (ms : List AMessage) → HasRead self.old text ms → HasRead self.new text ms }
+        ensures reads { (text : List ℕ) (ms : List AMessage)
+            → HasRead self.old text ms → HasRead self.new text ms }
         ensures room { (n : ℕ) → HasRoom self.old n → HasRoom self.new n }
         ensures begun { self.new ≢ Silent }
     {
@@ -53,7 +54,8 @@ impl Connection {
         ensures ok { OnOk result
             ((text : List ℕ) (ms : List AMessage) → HasRead self.old text ms
             → ReadMore text ms self.new piece.now out.new.items) }
-        ensures lacks { OnErr result ((self.new ≡ Closed) × ReadSome self.old piece.now out.new.items) }
+        ensures lacks { OnErr result
+            ((self.new ≡ Closed) × ReadSome self.old piece.now out.new.items) }
     {
         self.begin(alloc);
         match self {

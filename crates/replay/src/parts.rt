@@ -222,7 +222,8 @@ fn serve_part<F: Tree + Send + Sync, G: Gate + Sync, T: Threads + Wait + Sync, W
     requires start { desk.old.start ≤ max_start }
     requires next { (arrivals : List Arrival) × (more : List Arrival)
         × Upcoming (terms_of F.files server.now) arrivals more messages.items desk.old }
-    requires limit { (desk.old.totals.answered ≤ floors.now.most) × (floors.now.most ≤ MAX_MESSAGES) }
+    requires limit { (desk.old.totals.answered ≤ floors.now.most)
+        × (floors.now.most ≤ MAX_MESSAGES) }
     requires failures { CanFail writer.old }
     ensures stands { OnOk result
         (DecidesComing (terms_of F.files server.now) messages.items desk.old desk.new) }
@@ -267,7 +268,8 @@ pub(crate) fn serve_parts<
     requires start { desk.old.start ≤ max_start }
     requires next { (arrivals : List Arrival) × (more : List Arrival)
         × Upcoming (terms_of F.files server.now) arrivals more (joined parts.items) desk.old }
-    requires limit { (desk.old.totals.answered ≤ floors.now.most) × (floors.now.most ≤ MAX_MESSAGES) }
+    requires limit { (desk.old.totals.answered ≤ floors.now.most)
+        × (floors.now.most ≤ MAX_MESSAGES) }
     requires failures { CanFail writer.old }
     ensures stands { OnOk result
         (DecidesComing (terms_of F.files server.now) (joined parts.items) desk.old desk.new) }

@@ -51,7 +51,8 @@ fn counted(controller: &Controller, tier: u8) -> (u64, u64)
 
 /// A tier's counts with its controls.
 fn tally(counted: (u64, u64), controls: Vec<Control>) -> Tally
-    ensures { result ≡ record { admitted = counted.0; rejected = counted.1; controls = controls.items } }
+    ensures { result
+        ≡ record { admitted = counted.0; rejected = counted.1; controls = controls.items } }
 {
     Tally {
         admitted: counted.0,

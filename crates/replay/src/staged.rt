@@ -46,7 +46,8 @@ fn serve_batch<F: Tree + Send + Sync, G: Gate + Sync, T: Threads + Wait + Sync, 
     requires start { desk.old.start ≤ max_start }
     requires next { (records : List ARecord) × (rs : List ARecord) × (arrivals : List Arrival)
         × ComeNext (terms_of F.files server.now) records rs arrivals seats origins.now desk.old }
-    requires limit { (desk.old.totals.answered ≤ floors.now.most) × (floors.now.most ≤ MAX_MESSAGES) }
+    requires limit { (desk.old.totals.answered ≤ floors.now.most)
+        × (floors.now.most ≤ MAX_MESSAGES) }
     requires failures { CanFail writer.old }
     ensures serves { IfOk result
         (λ after. AnswersBatch (terms_of F.files server.now) seats origins.now desk.old
