@@ -1,6 +1,9 @@
 //! Whatever the batch, the stages and the cache, the replies are the same.
 use crate::policies::{NONE, default_costs, default_policy, nimble, tight};
-use crate::replaying::{DEFAULT_SHAPE, Engine, Ran, Shape, is_same, outline, run_engine, shaped};
+use crate::replaying::{
+    DEFAULT_SHAPE, Engine, Ran, Shape, check_parts, fault_of, is_same, outcome_of, outline,
+    run_engine, shaped,
+};
 use admission::{Control, Policy};
 use captures::{CaptureFault, CaptureFaultKind};
 use cost_model::Costs;
@@ -77,7 +80,7 @@ fn batches(rt: HostRuntime) -> Result<(), Fail> {
         let costs = Costs::new(100, 0, 5000).ok();
         let ran = run_shape(&rt, Engine::Staged, shape, costs, nimble(500, 1), &capture);
         assert_eq!(rt; outline(rt.alloc(), &ran.text)?.as_str(), want);
-        let outcome = ran.answer?;
+        let outcome = outcome_of(&rt, &ran);
         assert_eq!(rt; outcome.rejected.as_slice(), [1].as_slice());
         let tiers = &outcome.summary.tiers[..];
         assert_eq!(rt; tiers[0].controls.as_slice(), [control].as_slice());
@@ -104,9 +107,14 @@ fn pieces_of_a_message_in_batches(rt: HostRuntime) -> Result<(), Fail> {
     );
     let want = "reply 0 0 150; 200 OK;reply 1 0 150; 200 OK;stop 2;";
     assert_eq!(rt; outline(rt.alloc(), &ran.text)?.as_str(), want);
-    let text = String::from_utf8_lossy(rt.alloc(), &ran.text)?;
-    assert!(rt; text.contains("Date: Sun, 06 Nov 1994 08:49:38 GMT"));
-    assert!(rt; text.contains("Date: Sun, 06 Nov 1994 08:49:39 GMT"));
+    check_parts(
+        &rt,
+        &ran,
+        &[
+            "Date: Sun, 06 Nov 1994 08:49:38 GMT",
+            "Date: Sun, 06 Nov 1994 08:49:39 GMT",
+        ],
+    )?;
     Ok(())
 }
 
@@ -124,8 +132,21 @@ fn byte_pieces_in_batches(rt: HostRuntime) -> Result<(), Fail> {
     );
     let want = "reply 0 0 150; 200 OK;stop 1;";
     assert_eq!(rt; outline(rt.alloc(), &ran.text)?.as_str(), want);
-    assert_eq!(rt; ran.answer?.summary.samples.as_slice(), [201].as_slice());
+    assert_eq!(rt;
+        outcome_of(&rt, &ran).summary.samples.as_slice(),
+        [201].as_slice()
+    );
     Ok(())
+}
+
+/// Replays a capture on an engine of this shape, where a bucket holds one token.
+fn run_tight<T: Abort + AllocGlobal + Threads + Wait + Sync>(
+    rt: &T,
+    engine: Engine,
+    shape: Shape,
+    capture: &str,
+) -> Ran {
+    run_shape(rt, engine, shape, default_costs(), tight(1), capture)
 }
 
 /// Each way to cut the steps into stages, and the narrowest and the widest stages.
@@ -135,14 +156,7 @@ fn any_floor_same_bytes(rt: HostRuntime) -> Result<(), Fail> {
     let capture = capture_of(rt.alloc(), &pieces)?;
     let fronts: [&[usize]; 4] = [&[3], &[1, 3], &[2, 3], &[1, 2, 3]];
     let backs: [&[usize]; 2] = [&[2], &[1, 2]];
-    let plain = run_shape(
-        &rt,
-        Engine::Plain,
-        NARROW,
-        default_costs(),
-        tight(1),
-        &capture,
-    );
+    let plain = run_tight(&rt, Engine::Plain, NARROW, &capture);
     for front in fronts {
         for back in backs {
             let shape = Shape {
@@ -150,26 +164,12 @@ fn any_floor_same_bytes(rt: HostRuntime) -> Result<(), Fail> {
                 back,
                 ..DEFAULT_SHAPE
             };
-            let ran = run_shape(
-                &rt,
-                Engine::Staged,
-                shape,
-                default_costs(),
-                tight(1),
-                &capture,
-            );
+            let ran = run_tight(&rt, Engine::Staged, shape, &capture);
             assert!(rt; is_same(&ran, &plain), "front {front:?} and back {back:?}");
         }
     }
     for shape in [NARROW, WIDE] {
-        let ran = run_shape(
-            &rt,
-            Engine::Staged,
-            shape,
-            default_costs(),
-            tight(1),
-            &capture,
-        );
+        let ran = run_tight(&rt, Engine::Staged, shape, &capture);
         assert!(rt; is_same(&ran, &plain));
     }
     Ok(())
@@ -196,37 +196,39 @@ fn check_fault<T: Abort + AllocGlobal + Threads + Wait + Sync>(
         );
         let two = "reply 0 0 150; 200 OK;reply 1 1 150; 200 OK;";
         assert_eq!(rt; outline(rt.alloc(), &ran.text)?.as_str(), two);
-        assert!(rt; matches!(ran.answer, Err(ReplayFault::Capture(fault)) if fault == want));
+        assert!(rt; fault_of(&ran) == Some(ReplayFault::Capture(want)));
     }
     Ok(())
 }
 
+static CUT: &str = "haboob-capture 1 784111777\n\
+     piece 0 0 32\nGET /a.txt HTTP/1.1\r\nHost: a\r\n\r\n\n\
+     piece 0 1 32\nGET /a.txt HTTP/1.1\r\nHost: a\r\n\r\n\n\
+     piece 0 2 32\nGET /a.txt";
+
 /// A fault in the middle of a batch: the replies to the messages of the whole records before it stand.
 #[test]
 fn faults_in_batches(rt: HostRuntime) -> Result<(), Fail> {
-    let capture = format!(in rt.alloc();
-        "haboob-capture 1 784111777\npiece 0 0 32\n{A}\npiece 0 1 32\n{A}\npiece 0 2 32\nGET /a.txt"
-    )?;
     let cut = CaptureFault {
         at: 3,
         kind: CaptureFaultKind::Cut,
     };
-    check_fault(&rt, &capture, cut)
+    check_fault(&rt, CUT, cut)
 }
+
+static AFTER_AN_END: &str = "haboob-capture 1 784111777\n\
+     piece 0 0 32\nGET /a.txt HTTP/1.1\r\nHost: a\r\n\r\n\nend 0 0\n\
+     piece 0 1 32\nGET /a.txt HTTP/1.1\r\nHost: a\r\n\r\n\n\
+     piece 0 0 32\nGET /a.txt HTTP/1.1\r\nHost: a\r\n\r\n\nstop 4\n";
 
 /// A piece of a connection that has ended, be it in the batch of its end or in one after it.
 #[test]
 fn piece_after_an_end_in_batches(rt: HostRuntime) -> Result<(), Fail> {
-    let mut capture = format!(in rt.alloc(); "haboob-capture 1 784111777\npiece 0 0 32\n{A}\n")?;
-    write!(
-        capture,
-        "end 0 0\npiece 0 1 32\n{A}\npiece 0 0 32\n{A}\nstop 4\n"
-    )?;
     let ended = CaptureFault {
         at: 4,
         kind: CaptureFaultKind::Ended,
     };
-    check_fault(&rt, &capture, ended)
+    check_fault(&rt, AFTER_AN_END, ended)
 }
 
 /// A piece of 65,536 bytes that is one request: its block has 55 bytes, and its body 65,481.
@@ -247,6 +249,41 @@ fn in_turn(alloc: Global, conns: usize, kinds: [&str; 3]) -> Result<String, Allo
     Ok(capture)
 }
 
+/// Replays a capture on an engine with the default settings.
+fn run_default<T: Abort + AllocGlobal + Threads + Wait + Sync>(
+    rt: &T,
+    engine: Engine,
+    capture: &str,
+) -> Ran {
+    run_shape(
+        rt,
+        engine,
+        DEFAULT_SHAPE,
+        default_costs(),
+        default_policy(),
+        capture,
+    )
+}
+
+/// Both engines write and answer the same to a capture whose replies end so, and so many requests are rejected.
+fn check_capture<T: Abort + AllocGlobal + Threads + Wait + Sync>(
+    rt: &T,
+    capture: &str,
+    end: &str,
+    rejected: usize,
+    conns: usize,
+) -> Result<(), Fail> {
+    let plain = run_default(rt, Engine::Plain, capture);
+    let staged = run_default(rt, Engine::Staged, capture);
+    assert!(rt; is_same(&staged, &plain), "{conns} connections");
+    assert!(rt;
+        staged.text.ends_with(end.as_bytes()),
+        "{conns} connections"
+    );
+    assert_eq!(rt; outcome_of(rt, &staged).rejected.as_slice().len(), rejected);
+    Ok(())
+}
+
 /// Both engines write and answer the same to 40 pieces of these kinds, on one connection and on several. There are so
 /// many messages, and so many of them are rejected.
 fn check_kinds<T: Abort + AllocGlobal + Threads + Wait + Sync>(
@@ -261,15 +298,7 @@ fn check_kinds<T: Abort + AllocGlobal + Threads + Wait + Sync>(
     let end = format!(in rt.alloc(); "\n\nstop {messages}\n")?;
     for conns in [1, 3, 20usize] {
         let capture = in_turn(rt.alloc(), conns, kinds)?;
-        let (costs, policy) = (default_costs(), default_policy());
-        let plain = run_shape(rt, Engine::Plain, DEFAULT_SHAPE, costs, policy, &capture);
-        let staged = run_shape(rt, Engine::Staged, DEFAULT_SHAPE, costs, policy, &capture);
-        assert!(rt; is_same(&staged, &plain), "{conns} connections");
-        assert!(rt;
-            staged.text.ends_with(end.as_bytes()),
-            "{conns} connections"
-        );
-        assert_eq!(rt; staged.answer?.rejected.as_slice().len(), rejected);
+        check_capture(rt, &capture, &end, rejected, conns)?;
     }
     Ok(())
 }

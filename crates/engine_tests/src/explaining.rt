@@ -2,7 +2,7 @@
 ghost use Rattle.std.specs.Prelude.{◌≡◌, ◌<◌, ◌-◌, ◌^◌};
 ghost use Rattle.devices.specs.Devices.{CanFail};
 
-use crate::replaying::{Ran, TEXT_ROOM};
+use crate::replaying::{Ran, TEXT_ROOM, fault_of, ran_to};
 use admission::Policy;
 use cost_model::Costs;
 use devices::{Input, Output};
@@ -19,11 +19,12 @@ use test_support::SNAPSHOT;
 pub static HEADING: &str =
     "number,connection,tick,tier,status,decision,service,credit,rate,start,finish,waited,method,target\n";
 
-/// Settings of these service times and these policies.
-pub fn settings(alloc: Global, costs: Costs, policies: [Policy; 4]) -> Option<Settings> {
+/// Settings of these service times and these policies, in a box, so that one call drops them.
+pub fn settings(alloc: Global, costs: Costs, policies: [Policy; 4]) -> Option<Box<Settings>> {
     let front = Plan::new(alloc, &[3], &[1], &[1]).ok()?;
     let back = Plan::new(alloc, &[2], &[1], &[1]).ok()?;
-    Settings::new(front, back, 1, 0, costs, policies, 1).ok()
+    let settings = Settings::new(front, back, 1, 0, costs, policies, 1).ok()?;
+    Box::new(alloc, settings).ok()
 }
 
 /// Explains what a device gives against a snapshot's text; `None` where that is none.
@@ -52,7 +53,7 @@ pub fn explain(alloc: Global, snapshot: &str, settings: &Settings, capture: &str
     let mut reader = Input::new(capture.as_bytes());
     let mut writer = Output::new(&mut text);
     let answer = explain_devices(alloc, snapshot, settings, &mut reader, &mut writer)?;
-    Some(Ran { answer, text })
+    ran_to(alloc, answer, text)
 }
 
 /// Replays it.
@@ -69,7 +70,7 @@ pub fn replay(alloc: Global, snapshot: &str, settings: &Settings, capture: &str)
         &mut reader,
         &mut writer,
     );
-    Some(Ran { answer, text })
+    ran_to(alloc, answer, text)
 }
 
 /// Explains a capture with these service times and these policies, and compares its rows.
@@ -92,6 +93,6 @@ pub fn check(
     let ran = explain(alloc, SNAPSHOT, &settings, capture).expect(rt, "a snapshot");
     let text = String::from_utf8_lossy(alloc, &ran.text)?;
     assert_eq!(rt; text.strip_prefix(HEADING), Some(rows));
-    assert!(rt; ran.answer.is_ok());
+    assert!(rt; fault_of(&ran).is_none());
     Ok(())
 }

@@ -1,7 +1,7 @@
 //! What a gate sees of a replay, and when replies are written.
 use crate::policies::{default_costs, default_policy};
 use crate::replaying::{
-    DEFAULT_SHAPE, Engine, Shape, is_same, outline, run_devices, run_engine, shaped,
+    DEFAULT_SHAPE, Engine, Ran, Shape, is_same, outline, run_devices, run_engine, shaped,
 };
 use devices::{Input, Output};
 use replay::Settings;
@@ -18,7 +18,7 @@ use std::time::{Clock, Duration};
 use test_support::{A, SNAPSHOT, capture_of};
 
 /// Settings of the default stages with batches of n pieces.
-fn in_batches(rt: &(impl Abort + AllocGlobal), batch: usize) -> Settings {
+fn in_batches(rt: &(impl Abort + AllocGlobal), batch: usize) -> Box<Settings> {
     let costs = default_costs().expect(rt, "costs");
     let policy = default_policy().expect(rt, "a policy");
     let shape = Shape {
@@ -80,6 +80,20 @@ impl<R: Clock + Drop> Gate for Hold<R> {
     }
 }
 
+/// Replays two requests in batches of n pieces behind a gate; the lines that tell of the replies.
+fn two_requests<G: Gate + Sync, R: Abort + AllocGlobal + Threads + Wait + Sync>(
+    rt: &R,
+    gate: &G,
+    batch: usize,
+) -> Result<String, Fail> {
+    let alloc = rt.alloc();
+    let capture = capture_of(alloc, &[(0, 0, A), (0, 1, A)])?;
+    let settings = in_batches(rt, batch);
+    let bytes = capture.as_bytes();
+    let ran = run_engine(rt, alloc, Engine::Staged, SNAPSHOT, &settings, gate, bytes);
+    Ok(outline(alloc, &ran.expect(rt, "a snapshot").text)?)
+}
+
 /// Replays two requests in batches of n pieces, with a gate that holds the first of them or doesn't.
 fn check<R: Abort + AllocGlobal + Threads + Wait + Sync + Clock + Drop>(
     rt: &R,
@@ -95,19 +109,12 @@ fn check<R: Abort + AllocGlobal + Threads + Wait + Sync + Clock + Drop>(
         gone: AtomicU64::new(0),
         over: AtomicU64::new(0),
     };
-    let alloc = rt.alloc();
-    let capture = capture_of(alloc, &[(0, 0, A), (0, 1, A)])?;
-    let settings = in_batches(rt, batch);
-    let bytes = capture.as_bytes();
-    let ran = run_engine(rt, alloc, Engine::Staged, SNAPSHOT, &settings, &gate, bytes).expect(
-        rt,
-        "a snapshot",
-    );
     let want = "reply 0 0 150; 200 OK;reply 1 1 150; 200 OK;stop 2;";
-    assert_eq!(rt; outline(alloc, &ran.text)?.as_str(), want);
-    assert_eq!(rt; gate.entered.load(Ordering::SeqCst), EACH_ONCE);
-    assert_eq!(rt; gate.left.load(Ordering::SeqCst), EACH_ONCE);
-    assert_eq!(rt; gate.over.load(Ordering::SeqCst), 0);
+    assert_eq!(rt; two_requests(rt, &gate, batch)?.as_str(), want);
+    let entered = gate.entered.load(Ordering::SeqCst);
+    let left = gate.left.load(Ordering::SeqCst);
+    let over = gate.over.load(Ordering::SeqCst);
+    assert_eq!(rt; (entered, left, over), (EACH_ONCE, EACH_ONCE, 0));
     Ok(())
 }
 
@@ -198,31 +205,38 @@ fn long_requests(alloc: Global) -> Result<String, AllocError> {
     Ok(capture)
 }
 
-/// Replays these requests for a file of 65,536 bytes, with a meeting on each floor. The engines are to write and answer
-/// the same.
+/// The snapshot of a file of 65,536 bytes.
+fn long_file(alloc: Global) -> Result<String, AllocError> {
+    let file = "b".repeat(alloc, 65_536)?;
+    format!(in alloc; "haboob-snapshot 1\nfile 0 1 65536\na\n{file}\nend 1\n")
+}
+
+/// Replays these requests for that file behind a gate.
+fn run_long<G: Gate + Sync, R: Abort + AllocGlobal + Threads + Wait + Sync>(
+    rt: &R,
+    engine: Engine,
+    gate: &G,
+) -> Result<Ran, Fail> {
+    let files = long_file(rt.alloc())?;
+    let capture = long_requests(rt.alloc())?;
+    let settings = in_batches(rt, 96);
+    let bytes = capture.as_bytes();
+    let ran = run_engine(rt, rt.alloc(), engine, &files, &settings, gate, bytes);
+    Ok(ran.expect(rt, "a snapshot"))
+}
+
+/// Replays these requests with a meeting on each floor. The engines are to write and answer the same.
 fn check_meetings<R: Abort + AllocGlobal + Threads + Wait + Sync + Clock + Drop>(
     rt: &R,
     clock: R,
 ) -> Result<(), Fail> {
-    let alloc = rt.alloc();
     let gate = Meetings {
         rt: clock,
         front: Meeting::new(),
         back: Meeting::new(),
     };
-    let file = "b".repeat(alloc, 65_536)?;
-    let files = format!(in alloc; "haboob-snapshot 1\nfile 0 1 65536\na\n{file}\nend 1\n")?;
-    let capture = long_requests(alloc)?;
-    let bytes = capture.as_bytes();
-    let settings = in_batches(rt, 96);
-    let plain = run_engine(rt, alloc, Engine::Plain, &files, &settings, &NoGate, bytes).expect(
-        rt,
-        "a snapshot",
-    );
-    let staged = run_engine(rt, alloc, Engine::Staged, &files, &settings, &gate, bytes).expect(
-        rt,
-        "a snapshot",
-    );
+    let plain = run_long(rt, Engine::Plain, &NoGate)?;
+    let staged = run_long(rt, Engine::Staged, &gate)?;
     assert!(rt; is_same(&staged, &plain));
     // Each reply gives the file.
     assert!(rt; staged.text.len() > 96 * 65_536);
@@ -273,23 +287,8 @@ impl<R: Wait + Drop> Gate for Together<R> {
     }
 }
 
-/// How many messages travel together over the back floor, of 64 by one thread: all for a small file, but the messages
-/// 10 and 12, which are for a file of these bytes.
-fn travelling<R: Abort + AllocGlobal + Threads + Wait + Sync + Drop>(
-    rt: &R,
-    waiting: R,
-    file: &str,
-) -> Result<Vec<usize>, Fail> {
-    let alloc = rt.alloc();
-    let gate = Together {
-        rt: waiting,
-        counts: Mutex::new(Vec::new(alloc)),
-        entered: AtomicU64::new(0),
-    };
-    let bytes = file.len();
-    let files = format!(in alloc;
-        "haboob-snapshot 1\nfile 0 1 1\na\nb\nfile 0 1 {bytes}\nb\n{file}\nend 2\n"
-    )?;
+/// The capture of 64 requests: all for `a`, but the messages 10 and 12, which are for `b`.
+fn two_targets(alloc: Global) -> Result<String, AllocError> {
     let mut capture = String::from_str(alloc, "haboob-capture 1 784111777\n")?;
     for number in 0..64usize {
         let name = if number == 10 || number == 12 {
@@ -303,13 +302,40 @@ fn travelling<R: Abort + AllocGlobal + Threads + Wait + Sync + Drop>(
         )?;
     }
     capture.push_str("stop 64\n")?;
+    Ok(capture)
+}
+
+/// Replays these behind a gate, where `a` is small and `b` has these bytes; how many bytes were written.
+fn run_targets<G: Gate + Sync, R: Abort + AllocGlobal + Threads + Wait + Sync>(
+    rt: &R,
+    gate: &G,
+    file: &str,
+) -> Result<usize, Fail> {
+    let alloc = rt.alloc();
+    let bytes = file.len();
+    let files = format!(in alloc;
+        "haboob-snapshot 1\nfile 0 1 1\na\nb\nfile 0 1 {bytes}\nb\n{file}\nend 2\n"
+    )?;
+    let capture = two_targets(alloc)?;
     let settings = in_batches(rt, 64);
     let read = capture.as_bytes();
-    let ran = run_engine(rt, alloc, Engine::Staged, &files, &settings, &gate, read).expect(
-        rt,
-        "a snapshot",
-    );
-    assert!(rt; ran.text.len() > bytes.saturating_mul(2));
+    let ran = run_engine(rt, alloc, Engine::Staged, &files, &settings, gate, read);
+    Ok(ran.expect(rt, "a snapshot").text.len())
+}
+
+/// How many messages travel together over the back floor, of these 64 by one thread.
+fn travelling<R: Abort + AllocGlobal + Threads + Wait + Sync + Drop>(
+    rt: &R,
+    waiting: R,
+    file: &str,
+) -> Result<Vec<usize>, Fail> {
+    let gate = Together {
+        rt: waiting,
+        counts: Mutex::new(Vec::new(rt.alloc())),
+        entered: AtomicU64::new(0),
+    };
+    let written = run_targets(rt, &gate, file)?;
+    assert!(rt; written > file.len().saturating_mul(2));
     Ok(gate.counts.into_inner())
 }
 
@@ -399,34 +425,42 @@ static CAPTURE: &str = "haboob-capture 1 784111777\n\
 /// How many bytes its first line, its records and its last line have.
 static SIZES: [usize; 5] = [27, 46, 46, 46, 7];
 
+/// With batches of n pieces so many bytes are written when the last line is asked for.
+fn check_written<R: Abort + AllocGlobal + Threads + Wait + Sync>(
+    rt: &R,
+    batch: usize,
+    before: u64,
+) {
+    let (written, at_last) = (AtomicU64::new(0), AtomicU64::new(0));
+    let settings = in_batches(rt, batch);
+    let mut reader = Input::new(Records {
+        bytes: CAPTURE.as_bytes(),
+        sizes: &SIZES,
+        left: 0,
+        written: &written,
+        at_last: &at_last,
+    });
+    let mut writer = Output::new(Counted { written: &written });
+    let ran = run_devices(
+        rt,
+        rt.alloc(),
+        Engine::Staged,
+        SNAPSHOT,
+        &settings,
+        &NoGate,
+        &mut reader,
+        &mut writer,
+    );
+    assert!(rt; ran.expect(rt, "a snapshot").is_ok());
+    let at_last = at_last.load(Ordering::SeqCst);
+    assert_eq!(rt; at_last, before, "batches of {batch}");
+    assert_eq!(rt; written.load(Ordering::SeqCst), 17 + 3 * 165 + 7);
+}
+
 /// The replies of a batch are written before the next batch is read.
 #[test]
-fn written_before_the_next_batch(rt: HostRuntime) -> Result<(), Fail> {
+fn written_before_the_next_batch(rt: HostRuntime) {
     for (batch, before) in [(1, 17 + 3 * 165), (2, 17 + 2 * 165), (4, 17)] {
-        let (written, at_last) = (AtomicU64::new(0), AtomicU64::new(0));
-        let settings = in_batches(&rt, batch);
-        let mut reader = Input::new(Records {
-            bytes: CAPTURE.as_bytes(),
-            sizes: &SIZES,
-            left: 0,
-            written: &written,
-            at_last: &at_last,
-        });
-        let mut writer = Output::new(Counted { written: &written });
-        let ran = run_devices(
-            &rt,
-            rt.alloc(),
-            Engine::Staged,
-            SNAPSHOT,
-            &settings,
-            &NoGate,
-            &mut reader,
-            &mut writer,
-        );
-        assert!(rt; ran.expect(&rt, "a snapshot").is_ok());
-        let at_last = at_last.load(Ordering::SeqCst);
-        assert_eq!(rt; at_last, before, "batches of {batch}");
-        assert_eq!(rt; written.load(Ordering::SeqCst), 17 + 3 * 165 + 7);
+        check_written(&rt, batch, before);
     }
-    Ok(())
 }

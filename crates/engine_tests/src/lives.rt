@@ -1,6 +1,7 @@
 //! Traffic, in which a number names a further connection after its end: each life of a number is answered by itself.
 use crate::policies::{default_costs, default_policy, tight};
-use crate::replaying::{DEFAULT_SHAPE, Ran, Shape, outline, run_settings, tiered};
+use crate::replaying::{DEFAULT_SHAPE, Ran, Shape, outcome_of, outline, run_settings, tiered};
+use crate::tiers::tallies;
 use admission::Policy;
 use std::alloc::{AllocError, AllocGlobal, Global};
 use std::process::Abort;
@@ -8,11 +9,6 @@ use std::sync::Wait;
 use std::test::Fail;
 use std::thread::Threads;
 use test_support::{A, SNAPSHOT};
-
-/// The two halves of that request, of 16 bytes each.
-static FRONT: &str = "GET /a.txt HTTP/";
-
-static BACK: &str = "1.1\r\nHost: a\r\n\r\n";
 
 /// Replays a text on both engines, with these policies and n records in a batch.
 pub fn run_tiers<T: Abort + AllocGlobal + Threads + Wait + Sync>(
@@ -63,7 +59,7 @@ fn check(
     for batch in [1, 2, 3, 7, 1024] {
         let ran = run_tiers(rt, batch, [policy; 4], text);
         assert_eq!(rt; ran.text.as_slice(), want.as_bytes());
-        assert!(rt; ran.answer?.rejected.as_slice().is_empty());
+        assert!(rt; outcome_of(rt, &ran).rejected.as_slice().is_empty());
     }
     Ok(())
 }
@@ -76,7 +72,8 @@ fn a_hundred_lives(rt: HostRuntime) -> Result<(), Fail> {
         write!(text, "piece 0 65535 32\n{A}\nend 0 65535\n")?;
     }
     text.push_str("stop 200\n")?;
-    check(&rt, &text, &[65_535; 100])
+    let numbers = vec![in rt.alloc(); 65_535u16; 100]?;
+    check(&rt, &text, &numbers)
 }
 
 /// What a connection may have sent that is no whole message: parts of a block, a line before one, and a block without
@@ -109,67 +106,65 @@ fn unfinished_messages(rt: HostRuntime) -> Result<(), Fail> {
     Ok(())
 }
 
+/// The two halves of a request, of 16 bytes each, in two lives.
+static TWO_HALVES: &str = "haboob-traffic 1 784111777\n\
+     piece 0 7 16\nGET /a.txt HTTP/\nend 0 7\n\
+     piece 0 7 16\n1.1\r\nHost: a\r\n\r\n\nstop 3\n";
+
 /// The rest of a message that a life began isn't the rest of the next life's: it is the beginning of a message there.
 #[test]
 fn rest_in_the_next_life(rt: HostRuntime) -> Result<(), Fail> {
-    let mut text = String::from_str(rt.alloc(), "haboob-traffic 1 784111777\n")?;
-    write!(
-        text,
-        "piece 0 7 16\n{FRONT}\nend 0 7\npiece 0 7 16\n{BACK}\nstop 3\n"
-    )?;
     let policy = default_policy().expect(&rt, "a policy");
     for batch in [1, 2, 1024] {
-        let ran = run_tiers(&rt, batch, [policy; 4], &text);
+        let ran = run_tiers(&rt, batch, [policy; 4], TWO_HALVES);
         let want = "reply 0 7 146; 400 Bad Request;stop 1;";
         assert_eq!(rt; outline(rt.alloc(), &ran.text)?.as_str(), want);
     }
     Ok(())
 }
 
+/// Three lives: of a request that closes it, one more in the same piece and one in the next; of a request, a message
+/// without Host, which closes it, and a request; and of two requests.
+static CLOSED: &str = "haboob-traffic 1 784111777\n\
+     piece 0 7 83\nGET /a.txt HTTP/1.1\r\nHost: a\r\nConnection: close\r\n\r\n\
+     GET /a.txt HTTP/1.1\r\nHost: a\r\n\r\n\n\
+     piece 0 7 32\nGET /a.txt HTTP/1.1\r\nHost: a\r\n\r\n\nend 0 7\n\
+     piece 0 7 32\nGET /a.txt HTTP/1.1\r\nHost: a\r\n\r\n\n\
+     piece 0 7 18\nGET / HTTP/1.1\r\n\r\n\n\
+     piece 0 7 32\nGET /a.txt HTTP/1.1\r\nHost: a\r\n\r\n\nend 0 7\n\
+     piece 0 7 32\nGET /a.txt HTTP/1.1\r\nHost: a\r\n\r\n\n\
+     piece 0 7 32\nGET /a.txt HTTP/1.1\r\nHost: a\r\n\r\n\nend 0 7\nstop 10\n";
+
 /// A life that its message closes: what follows it has no reply up to the end, and the next life is answered. So it is
 /// where a message breaks a rule.
 #[test]
 fn closed_lives(rt: HostRuntime) -> Result<(), Fail> {
-    let closing = "GET /a.txt HTTP/1.1\r\nHost: a\r\nConnection: close\r\n\r\n";
-    let mut text = String::from_str(rt.alloc(), "haboob-traffic 1 784111777\n")?;
-    write!(
-        text,
-        "piece 0 7 83\n{closing}{A}\npiece 0 7 32\n{A}\nend 0 7\npiece 0 7 32\n{A}\n"
-    )?;
-    write!(
-        text,
-        "piece 0 7 18\nGET / HTTP/1.1\r\n\r\n\npiece 0 7 32\n{A}\nend 0 7\n"
-    )?;
-    write!(
-        text,
-        "piece 0 7 32\n{A}\npiece 0 7 32\n{A}\nend 0 7\nstop 10\n"
-    )?;
     let want =
         "reply 0 7 169; 200 OK;reply 1 7 150; 200 OK;reply 2 7 146; 400 Bad Request;reply 3 7 150; 200 OK;\
          reply 4 7 150; 200 OK;stop 5;";
     let policy = default_policy().expect(&rt, "a policy");
     for batch in [1, 2, 3, 1024] {
-        let ran = run_tiers(&rt, batch, [policy; 4], &text);
+        let ran = run_tiers(&rt, batch, [policy; 4], CLOSED);
         assert_eq!(rt; outline(rt.alloc(), &ran.text)?.as_str(), want);
-        assert_eq!(rt; ran.answer?.summary.bypassed, 1);
+        assert_eq!(rt; outcome_of(&rt, &ran).summary.bypassed, 1);
     }
     Ok(())
 }
 
+/// Lives of the numbers 3 and 9, some of whose requests come in two halves.
+static TWO_NUMBERS: &str = "haboob-traffic 1 784111777\n\
+     piece 0 3 16\nGET /a.txt HTTP/\n\
+     piece 0 9 32\nGET /a.txt HTTP/1.1\r\nHost: a\r\n\r\n\nend 0 9\n\
+     piece 0 3 16\n1.1\r\nHost: a\r\n\r\n\n\
+     piece 0 9 16\nGET /a.txt HTTP/\nend 0 3\n\
+     piece 0 3 32\nGET /a.txt HTTP/1.1\r\nHost: a\r\n\r\n\n\
+     piece 0 9 16\n1.1\r\nHost: a\r\n\r\n\nend 0 9\nend 0 3\n\
+     piece 0 9 32\nGET /a.txt HTTP/1.1\r\nHost: a\r\n\r\n\nstop 11\n";
+
 /// Two numbers whose lives overlap, with requests in two pieces.
 #[test]
 fn two_numbers(rt: HostRuntime) -> Result<(), Fail> {
-    let mut text = String::from_str(rt.alloc(), "haboob-traffic 1 784111777\n")?;
-    write!(
-        text,
-        "piece 0 3 16\n{FRONT}\npiece 0 9 32\n{A}\nend 0 9\npiece 0 3 16\n{BACK}\n"
-    )?;
-    write!(
-        text,
-        "piece 0 9 16\n{FRONT}\nend 0 3\npiece 0 3 32\n{A}\npiece 0 9 16\n{BACK}\n"
-    )?;
-    write!(text, "end 0 9\nend 0 3\npiece 0 9 32\n{A}\nstop 11\n")?;
-    check(&rt, &text, &[9, 3, 3, 9, 9])
+    check(&rt, TWO_NUMBERS, &[9, 3, 3, 9, 9])
 }
 
 /// A piece of 65,536 bytes: a block of 55 that announces so many bytes of a body, and 65,481 bytes of it.
@@ -207,30 +202,30 @@ fn lives_cut_by_threads(rt: HostRuntime) -> Result<(), Fail> {
     Ok(())
 }
 
+/// Lives of number 7: of three requests in tier 3, of two without a tier, of one in tier 1, of one in tier 3, and of
+/// one without.
+static TIERS: &str = "haboob-traffic 1 784111777\ntier 7 3\n\
+     piece 0 7 32\nGET /a.txt HTTP/1.1\r\nHost: a\r\n\r\n\n\
+     piece 0 7 32\nGET /a.txt HTTP/1.1\r\nHost: a\r\n\r\n\n\
+     piece 0 7 32\nGET /a.txt HTTP/1.1\r\nHost: a\r\n\r\n\nend 0 7\n\
+     piece 0 7 32\nGET /a.txt HTTP/1.1\r\nHost: a\r\n\r\n\n\
+     piece 0 7 32\nGET /a.txt HTTP/1.1\r\nHost: a\r\n\r\n\nend 0 7\ntier 7 1\n\
+     piece 0 7 32\nGET /a.txt HTTP/1.1\r\nHost: a\r\n\r\n\nend 0 7\ntier 7 3\n\
+     piece 0 7 32\nGET /a.txt HTTP/1.1\r\nHost: a\r\n\r\n\nend 0 7\n\
+     piece 0 7 32\nGET /a.txt HTTP/1.1\r\nHost: a\r\n\r\n\nstop 15\n";
+
 /// A tier is given to one life alone: the next one has tier 0, or the one that it is given.
 #[test]
 fn tiers_of_lives(rt: HostRuntime) -> Result<(), Fail> {
     let one = tight(1).expect(&rt, "a policy");
     let two = tight(2).expect(&rt, "a policy");
-    let request = format!(in rt.alloc(); "piece 0 7 32\n{A}\n")?;
-    let mut text = String::from_str(rt.alloc(), "haboob-traffic 1 784111777\n")?;
-    write!(
-        text,
-        "tier 7 3\n{request}{request}{request}end 0 7\n{request}{request}end 0 7\n"
-    )?;
-    write!(
-        text,
-        "tier 7 1\n{request}end 0 7\ntier 7 3\n{request}end 0 7\n{request}stop 15\n"
-    )?;
     for batch in [1, 2, 3, 1024] {
-        let ran = run_tiers(&rt, batch, [one, one, one, two], &text);
-        let outcome = ran.answer?;
-        assert_eq!(rt; outcome.rejected.as_slice(), [2, 4, 6, 7].as_slice());
-        let tiers = &outcome.summary.tiers;
-        assert_eq!(rt; (tiers[0].admitted, tiers[0].rejected), (1, 2));
-        assert_eq!(rt; (tiers[1].admitted, tiers[1].rejected), (1, 0));
-        assert_eq!(rt; (tiers[2].admitted, tiers[2].rejected), (0, 0));
-        assert_eq!(rt; (tiers[3].admitted, tiers[3].rejected), (2, 2));
+        let ran = run_tiers(&rt, batch, [one, one, one, two], TIERS);
+        assert_eq!(rt; tallies(&ran), [(1, 2), (1, 0), (0, 0), (2, 2)]);
+        assert_eq!(rt;
+            outcome_of(&rt, &ran).rejected.as_slice(),
+            [2, 4, 6, 7].as_slice()
+        );
     }
     Ok(())
 }

@@ -1,7 +1,9 @@
 //! The lives of a number against connections that have numbers of their own, in a capture of version 2.
 use crate::explaining::check;
 use crate::policies::{NONE, default_costs, nimble, tight};
-use crate::replaying::{DEFAULT_SHAPE, Ran, Shape, is_same_answer, outline, run_settings, shaped};
+use crate::replaying::{
+    DEFAULT_SHAPE, Ran, Shape, is_same_answer, outcome_of, outline, run_settings, shaped,
+};
 use admission::Policy;
 use cost_model::Costs;
 use replay::Outcome;
@@ -86,34 +88,62 @@ fn without(alloc: Global, text: &str, begin: &str) -> Result<String, AllocError>
     Ok(rest)
 }
 
+/// The replies of a replay without the lines that have the numbers.
+fn bodies_of(alloc: Global, ran: &Ran) -> Result<String, AllocError> {
+    let text = String::from_utf8_lossy(alloc, &ran.text)?;
+    without(alloc, &text, "reply ")
+}
+
+/// The bodies of the replies are the same.
+fn check_bodies(rt: &(impl Abort + AllocGlobal), traffic: &Ran, capture: &Ran) -> Result<(), Fail> {
+    let found = bodies_of(rt.alloc(), traffic)?;
+    let want = bodies_of(rt.alloc(), capture)?;
+    assert_eq!(rt; found.as_str(), want.as_str());
+    Ok(())
+}
+
+/// The report on a replay that came to its end.
+fn report_of(alloc: Global, ran: Ran) -> Result<String, Fail> {
+    let outcome = Box::into_inner(ran.answer)?;
+    Ok(report(alloc, outcome)?)
+}
+
+/// The reports are the same.
+fn check_reports(rt: &(impl Abort + AllocGlobal), traffic: Ran, capture: Ran) -> Result<(), Fail> {
+    let found = report_of(rt.alloc(), traffic)?;
+    let want = report_of(rt.alloc(), capture)?;
+    assert_eq!(rt; found.as_str(), want.as_str());
+    Ok(())
+}
+
+static OF_LIVES: &str =
+    "reply 0 0 150; 200 OK;reply 1 0 123; 404 Not Found;reply 2 1 159; 503 Service Unavailable;\
+     reply 3 0 169; 200 OK;reply 4 0 159; 503 Service Unavailable;stop 5;";
+
+static APART: &str =
+    "reply 0 10 150; 200 OK;reply 1 12 123; 404 Not Found;reply 2 13 159; 503 Service Unavailable;\
+     reply 3 14 169; 200 OK;reply 4 15 159; 503 Service Unavailable;stop 5;";
+
+/// The few lives in batches of n records, as traffic and as a capture, are answered so, and else the same.
+fn check_batch<T: Abort + AllocGlobal + Threads + Wait + Sync>(
+    rt: &T,
+    batch: usize,
+) -> Result<(), Fail> {
+    let steps = few_lives();
+    let traffic = run_steps(rt, batch, default_costs(), tight(2), &steps, true)?;
+    let capture = run_steps(rt, batch, default_costs(), tight(2), &steps, false)?;
+    assert_eq!(rt; outline(rt.alloc(), &traffic.text)?.as_str(), OF_LIVES);
+    assert_eq!(rt; outline(rt.alloc(), &capture.text)?.as_str(), APART);
+    assert!(rt; is_same_answer(&traffic, &capture));
+    check_bodies(rt, &traffic, &capture)?;
+    check_reports(rt, traffic, capture)
+}
+
 /// The bodies of the replies and the report are the same, and the lines of the replies have the numbers.
 #[test]
 fn same_answers(rt: HostRuntime) -> Result<(), Fail> {
-    let alloc = rt.alloc();
-    let steps = few_lives();
-    let lives =
-        "reply 0 0 150; 200 OK;reply 1 0 123; 404 Not Found;reply 2 1 159; 503 Service Unavailable;\
-         reply 3 0 169; 200 OK;reply 4 0 159; 503 Service Unavailable;stop 5;";
-    let apart =
-        "reply 0 10 150; 200 OK;reply 1 12 123; 404 Not Found;reply 2 13 159; 503 Service Unavailable;\
-         reply 3 14 169; 200 OK;reply 4 15 159; 503 Service Unavailable;stop 5;";
     for batch in [1, 2, 4, 1024] {
-        let traffic = run_steps(&rt, batch, default_costs(), tight(2), &steps, true)?;
-        let capture = run_steps(&rt, batch, default_costs(), tight(2), &steps, false)?;
-        assert_eq!(rt; outline(alloc, &traffic.text)?.as_str(), lives);
-        assert_eq!(rt; outline(alloc, &capture.text)?.as_str(), apart);
-        let found = String::from_utf8_lossy(alloc, &traffic.text)?;
-        let want = String::from_utf8_lossy(alloc, &capture.text)?;
-        assert_eq!(rt;
-            without(alloc, &found, "reply ")?.as_str(),
-            without(alloc, &want, "reply ")?.as_str()
-        );
-        assert!(rt; is_same_answer(&traffic, &capture));
-        let (found, want) = (
-            report(alloc, traffic.answer?)?,
-            report(alloc, capture.answer?)?,
-        );
-        assert_eq!(rt; found.as_str(), want.as_str());
+        check_batch(&rt, batch)?;
     }
     Ok(())
 }
@@ -139,50 +169,65 @@ fn many_lives(alloc: Global) -> Result<Vec<Step>, AllocError> {
     Ok(steps)
 }
 
-/// Where there are more than 1,000 controls, the report on traffic is that on the capture without all before the last
-/// 1,000.
-#[test]
-fn last_controls(rt: HostRuntime) -> Result<(), Fail> {
-    let alloc = rt.alloc();
-    let steps = many_lives(alloc)?;
-    let traffic = run_steps(&rt, 1024, long_misses(), nimble(500, 5000), &steps, true)?;
-    let capture = run_steps(&rt, 1024, long_misses(), nimble(500, 5000), &steps, false)?;
-    assert!(rt; is_same_answer(&traffic, &capture));
-    let (traffic, capture) = (traffic.answer?, capture.answer?);
-    let count = controls_of(&capture);
-    assert!(rt; count > 1050);
-    let skipped = count.saturating_sub(1000);
-    let (found, whole) = (report(alloc, traffic)?, report(alloc, capture)?);
-    let mut want = String::new(alloc);
+/// A report without the first n of its lines that tell of a control, and how many such lines it has.
+fn without_controls(
+    alloc: Global,
+    report: &str,
+    skipped: usize,
+) -> Result<(String, usize), AllocError> {
+    let mut rest = String::new(alloc);
     let mut controls = 0usize;
-    for line in whole.as_str().lines() {
+    for line in report.lines() {
         if line.starts_with("control ") {
             controls = controls.wrapping_add(1);
         }
         if !line.starts_with("control ") || controls > skipped {
-            write!(want, "{line}\n")?;
+            write!(rest, "{line}\n")?;
         }
     }
+    Ok((rest, controls))
+}
+
+/// The report on traffic is that on the capture, which has more than 1,050 controls, without all before the last 1,000.
+fn check_last(rt: &(impl Abort + AllocGlobal), traffic: Ran, capture: Ran) -> Result<(), Fail> {
+    let count = controls_of(outcome_of(rt, &capture));
+    assert!(rt; count > 1050);
+    let found = report_of(rt.alloc(), traffic)?;
+    let whole = report_of(rt.alloc(), capture)?;
+    let (want, controls) = without_controls(
+        rt.alloc(),
+        whole.as_str(),
+        count.saturating_sub(1000),
+    )?;
     assert_eq!(rt; controls, count);
     assert!(rt; found.as_str() == want.as_str());
     Ok(())
 }
 
+/// Where there are more than 1,000 controls, the report on traffic is that on the capture without all before the last
+/// 1,000.
+#[test]
+fn last_controls(rt: HostRuntime) -> Result<(), Fail> {
+    let steps = many_lives(rt.alloc())?;
+    let traffic = run_steps(&rt, 1024, long_misses(), nimble(500, 5000), &steps, true)?;
+    let capture = run_steps(&rt, 1024, long_misses(), nimble(500, 5000), &steps, false)?;
+    assert!(rt; is_same_answer(&traffic, &capture));
+    check_last(&rt, traffic, capture)
+}
+
+/// Three lives of number 65535, the second of them in tier 2, and one of number 4 before the third.
+static ROWS_OF: &str = "haboob-traffic 1 784111777\n\
+     piece 0 65535 32\nGET /a.txt HTTP/1.1\r\nHost: a\r\n\r\n\nend 0 65535\ntier 65535 2\n\
+     piece 0 65535 32\nGET /a.txt HTTP/1.1\r\nHost: a\r\n\r\n\nend 0 65535\n\
+     piece 0 4 32\nGET /a.txt HTTP/1.1\r\nHost: a\r\n\r\n\n\
+     piece 9 65535 32\nGET /a.txt HTTP/1.1\r\nHost: a\r\n\r\n\nstop 7\n";
+
 /// The rows of a table name the number of each life, with its tier.
 #[test]
 fn rows_of_lives(rt: HostRuntime) -> Result<(), Fail> {
-    let mut text = String::from_str(rt.alloc(), "haboob-traffic 1 784111777\n")?;
-    write!(
-        text,
-        "piece 0 65535 32\n{A}\nend 0 65535\ntier 65535 2\npiece 0 65535 32\n{A}\n"
-    )?;
-    write!(
-        text,
-        "end 0 65535\npiece 0 4 32\n{A}\npiece 9 65535 32\n{A}\nstop 7\n"
-    )?;
     let rows = "0,65535,0,0,200,admitted,201,1000000000,1000,0,201,0,GET,/a.txt\n\
          1,65535,0,2,200,admitted,201,1000000000,1000,201,402,201,GET,/a.txt\n\
          2,4,0,0,503,rejected,201,0,1000,,,402,GET,/a.txt\n\
          3,65535,9,0,503,rejected,201,9000,1000,,,393,GET,/a.txt\n";
-    check(&rt, default_costs(), [tight(1); 4], &text, rows)
+    check(&rt, default_costs(), [tight(1); 4], ROWS_OF, rows)
 }

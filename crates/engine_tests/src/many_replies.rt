@@ -1,6 +1,6 @@
 //! More messages than one pair of floors takes at a time, and more than a replay may have.
 use crate::policies::{default_costs, default_policy};
-use crate::replaying::{DEFAULT_SHAPE, Engine, Shape, run, run_devices, shaped};
+use crate::replaying::{DEFAULT_SHAPE, Engine, Shape, outcome_of, run, run_devices, shaped};
 use devices::{Input, Output};
 use replay::{ReplayFault, Settings};
 use stage_graph::NoGate;
@@ -48,7 +48,7 @@ fn several_parts(rt: HostRuntime) -> Result<(), Fail> {
     }
     assert!(rt; text.ends_with("\n\nstop 6144\n"));
     assert_eq!(rt; ran.text.len(), 1_085_505);
-    assert_eq!(rt; ran.answer?.rejected.as_slice().len(), 6044);
+    assert_eq!(rt; outcome_of(&rt, &ran).rejected.as_slice().len(), 6044);
     Ok(())
 }
 

@@ -1,6 +1,6 @@
 //! Requests that are turned away, their samples and the controls.
 use crate::policies::{NONE, default_costs, nimble, tight};
-use crate::replaying::{Ran, outline, run_settings, settings};
+use crate::replaying::{Ran, check_parts, outcome_of, outline, run_settings, settings};
 use admission::{Control, Policy};
 use cost_model::Costs;
 use std::alloc::{AllocError, AllocGlobal};
@@ -37,10 +37,7 @@ fn check(
     samples: &[u64],
 ) -> Result<(), Fail> {
     assert_eq!(rt; outline(rt.alloc(), &ran.text)?.as_str(), want);
-    let Ok(outcome) = &ran.answer else {
-        assert!(rt; false, "the replay came to no end");
-        return Ok(());
-    };
+    let outcome = outcome_of(rt, ran);
     assert_eq!(rt; outcome.rejected.as_slice(), rejected);
     assert_eq!(rt; outcome.summary.samples.as_slice(), samples);
     Ok(())
@@ -48,7 +45,7 @@ fn check(
 
 /// The controls of tier 0 that a replay has come to, up to the second.
 fn controls_of(ran: &Ran) -> (usize, Option<Control>, Option<Control>) {
-    let Ok(outcome) = &ran.answer else {
+    let Ok(outcome) = &*ran.answer else {
         return (0, None, None);
     };
     let controls = outcome.summary.tiers[0].controls.as_slice();
@@ -67,8 +64,7 @@ fn tight_bucket(rt: HostRuntime) -> Result<(), Fail> {
         "reply 0 0 150; 200 OK;reply 1 0 159; 503 Service Unavailable;reply 2 0 159; 503 Service Unavailable;\
          reply 3 0 150; 200 OK;stop 4;";
     check(&rt, &ran, want, &[1, 2], &[201, 201])?;
-    let text = String::from_utf8_lossy(rt.alloc(), &ran.text)?;
-    assert!(rt; text.contains("Date: Sun, 06 Nov 1994 08:49:38 GMT"));
+    check_parts(&rt, &ran, &["Date: Sun, 06 Nov 1994 08:49:38 GMT"])?;
     assert_eq!(rt; controls_of(&ran), (0, None, None));
     Ok(())
 }
@@ -82,7 +78,7 @@ fn twice_as_fast(rt: HostRuntime) -> Result<(), Fail> {
     let costs = default_costs().expect(&rt, "costs");
     let policy = tight(1).expect(&rt, "a policy");
     let recorded = settings(alloc, costs, policy).expect(&rt, "settings");
-    let faster = recorded.with_speed(200);
+    let faster = Box::into_inner(recorded).with_speed(200);
     let ran = run_settings(&rt, alloc, SNAPSHOT, &faster, capture.as_bytes()).expect(
         &rt, "a replay",
     );
@@ -90,15 +86,14 @@ fn twice_as_fast(rt: HostRuntime) -> Result<(), Fail> {
         "reply 0 0 150; 200 OK;reply 1 0 159; 503 Service Unavailable;reply 2 0 159; 503 Service Unavailable;\
          reply 3 0 150; 200 OK;stop 4;";
     check(&rt, &ran, want, &[1, 2], &[201, 201])?;
-    let text = String::from_utf8_lossy(alloc, &ran.text)?;
-    assert!(rt;
-        text.contains(
-            "reply 2 0 159\nHTTP/1.1 503 Service Unavailable\r\nDate: Sun, 06 Nov 1994 08:49:37 GMT"
-        )
-    );
-    assert!(rt;
-        text.contains("reply 3 0 150\nHTTP/1.1 200 OK\r\nDate: Sun, 06 Nov 1994 08:49:38 GMT")
-    );
+    check_parts(
+        &rt,
+        &ran,
+        &[
+            "reply 2 0 159\nHTTP/1.1 503 Service Unavailable\r\nDate: Sun, 06 Nov 1994 08:49:37 GMT",
+            "reply 3 0 150\nHTTP/1.1 200 OK\r\nDate: Sun, 06 Nov 1994 08:49:38 GMT",
+        ],
+    )?;
     Ok(())
 }
 
@@ -110,8 +105,8 @@ fn rejected_head(rt: HostRuntime) -> Result<(), Fail> {
     let want =
         "reply 0 0 150; 200 OK;reply 1 0 135; 503 Service Unavailable;reply 2 0 150; 200 OK;stop 3;";
     check(&rt, &ran, want, &[1], &[201, 201])?;
-    let text = String::from_utf8_lossy(rt.alloc(), &ran.text)?;
-    assert!(rt; text.contains("Content-Length: 24\r\nRetry-After: 1\r\n\r\n\nreply 2"));
+    let head = "Content-Length: 24\r\nRetry-After: 1\r\n\r\n\nreply 2";
+    check_parts(&rt, &ran, &[head])?;
     Ok(())
 }
 
@@ -155,29 +150,43 @@ fn two_servers_and_a_delay(rt: HostRuntime) -> Result<(), Fail> {
     check(&rt, &ran, want, &[], &[12, 12, 16])
 }
 
-#[test]
-fn controls_and_credit(rt: HostRuntime) -> Result<(), Fail> {
+static FIRST: Control = Control {
+    instant: 5000,
+    percentile: 5000,
+    smoothed: 1500,
+    rate: 833,
+};
+
+static SECOND: Control = Control {
+    instant: 5100,
+    percentile: 100,
+    smoothed: 1080,
+    rate: 694,
+};
+
+/// Four requests come to three controls; the first two of these are known.
+fn check_controls<T: Abort + AllocGlobal + Threads + Wait + Sync>(rt: &T) -> Result<(), Fail> {
     let costs = Costs::new(100, 0, 5000).ok();
     let pieces = [(0, 0, NONE), (5000, 0, A), (5100, 0, A), (5200, 0, A)];
-    let ran = run_policy(&rt, costs, nimble(500, 10), &pieces)?.expect(&rt, "a replay");
-    let first = Control {
-        instant: 5000,
-        percentile: 5000,
-        smoothed: 1500,
-        rate: 833,
-    };
-    let second = Control {
-        instant: 5100,
-        percentile: 100,
-        smoothed: 1080,
-        rate: 694,
-    };
-    assert_eq!(rt; controls_of(&ran), (3, Some(first), Some(second)));
+    let ran = run_policy(rt, costs, nimble(500, 10), &pieces)?.expect(rt, "a replay");
+    assert_eq!(rt; controls_of(&ran), (3, Some(FIRST), Some(SECOND)));
+    Ok(())
+}
+
+/// What is credited over a control is enough for the third request, and not for the second.
+fn check_credit<T: Abort + AllocGlobal + Threads + Wait + Sync>(rt: &T) -> Result<(), Fail> {
+    let costs = Costs::new(100, 0, 5000).ok();
     let pieces = [(0, 0, NONE), (1_199_477, 0, A), (1_199_478, 0, A)];
-    let ran = run_policy(&rt, costs, nimble(500, 1), &pieces)?.expect(&rt, "a replay");
+    let ran = run_policy(rt, costs, nimble(500, 1), &pieces)?.expect(rt, "a replay");
     let want =
         "reply 0 0 123; 404 Not Found;reply 1 0 159; 503 Service Unavailable;reply 2 0 150; 200 OK;stop 3;";
-    check(&rt, &ran, want, &[1], &[5000, 100])?;
-    assert_eq!(rt; controls_of(&ran), (1, Some(first), None));
+    check(rt, &ran, want, &[1], &[5000, 100])?;
+    assert_eq!(rt; controls_of(&ran), (1, Some(FIRST), None));
     Ok(())
+}
+
+#[test]
+fn controls_and_credit(rt: HostRuntime) -> Result<(), Fail> {
+    check_controls(&rt)?;
+    check_credit(&rt)
 }

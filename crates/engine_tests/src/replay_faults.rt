@@ -1,5 +1,5 @@
 //! Captures with a fault: the replies of the records before it stand, and no last line.
-use crate::replaying::{outline, run};
+use crate::replaying::{fault_of, outline, run};
 use captures::{CaptureFault, CaptureFaultKind as Kind};
 use replay::ReplayFault;
 use std::alloc::AllocGlobal;
@@ -7,7 +7,7 @@ use std::process::Abort;
 use std::sync::Wait;
 use std::test::Fail;
 use std::thread::Threads;
-use test_support::{A, SNAPSHOT};
+use test_support::SNAPSHOT;
 
 /// Replays a capture with a fault.
 fn check(
@@ -18,34 +18,61 @@ fn check(
     want: &str,
 ) -> Result<(), Fail> {
     let ran = run(rt, rt.alloc(), SNAPSHOT, capture).expect(rt, "a snapshot");
-    assert!(rt;
-        matches!(ran.answer, Err(ReplayFault::Capture(fault)) if fault == CaptureFault { at, kind })
-    );
+    let fault = ReplayFault::Capture(CaptureFault { at, kind });
+    assert!(rt; fault_of(&ran) == Some(fault));
     assert_eq!(rt; outline(rt.alloc(), &ran.text)?.as_str(), want);
     Ok(())
 }
 
+/// A capture with a fault, the record of the fault, its kind, and the lines that tell of the replies.
+type Row = (&'static str, usize, Kind, &'static str);
+
+static ROWS: [Row; 5] = [
+    (
+        "haboob-capture 1 784111777\n\
+         piece 0 0 32\nGET /a.txt HTTP/1.1\r\nHost: a\r\n\r\n\n\
+         piece 0 1 32\nGET /a.txt HTTP/1.1\r\nHost: a\r\n\r\n\n\
+         piece 0 2 32\nGET /a.txt",
+        3,
+        Kind::Cut,
+        "reply 0 0 150; 200 OK;reply 1 1 150; 200 OK;",
+    ),
+    (
+        "haboob-capture 1 784111777\n\
+         piece 7 0 32\nGET /a.txt HTTP/1.1\r\nHost: a\r\n\r\n\n\
+         piece 6 1 32\nGET /a.txt HTTP/1.1\r\nHost: a\r\n\r\n\nstop 2\n",
+        2,
+        Kind::Tick,
+        "reply 0 0 150; 200 OK;",
+    ),
+    (
+        "haboob-capture 1 784111777\npiece 0 0 32\nGET /a.txt HTTP/1.1\r\nHost: a\r\n\r\n\nstop 2\n",
+        2,
+        Kind::Count,
+        "reply 0 0 150; 200 OK;",
+    ),
+    (
+        "haboob-capture 1 784111777\n\
+         piece 0 0 32\nGET /a.txt HTTP/1.1\r\nHost: a\r\n\r\n\nend 0 0\n\
+         piece 0 0 32\nGET /a.txt HTTP/1.1\r\nHost: a\r\n\r\n\nstop 3\n",
+        3,
+        Kind::Ended,
+        "reply 0 0 150; 200 OK;",
+    ),
+    (
+        "haboob-capture 1 784111777\npiece 0 0 32\nGET /a.txt HTTP/1.1\r\nHost: a\r\n\r\n\nstop 1\n.",
+        2,
+        Kind::Trailing,
+        "reply 0 0 150; 200 OK;",
+    ),
+];
+
 #[test]
 fn capture_faults(rt: HostRuntime) -> Result<(), Fail> {
-    let alloc = rt.alloc();
-    let cut = format!(in alloc;
-        "haboob-capture 1 784111777\npiece 0 0 32\n{A}\npiece 0 1 32\n{A}\npiece 0 2 32\nGET /a.txt"
-    )?;
-    let two = "reply 0 0 150; 200 OK;reply 1 1 150; 200 OK;";
-    check(&rt, &cut, 3, Kind::Cut, two)?;
-    let tick = format!(in alloc;
-        "haboob-capture 1 784111777\npiece 7 0 32\n{A}\npiece 6 1 32\n{A}\nstop 2\n"
-    )?;
-    let one = "reply 0 0 150; 200 OK;";
-    check(&rt, &tick, 2, Kind::Tick, one)?;
-    let count = format!(in alloc; "haboob-capture 1 784111777\npiece 0 0 32\n{A}\nstop 2\n")?;
-    check(&rt, &count, 2, Kind::Count, one)?;
-    let ended = format!(in alloc;
-        "haboob-capture 1 784111777\npiece 0 0 32\n{A}\nend 0 0\npiece 0 0 32\n{A}\nstop 3\n"
-    )?;
-    check(&rt, &ended, 3, Kind::Ended, one)?;
-    let trailing = format!(in alloc; "haboob-capture 1 784111777\npiece 0 0 32\n{A}\nstop 1\n.")?;
-    check(&rt, &trailing, 2, Kind::Trailing, one)
+    for (capture, at, kind, want) in &ROWS {
+        check(&rt, capture, *at, *kind, want)?;
+    }
+    Ok(())
 }
 
 /// After a fault of the first line just the first line of the replies stands.

@@ -1,7 +1,7 @@
 //! Out of memory: `checks/refuse_growths.py` refuses each growth of these tests in turn.
 use crate::batches::{NARROW, WIDE};
 use crate::policies::{NONE, default_costs, default_policy, nimble, tight};
-use crate::replaying::{DEFAULT_SHAPE, Engine, Shape, run_engine, shaped};
+use crate::replaying::{DEFAULT_SHAPE, Engine, Shape, fault_of, run_engine, shaped};
 use admission::Policy;
 use cost_model::Costs;
 use replay::ReplayFault;
@@ -98,9 +98,9 @@ fn check<T: Abort + AllocGlobal + Threads + Wait + Sync>(
     let Some(ran) = run_engine(rt, alloc, engine, SNAPSHOT, &settings, &NoGate, capture) else {
         return;
     };
-    match ran.answer {
-        Ok(_) => assert_eq!(rt; ran.text.as_slice(), want.as_bytes()),
-        Err(fault) => {
+    match fault_of(&ran) {
+        None => assert_eq!(rt; ran.text.as_slice(), want.as_bytes()),
+        Some(fault) => {
             assert_eq!(rt; fault, ReplayFault::Memory);
             assert!(rt; want.as_bytes().starts_with(&ran.text));
         }

@@ -9,7 +9,7 @@ use devices::{Input, Output};
 use paths::{Snapshot, Tree};
 use replay::{Outcome, ReplayFault, Settings, Tally, plain_replay, staged_replay};
 use stage_graph::{Gate, NoGate, Plan};
-use std::alloc::{AllocError, Global};
+use std::alloc::{AllocError, AllocGlobal, Global};
 use std::io::{Read, Write};
 use std::marker::Brand;
 use std::process::Abort;
@@ -23,11 +23,35 @@ pub enum Engine {
     Staged,
 }
 
-/// What a replay answers, and what it has written.
+/// What a replay answers, and what it has written. The answer is in a box, so that one call drops it.
 #[derive(Drop)]
 pub struct Ran {
-    pub answer: Result<Outcome, ReplayFault>,
+    pub answer: Box<Result<Outcome, ReplayFault>>,
     pub text: Vec<u8>,
+}
+
+/// The two together; `None` without memory for the box.
+pub fn ran_to(alloc: Global, answer: Result<Outcome, ReplayFault>, text: Vec<u8>) -> Option<Ran> {
+    match Box::new(alloc, answer) {
+        Ok(answer) => Some(Ran { answer, text }),
+        Err(_) => None,
+    }
+}
+
+/// The outcome of a replay that came to its end.
+pub fn outcome_of<'a, T: Abort>(rt: &T, ran: &'a Ran) -> &'a Outcome {
+    match &*ran.answer {
+        Ok(outcome) => outcome,
+        Err(_) => panic!(rt; "the replay came to no end"),
+    }
+}
+
+/// The fault of one that didn't.
+pub fn fault_of(ran: &Ran) -> Option<ReplayFault> {
+    match &*ran.answer {
+        Ok(_) => None,
+        Err(fault) => Some(*fault),
+    }
 }
 
 /// How the staged engine runs: its cuts, the workers and the room of each stage, the pieces of a batch, and the bytes
@@ -65,24 +89,25 @@ fn plan_of(alloc: Global, cuts: &[usize], workers: usize, capacity: usize) -> Op
 }
 
 /// Settings with this shape, these service times and this policy for each tier.
-pub fn shaped(alloc: Global, shape: Shape, costs: Costs, policy: Policy) -> Option<Settings> {
+pub fn shaped(alloc: Global, shape: Shape, costs: Costs, policy: Policy) -> Option<Box<Settings>> {
     tiered(alloc, shape, costs, [policy; 4])
 }
 
-/// Settings with this shape, these service times and the policies of the tiers.
+/// Settings with this shape, these service times and the policies of the tiers, in a box, so that one call drops them.
 pub fn tiered(
     alloc: Global,
     shape: Shape,
     costs: Costs,
     policies: [Policy; 4],
-) -> Option<Settings> {
+) -> Option<Box<Settings>> {
     let front = plan_of(alloc, shape.front, shape.workers, shape.capacity)?;
     let back = plan_of(alloc, shape.back, shape.workers, shape.capacity)?;
-    Settings::new(front, back, shape.batch, shape.cache, costs, policies, 1).ok()
+    let settings = Settings::new(front, back, shape.batch, shape.cache, costs, policies, 1).ok()?;
+    Box::new(alloc, settings).ok()
 }
 
 /// Settings of the default shape with these service times and this policy.
-pub fn settings(alloc: Global, costs: Costs, policy: Policy) -> Option<Settings> {
+pub fn settings(alloc: Global, costs: Costs, policy: Policy) -> Option<Box<Settings>> {
     shaped(alloc, DEFAULT_SHAPE, costs, policy)
 }
 
@@ -160,7 +185,7 @@ pub fn run_engine<G: Gate + Sync, T: Threads + Wait + Sync>(
         &mut reader,
         &mut writer,
     )?;
-    Some(Ran { answer, text })
+    ran_to(alloc, answer, text)
 }
 
 /// Whether the same became of the requests of a tier.
@@ -172,7 +197,7 @@ fn is_same_tally(one: &Tally, other: &Tally) -> bool {
 
 /// Whether two calls answered the same.
 pub fn is_same_answer(one: &Ran, other: &Ran) -> bool {
-    match (&one.answer, &other.answer) {
+    match (&*one.answer, &*other.answer) {
         (Ok(one), Ok(other)) => {
             one.rejected.as_slice() == other.rejected.as_slice()
                 && one.summary.counts == other.summary.counts
@@ -245,4 +270,17 @@ pub fn outline(alloc: Global, text: &[u8]) -> Result<String, AllocError> {
         }
     }
     Ok(lines)
+}
+
+/// What a replay wrote contains each of these parts.
+pub fn check_parts(
+    rt: &(impl Abort + AllocGlobal),
+    ran: &Ran,
+    parts: &[&str],
+) -> Result<(), AllocError> {
+    let text = String::from_utf8_lossy(rt.alloc(), &ran.text)?;
+    for part in parts {
+        assert!(rt; text.contains(*part), "{part}");
+    }
+    Ok(())
 }

@@ -6,6 +6,8 @@ use crate::report_outcomes::{
 use captures::Version;
 use replay::Counts;
 use report::report;
+use std::alloc::AllocGlobal;
+use std::process::Abort;
 use std::test::Fail;
 use test_support::{TIGHT_REPORT, TWO_TIERS_REPORT};
 
@@ -124,31 +126,39 @@ fn ranks(rt: HostRuntime) {
     }
 }
 
+/// What stands in the report of many requests where all controls of each tier are listed.
+static EVERY_CONTROL: [&str; 3] = [
+    "\np50 50000\np90 90000\np99 99000\ncontrols 100000\ncontrol 1 0 3 2 1\n",
+    "control 100000 99999 3 2 1\ntier 1 50000 50000 100000\ncontrol 1 0 3 2 1\n",
+    "control 100000 99999 3 2 1\nreject 0\nreject 1\n",
+];
+
+/// And where the last 1,000 are.
+static LAST_CONTROLS: [&str; 3] = [
+    "\np50 50000\np90 90000\np99 99000\ncontrols 100000\ncontrol 99001 99000 3 2 1\n",
+    "control 100000 99999 3 2 1\ntier 1 50000 50000 100000\ncontrol 99001 99000 3 2 1\n",
+    "control 100000 99999 3 2 1\nreject 0\nreject 1\n",
+];
+
+/// The report of many requests in this format has these parts.
+fn check_many(rt: &(impl Abort + AllocGlobal), version: Version, parts: &[&str; 3]) {
+    let outcome = many(rt.alloc(), version).expect(rt, "memory");
+    let text = report(rt.alloc(), outcome).expect(rt, "memory");
+    let text = text.as_str();
+    let front = "haboob-report 1\nmessages 200000\nbypassed 0\nadmitted 100000\nrejected 100000\n";
+    assert!(rt; text.starts_with(front), "{version:?}");
+    for part in parts {
+        assert!(rt; text.contains(*part), "{version:?}");
+    }
+    assert!(rt; text.ends_with("\nreject 99999\nend\n"), "{version:?}");
+}
+
 /// A capture's report lists all controls of each tier, that of a text of traffic the last 1,000, with their numbers.
 #[test]
 fn of_many(rt: HostRuntime) {
-    for (version, first) in [
-        (Version::One, "control 1 0 3 2 1\n"),
-        (Version::Two, "control 1 0 3 2 1\n"),
-        (Version::Traffic, "control 99001 99000 3 2 1\n"),
-    ] {
-        let outcome = many(rt.alloc(), version).expect(&rt, "memory");
-        let text = report(rt.alloc(), outcome).expect(&rt, "memory");
-        let text = text.as_str();
-        let front =
-            "haboob-report 1\nmessages 200000\nbypassed 0\nadmitted 100000\nrejected 100000\n";
-        assert!(rt; text.starts_with(front), "{version:?}");
-        let percentiles = "\np50 50000\np90 90000\np99 99000\ncontrols 100000\n";
-        let begin = format!(in rt.alloc(); "{percentiles}{first}").expect(&rt, "memory");
-        assert!(rt; text.contains(begin.as_str()), "{version:?}");
-        let last = "control 100000 99999 3 2 1\n";
-        let tier = "tier 1 50000 50000 100000\n";
-        let next = format!(in rt.alloc(); "{last}{tier}{first}").expect(&rt, "memory");
-        assert!(rt; text.contains(next.as_str()), "{version:?}");
-        let end = format!(in rt.alloc(); "{last}reject 0\nreject 1\n").expect(&rt, "memory");
-        assert!(rt; text.contains(end.as_str()), "{version:?}");
-        assert!(rt; text.ends_with("\nreject 99999\nend\n"), "{version:?}");
-    }
+    check_many(&rt, Version::One, &EVERY_CONTROL);
+    check_many(&rt, Version::Two, &EVERY_CONTROL);
+    check_many(&rt, Version::Traffic, &LAST_CONTROLS);
 }
 
 /// A traffic text's report lists all of up to 1,000 controls, and of 1,001 all but the first.

@@ -1,6 +1,8 @@
 //! Sizes at which a body might give up: each engine answers there as anywhere, with memory enough.
 use crate::policies::{default_costs, default_policy};
-use crate::replaying::{DEFAULT_SHAPE, Engine, Ran, Shape, is_same, run_engine, shaped};
+use crate::replaying::{
+    DEFAULT_SHAPE, Engine, Ran, Shape, is_same, outcome_of, run_engine, shaped,
+};
 use captures::{CaptureFault, CaptureFaultKind};
 use inspection::InspectFault;
 use stage_graph::NoGate;
@@ -52,7 +54,7 @@ fn check_both<T: Abort + AllocGlobal + Threads + Wait + Sync>(
     assert!(rt; is_same(&staged, &plain));
     let end = format!(in rt.alloc(); "\n\nstop {messages}\n")?;
     assert!(rt; staged.text.ends_with(end.as_bytes()));
-    assert_eq!(rt; staged.answer?.rejected.as_slice().len(), rejected);
+    assert_eq!(rt; outcome_of(rt, &staged).rejected.as_slice().len(), rejected);
     Ok(())
 }
 

@@ -2,6 +2,7 @@
 use crate::explaining::{explain, settings};
 use crate::policies::{default_costs, tight};
 use crate::replay_growths::CAPTURE;
+use crate::replaying::fault_of;
 use replay::ReplayFault;
 use test_support::{A, SNAPSHOT};
 
@@ -25,9 +26,9 @@ fn each_growth_refused(rt: HostRuntime) {
         return;
     };
     let want = WANT.as_bytes();
-    match ran.answer {
-        Ok(_) => assert_eq!(rt; ran.text.as_slice(), want),
-        Err(fault) => {
+    match fault_of(&ran) {
+        None => assert_eq!(rt; ran.text.as_slice(), want),
+        Some(fault) => {
             assert_eq!(rt; fault, ReplayFault::Memory);
             assert!(rt; want.starts_with(&ran.text));
         }

@@ -1,7 +1,7 @@
 //! The outcome is that of the replay.
 use crate::explaining::{explain, replay, settings};
 use crate::policies::{default_costs, tight};
-use crate::replaying::is_same_answer;
+use crate::replaying::{is_same_answer, outcome_of};
 use std::test::Fail;
 use test_support::{A, SNAPSHOT, capture_of};
 
@@ -19,7 +19,7 @@ fn as_the_replay(rt: HostRuntime) -> Result<(), Fail> {
     let explained = explain(alloc, SNAPSHOT, &settings, &capture).expect(&rt, "a snapshot");
     let replayed = replay(alloc, SNAPSHOT, &settings, &capture).expect(&rt, "a snapshot");
     assert!(rt; is_same_answer(&explained, &replayed));
-    let outcome = explained.answer?;
+    let outcome = outcome_of(&rt, &explained);
     assert_eq!(rt; outcome.rejected.as_slice(), [1].as_slice());
     assert_eq!(rt; outcome.summary.samples.as_slice(), [201, 201].as_slice());
     Ok(())

@@ -1,6 +1,6 @@
 //! Requests of several tiers, and the connections of version 2.
 use crate::policies::{default_costs, default_policy, tight};
-use crate::replaying::{DEFAULT_SHAPE, Ran, Shape, outline, run_settings, tiered};
+use crate::replaying::{DEFAULT_SHAPE, Ran, Shape, outcome_of, outline, run_settings, tiered};
 use admission::Policy;
 use std::alloc::AllocGlobal;
 use std::process::Abort;
@@ -27,8 +27,8 @@ fn run_tiers<T: Abort + AllocGlobal + Threads + Wait + Sync>(
 }
 
 /// How many requests of each tier were admitted, and how many turned away.
-fn tallies(ran: &Ran) -> [(u64, u64); 4] {
-    let Ok(outcome) = &ran.answer else {
+pub fn tallies(ran: &Ran) -> [(u64, u64); 4] {
+    let Ok(outcome) = &*ran.answer else {
         return [(0, 0); 4];
     };
     let tiers = &outcome.summary.tiers;
@@ -58,7 +58,7 @@ fn tiers(rt: HostRuntime) -> Result<(), Fail> {
         let ran = run_tiers(&rt, batch, [one, two, one, one], &capture);
         assert_eq!(rt; outline(alloc, &ran.text)?.as_str(), want);
         assert_eq!(rt; tallies(&ran), [(1, 1), (2, 1), (0, 0), (0, 0)]);
-        let outcome = ran.answer?;
+        let outcome = outcome_of(&rt, &ran);
         assert_eq!(rt; outcome.rejected.as_slice(), [2, 4].as_slice());
         assert_eq!(rt;
             outcome.summary.samples.as_slice(),
@@ -83,7 +83,7 @@ fn a_tier_given_late(rt: HostRuntime) -> Result<(), Fail> {
     for batch in [1, 3, 1024] {
         let ran = run_tiers(&rt, batch, [one, one, one, two], &capture);
         assert_eq!(rt; tallies(&ran), [(1, 0), (0, 0), (0, 0), (2, 1)]);
-        let outcome = ran.answer?;
+        let outcome = outcome_of(&rt, &ran);
         assert_eq!(rt; outcome.rejected.as_slice(), [3].as_slice());
     }
     Ok(())
