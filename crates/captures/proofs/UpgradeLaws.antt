@@ -1,5 +1,5 @@
 -- What an upgraded text is.
-use Rattle.std.proofs.Common.{◌≡◌, ℕ, ◌≤◌, Bool, true, false, List, [], ◌∷◌, ◌++◌, length, get_or, refl, sym, ap, ◌∙◌, subst, arith, decimal, flat_map}
+use Rattle.std.proofs.Common.{◌≡◌, ℕ, ◌≤◌, true, false, List, [], ◌∷◌, ◌++◌, length, get_or, refl, sym, ap, ◌∙◌, subst, arith, decimal, flat_map}
 use Rattle.std.proofs.lemmas.List.{length-append}
 use Rattle.devices.specs.Reference.{line_feed}
 use Rattle.captures.specs.declared.version.Version.{Version}

@@ -1,5 +1,5 @@
 -- What an upgrade has written where it stops.
-use Rattle.std.proofs.Common.{◌≡◌, ℕ, false, ◌≤◌, ◌⊎◌, inl, inr, List, [], ◌∷◌, ◌++◌, length, Option, Some, None, Result, Ok, Err, refl, sym, ap, ◌∙◌, subst, arith, codes, decimal, IfErr, OnOk, append-nil}
+use Rattle.std.proofs.Common.{◌≡◌, ℕ, ◌≤◌, inl, inr, List, [], ◌∷◌, ◌++◌, length, Option, Some, None, Result, Ok, Err, refl, sym, ap, subst, arith, codes, decimal, IfErr, OnOk, append-nil}
 use Rattle.std.specs.Result.{IsErrAnd}
 use Rattle.std.specs.Io.KnownBytes.{Appends}
 use Rattle.std.proofs.lemmas.List.{flat_map_more}
@@ -10,12 +10,10 @@ use Rattle.captures.specs.declared.version.Version.{Version}
 use Rattle.captures.specs.declared.record.Record.{Record}
 use Rattle.captures.specs.declared.progress.Progress.{Progress}
 use Rattle.captures.specs.declared.capture_fault.CaptureFault.{CaptureFault}
-use Rattle.captures.specs.declared.capture_fault.CaptureFaultKind.{CaptureFaultKind}
 use Rattle.captures.specs.declared.capture_fault.CaptureFaultKind.TheVariants as kinds
 use Rattle.captures.specs.declared.pass_fault.PassFault.{PassFault}
-use Rattle.captures.specs.declared.pass_fault.PassFault.TheVariants.{Capture, TooMany, Memory, Write as Unwritten}
 use Rattle.captures.specs.Reference.{first_line, last_line, record_text, text_before_stop, format_of, IsCapture, IsCaptureText}
-use Rattle.captures.specs.CaptureFaults.{IsForeseen, IsHeaderFault, failures_of}
+use Rattle.captures.specs.CaptureFaults.{IsForeseen, IsHeaderFault}
 use Rattle.captures.specs.Readers.{ReaderAfter, Gave, FailsFirst, FailsNext}
 use Rattle.captures.proofs.PassLemmas.{reads_of, faults_next, leaves_by, leaves_part, reports}
 use Rattle.captures.specs.Upgrades.{later, Upgrades, Stops, IsCutShort, Leaves}

@@ -1,4 +1,4 @@
-use Rattle.std.proofs.Common.{◌≡◌, ℕ, ◌-◌, arith}
+use Rattle.std.proofs.Common.{arith}
 use Rattle.captures.proofs.Fitting.{fits_begins}
 use Rattle.captures.proofs.progress.Progress.open.Goals as goal
 

@@ -1,7 +1,6 @@
-use Rattle.std.proofs.Common.{Option, IfSome, ◌≡◌, ◌+◌, ℕ, refl, subst, length, arith, rules}
+use Rattle.std.proofs.Common.{Option, IfSome, ◌≡◌, ◌+◌, refl, subst, length, arith, rules}
 use Rattle.captures.specs.Captures.{Follows}
-use Rattle.captures.specs.CaptureFaults.{IsForeseen, IsFaultAfter}
-use Rattle.captures.specs.Readers.{seen, GivesNext}
+use Rattle.captures.specs.Readers.{seen}
 use Rattle.captures.specs.declared.record.Record.{Record as ARecord}
 use Rattle.captures.proofs.Fitting.{fits_goes_on, fits_ends, fits_faults, fits_has_room, fits_at}
 use Rattle.captures.proofs.progress.Progress.take_record.Goals as goal
