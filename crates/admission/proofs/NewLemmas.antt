@@ -9,8 +9,7 @@ use Rattle.token_bucket.specs.Standing as bucket
 use Rattle.token_bucket.proofs.CallLemmas as calls
 use Rattle.admission.specs.declared.policy.PolicyNumbers.{PolicyNumbers}
 use Rattle.admission.specs.Reference.{Decided, greatest, served, rate_after, control_at, least_balance}
-use Rattle.admission.specs.Window.{Window, window_of}
-use Rattle.admission.specs.Standing.{TierStanding, RiseWithin, AllRates, IsSoundTier, IsShare}
+use Rattle.admission.specs.Standing.{Window, window_of, TierStanding, RiseWithin, AllRates, IsSoundTier, IsShare}
 use Rattle.admission.specs.Running.{passed}
 use Rattle.admission.specs.After.{AllCovered, BucketFits, TierFits}
 use Rattle.admission.proofs.StandLemmas.{stands_passing, has_reached}

@@ -16,8 +16,7 @@ use Rattle.admission.specs.declared.policy.PolicyNumbers.{PolicyNumbers}
 use Rattle.admission.specs.declared.control.Decision.TheVariants.{Admitted, Rejected}
 use Rattle.admission.specs.declared.control.Control.{Control}
 use Rattle.admission.specs.Reference.{Offer, Decided, Served, greatest, is_rejected, served, sample, samples, finishes, done, rate_after, rate_at, controls_of, least_balance, credit}
-use Rattle.admission.specs.Window.{Window, window_of, with_sample}
-use Rattle.admission.specs.Standing.{TierStanding}
+use Rattle.admission.specs.Standing.{Window, window_of, with_sample, TierStanding}
 use Rattle.admission.specs.Running.{with_due, when_rejected, when_admitted, decision_after}
 use Rattle.admission.specs.After.{TierBucketAfter, TierFits}
 use Rattle.admission.proofs.CreditLemmas.{least_balance-le, least_balance-push, covered-push}

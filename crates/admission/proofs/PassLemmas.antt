@@ -1,7 +1,7 @@
 -- A bucket that passes pending controls.
 use Rattle.std.proofs.Common.{◌≡◌, ℕ, ◌+◌, ◌<◌, ◌≤◌, List, [], ◌∷◌, length, refl, sym, ◌∙◌, ap, arith}
 use Rattle.std.proofs.lemmas.Bool.{le-leb, lt-leb}
-use Rattle.token_bucket.specs.Limits.{MAX_RATE}
+use Rattle.token_bucket.specs.Standing.{MAX_RATE}
 use Rattle.token_bucket.specs.Calls.{Call, Past, Advance, SetRate, and_then}
 use Rattle.token_bucket.specs.After.{BucketAfter}
 use Rattle.token_bucket.specs.Running.{after}

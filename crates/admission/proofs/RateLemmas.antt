@@ -1,6 +1,6 @@
 -- The rates of controls.
 use Rattle.std.proofs.Common.{◌≡◌, ℕ, zero, suc, ◌≤◌, List, [], ◌∷◌, ◌++◌, Some, slice_get, subst}
-use Rattle.token_bucket.specs.Limits.{MAX_RATE}
+use Rattle.token_bucket.specs.Standing.{MAX_RATE}
 use Rattle.admission.specs.declared.control.Control.{Control}
 use Rattle.admission.specs.Standing.{AllRates}
 

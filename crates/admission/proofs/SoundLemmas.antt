@@ -5,9 +5,8 @@ use Rattle.std.proofs.lemmas.List.{length-drop}
 use Rattle.std.specs.Prelude.{nat_le, unwrap_or}
 use Rattle.token_bucket.specs.Standing as bucket
 use Rattle.admission.specs.declared.control.Control.{Control}
-use Rattle.admission.specs.Window.{Window, with_sample}
+use Rattle.admission.specs.Standing.{Window, with_sample, TierStanding, RiseWithin, AllRates, IsSoundTier, IsShare}
 use Rattle.admission.specs.Reference.{percentile}
-use Rattle.admission.specs.Standing.{TierStanding, RiseWithin, AllRates, IsSoundTier, IsShare}
 use Rattle.admission.specs.Running.{passed, next_control, when_rejected, when_admitted}
 
 -- ---- the rates and the instants of the controls

@@ -5,7 +5,7 @@ use Rattle.std.proofs.lemmas.Bool.{cases_eq}
 use Rattle.std.proofs.lemmas.List.{length-set, length-replicate, get_or-replicate}
 use Rattle.std.proofs.lemmas.Option.{get_or_from_slice_get}
 use Rattle.token_bucket.specs.Reference.{TOKEN}
-use Rattle.token_bucket.specs.Limits.{MAX_TICK}
+use Rattle.token_bucket.specs.Standing.{MAX_TICK}
 use Rattle.admission.specs.declared.policy.PolicyNumbers.{PolicyNumbers}
 use Rattle.admission.specs.Limits.{MAX_OFFERS, MAX_SERVICE}
 use Rattle.admission.specs.declared.control.Control.{Control}
@@ -14,10 +14,9 @@ use Rattle.admission.specs.declared.control.Outlook.{Outlook}
 use Rattle.admission.specs.declared.control.Decision.TheVariants.{Admitted, Rejected}
 use Rattle.admission.specs.Reference.{no_rules, rules_of, Offer, Decided, Served, of_tier, served, insert_sorted, free_at, controls_until, credit, decide, decided_from, decided, tick_from}
 use Rattle.admission.specs.Servers.{free_ticks}
-use Rattle.admission.specs.Decisions.{outlook, controls_in, all_controls}
+use Rattle.admission.specs.After.{outlook, controls_in, all_controls, TierFits, ControllerAfter}
 use Rattle.admission.specs.Standing.{TierStanding, Standing, station_of, first_free, IsShare, IsSound}
 use Rattle.admission.specs.Running.{decision_after, finish_or, servers_after}
-use Rattle.admission.specs.After.{TierFits, ControllerAfter}
 use Rattle.admission.specs.TierCalls.{AreNew, IsBeside, Decides, Takes, Shows, Foresees, AllShare, AllShow}
 use Rattle.admission.proofs.RequestLemmas.{decided_from-push, served-push, of_tier-same, of_tier-other, of_tier-none, tick_from-push}
 use Rattle.admission.proofs.ServerLemmas.{free_ticks-none, free_ticks-push, free_first, first-exchanged, length-exchanged}

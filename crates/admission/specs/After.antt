@@ -1,15 +1,17 @@
 -- What a controller keeps of the offers so far.
-use Rattle.std.specs.Prelude.{◌≡◌, ℕ, ◌+◌, ◌*◌, ◌/◌, ◌≤◌, List, [], ◌∷◌, length, count_by, Some, slice_get}
+use Rattle.std.specs.Prelude.{◌≡◌, ℕ, ◌+◌, ◌*◌, ◌/◌, ◌≤◌, List, [], ◌∷◌, length, count_by, Some, slice_get, map}
 use Rattle.token_bucket.specs.Reference.{TOKEN, accrual}
 use Rattle.token_bucket.specs.Calls.{Past}
-use Rattle.token_bucket.specs.After as calls
-use Rattle.token_bucket.specs.Standing as bucket
 use Rattle.admission.specs.declared.policy.PolicyNumbers.{PolicyNumbers}
 use Rattle.admission.specs.Reference.{Offer, Decided, of_tier, is_admitted, is_rejected, served, finishes, greatest}
 use Rattle.admission.specs.Reference.{samples, done, controls_of, rate_after, rate_at, credit, decided, tick_from}
+use Rattle.admission.specs.Reference.{Station, rules_of, free_at, controls_until}
 use Rattle.admission.specs.Servers.{free_ticks}
-use Rattle.admission.specs.Window.{window_of}
-use Rattle.admission.specs.Standing.{TierStanding, Standing, station_of}
+use Rattle.admission.specs.Standing.{window_of, TierStanding, Standing, station_of}
+use Rattle.admission.specs.declared.control.Outlook.{Outlook}
+use Rattle.admission.specs.declared.control.Control.{Control}
+use Rattle.token_bucket.specs.After as calls
+use Rattle.token_bucket.specs.Standing as bucket
 
 -- all of the requests were offered up to this tick, and no balance of theirs goes below zero
 unfoldable pub AllCovered : (ℕ → ℕ) → ℕ → ℕ → List Decided → Type 0
@@ -52,3 +54,23 @@ pub record ControllerAfter (offers : List Offer) (c : Standing) : Type 0 where
   pub servers : c.servers ≡ free_ticks (length c.servers) (served (decided (station_of c) offers))
   pub tiers : (i : ℕ) (t : TierStanding) → slice_get c.tiers i ≡ Some t
       → TierFits (of_tier i (decided (station_of c) offers)) t
+
+-- Which offered requests are admitted.
+
+-- what a request of a tier finds that comes at `tick` after these: its credit and the rate in force, by the rules of
+-- its tier over the requests of its tier, and when a server is free of the admitted requests of all tiers
+abbrev pub outlook : Station → List Decided → ℕ → ℕ → Outlook
+outlook station past tier tick = record {
+  credit = credit (rules_of station tier) (of_tier tier past) tick;
+  rate = rate_at (rules_of station tier) (served (of_tier tier past)) tick;
+  free = free_at station.servers (served past);
+}
+
+-- the controls of a tier, up to the tick of the last of these offers
+abbrev pub controls_in : Station → List Offer → ℕ → List Control
+controls_in station offers tier =
+    controls_until (rules_of station tier) (served (of_tier tier (decided station offers))) (tick_from 0 offers)
+
+-- those of each tier
+abbrev pub all_controls : Station → List Offer → List (List Control)
+all_controls station offers = map (controls_in station offers) (0 ∷ 1 ∷ 2 ∷ 3 ∷ [])

@@ -1,9 +1,7 @@
 pub mod After
-pub mod Decisions
 pub mod Laws
 pub mod Limits
 pub mod OneTier
-pub mod Others
 pub mod Reference
 pub mod Rules
 pub mod Running
@@ -11,4 +9,3 @@ pub mod Servers
 pub mod Standing
 pub mod Tally
 pub mod TierCalls
-pub mod Window

@@ -2,7 +2,7 @@
 use Rattle.std.specs.Prelude.{ℕ, ◌≤◌, Bool, nat_le, ◌&&◌, if◌then◌else◌, Option, Some, None}
 use Rattle.admission.specs.declared.policy.PolicyNumbers.{PolicyNumbers}
 use Rattle.admission.specs.Limits.{MAX_WINDOW, MAX_EVERY, MAX_UP, MIN_DOWN, MAX_DOWN, MAX_TARGET}
-use Rattle.token_bucket.specs.Limits.{MAX_RATE, MAX_DEPTH}
+use Rattle.token_bucket.specs.Standing.{MAX_RATE, MAX_DEPTH}
 use Rattle.admission.specs.declared.policy.PolicyFault.{PolicyFault}
 use Rattle.admission.specs.declared.policy.PolicyFault.TheVariants.{Window, Every, Smoothing, Rates, Target, Depth}
 

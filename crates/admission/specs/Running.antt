@@ -12,8 +12,7 @@ use Rattle.admission.specs.declared.control.Control.{Control}
 use Rattle.admission.specs.declared.control.Decision.{Decision}
 use Rattle.admission.specs.declared.control.Decision.TheVariants.{Admitted, Rejected}
 use Rattle.admission.specs.Reference.{insert_sorted, Decided, percentile, smoother, adjusted, credit}
-use Rattle.admission.specs.Window.{with_sample}
-use Rattle.admission.specs.Standing.{TierStanding}
+use Rattle.admission.specs.Standing.{with_sample, TierStanding}
 
 -- the bucket at `tick`, where it took on the rates of the pending controls whose instant it passed
 unfoldable pub passing : bucket.Standing → List Control → ℕ → bucket.Standing

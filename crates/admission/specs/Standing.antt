@@ -1,13 +1,32 @@
 -- What a contract sees of a `Controller`.
 use Rattle.std.specs.Prelude.{◌≡◌, ℕ, ◌+◌, ◌*◌, ◌<◌, ◌≤◌, List, [], ◌∷◌, length, drop, map, Some, slice_get}
-use Rattle.std.specs.Prelude.{slice_index_or}
-use Rattle.token_bucket.specs.Limits.{MAX_TICK, MAX_RATE}
-use Rattle.token_bucket.specs.Standing as bucket
+use Rattle.std.specs.Prelude.{slice_index_or, ◌++◌}
+use Rattle.token_bucket.specs.Standing.{MAX_TICK, MAX_RATE}
 use Rattle.admission.specs.declared.policy.PolicyNumbers.{PolicyNumbers}
 use Rattle.admission.specs.Limits.{MAX_OFFERS, MAX_SERVICE}
 use Rattle.admission.specs.declared.control.Control.{Control}
 use Rattle.admission.specs.Reference.{Station}
-use Rattle.admission.specs.Window.{Window}
+use Rattle.circular_buffer.specs.Buffer.{keep_last}
+use Rattle.token_bucket.specs.Standing as bucket
+
+-- What a contract sees of a `SampleWindow`.
+
+-- how many samples it holds at most, and those that it holds, the oldest first
+pub record Window : Type 0 where
+  pub size : ℕ
+  pub samples : List ℕ
+
+-- the window of this size to which these samples were added: it holds the last of them
+abbrev pub window_of : ℕ → List ℕ → Window
+window_of size added = record { size = size; samples = keep_last size added }
+
+-- the window with one more sample
+abbrev pub with_sample : Window → ℕ → Window
+with_sample window sample = record {
+  size = window.size;
+  samples = keep_last window.size
+      (window.samples ++ sample ∷ []);
+}
 
 -- a tier: its policy's numbers; its bucket; how many of its requests were admitted, and how many rejected; its window;
 -- when the admitted ones are all finished; its controls made so far, and how many of them the bucket's clock has

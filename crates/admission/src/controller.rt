@@ -3,9 +3,8 @@
 ghost use Rattle.std.specs.Prelude.{◌≡◌, ◌+◌, ◌*◌, ◌<◌, ◌≤◌, ◌++◌, [], ◌∷◌, ℕ, List, length, map, IfOk, OnOk, OnErr};
 ghost use Rattle.std.specs.Prelude.{count_by};
 ghost use Rattle.admission.specs.Reference.{Offer, of_tier, served, is_rejected, decide, decided};
-ghost use Rattle.admission.specs.Decisions.{outlook, controls_in, all_controls};
+ghost use Rattle.admission.specs.After.{outlook, controls_in, all_controls, ControllerAfter};
 ghost use Rattle.admission.specs.Standing.{last_tick, station_of, IsOffer, TakesOfferAt};
-ghost use Rattle.admission.specs.After.{ControllerAfter};
 ghost use Rattle.admission.specs.Running.{finish_or};
 ghost use Rattle.admission.specs.TierCalls.{AreNew, AllShare, AllShow};
 

@@ -5,7 +5,7 @@ ghost use Rattle.std.specs.BinaryHeap.{heap_items, heap_len, heap_capacity};
 ghost use Rattle.admission.specs.Reference.{insert_sorted, sorted};
 ghost use Rattle.admission.specs.Running.{finish_or, servers_after};
 ghost use Rattle.admission.specs.Standing.{first_free};
-ghost use Rattle.admission.specs.Others.{ticks_of, AreOthers, IsOrdered, AllFrom};
+ghost use Rattle.admission.specs.Servers.{ticks_of, AreOthers, IsOrdered, AllFrom};
 
 use crate::{Decision, MAX_SERVERS};
 use std::alloc::{AllocError, Global};
@@ -26,7 +26,7 @@ impl Model for Servers {
     ghost use Rattle.std.specs.Prelude.{ℕ, List, ◌∷◌};
     ghost use Rattle.std.specs.BinaryHeap.{heap_items, heap_len, heap_capacity};
     ghost use Rattle.admission.specs.Reference.{sorted};
-    ghost use Rattle.admission.specs.Others.{AreOthers, ticks_of};
+    ghost use Rattle.admission.specs.Servers.{AreOthers, ticks_of};
 
     ghost Value = { List ℕ };
 

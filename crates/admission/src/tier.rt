@@ -7,10 +7,9 @@ ghost use Rattle.circular_buffer.specs.Buffer.{last_item};
 ghost use Rattle.token_bucket.specs.Calls.{Past};
 ghost use Rattle.token_bucket.specs.After.{BucketAfter};
 ghost use Rattle.admission.specs.Reference.{percentile, smoother, adjusted};
-ghost use Rattle.admission.specs.Standing.{RiseWithin, AllRates, IsShare};
+ghost use Rattle.admission.specs.Standing.{RiseWithin, AllRates, IsShare, with_sample};
 ghost use Rattle.admission.specs.After.{TierFits};
 ghost use Rattle.admission.specs.TierCalls.{Decides, Takes, StaysBeside, IsBeside, Passes, RisesFrom, Shows, Foresees};
-ghost use Rattle.admission.specs.Window.{with_sample};
 ghost use Rattle.admission.specs.Running.{passing, passed, last_rate, next_control, with_due, when_rejected};
 ghost use Rattle.admission.specs.Running.{when_admitted, finish_or};
 

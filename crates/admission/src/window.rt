@@ -8,7 +8,7 @@ ghost use Rattle.std.specs.Map.{keys_of, set_value};
 ghost use Rattle.std.specs.BTreeMap.{insert_entry, is_at};
 ghost use Rattle.admission.specs.Tally.{expanded, AllCounted, count_in, remove_one};
 ghost use Rattle.admission.specs.Reference.{percentile};
-ghost use Rattle.admission.specs.Window.{window_of, with_sample};
+ghost use Rattle.admission.specs.Standing.{window_of, with_sample};
 
 use crate::MAX_WINDOW;
 use circular_buffer::HeapCircularBuffer;
@@ -26,7 +26,7 @@ pub struct SampleWindow {
 }
 
 impl Model for SampleWindow {
-    ghost use Rattle.admission.specs.Window.{Window};
+    ghost use Rattle.admission.specs.Standing.{Window};
     ghost use Rattle.admission.specs.Tally.{IsTally};
 
     ghost Value = { Window };

@@ -7,8 +7,8 @@ use Rattle.std.specs.List.{AllZip}
 use Rattle.std.specs.declared.alloc.AllocError.{AllocError}
 use Rattle.arrivals.specs.SeatStates.{IsCutOf, SeatState, CanRead, MayTake, TakesNext, size}
 use Rattle.http_requests.specs.Cutting.{max_text_bytes}
-use Rattle.arrivals.specs.declared.waiting.Waiting.{Waiting}
-use Rattle.arrivals.specs.declared.waiting.Waiting.TheVariants.{Piece as Comes, End as Ends}
+use Rattle.arrivals.specs.declared.seat.Waiting.{Waiting}
+use Rattle.arrivals.specs.declared.seat.Waiting.TheVariants.{Piece as Comes, End as Ends}
 use Rattle.http_requests.specs.declared.messages.Message.{Message}
 use Rattle.arrivals.specs.Connections.{HasRead, HasRoom}
 use Rattle.arrivals.specs.Batches.{ReadsOn}

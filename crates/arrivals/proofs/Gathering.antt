@@ -13,8 +13,8 @@ use Rattle.captures.specs.Reference.{IsRecord, max_piece_bytes}
 use Rattle.captures.specs.Captures.{size_of, sizes_of}
 use Rattle.arrivals.specs.Gathering.{with_more, Adds, AddsOne, as_piece, piece_count}
 use Rattle.arrivals.specs.SeatStates.{SeatState, seat_at, with_next}
-use Rattle.arrivals.specs.declared.waiting.Waiting.{Waiting}
-use Rattle.arrivals.specs.declared.waiting.Waiting.TheVariants.{Piece as Comes, End as Ends}
+use Rattle.arrivals.specs.declared.seat.Waiting.{Waiting}
+use Rattle.arrivals.specs.declared.seat.Waiting.TheVariants.{Piece as Comes, End as Ends}
 use Rattle.arrivals.proofs.Arriving.{if_true, if_false}
 
 -- what the reader's answer says

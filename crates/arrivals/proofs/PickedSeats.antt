@@ -6,8 +6,7 @@ use Rattle.std.proofs.lemmas.List.{length-set, get_or-set_same, get_or-set_other
 use Rattle.std.proofs.lemmas.List.Elements.{All-nil, All-head, All-tail, All-cons, All-push, All-weaker, All-get_or, Contains-append_left, Contains-push, Contains-push_cases}
 use Rattle.std.proofs.lemmas.Map.Made.{Contains-tail}
 use Rattle.std.specs.Prelude.{IsTrue}
-use Rattle.arrivals.specs.SeatStates.{SeatState, seat_at, empty_seat, IsReady, IsCutOf}
-use Rattle.arrivals.specs.Noted.{AreNoted, with_noted}
+use Rattle.arrivals.specs.SeatStates.{SeatState, seat_at, empty_seat, IsReady, IsCutOf, AreNoted, with_noted}
 use Rattle.arrivals.specs.Picking.{IsPickedOf, picks_of, TakesOut, IsCut, with_picked}
 use Rattle.arrivals.specs.declared.picked.Picked.{Picked}
 use Rattle.arrivals.proofs.CutBatches.{nothing_cut, no_items}

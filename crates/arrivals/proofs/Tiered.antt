@@ -9,8 +9,7 @@ use Rattle.captures.specs.declared.version.Version.{Version}
 use Rattle.captures.specs.Reference.{IsRecord, connection_of, connection_now, last_of, tier_given, tier_of, used_once}
 use Rattle.captures.proofs.Lives.{is_low, ends_of, apart, same_connection, next_connection, once_push, unnamed}
 use Rattle.captures.proofs.Tiers.{tier_of_piece, tier_of_end, tier_of_tier}
-use Rattle.arrivals.specs.Connections.{HaveNumbers, IsNumber, tier_now}
-use Rattle.arrivals.specs.Tiers.{AreTiers, tier_at, with_tier}
+use Rattle.arrivals.specs.Connections.{HaveNumbers, IsNumber, tier_now, AreTiers, tier_at, with_tier}
 
 same_test : (c conn : ℕ) (records : List Record) → IsNumber c → IsNumber conn → (connection_now conn records == connection_now c records) ≡ (conn == c)
 same_test c conn records lc low = elim (eqb_tells conn c) [

@@ -1,5 +1,6 @@
 -- What is kept of the connections between two records.
-use Rattle.std.specs.Prelude.{◌≡◌, ℕ, ◌+◌, ◌<◌, ◌≤◌, ◌⊎◌, Bool, List, [], ◌++◌, length, map, slice_index_or, All}
+use Rattle.std.specs.Prelude.{◌≡◌, ℕ, ◌+◌, ◌<◌, ◌≤◌, ◌⊎◌, Bool, List, [], ◌++◌, length, map, slice_index_or, All, ◌==◌}
+use Rattle.std.specs.Prelude.{if◌then◌else◌}
 use Rattle.std.specs.List.{list_any}
 use Rattle.captures.specs.Reference.{connection_now, connection_of, tier_of, used_once}
 use Rattle.captures.specs.declared.record.Record.{Record}
@@ -74,3 +75,18 @@ pub record HaveRead (records : List Record) (arrivals : List Arrival) (connectio
 -- the arrivals of these messages of a connection with the piece at this place
 abbrev pub arrivals_with : ℕ → ℕ → Origin → List Message → List Arrival
 arrivals_with place c origin ms = map (λ m. record { origin = origin; connection = c; place = place; message = m }) ms
+
+-- What is kept of the tiers of the connections, while records are read.
+
+-- the tier of a number's connection, 0 where none is kept
+abbrev pub tier_at : List ℕ → ℕ → ℕ
+tier_at tiers c = slice_index_or tiers c 0
+
+-- the tiers, once the connection of a number was given one
+abbrev pub with_tier : ℕ → ℕ → (ℕ → ℕ) → ℕ → ℕ
+with_tier conn tier tiers c = if conn == c then tier else tiers c
+
+-- the connections that numbers name have the tiers that these records give
+pub record AreTiers (records : List Record) (tiers : List ℕ) : Type 0 where
+  pub numbers : HaveNumbers records
+  pub each : (c : ℕ) → IsNumber c → tier_at tiers c ≡ tier_now c records

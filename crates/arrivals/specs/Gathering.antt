@@ -10,8 +10,8 @@ use Rattle.captures.specs.CaptureFaults.{failures_of}
 use Rattle.captures.specs.Readers.{ReaderAfter, Gave, FailsNext}
 use Rattle.arrivals.specs.Batches.{sent_to}
 use Rattle.arrivals.specs.SeatStates.{SeatState, seat_at}
-use Rattle.arrivals.specs.Tiers.{AreTiers}
-use Rattle.arrivals.specs.declared.waiting.Waiting.{Waiting}
+use Rattle.arrivals.specs.Connections.{AreTiers}
+use Rattle.arrivals.specs.declared.seat.Waiting.{Waiting}
 use Rattle.arrivals.specs.declared.batch.Ending.{Ending}
 use Rattle.arrivals.specs.declared.batch.Ending.TheVariants.{More, End, Fault}
 

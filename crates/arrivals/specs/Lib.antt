@@ -2,8 +2,6 @@ pub mod Batches
 pub mod Connections
 pub mod Gathering
 pub mod Laws
-pub mod Noted
 pub mod Picking
 pub mod SeatStates
 pub mod Reference
-pub mod Tiers

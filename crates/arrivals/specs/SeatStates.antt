@@ -1,6 +1,7 @@
 -- What is kept of a connection while a batch is read and cut.
 use Rattle.std.specs.Prelude.{◌≡◌, ℕ, ◌+◌, ◌<◌, ◌≤◌, ◌==◌, List, [], ◌∷◌, ◌++◌, length, slice_index_or, if◌then◌else◌}
-use Rattle.std.specs.List.{sum_by}
+use Rattle.std.specs.Prelude.{◌⊎◌, All, Bool}
+use Rattle.std.specs.List.{sum_by, Contains}
 use Rattle.http_requests.specs.Cutting.{max_text_bytes}
 use Rattle.http_requests.specs.declared.messages.Message.{Message}
 use Rattle.arrivals.specs.Connections.{HasRead, HasRoom}
@@ -8,8 +9,8 @@ use Rattle.arrivals.specs.Batches.{Reads, ReadsOn}
 use Rattle.arrivals.specs.declared.connections.Connection.{Connection}
 use Rattle.arrivals.specs.declared.connections.Connection.TheVariants.{Silent}
 use Rattle.arrivals.specs.declared.incoming.Origin.{Origin}
-use Rattle.arrivals.specs.declared.waiting.Waiting.{Waiting}
-use Rattle.arrivals.specs.declared.waiting.Waiting.TheVariants.{Piece as Comes, End as Ends}
+use Rattle.arrivals.specs.declared.seat.Waiting.{Waiting}
+use Rattle.arrivals.specs.declared.seat.Waiting.TheVariants.{Piece as Comes, End as Ends}
 
 -- a connection, what waits to be cut, and for each piece that was cut the messages that end in it
 pub record SeatState : Type 0 where
@@ -69,3 +70,15 @@ TakesNext before Ends old new after = (new ≡ old) × (after ≡ Silent)
 abbrev pub MayTake : Connection → Waiting → Type 0
 MayTake before (Comes piece) = HasRoom before (length piece)
 MayTake before Ends = Unit {0}
+
+-- The seats at which something waits, noted by their numbers.
+
+-- just the places at which something waits are noted
+pub record AreNoted (noted : List ℕ) (places : List SeatState) : Type 0 where
+  pub below : All (λ k. k < length places) noted
+  pub waits : All (λ k. 0 < length (seat_at places k).waiting) noted
+  pub each : (c : ℕ) → Contains noted c ⊎ ((seat_at places c).waiting ≡ [])
+
+-- a place is noted, where nothing waited there before
+abbrev pub with_noted : ℕ → Bool → List ℕ → List ℕ
+with_noted k waited noted = if waited then noted else noted ++ k ∷ []

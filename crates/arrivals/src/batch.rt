@@ -6,13 +6,12 @@ ghost use Rattle.devices.specs.Devices.{CanFail};
 ghost use Rattle.captures.specs.declared.version.Version.{Version as AVersion};
 ghost use Rattle.captures.specs.Reference.{IsRecord};
 ghost use Rattle.captures.specs.Captures.{size_of};
-ghost use Rattle.captures.specs.Readers.{ReaderAfter};
-ghost use Rattle.captures.specs.Shown.{progress_of, device_of, loan_of};
+ghost use Rattle.captures.specs.Readers.{ReaderAfter, progress_of, device_of, loan_of};
 ghost use Rattle.captures.specs.declared.record.Record.{Record as ARecord};
 ghost use Rattle.captures.specs.declared.progress.ReaderState.TheVariants.{Reading};
 ghost use Rattle.arrivals.specs.Batches.{origins_after};
 ghost use Rattle.arrivals.specs.SeatStates.{seat_at};
-ghost use Rattle.arrivals.specs.Tiers.{AreTiers, tier_at};
+ghost use Rattle.arrivals.specs.Connections.{AreTiers, tier_at};
 ghost use Rattle.arrivals.specs.Gathering.{AddsOne, Adds, ReadOn, CountsEnding, IfMore, HasSize, LosesOne, as_piece};
 
 use crate::incoming::Origin;

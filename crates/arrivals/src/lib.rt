@@ -13,7 +13,6 @@ mod seat;
 mod seats;
 mod series;
 mod tiers;
-mod waiting;
 
 pub use batch::{Batch, Ending, read_batch};
 pub use connections::{Connections, some_closes};

@@ -8,10 +8,19 @@ ghost use Rattle.arrivals.specs.SeatStates.{MayTake, TakesNext};
 use crate::Series;
 use crate::connections::Connection;
 use crate::fifo::Fifo;
-use crate::waiting::Waiting;
+use devices::Bytes;
 use http_requests::Message;
 use std::alloc::{AllocError, Global};
 use std::marker::Model;
+
+/// What came on a number in a batch, and waits to be cut.
+#[derive(Drop)]
+pub enum Waiting {
+    /// Bytes of its connection.
+    Piece(Bytes),
+    /// The end of its connection: what comes after it is of a further one.
+    End,
+}
 
 /// What is kept of a number on which something came: its connection, what waits to be cut, and for each piece that was
 /// cut the messages that end in it.

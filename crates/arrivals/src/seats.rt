@@ -4,15 +4,13 @@ ghost use Rattle.std.specs.Prelude.{◌≡◌, ◌≢◌, ◌+◌, ◌<◌, ◌�
 ghost use Rattle.std.specs.Prelude.{vec_len, vec_capacity};
 ghost use Rattle.std.specs.List.{AllZip};
 ghost use Rattle.arrivals.specs.Batches.{lists_to};
-ghost use Rattle.arrivals.specs.Noted.{with_noted};
-ghost use Rattle.arrivals.specs.SeatStates.{seat_at, with_next, with_lists, IsReady, IsCutOf, count_to};
-ghost use Rattle.arrivals.specs.declared.waiting.Waiting.TheVariants.{Piece as Comes, End as Ends};
+ghost use Rattle.arrivals.specs.SeatStates.{with_noted, seat_at, with_next, with_lists, IsReady, IsCutOf, count_to};
+ghost use Rattle.arrivals.specs.declared.seat.Waiting.TheVariants.{Piece as Comes, End as Ends};
 
 use crate::Series;
 use crate::incoming::{Origin, PieceMessages};
 use crate::picked::{cut_all, pick, put_back};
-use crate::seat::Seat;
-use crate::waiting::Waiting;
+use crate::seat::{Seat, Waiting};
 use devices::Bytes;
 use http_requests::Message;
 use rayon::current_num_threads;
@@ -40,8 +38,7 @@ pub struct Seats {
 
 impl Model for Seats {
     ghost use Rattle.std.specs.Prelude.{List};
-    ghost use Rattle.arrivals.specs.SeatStates.{SeatState};
-    ghost use Rattle.arrivals.specs.Noted.{AreNoted};
+    ghost use Rattle.arrivals.specs.SeatStates.{SeatState, AreNoted};
 
     ghost Value = { List SeatState };
 

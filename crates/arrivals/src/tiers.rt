@@ -1,7 +1,7 @@
 //! The tier of each number's connection.
 
 ghost use Rattle.std.specs.Prelude.{◌≡◌, ◌+◌, ◌<◌, ◌≤◌, [], ℕ, length, max, OnOk, OnErr};
-ghost use Rattle.arrivals.specs.Tiers.{tier_at, with_tier};
+ghost use Rattle.arrivals.specs.Connections.{tier_at, with_tier};
 
 use std::alloc::{AllocError, Global};
 use std::marker::Model;

@@ -25,7 +25,7 @@ use Rattle.captures.specs.declared.version.Version.TheVariants.{One, Two, Traffi
 use Rattle.captures.specs.CaptureFaults.{named, ◌>>=◌, kind_of, header_kind_of, opens, start_heading, start_of, header_at, two_numbers, piece_heading, end_heading, tier_heading, stop_heading, heading_of, open_connection, allowed, body_at, piece_at, tier_record, record_at}
 use Rattle.captures.specs.declared.record.Record.{Record}
 use Rattle.captures.specs.declared.record.Record.TheVariants.{Piece, End, Tier}
-use Rattle.captures.specs.declared.heading.Heading.TheVariants as headings
+use Rattle.captures.specs.declared.headings.Heading.TheVariants as headings
 use Rattle.captures.specs.declared.capture_fault.CaptureFaultKind.{CaptureFaultKind}
 use Rattle.captures.proofs.Lines.{room_for_first, few_connections}
 use Rattle.captures.proofs.Records.{stop_text}

@@ -3,14 +3,14 @@ use Rattle.std.proofs.Common.{◌≡◌, ℕ, ◌≤◌, cond, ◌&&◌, Bool, t
 use Rattle.std.proofs.lemmas.List.{length-drop}
 use Rattle.std.specs.List.{starts_with}
 use Rattle.devices.specs.Numbers.{number_of, number_and_rest, three_numbers}
-use Rattle.devices.specs.LongLines.{IsLong, GivesLongLine}
+use Rattle.devices.specs.Texts.{IsLong, GivesLongLine}
 use Rattle.devices.specs.declared.text.Stop.{Stop}
 use Rattle.devices.proofs.Pieces.{number_long, rest_long, three_long}
 use Rattle.captures.specs.Reference.{format_of}
 use Rattle.captures.specs.CaptureFaults.{two_numbers, piece_heading, end_heading, tier_heading, stop_heading, heading_of}
-use Rattle.captures.specs.RecordLines.{GivesLine}
+use Rattle.captures.specs.Readers.{GivesLine}
 use Rattle.captures.specs.declared.version.Version.{Version}
-use Rattle.captures.specs.declared.heading.Heading.{Heading}
+use Rattle.captures.specs.declared.headings.Heading.{Heading}
 use Rattle.captures.specs.declared.capture_fault.CaptureFaultKind.TheVariants.{Kind}
 use Rattle.captures.proofs.Lines.{bind_some}
 

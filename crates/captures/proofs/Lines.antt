@@ -12,11 +12,11 @@ use Rattle.captures.specs.Reference.{format_of, first_line, max_start}
 use Rattle.captures.specs.CaptureFaults.{named, ◌>>=◌, header_kind_of, start_heading, start_of, header_at, opens, longest_text, two_numbers, piece_heading, end_heading, tier_heading, stop_heading, heading_of, IsHeadingOf}
 use Rattle.captures.specs.declared.version.Version.{Version}
 use Rattle.captures.specs.declared.version.Version.TheVariants.{One, Two, Traffic}
-use Rattle.captures.specs.declared.heading.PieceLine.{PieceLine}
-use Rattle.captures.specs.declared.heading.TierLine.{TierLine}
-use Rattle.captures.specs.declared.heading.EndLine.{EndLine}
-use Rattle.captures.specs.declared.heading.Heading.{Heading}
-use Rattle.captures.specs.declared.heading.Heading.TheVariants as headings
+use Rattle.captures.specs.declared.headings.PieceLine.{PieceLine}
+use Rattle.captures.specs.declared.headings.TierLine.{TierLine}
+use Rattle.captures.specs.declared.headings.EndLine.{EndLine}
+use Rattle.captures.specs.declared.headings.Heading.{Heading}
+use Rattle.captures.specs.declared.headings.Heading.TheVariants as headings
 use Rattle.captures.specs.declared.capture_fault.CaptureFaultKind.{CaptureFaultKind}
 use Rattle.captures.specs.declared.capture_fault.CaptureFaultKind.TheVariants.{Header}
 

@@ -19,8 +19,8 @@ use Rattle.captures.specs.CaptureFaults.{kind_of, header_kind_of, header_at, nam
 use Rattle.captures.specs.Readers.{seen, ReaderAfter, FailsInRecord}
 use Rattle.captures.specs.declared.record.Record.{Record}
 use Rattle.captures.specs.declared.record.Record.TheVariants.{Tier}
-use Rattle.captures.specs.declared.heading.TierLine.{TierLine}
-use Rattle.captures.specs.declared.heading.Heading.{Heading}
+use Rattle.captures.specs.declared.headings.TierLine.{TierLine}
+use Rattle.captures.specs.declared.headings.Heading.{Heading}
 use Rattle.captures.specs.declared.progress.Progress.{Progress}
 use Rattle.captures.specs.declared.capture_fault.CaptureFaultKind.{CaptureFaultKind}
 use Rattle.captures.specs.declared.capture_fault.CaptureFaultKind.TheVariants.{Cut, Read, Number, Kind, Tick, Connection, Ended, Tier as LateTier}

@@ -11,10 +11,10 @@ use Rattle.captures.specs.declared.version.Version.{Version}
 use Rattle.captures.specs.CaptureFaults.{kind_of, named, heading_of, IsHeadingOf, open_connection, allowed, body_at, piece_at, tier_record, close_at, announced, record_at}
 use Rattle.captures.specs.declared.record.Record.{Record}
 use Rattle.captures.specs.declared.record.Record.TheVariants.{Piece, End, Tier}
-use Rattle.captures.specs.declared.heading.PieceLine.{PieceLine}
-use Rattle.captures.specs.declared.heading.TierLine.{TierLine}
-use Rattle.captures.specs.declared.heading.Heading.{Heading}
-use Rattle.captures.specs.declared.heading.Heading.TheVariants as headings
+use Rattle.captures.specs.declared.headings.PieceLine.{PieceLine}
+use Rattle.captures.specs.declared.headings.TierLine.{TierLine}
+use Rattle.captures.specs.declared.headings.Heading.{Heading}
+use Rattle.captures.specs.declared.headings.Heading.TheVariants as headings
 use Rattle.captures.specs.declared.capture_fault.CaptureFaultKind.{CaptureFaultKind}
 use Rattle.captures.specs.declared.capture_fault.CaptureFaultKind.TheVariants.{Tick, Connection, Ended, Tier as LateTier, Length, Count, Trailing}
 use Rattle.captures.proofs.Lines.{bind_ok, named_ok, piece_line_inverse, end_line_inverse, tier_line_inverse, stop_line_inverse, heading_has, few_connections}

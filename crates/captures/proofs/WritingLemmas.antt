@@ -4,7 +4,7 @@ use Rattle.std.proofs.lemmas.List.{append_assoc}
 use Rattle.devices.specs.Reference.{line_feed}
 use Rattle.captures.specs.Reference.{format_of, first_line, piece_line, record_text}
 use Rattle.captures.specs.declared.version.Version.{Version}
-use Rattle.captures.specs.Writing.{line_of, rest_of}
+use Rattle.captures.specs.Captures.{line_of, rest_of}
 use Rattle.captures.specs.declared.record.Record.{Record}
 use Rattle.captures.specs.declared.record.Record.TheVariants.{Piece, End, Tier}
 

@@ -16,10 +16,10 @@ use Rattle.captures.specs.declared.version.Version.{Version}
 use Rattle.captures.specs.declared.version.Version.TheVariants.{One, Two, Traffic}
 use Rattle.captures.specs.declared.record.Record.{Record}
 use Rattle.captures.specs.declared.record.Record.TheVariants.{Piece, End, Tier}
-use Rattle.captures.specs.declared.heading.PieceLine.{PieceLine}
-use Rattle.captures.specs.declared.heading.TierLine.{TierLine}
-use Rattle.captures.specs.declared.heading.Heading.{Heading}
-use Rattle.captures.specs.declared.heading.Heading.TheVariants as headings
+use Rattle.captures.specs.declared.headings.PieceLine.{PieceLine}
+use Rattle.captures.specs.declared.headings.TierLine.{TierLine}
+use Rattle.captures.specs.declared.headings.Heading.{Heading}
+use Rattle.captures.specs.declared.headings.Heading.TheVariants as headings
 use Rattle.captures.specs.declared.capture_fault.CaptureFault.{CaptureFault}
 use Rattle.captures.specs.declared.capture_fault.CaptureFaultKind.{CaptureFaultKind}
 use Rattle.captures.specs.declared.capture_fault.CaptureFaultKind.TheVariants.{Cut, Header, Kind, Number, Tick}

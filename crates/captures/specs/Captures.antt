@@ -1,11 +1,13 @@
 -- What the rules ask of the records of a text, record by record.
-use Rattle.std.specs.Prelude.{◌≡◌, ℕ, ◌+◌, ◌≤◌, ◌&&◌, Bool, false, List, length, nat_lt, sum_by}
+use Rattle.std.specs.Prelude.{◌≡◌, ℕ, ◌+◌, ◌≤◌, ◌&&◌, Bool, false, List, length, nat_lt, sum_by, [], ◌∷◌, ◌++◌}
 use Rattle.std.specs.List.{list_any}
 use Rattle.captures.specs.declared.version.Version.{Version}
 use Rattle.captures.specs.declared.record.Record.{Record}
 use Rattle.captures.specs.declared.record.Record.TheVariants.{Piece, End, Tier}
-use Rattle.captures.specs.Reference.{ends_for_good, is_use_of, last_of, max_piece_bytes, ticks_of}
-use Rattle.captures.specs.Reference.{IsRecord, connection_now, used_once}
+use Rattle.captures.specs.Reference.{ends_for_good, is_use_of, last_of, max_piece_bytes, ticks_of, IsRecord}
+use Rattle.captures.specs.Reference.{connection_now, used_once, FormatRow, piece_line, end_line, tier_line}
+use Rattle.captures.specs.declared.version.Row.{Row}
+use Rattle.devices.specs.Reference.{line_feed}
 
 -- What the rules ask of the records so far when one more comes: how many they are, the last tick (0 where none gave
 -- one), which numbers have ended for good, and which name a connection that had a piece or a tier.
@@ -43,3 +45,27 @@ size_of (Tier conn tier) = 0
 
 abbrev pub sizes_of : List Record → ℕ
 sizes_of records = sum_by size_of records
+
+-- The rows of the formats, as the code has them.
+
+-- a row of the code sets what this one does
+pub record IsRow (is : Row) (row : FormatRow) : Type 0 where
+  pub opening : is.opening.now ≡ row.opening
+  pub last_connection : is.last_connection ≡ row.last_connection
+  pub has_tiers : is.has_tiers ≡ row.has_tiers
+  pub used_again : is.used_again ≡ row.used_again
+  pub max_text_bytes : is.max_text_bytes ≡ row.max_text_bytes
+  pub max_messages : is.max_messages ≡ row.max_messages
+
+-- The text of a record in the two parts in which it is written.
+
+-- a record's line, and what of its text comes after it
+abbrev pub line_of : Record → List ℕ
+line_of (Piece tick conn bytes) = piece_line tick conn (length bytes) ++ line_feed ∷ []
+line_of (End tick conn) = end_line tick conn ++ line_feed ∷ []
+line_of (Tier conn tier) = tier_line conn tier ++ line_feed ∷ []
+
+abbrev pub rest_of : Record → List ℕ
+rest_of (Piece tick conn bytes) = bytes ++ line_feed ∷ []
+rest_of (End tick conn) = []
+rest_of (Tier conn tier) = []

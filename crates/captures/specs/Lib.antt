@@ -1,10 +1,6 @@
 pub mod CaptureFaults
 pub mod Captures
-pub mod Formats
 pub mod Passes
 pub mod Readers
-pub mod RecordLines
 pub mod Reference
-pub mod Shown
 pub mod Upgrades
-pub mod Writing

@@ -1,13 +1,13 @@
 -- A reader of a capture, which gives record after record.
-use Rattle.std.specs.Prelude.{◌≡◌, ◌≢◌, ℕ, ◌+◌, ◌≤◌, ◌/◌, ◌%◌, Bool, true, not, ◌||◌, ◌&&◌, ◌==◌, List, [], ◌∷◌, ◌++◌, length}
-use Rattle.std.specs.Prelude.{Option, Some, None, Result, Ok, Err, IfErr, slice_index_or, is_some, unwrap_or}
-use Rattle.std.specs.Prelude.{if◌then◌else◌}
+use Rattle.std.specs.Prelude.{◌≡◌, ◌≢◌, ℕ, ◌+◌, ◌≤◌, ◌/◌, ◌%◌, Bool, true, not, ◌||◌, ◌&&◌, ◌==◌, List, [], ◌∷◌, ◌++◌}
+use Rattle.std.specs.Prelude.{length, Option, Some, None, Result, Ok, Err, IfErr, slice_index_or, is_some, unwrap_or}
+use Rattle.std.specs.Prelude.{if◌then◌else◌, false, MatchResult}
 use Rattle.std.specs.Int.{bit_at}
 use Rattle.devices.specs.Devices.{Device, CountsBy}
 use Rattle.captures.specs.Reference.{format_of, text_before_stop, IsCapture, IsCaptureText, IsRecord}
 use Rattle.captures.specs.Captures.{Past, past_of, size_of, sizes_of}
 use Rattle.captures.specs.CaptureFaults.{IsFaultAfter, IsForeseen, IsHeaderFault, IsUnfinished, header_at, record_at}
-use Rattle.captures.specs.CaptureFaults.{failures_of, left_after, longest_text}
+use Rattle.captures.specs.CaptureFaults.{failures_of, left_after, longest_text, heading_of}
 use Rattle.captures.specs.declared.version.Version.{Version}
 use Rattle.captures.specs.declared.record.Record.{Record}
 use Rattle.captures.specs.declared.record.Record.TheVariants.{Piece, End, Tier}
@@ -19,6 +19,19 @@ use Rattle.captures.specs.declared.so_far.SoFar.{SoFar}
 use Rattle.captures.specs.declared.progress.ReaderState.{ReaderState}
 use Rattle.captures.specs.declared.progress.ReaderState.TheVariants.{Reading, Ended, Failed}
 use Rattle.captures.specs.declared.progress.Progress.{Progress}
+use Rattle.devices.specs.Texts.{Ahead, ahead_of, line_at, is_unforeseen}
+use Rattle.devices.specs.declared.text.Stop.{Stop}
+use Rattle.captures.specs.declared.headings.Heading.{Heading}
+use Rattle.captures.specs.declared.reader.CaptureReader.{CaptureReader}
+
+-- The line of a record, as it is read: what it owes is read at once.
+
+-- The call gave the next line. Where that announces something in this version, what follows the line is ahead now.
+abbrev pub GivesLine : Version → Option (List ℕ) → ℕ → Option (List ℕ) → ℕ → Result (List ℕ) Stop → Type 0
+GivesLine v old left new left_new r = is_some old ≡ true → MatchResult r
+    (λ line. (following : Ahead) × (line_at (ahead_of old left) ≡ Ok (line, following)) × (is_some new ≡ true)
+    × ((h : Heading) → heading_of v line ≡ Ok h → following ≡ ahead_of new left_new))
+    (λ e. is_unforeseen e ≡ false → line_at (ahead_of old left) ≡ Err e)
 
 -- whether a connection is in a set: its bit is 1
 abbrev pub is_in : ConnectionSet → ℕ → Bool
@@ -146,3 +159,17 @@ pub record IsOpeningFault (text : Option (List ℕ)) (f : CaptureFault) : Type 0
   pub at : f.at ≡ 0
   pub memory : f.kind ≢ Memory
   pub foreseen : IsForeseen IsHeaderFault text f
+
+-- What a reader of a capture shows in contracts.
+
+-- how far it has come
+abbrev pub progress_of : {R : Type 0} → CaptureReader R → Progress
+progress_of reader = reader.progress
+
+-- its device, as it stands now
+abbrev pub device_of : {R : Type 0} → CaptureReader R → Device
+device_of reader = reader.input.now
+
+-- which device was lent to it
+abbrev pub loan_of : {R : Type 0} → CaptureReader R → ℕ
+loan_of reader = reader.input.ghost_name

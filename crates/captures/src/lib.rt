@@ -4,7 +4,6 @@
 
 mod capture_fault;
 mod connection_set;
-mod heading;
 mod headings;
 mod laws;
 mod pass_fault;

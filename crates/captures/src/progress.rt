@@ -7,7 +7,7 @@ ghost use Rattle.captures.specs.Captures.{longest_record, size_of};
 ghost use Rattle.captures.specs.CaptureFaults.{CountsFault};
 ghost use Rattle.captures.specs.Readers.{ComesTo, FailsFirst, GivesNext, HasOpened, IsGiven, IsOpeningFault};
 
-use crate::reading::{read_header, read_record};
+use crate::headings::{read_header, read_record};
 use crate::so_far::SoFar;
 use crate::{CaptureFault, CaptureFaultKind, Record, Version};
 use devices::Input;

@@ -24,7 +24,7 @@ pub struct CaptureReader<'a, R: Read> {
 }
 
 impl<'a, R: Read> CaptureReader<'a, R> {
-    ghost use Rattle.captures.specs.Shown.{progress_of, device_of, loan_of};
+    ghost use Rattle.captures.specs.Readers.{progress_of, device_of, loan_of};
 
     /// Reads the first line.
     pub fn open(input: &'a mut Input<R>) -> Result<CaptureReader<'a, R>, CaptureFault>

@@ -1,55 +1,24 @@
-//! Reading a record by the line that announces it.
+//! Reading what a line announced.
 
-ghost use Rattle.std.specs.Prelude.{◌≡◌, ◌<◌, ◌≤◌, ◌-◌, ◌^◌, ◌+◌, length, min, IfOk, IfErr, IfSome, ◌≢◌};
+ghost use Rattle.std.specs.Prelude.{◌≡◌, ◌≢◌, ◌<◌, ◌≤◌, ◌-◌, ◌^◌, ◌+◌, length, min, IfOk, IfErr, IfSome};
 ghost use Rattle.devices.specs.Devices.{CanFail};
-ghost use Rattle.devices.specs.Texts.{Counts, Gives, line_at};
+ghost use Rattle.devices.specs.Texts.{Gives};
 ghost use Rattle.devices.specs.Parts.{FailsAtOnce, FailsAfter, FailsWithin, TookAtMost};
-ghost use Rattle.captures.specs.Reference.{max_start, max_piece_bytes};
-ghost use Rattle.captures.specs.Captures.{Follows, longest_record};
-ghost use Rattle.captures.specs.CaptureFaults.{CountsKind, IsUnfinished, IsHeadingOf, is_unforeseen_kind, header_at};
-ghost use Rattle.captures.specs.CaptureFaults.{body_at, piece_at, close_at, announced, record_at};
+ghost use Rattle.captures.specs.Reference.{max_piece_bytes};
+ghost use Rattle.captures.specs.Captures.{Follows};
+ghost use Rattle.captures.specs.CaptureFaults.{CountsKind, IsUnfinished, IsHeadingOf, is_unforeseen_kind};
+ghost use Rattle.captures.specs.CaptureFaults.{body_at, piece_at, close_at, announced};
 ghost use Rattle.captures.specs.Readers.{seen};
-ghost use Rattle.captures.specs.RecordLines.{GivesLine};
 
-use crate::heading::{Heading, PieceLine};
-use crate::headings::{read_heading, read_start};
+use crate::headings::{Heading, PieceLine};
 use crate::so_far::SoFar;
 use crate::{CaptureFaultKind, Record, Version};
-use devices::{Bytes, Input, Line, Stop, read_byte_of, read_line, read_long_line, read_run};
+use devices::{Bytes, Input, read_byte_of, read_run};
 use std::alloc::Global;
 use std::io::Read;
 
 /// The most bytes of a piece.
 const MAX_PIECE_BYTES: u64 = 65_536;
-/// The fewest bytes of a line that announces something, as `stop 0`, with its line feed.
-const SHORTEST_LINE: usize = 7;
-/// The fewest bytes of a piece's line, as `piece 0 0 1`, with its line feed.
-const SHORTEST_PIECE_LINE: usize = 12;
-
-/// Reads the first line, and answers its version and the start.
-pub(crate) fn read_header<R: Read>(
-    input: &mut Input<R>,
-    left: &mut usize,
-) -> Result<(Version, u64), CaptureFaultKind>
-    requires { CanFail input.old }
-    ensures line { Gives is_unforeseen_kind header_at
-        input.old.bytes left.old input.new.bytes left.new result }
-    // Where a read failed, no whole line had been taken.
-    ensures part { FailsWithin CaptureFaultKind.Read CaptureFaultKind.Cut header_at
-        input.old.bytes left.old input.new.bytes left.new result }
-    ensures limit { IfOk result (λ first. first.1 ≤ max_start) }
-    ensures count { CountsKind input.old.failures input.new.failures result }
-    // It takes no memory.
-    ensures memory { IfErr result (λ kind. kind ≢ CaptureFaultKind.Memory) }
-    // Of the input no more was taken than a line may have.
-    ensures most { TookAtMost 65 input.old.bytes input.new.bytes }
-{
-    match read_line(input, left) {
-        Ok(line) => read_start(line.as_slice()),
-        Err(Stop::TooLong) => Err(CaptureFaultKind::Header),
-        Err(stop) => Err(CaptureFaultKind::from(stop)),
-    }
-}
 
 /// Reads the bytes of a piece, n.
 fn read_body<R: Read>(
@@ -133,7 +102,7 @@ fn read_close<R: Read>(input: &mut Input<R>, left: usize) -> Result<(), CaptureF
 }
 
 /// Reads what a line announced: a record, or `None` where the capture ends.
-fn read_announced<R: Read>(
+pub(crate) fn read_announced<R: Read>(
     alloc: Global,
     input: &mut Input<R>,
     left: &mut usize,
@@ -181,50 +150,4 @@ fn read_announced<R: Read>(
             }
         }
     }
-}
-
-/// Reads the line of a record, or of the end, of a capture of this version. Bytes after a line that announces nothing
-/// may have been read too.
-fn read_record_line<R: Read>(
-    input: &mut Input<R>,
-    left: &mut usize,
-    _version: Version,
-) -> Result<Line, Stop>
-    requires { CanFail input.old }
-    ensures line { GivesLine _version input.old.bytes left.old input.new.bytes left.new result }
-    // Where a read failed, no whole line had been taken.
-    ensures part { FailsWithin Stop.Read Stop.Cut line_at
-        input.old.bytes left.old input.new.bytes left.new result }
-    ensures count { Counts input.old.failures input.new.failures result }
-    // It takes no memory.
-    ensures memory { IfErr result (λ e. e ≢ Stop.Memory) }
-    // At most 65 bytes were taken, and one byte past the limit.
-    ensures most { TookAtMost (min 65 (left.old + 1)) input.old.bytes input.new.bytes }
-{
-    read_long_line(input, left, SHORTEST_LINE, b"piece ", SHORTEST_PIECE_LINE)
-}
-
-/// Reads the record after those so far, or `None` where the capture ends.
-pub(crate) fn read_record<R: Read>(
-    alloc: Global,
-    input: &mut Input<R>,
-    left: &mut usize,
-    version: Version,
-    so_far: &SoFar,
-) -> Result<Option<Record>, CaptureFaultKind>
-    requires { CanFail input.old }
-    ensures record { Gives is_unforeseen_kind
-        (record_at version (seen so_far.now)) input.old.bytes left.old input.new.bytes left.new result }
-    // Where a read failed, no whole record had been taken.
-    ensures part { FailsAfter CaptureFaultKind.Read
-        (λ part. IsUnfinished (record_at version (seen so_far.now) (record { bytes = part; left = left.old })))
-        input.old.bytes left.old input.new.bytes left.new result }
-    ensures fits { IfOk result (λ next. IfSome next (Follows version (seen so_far.now))) }
-    ensures count { CountsKind input.old.failures input.new.failures result }
-    // At most the longest record was taken, and one byte past the limit.
-    ensures most { TookAtMost (min longest_record (left.old + 1)) input.old.bytes input.new.bytes }
-{
-    let line = read_record_line(input, left, version)?;
-    let heading = read_heading(version, line.as_slice())?;
-    read_announced(alloc, input, left, version, so_far, heading)
 }

@@ -5,7 +5,7 @@ ghost use Rattle.std.specs.String.{string_bytes};
 ghost use Rattle.devices.specs.Devices.{CanFail, CountsBy, WritesPrefix};
 ghost use Rattle.captures.specs.Reference.{first_line, piece_line, record_text};
 ghost use Rattle.captures.specs.Passes.{writer_failures, IsWriteOrMemory};
-ghost use Rattle.captures.specs.Writing.{line_of, rest_of};
+ghost use Rattle.captures.specs.Captures.{line_of, rest_of};
 
 use crate::{PassFault, Record, Version};
 use devices::Output;

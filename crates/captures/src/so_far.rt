@@ -7,7 +7,7 @@ ghost use Rattle.captures.specs.Readers.{seen, after};
 ghost use Rattle.captures.specs.declared.version.Version.{Version as AVersion};
 
 use crate::connection_set::ConnectionSet;
-use crate::heading::TierLine;
+use crate::headings::TierLine;
 use crate::{CaptureFaultKind, Record, Version};
 
 /// The latest tick, in microseconds.

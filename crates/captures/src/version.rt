@@ -1,7 +1,7 @@
 //! The formats of recorded traffic, and in what they differ.
 
 ghost use Rattle.std.specs.Prelude.{◌≡◌};
-ghost use Rattle.captures.specs.Formats.{IsRow};
+ghost use Rattle.captures.specs.Captures.{IsRow};
 ghost use Rattle.captures.specs.Reference.{format_of};
 ghost use Rattle.captures.specs.Upgrades.{later};
 

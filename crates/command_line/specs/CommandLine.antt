@@ -30,6 +30,10 @@ required_of name = record (option_of name) { required = true }
 abbrev pub flag_of : Text → Rule
 flag_of name = record (new_rule name) { long = Some name; action = Some SetTrue }
 
+-- the option that names the engine, the staged one where none is named
+abbrev pub engine_option : Rule
+engine_option = record (option_of (codes "engine")) { defaults = codes "staged" ∷ [] }
+
 -- an option that names the speed of the traffic, as it was recorded where none is named
 abbrev pub speed_option : Rule
 speed_option = record (option_of (codes "speed")) { defaults = codes "100" ∷ [] }
@@ -42,7 +46,7 @@ replay_command =
     (required_of (codes "capture")))
     (required_of (codes "replies")))
     (option_of (codes "settings")))
-    (record (option_of (codes "engine")) { defaults = codes "staged" ∷ [] }))
+    engine_option)
     speed_option
 
 -- an option that names the format of a new capture, with a default

@@ -1,11 +1,12 @@
 //! The commands as clap is told of them, with their help.
 
-ghost use Rattle.std.specs.Prelude.{◌≡◌, false, IfOk};
-ghost use Rattle.clap.specs.Words.{app_of, rule_of};
+ghost use Rattle.std.specs.Prelude.{◌≡◌, codes, false, IfOk, IsOkAnd};
+ghost use Rattle.clap.specs.Words.{AddsSubcommand, app_of, new_app, rule_of};
 ghost use Rattle.clap.specs.declared.builder.Command.TheViews.{out-Command};
-ghost use Rattle.command_line.specs.CommandLine.{command_line, explain_command, flag_of, inspect_command, option_of};
-ghost use Rattle.command_line.specs.CommandLine.{format_option, replay_command, settings_command, slim_command};
-ghost use Rattle.command_line.specs.CommandLine.{snapshot_command, speed_option, upgrade_command};
+ghost use Rattle.command_line.specs.CommandLine.{command_line, engine_option, explain_command, flag_of};
+ghost use Rattle.command_line.specs.CommandLine.{format_option, inspect_command, option_of, program_of, replay_command};
+ghost use Rattle.command_line.specs.CommandLine.{required_of, settings_command, slim_command, snapshot_command};
+ghost use Rattle.command_line.specs.CommandLine.{speed_option, upgrade_command};
 
 use clap::{Arg, ArgAction, Command};
 use std::alloc::{AllocError, Global};
@@ -111,167 +112,136 @@ Example:
 pub(crate) fn command_line<'a>(alloc: Global) -> Result<Command<'a>, AllocError>
     ensures { IfOk result (λ command. app_of command ≡ command_line) }
 {
-    let replay = replay_command(alloc)?;
-    let upgrade = upgrade_command(alloc)?;
-    let slim = slim_command(alloc)?;
-    let snapshot = snapshot_command(alloc)?;
-    let inspect = inspect_command(alloc)?;
-    let explain = explain_command(alloc)?;
-    let settings = settings_command(alloc)?;
+    let command = program(alloc)?;
+    let command = with_subcommand(command, replay_command(alloc))?;
+    let command = with_subcommand(command, upgrade_command(alloc))?;
+    let command = with_subcommand(command, slim_command(alloc))?;
+    let command = with_subcommand(command, snapshot_command(alloc))?;
+    let command = with_subcommand(command, inspect_command(alloc))?;
+    let command = with_subcommand(command, explain_command(alloc))?;
+    with_subcommand(command, settings_command(alloc))
+}
+
+/// The command with one more subcommand, where that could be made.
+fn with_subcommand<'a>(
+    command: Command<'a>,
+    subcommand: Result<Command<'a>, AllocError>,
+) -> Result<Command<'a>, AllocError>
+    ensures { IfOk result (λ whole.
+        IsOkAnd subcommand.entry (λ added. AddsSubcommand command.entry added whole)) }
+{
+    command.subcommand(subcommand?)
+}
+
+/// The command without its subcommands.
+fn program<'a>(alloc: Global) -> Result<Command<'a>, AllocError>
+    ensures { IfOk result (λ command. app_of command ≡ program_of (new_app (codes "haboob"))) }
+{
     Command::new(alloc, "haboob")
-        .bin_name("haboob")?
         .no_binary_name(true)
         .subcommand_required(true)
         .version(VERSION)
         .about("Answers recorded requests for the files of a site, and reports the load.")
         .after_help(PROGRAM_NOTES)
-        .subcommand(replay)?
-        .subcommand(upgrade)?
-        .subcommand(slim)?
-        .subcommand(snapshot)?
-        .subcommand(inspect)?
-        .subcommand(explain)?
-        .subcommand(settings)
+        .bin_name("haboob")
 }
 
 fn replay_command<'a>(alloc: Global) -> Result<Command<'a>, AllocError>
     ensures app { IfOk result (λ command. app_of command ≡ replay_command) }
     ensures local { IfOk result (λ command. (out-Command command).has_globals ≡ false) }
 {
-    let snapshot = file_option(alloc, "snapshot", "The files of the site").required(true);
-    let capture = file_option(alloc, "capture", "The recorded requests").required(true);
-    let replies = file_option(
-        alloc,
-        "replies",
-        "Where the replies go; a file that is there is overwritten",
-    )
-    .required(true);
-    let settings = file_option(
-        alloc,
-        "settings",
-        "Settings, as TOML; a key that is left out has its default",
-    );
-    let engine = option(alloc, "engine", "ENGINE")
-        .help(ENGINE_HELP)
-        .default_value("staged");
-    let speed = speed_option(alloc);
     Command::new(alloc, "replay")
         .about("Answers a capture's requests, and writes a report to standard output.")
         .after_help(REPLAY_NOTES)
-        .arg(snapshot)?
-        .arg(capture)?
-        .arg(replies)?
-        .arg(settings)?
-        .arg(engine)?
-        .arg(speed)
+        .arg(required_file(alloc, "snapshot", "The files of the site"))?
+        .arg(required_file(alloc, "capture", "The recorded requests"))?
+        .arg(required_file(
+            alloc,
+            "replies",
+            "Where the replies go; a file that is there is overwritten",
+        ))?
+        .arg(settings_option(alloc))?
+        .arg(engine_option(alloc))?
+        .arg(speed_option(alloc))
 }
 
 fn upgrade_command<'a>(alloc: Global) -> Result<Command<'a>, AllocError>
     ensures app { IfOk result (λ command. app_of command ≡ upgrade_command) }
     ensures local { IfOk result (λ command. (out-Command command).has_globals ≡ false) }
 {
-    let capture = file_option(alloc, "capture", CAPTURE_HELP).required(true);
-    let output = file_option(alloc, "output", OUTPUT_HELP).required(true);
-    let to = format_option(alloc, "to", "2");
     Command::new(alloc, "upgrade")
         .about("Writes a capture as one of version 2, or as traffic.")
         .after_help(UPGRADE_NOTES)
-        .arg(capture)?
-        .arg(output)?
-        .arg(to)
+        .arg(required_file(alloc, "capture", CAPTURE_HELP))?
+        .arg(required_file(alloc, "output", OUTPUT_HELP))?
+        .arg(format_option(alloc, "to", "2"))
 }
 
 fn slim_command<'a>(alloc: Global) -> Result<Command<'a>, AllocError>
     ensures app { IfOk result (λ command. app_of command ≡ slim_command) }
     ensures local { IfOk result (λ command. (out-Command command).has_globals ≡ false) }
 {
-    let capture = file_option(alloc, "capture", CAPTURE_HELP).required(true);
-    let output = file_option(alloc, "output", OUTPUT_HELP).required(true);
-    let format = format_option(alloc, "format", "traffic");
-    let drop_queries = flag(alloc, "drop-queries", "Leave out the query of each target");
     Command::new(alloc, "slim")
         .about("Writes a capture without what no answer depends on.")
         .after_help(SLIM_NOTES)
-        .arg(capture)?
-        .arg(output)?
-        .arg(format)?
-        .arg(drop_queries)
+        .arg(required_file(alloc, "capture", CAPTURE_HELP))?
+        .arg(required_file(alloc, "output", OUTPUT_HELP))?
+        .arg(format_option(alloc, "format", "traffic"))?
+        .arg(flag(alloc, "drop-queries", "Leave out the query of each target"))
 }
 
 fn snapshot_command<'a>(alloc: Global) -> Result<Command<'a>, AllocError>
     ensures app { IfOk result (λ command. app_of command ≡ snapshot_command) }
     ensures local { IfOk result (λ command. (out-Command command).has_globals ≡ false) }
 {
-    let folder = option(alloc, "folder", "FOLDER")
-        .help("The folder whose files are taken")
-        .required(true);
-    let output = file_option(
-        alloc,
-        "output",
-        "Where the snapshot goes; a file of the folder isn't overwritten",
-    )
-    .required(true);
-    let skip = flag(alloc, "skip", "Leave out what can't stand in a snapshot");
     Command::new(alloc, "snapshot")
         .about("Writes the files of a folder as a snapshot.")
         .after_help(SNAPSHOT_NOTES)
-        .arg(folder)?
-        .arg(output)?
-        .arg(skip)
+        .arg(folder_option(alloc))?
+        .arg(required_file(
+            alloc,
+            "output",
+            "Where the snapshot goes; a file of the folder isn't overwritten",
+        ))?
+        .arg(flag(alloc, "skip", "Leave out what can't stand in a snapshot"))
 }
 
 fn inspect_command<'a>(alloc: Global) -> Result<Command<'a>, AllocError>
     ensures app { IfOk result (λ command. app_of command ≡ inspect_command) }
     ensures local { IfOk result (λ command. (out-Command command).has_globals ≡ false) }
 {
-    let capture = file_option(alloc, "capture", "The capture to read").required(true);
     Command::new(alloc, "inspect")
         .about("Tells what a capture holds.")
         .after_help(INSPECT_NOTES)
-        .arg(capture)
+        .arg(required_file(alloc, "capture", CAPTURE_HELP))
 }
 
 fn explain_command<'a>(alloc: Global) -> Result<Command<'a>, AllocError>
     ensures app { IfOk result (λ command. app_of command ≡ explain_command) }
     ensures local { IfOk result (λ command. (out-Command command).has_globals ≡ false) }
 {
-    let snapshot = file_option(alloc, "snapshot", "The files of the site").required(true);
-    let capture = file_option(alloc, "capture", "The recorded requests").required(true);
-    let messages = file_option(
-        alloc,
-        "messages",
-        "Where the table goes, as CSV; a file that is there is overwritten",
-    )
-    .required(true);
-    let settings = file_option(
-        alloc,
-        "settings",
-        "Settings, as TOML; a key that is left out has its default",
-    );
-    let speed = speed_option(alloc);
     Command::new(alloc, "explain")
         .about("Tells of each message why it was admitted or turned away.")
         .after_help(EXPLAIN_NOTES)
-        .arg(snapshot)?
-        .arg(capture)?
-        .arg(messages)?
-        .arg(settings)?
-        .arg(speed)
+        .arg(required_file(alloc, "snapshot", "The files of the site"))?
+        .arg(required_file(alloc, "capture", "The recorded requests"))?
+        .arg(required_file(
+            alloc,
+            "messages",
+            "Where the table goes, as CSV; a file that is there is overwritten",
+        ))?
+        .arg(settings_option(alloc))?
+        .arg(speed_option(alloc))
 }
 
 fn settings_command<'a>(alloc: Global) -> Result<Command<'a>, AllocError>
     ensures app { IfOk result (λ command. app_of command ≡ settings_command) }
     ensures local { IfOk result (λ command. (out-Command command).has_globals ≡ false) }
 {
-    let settings = file_option(
-        alloc,
-        "settings",
-        "Settings, as TOML; a key that is left out has its default",
-    );
     Command::new(alloc, "settings")
         .about("Writes the settings that are in force, each key with its meaning.")
         .after_help(SETTINGS_NOTES)
-        .arg(settings)
+        .arg(settings_option(alloc))
 }
 
 /// A flag, which has no value.
@@ -295,6 +265,16 @@ fn format_option<'a>(alloc: Global, name: &'a str, default: &'a str) -> Arg<'a>
         .default_value(default)
 }
 
+/// The option whose value is the name of an engine.
+fn engine_option<'a>(alloc: Global) -> Arg<'a>
+    ensures rule { rule_of result ≡ engine_option }
+    ensures local { result.global ≡ false }
+{
+    option(alloc, "engine", "ENGINE")
+        .help(ENGINE_HELP)
+        .default_value("staged")
+}
+
 /// The option whose value is the speed of the traffic.
 fn speed_option<'a>(alloc: Global) -> Arg<'a>
     ensures rule { rule_of result ≡ speed_option }
@@ -303,6 +283,36 @@ fn speed_option<'a>(alloc: Global) -> Arg<'a>
     option(alloc, "speed", "PERCENT")
         .help(SPEED_HELP)
         .default_value("100")
+}
+
+/// The option whose value is the name of the folder that becomes a snapshot.
+fn folder_option<'a>(alloc: Global) -> Arg<'a>
+    ensures rule { rule_of result ≡ required_of (codes "folder") }
+    ensures local { result.global ≡ false }
+{
+    option(alloc, "folder", "FOLDER")
+        .help("The folder whose files are taken")
+        .required(true)
+}
+
+/// The option whose value is the name of a file with settings.
+fn settings_option<'a>(alloc: Global) -> Arg<'a>
+    ensures rule { rule_of result ≡ option_of (codes "settings") }
+    ensures local { result.global ≡ false }
+{
+    file_option(
+        alloc,
+        "settings",
+        "Settings, as TOML; a key that is left out has its default",
+    )
+}
+
+/// An option whose value is the name of a file, and which is required.
+fn required_file<'a>(alloc: Global, name: &'a str, help: &'a str) -> Arg<'a>
+    ensures rule { rule_of result ≡ required_of name.entry.now }
+    ensures local { result.global ≡ false }
+{
+    file_option(alloc, name, help).required(true)
 }
 
 /// An option whose value is the name of a file.

@@ -263,7 +263,8 @@ fn chosen(matches: &ArgMatches) -> Subcommand
 
 /// The value of an option of the subcommand.
 fn value<'a>(matches: &ArgMatches<'a>, option: &str) -> Option<&'a str>
-    ensures { option_map (λ s. s.now) result ≡ value_of (subcommand_rows_of matches.now) option.now }
+    ensures { option_map (λ s. s.now) result
+        ≡ value_of (subcommand_rows_of matches.now) option.now }
 {
     match matches.subcommand() {
         Some((_, of_subcommand)) => of_subcommand.get_str(option),
@@ -280,7 +281,8 @@ fn file<'a>(matches: &ArgMatches<'a>, option: &str) -> &'a str
 
 /// The format that an option of the subcommand asks for.
 fn target_asked(matches: &ArgMatches, option: &str) -> Result<Target, WordFault>
-    ensures to { IfOk result (λ to. target_of (subcommand_rows_of matches.now) option.now ≡ Some to) }
+    ensures to { IfOk result (λ to.
+        target_of (subcommand_rows_of matches.now) option.now ≡ Some to) }
     ensures fault { IfErr result (IsNoTarget (subcommand_rows_of matches.now) option.now) }
 {
     match target_named(value(matches, option).unwrap_or("")) {
@@ -310,7 +312,8 @@ fn is_given(matches: &ArgMatches, flag: &str) -> bool
 /// What the command makes of the words.
 fn matches_of<'a, S: AsStr>(alloc: Global, words: &'a [S]) -> Result<ArgMatches<'a>, WordFault>
     ensures taken { IfOk result (λ _. fault_of command_line (map S.text words.entry.now) ≡ []) }
-    ensures ok { IfOk result (λ m. subcommand_rows_of m ≡ subcommand_of command_line (map S.text words.entry.now)) }
+    ensures ok { IfOk result (λ m. subcommand_rows_of m
+        ≡ subcommand_of command_line (map S.text words.entry.now)) }
     ensures fault { IfErr result (IsRefusal (map S.text words.entry.now)) }
 {
     let command = command_line(alloc)?;

@@ -1,3 +1,2 @@
 pub mod Reference
 pub mod Services
-pub mod Prefixes

@@ -3,7 +3,7 @@
 ghost use Rattle.std.specs.Prelude.{◌≡◌, IfOk, bytes_eq, map};
 ghost use Rattle.std.specs.List.{list_all, starts_with};
 ghost use Rattle.paths.specs.Snapshots.{is_part};
-ghost use Rattle.cost_model.specs.Prefixes.{parts_of, prefix_of, segments_after, without_slash};
+ghost use Rattle.cost_model.specs.Services.{parts_of, prefix_of, segments_after, without_slash};
 
 use devices::Bytes;
 use std::alloc::{AllocError, Global};

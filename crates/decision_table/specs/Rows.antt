@@ -6,7 +6,7 @@ use Rattle.std.specs.Prelude.{decimal, flat_map, if◌then◌else◌}
 use Rattle.std.specs.Char.{is_ascii_graphic}
 use Rattle.percent_encoding.specs.Percent.{percent_encode_byte}
 use Rattle.paths.specs.Reference.{percent_sign}
-use Rattle.devices.specs.Ascii.{quote, comma}
+use Rattle.devices.specs.Numbers.{quote, comma}
 use Rattle.admission.specs.declared.control.Decision.{Decision}
 use Rattle.admission.specs.declared.control.Decision.TheVariants.{Admitted, Rejected}
 use Rattle.decision_table.specs.declared.row.Offered.{Offered}

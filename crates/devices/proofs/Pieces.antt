@@ -9,8 +9,8 @@ use Rattle.std.proofs.lemmas.List.Folds.{prefix_len-append}
 use Rattle.std.proofs.lemmas.Slice.Eq.{starts_is}
 use Rattle.devices.specs.Numbers.{number_of, number_and_rest, three_numbers, ◌>>=◌ as ◌>?=◌}
 use Rattle.devices.specs.declared.text.Stop.{Stop}
-use Rattle.devices.specs.Texts.{Ahead, ahead_of, byte_at, line_at, available, ended, Gives, is_unforeseen}
-use Rattle.devices.specs.LongLines.{IsLong, IsOwed, GivesLongLine}
+use Rattle.devices.specs.Texts.{Ahead, ahead_of, byte_at, line_at, available, ended, Gives, is_unforeseen, IsLong}
+use Rattle.devices.specs.Texts.{IsOwed, GivesLongLine}
 use Rattle.devices.proofs.Taking.{Takes, TakesLine, takes_more, line_whole}
 
 bind_some : {A B : Type 0} (o : Option A) (f : A → Option B) (y : B) → (o >?= f) ≡ Some y → (x : A) × (o ≡ Some x) × (f x ≡ Some y)

@@ -9,8 +9,8 @@ use Rattle.std.proofs.lemmas.List.Sums.{passes_at_first, prefix_len-le-length, p
 use Rattle.devices.specs.declared.text.Stop.{Stop}
 use Rattle.devices.specs.declared.text.Stop.TheVariants.{TooLong, Cut, TooLarge}
 use borrow.Rule.Slice.PartMut.{put_mid, post_of}
-use Rattle.devices.specs.Feeds.{NoneAfterFeed}
-use Rattle.devices.specs.Texts.{is_unforeseen, ahead_of, byte_at, line_at, line_start, available, past, ended, Ahead}
+use Rattle.devices.specs.Texts.{NoneAfterFeed, is_unforeseen, ahead_of, byte_at, line_at, line_start, available, past}
+use Rattle.devices.specs.Texts.{ended, Ahead}
 
 -- n bytes of the text were taken, and where the bytes of the input are known, just these
 pub record Takes (old : Option (List ℕ)) (left : ℕ) (new : Option (List ℕ)) (new_left : ℕ) (taken : List ℕ) : Type 0 where

@@ -4,7 +4,7 @@ use Rattle.std.specs.List.{position, position_or_len}
 use Rattle.std.proofs.lemmas.List.{length-take, take_at, drop-drop}
 use Rattle.std.proofs.lemmas.Option.{cond_some}
 use Rattle.std.proofs.Math.Seq.{take-add}
-use Rattle.devices.specs.Feeds.{NoneAfterFeed}
+use Rattle.devices.specs.Texts.{NoneAfterFeed}
 
 -- the bytes that wait are those given and those that wait then
 pub gives_front : (bytes room came : List ℕ) (start end count : ℕ) → count ≤ length (take (end - start) (drop start bytes)) → came ≡ take count (drop start bytes)

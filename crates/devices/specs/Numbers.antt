@@ -4,7 +4,20 @@ use Rattle.std.specs.Prelude.{Some, None, if◌then◌else◌}
 use Rattle.std.specs.List.{position}
 use Rattle.std.specs.Str.{all_ascii_digits}
 use Rattle.std.specs.Str.Parse.{digits_value}
-use Rattle.devices.specs.Ascii.{space, zero_digit}
+
+-- Bytes of ASCII by name (RFC 20).
+
+abbrev pub space : ℕ
+space = 32
+
+abbrev pub quote : ℕ
+quote = 34
+
+abbrev pub comma : ℕ
+comma = 44
+
+abbrev pub zero_digit : ℕ
+zero_digit = 48
 
 -- a decimal: `0`, or digits of which the first isn't 0
 abbrev pub is_decimal : List ℕ → Bool

@@ -1,12 +1,18 @@
 -- Texts of limited size, read part by part: a byte, a line, a run of bytes whose number is known.
 use Rattle.std.specs.Prelude.{◌≡◌, ℕ, ◌+◌, ◌-◌, ◌==◌, ◌<◌, ◌≤◌, ◌++◌, Bool, true, false, List, [], take, drop, length}
 use Rattle.std.specs.Prelude.{Option, Result, Ok, Err, MatchResult, nat_lt, nat_le, if◌then◌else◌, unwrap_or, is_some}
-use Rattle.std.specs.Prelude.{slice_index}
-use Rattle.std.specs.List.{before_first}
+use Rattle.std.specs.Prelude.{slice_index, nat_eq}
+use Rattle.std.specs.List.{before_first, starts_with, position_or_len}
 use Rattle.devices.specs.Reference.{line_feed}
 use Rattle.devices.specs.Devices.{CountsBy}
 use Rattle.devices.specs.declared.text.Stop.{Stop}
 use Rattle.devices.specs.declared.text.Stop.TheVariants.{TooLong, Cut, TooLarge, Read, Memory}
+
+-- Bytes that are read up to a line feed.
+
+-- none of the bytes stands after a line feed
+abbrev pub NoneAfterFeed : List ℕ → Type 0
+NoneAfterFeed bytes = length bytes ≤ position_or_len (λ b. b == line_feed) bytes + 1
 
 -- what is ahead of a reader: the bytes that the input still has, and how many of them the text may take
 pub record Ahead : Type 0 where
@@ -84,3 +90,21 @@ failures_in _ = 0
 -- the count of failures rose by one exactly where the fault is a failed read
 abbrev pub Counts : {X : Type 0} → ℕ → ℕ → Result X Stop → Type 0
 Counts old new r = CountsBy failures_in old new r
+
+-- What a line that announces something owes, and how it is read in pieces.
+
+-- with its line feed, the line has `least` bytes at least, and `longer` bytes at least where it begins with `kind`
+abbrev pub IsLong : ℕ → List ℕ → ℕ → List ℕ → Type 0
+IsLong least kind longer line = (least ≤ length line + 1)
+    × (starts_with nat_eq line kind ≡ true → longer ≤ length line + 1)
+
+-- a line that begins so and is that long has at least n bytes more, its line feed among them
+abbrev pub IsOwed : ℕ → List ℕ → ℕ → List ℕ → ℕ → Type 0
+IsOwed least kind longer prefix n = (rest : List ℕ) → IsLong least kind longer (prefix ++ rest) → n ≤ length rest + 1
+
+-- The call gave the next line. Where that is so long, what follows the line is ahead now.
+abbrev pub GivesLongLine : ℕ → List ℕ → ℕ → Option (List ℕ) → ℕ → Option (List ℕ) → ℕ → Result (List ℕ) Stop → Type 0
+GivesLongLine least kind longer old left new left_new r = is_some old ≡ true → MatchResult r
+    (λ line. (following : Ahead) × (line_at (ahead_of old left) ≡ Ok (line, following)) × (is_some new ≡ true)
+    × (IsLong least kind longer line → following ≡ ahead_of new left_new))
+    (λ e. is_unforeseen e ≡ false → line_at (ahead_of old left) ≡ Err e)

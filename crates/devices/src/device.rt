@@ -4,7 +4,7 @@ ghost use Rattle.std.specs.Prelude.{◌≡◌, ◌+◌, ◌-◌, ◌<◌, take, 
 ghost use Rattle.std.specs.Io.{ReadsAtMost};
 ghost use Rattle.std.specs.Io.KnownBytes.{ReadConsumes};
 ghost use Rattle.devices.specs.Devices.{ByteConsumes, ReadsToEnd, ByteToEnd, fresh, CanFail};
-ghost use Rattle.devices.specs.Feeds.{NoneAfterFeed};
+ghost use Rattle.devices.specs.Texts.{NoneAfterFeed};
 
 use crate::source::Source;
 use crate::window::Window;

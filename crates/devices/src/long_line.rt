@@ -2,9 +2,8 @@
 
 ghost use Rattle.std.specs.Prelude.{◌+◌, ◌-◌, ◌<◌, ◌≤◌, length, min, IfErr, ◌≢◌};
 ghost use Rattle.devices.specs.Devices.{CanFail};
-ghost use Rattle.devices.specs.Texts.{Counts, line_at};
+ghost use Rattle.devices.specs.Texts.{Counts, line_at, IsOwed, GivesLongLine};
 ghost use Rattle.devices.specs.Parts.{FailsWithin, TookAtMost};
-ghost use Rattle.devices.specs.LongLines.{IsOwed, GivesLongLine};
 
 use crate::text::{read_line_ahead, read_some_of};
 use crate::{Input, Line, Stop};

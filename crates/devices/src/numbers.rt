@@ -2,8 +2,7 @@
 
 ghost use Rattle.std.specs.Prelude.{◌≡◌, ◌==◌, ◌<◌, length, position, IfSome};
 ghost use Rattle.std.specs.Option.{option_map};
-ghost use Rattle.devices.specs.Ascii.{space};
-ghost use Rattle.devices.specs.Numbers.{number_of, number_and_rest, three_numbers};
+ghost use Rattle.devices.specs.Numbers.{space, number_of, number_and_rest, three_numbers};
 
 /// The number of a decimal: `0`, or digits of which the first isn't `0`. One past 64 bits stands as the greatest of 64
 /// bits.

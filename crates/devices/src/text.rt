@@ -5,10 +5,9 @@ ghost use Rattle.std.specs.Prelude.{take, length, min, nat_lt, IfOk, IfErr};
 ghost use Rattle.std.specs.List.{before_first};
 ghost use Rattle.devices.specs.Reference.{line_feed};
 ghost use Rattle.devices.specs.Devices.{CanFail};
-ghost use Rattle.devices.specs.Feeds.{NoneAfterFeed};
+ghost use Rattle.devices.specs.Texts.{NoneAfterFeed, Gives, Counts, TakesSome, Fills, is_unforeseen, byte_at, line_at};
+ghost use Rattle.devices.specs.Texts.{run_at, ended, ahead_of, failures_in};
 ghost use Rattle.devices.specs.Parts.{TookPart, TookAtMost, FailsAtOnce, FailsWithin};
-ghost use Rattle.devices.specs.Texts.{Gives, Counts, TakesSome, Fills, is_unforeseen, byte_at, line_at, run_at, ended};
-ghost use Rattle.devices.specs.Texts.{ahead_of, failures_in};
 
 use crate::{Bytes, Failed, Input};
 use std::alloc::Global;

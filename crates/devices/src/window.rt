@@ -5,7 +5,7 @@ ghost use Rattle.std.specs.Prelude.{MatchResult, OnOk, OnErr, false};
 ghost use Rattle.std.specs.Io.KnownBytes.{Consumes, Keeps, IsAtEnd};
 ghost use Rattle.devices.specs.Reference.{line_feed};
 ghost use Rattle.devices.specs.Devices.{CanFail};
-ghost use Rattle.devices.specs.Feeds.{NoneAfterFeed};
+ghost use Rattle.devices.specs.Texts.{NoneAfterFeed};
 
 use crate::Failed;
 use crate::source::Source;

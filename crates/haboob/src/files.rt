@@ -3,17 +3,15 @@
 use crate::folder::{FileFolder, list_folder, open_root};
 use crate::overwritten::{Node, Overwritten};
 use captures::Version;
-use command_line::{Job, Target, WordFault, read_words};
+use command_line::WordFault;
 use devices::Output;
 use program::{
     Devices, Fault, Place, Sink, Wanted, buffered_input, bundle_into, inspect_into, replay_into,
-    run_snapshot, settings_into, shown_name, slim_into, upgrade_into, words_line, write_skipped,
+    run_snapshot, settings_into, slim_into, upgrade_into, words_line, write_skipped,
 };
 use reference::Settings;
 use settings::{MAX_SETTINGS_BYTES, default_settings, read_settings};
 use slim::Queries;
-use std::alloc::{AllocError, Global};
-use std::env;
 use std::fs::File;
 use std::io::{ErrorKind, Read};
 use std::sync::Wait;
@@ -22,39 +20,8 @@ use std::thread::Threads;
 /// How many bytes of a settings file are read: one more than it may have.
 const MAX_SETTINGS_READ: u64 = MAX_SETTINGS_BYTES as u64 + 1;
 
-/// Where the system shows what standard input and standard output are open on.
+/// Where the system shows what standard input is open on.
 const STANDARD_INPUT: &str = "/proc/self/fd/0";
-
-const STANDARD_OUTPUT: &str = "/proc/self/fd/1";
-
-/// What is said of arguments that are no text.
-const NOT_TEXT: &str = "error: a word is not UTF-8\n\nFor more information, try '--help'.\n";
-
-/// The arguments after the program's name.
-fn arguments_of(rt: &HostRuntime) -> Result<Vec<String>, Fault> {
-    match env::args(rt) {
-        Ok(words) => Ok(words.skip(1).collect(rt.alloc())?),
-        Err(error) if error.kind() == ErrorKind::OutOfMemory => Err(Fault::Memory),
-        Err(_) => {
-            let text = String::from_str(rt.alloc(), NOT_TEXT)?;
-            Err(Fault::Words(WordFault::Words(text)))
-        }
-    }
-}
-
-/// What is told of words that aren't taken: what the command says of them as a line shows them. They aren't taken so
-/// either, since a character that is shown as another stands in no word of the command.
-fn reported_of_words(
-    alloc: Global,
-    words: &[String],
-    fault: WordFault,
-) -> Result<Fault, AllocError> {
-    let mut shown = Vec::new(alloc);
-    for word in words {
-        shown.push(shown_name(alloc, word.as_str())?)?;
-    }
-    Ok(Fault::Words(read_words(alloc, &shown).err().unwrap_or(fault)))
-}
 
 /// A file that is there, to be read.
 fn open(rt: &HostRuntime, name: &str, place: Place) -> Result<File, Fault> {
@@ -108,7 +75,7 @@ fn check_standard(
 }
 
 /// Replays standard input to standard output.
-fn bundle(rt: &HostRuntime, standard: Option<Node>) -> Result<(), Fault> {
+pub(crate) fn bundle(rt: &HostRuntime, standard: Option<Node>) -> Result<(), Fault> {
     check_standard(standard, &[Node::at(rt, STANDARD_INPUT)], Place::Replies)?;
     let input = buffered_input(rt.alloc(), rt.stdin())?;
     bundle_into(rt.alloc(), input, Sink::new(rt.stdout())).0
@@ -116,7 +83,7 @@ fn bundle(rt: &HostRuntime, standard: Option<Node>) -> Result<(), Fault> {
 
 /// Writes to standard output the settings of a file, or the default ones without it. `words` gets what is to be said
 /// after the line of a fault of the settings.
-fn settings_named(
+pub(crate) fn settings_named(
     rt: &HostRuntime,
     standard: Option<Node>,
     name: Option<&str>,
@@ -141,20 +108,16 @@ fn settings_named(
 }
 
 /// Tells on standard output what a capture file holds.
-fn inspect_named(rt: &HostRuntime, standard: Option<Node>, capture: &str) -> Result<(), Fault> {
+pub(crate) fn inspect_named(
+    rt: &HostRuntime,
+    standard: Option<Node>,
+    capture: &str,
+) -> Result<(), Fault> {
     let capture = open(rt, capture, Place::Capture)?;
     let node = Node::of(&capture, Place::Capture)?;
     check_standard(standard, &[Some(node)], Place::Report)?;
     let input = buffered_input(rt.alloc(), capture)?;
     inspect_into(rt.alloc(), input, Sink::new(rt.stdout())).0
-}
-
-/// The version that an upgrade or a slim text is asked for.
-fn version_of(to: Target) -> Version {
-    match to {
-        Target::Two => Version::Two,
-        Target::Traffic => Version::Traffic,
-    }
 }
 
 /// A capture file, and another that is to hold a text of it.
@@ -169,18 +132,23 @@ fn open_both(rt: &HostRuntime, capture: &str, output: &str) -> Result<(File, Ove
 }
 
 /// Writes the upgraded text of a capture file to another.
-fn upgrade_named(rt: &HostRuntime, capture: &str, output: &str, to: Target) -> Result<(), Fault> {
-    let (capture, output) = open_both(rt, capture, output)?;
-    let input = buffered_input(rt.alloc(), capture)?;
-    upgrade_into(rt.alloc(), input, Sink::new(output), version_of(to)).0
-}
-
-/// Writes the slim text of a capture file to another.
-fn slim_named(
+pub(crate) fn upgrade_named(
     rt: &HostRuntime,
     capture: &str,
     output: &str,
-    to: Target,
+    to: Version,
+) -> Result<(), Fault> {
+    let (capture, output) = open_both(rt, capture, output)?;
+    let input = buffered_input(rt.alloc(), capture)?;
+    upgrade_into(rt.alloc(), input, Sink::new(output), to).0
+}
+
+/// Writes the slim text of a capture file to another.
+pub(crate) fn slim_named(
+    rt: &HostRuntime,
+    capture: &str,
+    output: &str,
+    to: Version,
     drop_queries: bool,
 ) -> Result<(), Fault> {
     let (capture, output) = open_both(rt, capture, output)?;
@@ -190,19 +158,17 @@ fn slim_named(
         Queries::Kept
     };
     let input = buffered_input(rt.alloc(), capture)?;
-    slim_into(
-        rt.alloc(),
-        input,
-        Sink::new(output),
-        version_of(to),
-        queries,
-    )
-    .0
+    slim_into(rt.alloc(), input, Sink::new(output), to, queries).0
 }
 
 /// Writes the files of a folder as a snapshot. What is in the folder is listed before the output is opened: so a new
 /// output is none of its files, and one that was among them is refused.
-fn snapshot_named(rt: &HostRuntime, folder: &str, output: &str, skip: bool) -> Result<(), Fault> {
+pub(crate) fn snapshot_named(
+    rt: &HostRuntime,
+    folder: &str,
+    output: &str,
+    skip: bool,
+) -> Result<(), Fault> {
     let root = open_root(rt, folder)?;
     let listing = list_folder(rt.alloc(), &root)?;
     let output = Overwritten::open(rt, output, Place::Output, &listing.nodes)?;
@@ -222,22 +188,22 @@ fn snapshot_named(rt: &HostRuntime, folder: &str, output: &str, skip: bool) -> R
 
 /// The names of a replay's files, and what is wanted of its messages.
 #[derive(Drop)]
-struct Names<'a> {
-    snapshot: &'a str,
-    capture: &'a str,
-    settings: Option<&'a str>,
+pub(crate) struct Names<'a> {
+    pub snapshot: &'a str,
+    pub capture: &'a str,
+    pub settings: Option<&'a str>,
     /// In percent of that at which the traffic was recorded.
-    speed: u64,
-    wanted: Wanted,
+    pub speed: u64,
+    pub wanted: Wanted,
     /// The file that what is wanted goes into.
-    written: &'a str,
-    place: Place,
+    pub written: &'a str,
+    pub place: Place,
 }
 
 /// Replays one file against another, with the report on standard output. The files are opened in the order settings,
 /// snapshot, capture, output; the settings are read before the snapshot is opened. `threads` is the runtime once more,
 /// for the engine that starts threads.
-fn replay_named<T: Threads + Wait + Sync>(
+pub(crate) fn replay_named<T: Threads + Wait + Sync>(
     rt: &HostRuntime,
     threads: &T,
     standard: Option<Node>,
@@ -260,82 +226,4 @@ fn replay_named<T: Threads + Wait + Sync>(
         report: Sink::new(rt.stdout()),
     };
     replay_into(threads, alloc, &settings, names.wanted, devices).0
-}
-
-/// Does what the arguments ask for: a run from standard input to standard output, or one over the files that they name.
-/// `words` gets what is to be said after the line of a fault, where the job says more of it.
-///
-/// Which arguments there are, and what the files hold, is the system's to say: no contract can. Tests do, and
-/// the scripts checks/program_*.py.
-pub fn run_arguments<T: Threads + Wait + Sync>(
-    rt: &HostRuntime,
-    threads: &T,
-    words: &mut Vec<u8>,
-) -> Result<(), Fault> {
-    let alloc = rt.alloc();
-    let arguments = arguments_of(rt)?;
-    // Which file it is, before any other can get its number.
-    let standard = Node::at(rt, STANDARD_OUTPUT);
-    let job = match read_words(alloc, &arguments) {
-        Ok(job) => job,
-        Err(fault) => return Err(reported_of_words(alloc, &arguments, fault)?),
-    };
-    match job {
-        Job::Bundle => bundle(rt, standard),
-        Job::Replay {
-            snapshot,
-            capture,
-            replies,
-            settings,
-            engine,
-            speed,
-        } => {
-            let names = Names {
-                snapshot,
-                capture,
-                settings,
-                speed,
-                wanted: Wanted::Replies(engine),
-                written: replies,
-                place: Place::Replies,
-            };
-            replay_named(rt, threads, standard, &names)
-        }
-        Job::Explain {
-            snapshot,
-            capture,
-            messages,
-            settings,
-            speed,
-        } => {
-            let names = Names {
-                snapshot,
-                capture,
-                settings,
-                speed,
-                wanted: Wanted::Rows,
-                written: messages,
-                place: Place::Messages,
-            };
-            replay_named(rt, threads, standard, &names).map_err(Fault::of_rows)
-        }
-        Job::Inspect { capture } => inspect_named(rt, standard, capture),
-        Job::Upgrade {
-            capture,
-            output,
-            to,
-        } => upgrade_named(rt, capture, output, to),
-        Job::Slim {
-            capture,
-            output,
-            to,
-            drop_queries,
-        } => slim_named(rt, capture, output, to, drop_queries),
-        Job::Snapshot {
-            folder,
-            output,
-            skip,
-        } => snapshot_named(rt, folder, output, skip),
-        Job::Settings { settings } => settings_named(rt, standard, settings, words),
-    }
 }

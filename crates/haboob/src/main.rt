@@ -13,9 +13,139 @@ mod folder;
 mod open_folder;
 mod overwritten;
 
+use captures::Version;
+use command_line::{Job, Target, WordFault, read_words};
 use devices::Output;
-use files::run_arguments;
+use files::{
+    Names, bundle, inspect_named, replay_named, settings_named, slim_named, snapshot_named,
+    upgrade_named,
+};
+use overwritten::Node;
+use program::{Fault, Place, Wanted, shown_name};
+use std::alloc::{AllocError, Global};
+use std::env;
+use std::io::ErrorKind;
 use std::process::ExitCode;
+use std::sync::Wait;
+use std::thread::Threads;
+
+/// Where the system shows what standard output is open on.
+const STANDARD_OUTPUT: &str = "/proc/self/fd/1";
+
+/// What is said of arguments that are no text.
+const NOT_TEXT: &str = "error: a word is not UTF-8\n\nFor more information, try '--help'.\n";
+
+/// The arguments after the program's name.
+fn arguments_of(rt: &HostRuntime) -> Result<Vec<String>, Fault> {
+    match env::args(rt) {
+        Ok(words) => Ok(words.skip(1).collect(rt.alloc())?),
+        Err(error) if error.kind() == ErrorKind::OutOfMemory => Err(Fault::Memory),
+        Err(_) => {
+            let text = String::from_str(rt.alloc(), NOT_TEXT)?;
+            Err(Fault::Words(WordFault::Words(text)))
+        }
+    }
+}
+
+/// What is told of words that aren't taken: what the command says of them as a line shows them. They aren't taken so
+/// either, since a character that is shown as another stands in no word of the command.
+fn reported_of_words(
+    alloc: Global,
+    words: &[String],
+    fault: WordFault,
+) -> Result<Fault, AllocError> {
+    let mut shown = Vec::new(alloc);
+    for word in words {
+        shown.push(shown_name(alloc, word.as_str())?)?;
+    }
+    Ok(Fault::Words(read_words(alloc, &shown).err().unwrap_or(fault)))
+}
+
+/// The version that an upgrade or a slim text is asked for.
+fn version_of(to: Target) -> Version {
+    match to {
+        Target::Two => Version::Two,
+        Target::Traffic => Version::Traffic,
+    }
+}
+
+/// Does what the arguments ask for: a run from standard input to standard output, or one over the files that they name.
+/// `words` gets what is to be said after the line of a fault, where the job says more of it.
+///
+/// Which arguments there are, and what the files hold, is the system's to say: no contract can. Tests do, and
+/// the scripts checks/program_*.py.
+fn run_arguments<T: Threads + Wait + Sync>(
+    rt: &HostRuntime,
+    threads: &T,
+    words: &mut Vec<u8>,
+) -> Result<(), Fault> {
+    let alloc = rt.alloc();
+    let arguments = arguments_of(rt)?;
+    // Which file it is, before any other can get its number.
+    let standard = Node::at(rt, STANDARD_OUTPUT);
+    let job = match read_words(alloc, &arguments) {
+        Ok(job) => job,
+        Err(fault) => return Err(reported_of_words(alloc, &arguments, fault)?),
+    };
+    match job {
+        Job::Bundle => bundle(rt, standard),
+        Job::Replay {
+            snapshot,
+            capture,
+            replies,
+            settings,
+            engine,
+            speed,
+        } => {
+            let names = Names {
+                snapshot,
+                capture,
+                settings,
+                speed,
+                wanted: Wanted::Replies(engine),
+                written: replies,
+                place: Place::Replies,
+            };
+            replay_named(rt, threads, standard, &names)
+        }
+        Job::Explain {
+            snapshot,
+            capture,
+            messages,
+            settings,
+            speed,
+        } => {
+            let names = Names {
+                snapshot,
+                capture,
+                settings,
+                speed,
+                wanted: Wanted::Rows,
+                written: messages,
+                place: Place::Messages,
+            };
+            replay_named(rt, threads, standard, &names).map_err(Fault::of_rows)
+        }
+        Job::Inspect { capture } => inspect_named(rt, standard, capture),
+        Job::Upgrade {
+            capture,
+            output,
+            to,
+        } => upgrade_named(rt, capture, output, version_of(to)),
+        Job::Slim {
+            capture,
+            output,
+            to,
+            drop_queries,
+        } => slim_named(rt, capture, output, version_of(to), drop_queries),
+        Job::Snapshot {
+            folder,
+            output,
+            skip,
+        } => snapshot_named(rt, folder, output, skip),
+        Job::Settings { settings } => settings_named(rt, standard, settings, words),
+    }
+}
 
 fn main(rt: HostRuntime) -> ExitCode {
     let mut words = Vec::new(rt.alloc());

@@ -12,7 +12,7 @@ use Rattle.http_requests.specs.declared.scanning.Found.TheVariants.{Wait, Over a
 use Rattle.http_requests.specs.declared.counting.CountStep.TheVariants.{Missing, Last, Over}
 use Rattle.http_requests.specs.Reference.{FieldLine, IsVerdict, PartsSay, IsModifiedSince, head_fault, version_of, is_closing, body_length, values_of, bad, blank_len, IsWhole, IsOver, IsNext, Messages, MessagesOf, closes}
 use Rattle.http_requests.specs.Scanning.{IsFound}
-use Rattle.http_requests.specs.Counting.{IsExtent, IsStep}
+use Rattle.http_requests.specs.Cutting.{IsExtent, IsStep}
 use Rattle.http_requests.proofs.FrontLemmas.{next_within}
 use Rattle.http_requests.proofs.MessageLemmas.{whole_alone}
 

@@ -1,13 +1,17 @@
 -- What a cutter holds between two pieces, and what it has done with the pieces so far.
-use Rattle.std.specs.Prelude.{◌≡◌, ℕ, ◌+◌, ◌-◌, ◌<◌, ◌≤◌, List, [], ◌∷◌, ◌++◌, length, take, drop, MatchBool}
+use Rattle.std.specs.Prelude.{◌≡◌, ℕ, ◌+◌, ◌-◌, ◌<◌, ◌≤◌, List, [], ◌∷◌, ◌++◌, length, take, drop, MatchBool, true}
+use Rattle.std.specs.Prelude.{false}
 use Rattle.http_requests.specs.Reference.{max_block_bytes, max_body_bytes, NoBlock, Messages, MessagesOf, blank_len}
-use Rattle.http_requests.specs.Reference.{closes}
+use Rattle.http_requests.specs.Reference.{closes, IsNext}
 use Rattle.http_requests.specs.declared.messages.Meaning.{Meaning}
 use Rattle.http_requests.specs.declared.messages.Message.{Message}
 use Rattle.http_requests.specs.declared.heads.Verdict.{Verdict}
 use Rattle.http_requests.specs.declared.cutting.CutterState.{CutterState}
 use Rattle.http_requests.specs.declared.cutting.CutterState.TheVariants.{Seeking, Body, Closed, Failed}
 use Rattle.http_requests.specs.declared.cutting.State.{State}
+use Rattle.http_requests.specs.declared.heads.Extent.{Extent}
+use Rattle.http_requests.specs.declared.counting.CountStep.{CountStep}
+use Rattle.http_requests.specs.declared.counting.CountStep.TheVariants.{Missing, Last, Over}
 
 -- what a cutter keeps of the text: where it stands, how many bytes were read, and the prefix that was
 -- read of a block that isn't whole
@@ -145,3 +149,15 @@ max_text_bytes = 1125899906842624
 -- without the allocator, and with the bytes that are held as a list
 abbrev pub progress : State → Progress
 progress s = record { stage = s.stage; read = s.read; held = s.held.items }
+
+-- What the count of messages asks of a block and of the rest of a text.
+
+-- how a message goes on after its block, by the block's verdict
+abbrev pub IsExtent : Verdict → Extent → Type 0
+IsExtent verdict extent = (extent.closes ≡ closes verdict.what) × (extent.length ≡ verdict.length)
+
+-- the rest of a text has no message; or one that ends the connection; or one that doesn't, of n bytes
+abbrev pub IsStep : List ℕ → CountStep → Type 0
+IsStep rest Missing = (what : Meaning) (k : ℕ) → IsNext rest what k → ⊥
+IsStep rest Last = (what : Meaning) × (k : ℕ) × IsNext rest what k × (closes what ≡ true)
+IsStep rest (Over n) = (what : Meaning) × IsNext rest what n × (closes what ≡ false)

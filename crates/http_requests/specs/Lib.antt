@@ -1,4 +1,3 @@
-pub mod Counting
 pub mod Cutting
 pub mod Lines
 pub mod Parts

@@ -2,7 +2,7 @@
 ghost use Rattle.std.specs.Prelude.{◌≡◌, ◌≤◌, List, ℕ, length};
 ghost use Rattle.http_requests.specs.declared.messages.Message.{Message as AMessage};
 ghost use Rattle.http_requests.specs.Reference.{MessagesOf};
-ghost use Rattle.http_requests.specs.Counting.{IsStep};
+ghost use Rattle.http_requests.specs.Cutting.{IsStep};
 
 use crate::heads::measure_block;
 use crate::scanning::{Found, find};

@@ -9,7 +9,7 @@ ghost use Rattle.http_requests.specs.Reference.{max_body_bytes, is_get_or_head, 
 ghost use Rattle.http_requests.specs.Reference.{IsVerdict, same_text, values_of, is_host_byte, is_host_fault};
 ghost use Rattle.http_requests.specs.Reference.{is_numeral, body_length, head_fault, has_option, is_closing};
 ghost use Rattle.http_requests.specs.Lines.{LiesWithin, lines_at, Says, AreLines, AreNoted, and_if, is_there, AddsLine};
-ghost use Rattle.http_requests.specs.Counting.{IsExtent};
+ghost use Rattle.http_requests.specs.Cutting.{IsExtent};
 ghost use Rattle.http_requests.specs.declared.heads.Verdict.{Verdict as AVerdict};
 ghost use Rattle.http_requests.specs.declared.messages.MessageFault.TheVariants.{Block};
 

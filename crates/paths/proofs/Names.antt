@@ -19,8 +19,7 @@ use Rattle.std.proofs.lemmas.List.{get_or_default, append-nil, append_assoc, tak
 use Rattle.std.proofs.lemmas.Slice.Eq.{starts_is, bytes_eq-Decides}
 use Rattle.paths.specs.Reference.{slash, file_of, no_file, lies_in, position_of, has_folder}
 use Rattle.paths.specs.declared.file.File.{File}
-use Rattle.paths.specs.Above.{HasNoFile, HasNoFileAbove}
-use Rattle.paths.specs.Snapshots.{comes_before, IsPlace}
+use Rattle.paths.specs.Snapshots.{HasNoFile, HasNoFileAbove, comes_before, IsPlace}
 
 abbrev pub AreRising : List File → Type 0
 AreRising files = AllPairs (λ f g. comes_before f.name g.name ≡ true) files

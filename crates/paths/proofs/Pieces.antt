@@ -4,11 +4,10 @@ use Rattle.std.specs.List.{starts_with}
 use Rattle.std.proofs.lemmas.List.{length-drop}
 use Rattle.paths.specs.declared.file.EntryHeading.{EntryHeading}
 use Rattle.devices.specs.Numbers.{number_of, three_numbers}
-use Rattle.paths.specs.SnapshotFaults.{heading_of, file_heading, end_heading}
+use Rattle.paths.specs.SnapshotFaults.{heading_of, file_heading, end_heading, GivesLine}
 use Rattle.paths.specs.declared.snapshot_fault.SnapshotFaultKind.TheVariants.{Kind}
 use Rattle.devices.specs.declared.text.Stop.{Stop}
-use Rattle.devices.specs.LongLines.{IsLong, GivesLongLine}
-use Rattle.paths.specs.Owed.{GivesLine}
+use Rattle.devices.specs.Texts.{IsLong, GivesLongLine}
 use Rattle.devices.proofs.Pieces.{number_long, three_long}
 
 -- ---- a file's line has ten bytes at least

@@ -1,5 +1,3 @@
-pub mod Above
-pub mod Owed
 pub mod Parts
 pub mod Reference
 pub mod Resolution

@@ -1,26 +1,26 @@
 -- How a snapshot text is read, entry by entry, and its first fault.
 use Rattle.std.specs.Prelude.{◌≡◌, ℕ, ◌+◌, ◌-◌, ◌≤◌, ◌==◌, ◌||◌, ◌⊎◌, not, Bool, true, false, List, [], ◌∷◌, ◌++◌, drop}
 use Rattle.std.specs.Prelude.{length, Option, Some, None, Result, Ok, Err, codes, nat_eq, nat_lt, nat_le, bytes_eq}
-use Rattle.std.specs.Prelude.{if◌then◌else◌, is_some, unwrap_or}
+use Rattle.std.specs.Prelude.{if◌then◌else◌, is_some, unwrap_or, MatchResult}
 use Rattle.std.specs.List.{list_all, list_any, starts_with}
 use Rattle.devices.specs.Reference.{line_feed}
 use Rattle.paths.specs.Reference.{lies_in}
 use Rattle.devices.specs.Devices.{CountsBy}
 use Rattle.devices.specs.Numbers.{number_of, three_numbers}
-use Rattle.devices.specs.Texts.{Ahead, line_at, run_at, byte_at}
+use Rattle.devices.specs.Texts.{Ahead, line_at, run_at, byte_at, ahead_of, is_unforeseen}
 use Rattle.paths.specs.Snapshots.{max_files, max_file_bytes, max_name_bytes, max_time, max_text_bytes, first_line}
 use Rattle.paths.specs.Snapshots.{text_before_end, snapshot_text, is_name, comes_before, IsSnapshot, IsSnapshotText}
 use Rattle.devices.specs.declared.text.Stop.{Stop}
-use Rattle.devices.specs.declared.text.Stop.TheVariants as stops
 use Rattle.paths.specs.declared.file.File.{File}
 use Rattle.paths.specs.declared.file.FileLine.{FileLine}
 use Rattle.paths.specs.declared.file.EntryHeading.{EntryHeading}
-use Rattle.paths.specs.declared.file.EntryHeading.TheVariants as headings
 use Rattle.paths.specs.declared.snapshot_fault.SnapshotFault.{SnapshotFault}
 use Rattle.paths.specs.declared.snapshot_fault.SnapshotFaultKind.{SnapshotFaultKind}
 use Rattle.paths.specs.declared.snapshot_fault.SnapshotFaultKind.TheVariants.{Cut, Header, Kind, Number, TooLarge, Name}
 use Rattle.paths.specs.declared.snapshot_fault.SnapshotFaultKind.TheVariants.{Order, Conflict, Length, Count, Trailing}
 use Rattle.paths.specs.declared.snapshot_fault.SnapshotFaultKind.TheVariants.{Read, Memory}
+use Rattle.devices.specs.declared.text.Stop.TheVariants as stops
+use Rattle.paths.specs.declared.file.EntryHeading.TheVariants as headings
 
 -- the name of a kind, as in a line that tells of the fault
 abbrev pub kind_name : SnapshotFaultKind → List ℕ
@@ -184,3 +184,12 @@ pub record ReadsWhole (old new : Option (List ℕ)) (files : List File) : Type 0
 
 abbrev pub CountsFault : {X : Type 0} → ℕ → ℕ → Result X SnapshotFault → Type 0
 CountsFault old new r = CountsBy (λ f. failures_of f.kind) old new r
+
+-- What a line that announces something owes, and how it is read in pieces.
+
+-- The call gave the next line. Where that announces something, what follows the line is ahead now.
+abbrev pub GivesLine : Option (List ℕ) → ℕ → Option (List ℕ) → ℕ → Result (List ℕ) Stop → Type 0
+GivesLine old left new left_new r = is_some old ≡ true → MatchResult r
+    (λ line. (following : Ahead) × (line_at (ahead_of old left) ≡ Ok (line, following)) × (is_some new ≡ true)
+    × ((h : EntryHeading) → heading_of line ≡ Ok h → following ≡ ahead_of new left_new))
+    (λ e. is_unforeseen e ≡ false → line_at (ahead_of old left) ≡ Err e)

@@ -1,6 +1,6 @@
 -- The text of a snapshot of a file tree.
 use Rattle.std.specs.Prelude.{◌≡◌, ℕ, ◌<◌, ◌≤◌, ◌==◌, ◌&&◌, not, Bool, true, false, List, [], ◌∷◌, ◌++◌, length, All}
-use Rattle.std.specs.Prelude.{codes, decimal, bytes_eq, flat_map, Result, MatchResult}
+use Rattle.std.specs.Prelude.{codes, decimal, bytes_eq, flat_map, Result, MatchResult, ◌≢◌, get_or, take}
 use Rattle.std.specs.List.{list_all, list_any, slice_split, AllPairs}
 use Rattle.std.specs.Str.{is_utf8}
 use Rattle.std.specs.Ordering.{is_lt, nat_cmp}
@@ -112,3 +112,14 @@ IsPlace files name r = MatchResult r
     × ((k : ℕ) → k < i → comes_before (file_of files k).name name ≡ true))
     (λ i. (i ≤ length files) × ((k : ℕ) → k < i → comes_before (file_of files k).name name ≡ true)
     × ((k : ℕ) → i ≤ k → k < length files → comes_before name (file_of files k).name ≡ true))
+
+-- Which folders of a name are no files.
+
+-- no file has this name
+abbrev pub HasNoFile : List File → List ℕ → Type 0
+HasNoFile files name = (j : ℕ) → j < length files → (file_of files j).name ≢ name
+
+-- no file has the name of a folder in which the name lies, as far as the folder's slash is among the name's first n
+-- bytes
+abbrev pub HasNoFileAbove : List File → List ℕ → ℕ → Type 0
+HasNoFileAbove files name n = (k : ℕ) → k < n → get_or name k 0 ≡ slash → HasNoFile files (take k name)

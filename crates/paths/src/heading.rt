@@ -4,8 +4,7 @@ ghost use Rattle.std.specs.Prelude.{◌≡◌, ◌-◌, ◌<◌, IfErr, ◌≢�
 ghost use Rattle.devices.specs.Devices.{CanFail};
 ghost use Rattle.devices.specs.Texts.{Counts, line_at};
 ghost use Rattle.devices.specs.Parts.{FailsWithin};
-ghost use Rattle.paths.specs.SnapshotFaults.{heading_of};
-ghost use Rattle.paths.specs.Owed.{GivesLine};
+ghost use Rattle.paths.specs.SnapshotFaults.{heading_of, GivesLine};
 
 use crate::SnapshotFaultKind;
 use crate::file::{EntryHeading, FileLine};

@@ -4,8 +4,7 @@ ghost use Rattle.std.specs.Prelude.{◌≡◌, ◌<◌, ◌≤◌, ◌++◌, [],
 ghost use Rattle.std.specs.List.{list_all, list_any};
 ghost use Rattle.paths.specs.Reference.{slash, file_of, position_of, has_folder, lies_in};
 ghost use Rattle.paths.specs.Snapshots.{max_files, max_time, max_file_bytes, Follows, comes_before, IsPlace};
-ghost use Rattle.paths.specs.Snapshots.{IsSnapshot};
-ghost use Rattle.paths.specs.Above.{HasNoFileAbove};
+ghost use Rattle.paths.specs.Snapshots.{IsSnapshot, HasNoFileAbove};
 
 use crate::File;
 use crate::bytes::shared_front;

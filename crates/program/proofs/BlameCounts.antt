@@ -11,7 +11,7 @@ use Rattle.paths.specs.declared.snapshot_fault.SnapshotFaultKind.{SnapshotFaultK
 use Rattle.paths.specs.declared.snapshot_fault.SnapshotFaultKind.TheVariants as snapshot_kinds
 use Rattle.program.specs.declared.fault.Fault.{Fault}
 use Rattle.program.specs.declared.fault.Fault.TheVariants.{Snapshot, Replay, Upgrade, Slim}
-use Rattle.program.specs.declared.replaying.Wanted.{Wanted}
+use Rattle.program.specs.declared.wanted.Wanted.{Wanted}
 use Rattle.program.specs.Bundles.{reader_failures}
 use Rattle.program.specs.Replays.{capture_failures, snapshot_failures, is_untold, is_untold_at_files}
 

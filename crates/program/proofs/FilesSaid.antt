@@ -5,7 +5,7 @@ use Rattle.reference.specs.Reference.{Choice}
 use Rattle.program.specs.declared.fault.Fault.{Fault}
 use Rattle.program.specs.declared.fault.Fault.TheVariants.{Write, Memory}
 use Rattle.program.specs.declared.fault.Place.TheVariants.{Replies, Report}
-use Rattle.program.specs.declared.replaying.Wanted.{Wanted}
+use Rattle.program.specs.declared.wanted.Wanted.{Wanted}
 use Rattle.program.specs.Ports.{Port, RunsAtBoth, port}
 use Rattle.program.specs.Replays.{FilesSays, ReplaySays}
 use Rattle.program.proofs.Settling.{fault_at_devices, ok_at_devices}

@@ -12,8 +12,7 @@ use Rattle.paths.proofs.FilesOrFault.{rules_none}
 use Rattle.snapshots.specs.declared.so_far.FilesSoFar.{FilesSoFar}
 use Rattle.snapshots.specs.declared.write_fault.WriteFault.{WriteFault}
 use Rattle.snapshots.specs.declared.write_fault.WriteFault.TheVariants as rules
-use Rattle.snapshots.specs.Keeping.{a_file}
-use Rattle.snapshots.specs.Rules.{broken_rule}
+use Rattle.snapshots.specs.Keeping.{a_file, broken_rule}
 use Rattle.snapshots.specs.Writers.{Took, refused_for}
 use Rattle.snapshots.proofs.Rulings.{keeps}
 use Rattle.snapshots.proofs.Taken.{whole}

@@ -15,8 +15,8 @@ use Rattle.program.specs.declared.fault.Fault.{Fault}
 use Rattle.program.specs.declared.fault.Fault.TheVariants.{Snapshot, Replay, Write, Memory}
 use Rattle.program.specs.declared.fault.Place.TheVariants as places
 use Rattle.program.specs.Bundles.{HoldsCapture}
-use Rattle.program.specs.declared.replaying.Wanted.{Wanted}
-use Rattle.program.specs.declared.replaying.Wanted.TheVariants as wants
+use Rattle.program.specs.declared.wanted.Wanted.{Wanted}
+use Rattle.program.specs.declared.wanted.Wanted.TheVariants as wants
 use Rattle.program.specs.Ports.{Port}
 use Rattle.program.specs.Replays.{OfSnapshot, Ports, ports, HasWritten, IsReplayFault, IsFilesFault, FilesSays, untold_by, wanted_of}
 use Rattle.program.proofs.Programs.{first_of_replay}

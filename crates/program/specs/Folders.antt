@@ -8,8 +8,7 @@ use Rattle.paths.specs.Snapshots.{text_before_end, snapshot_text, IsSnapshotText
 use Rattle.snapshots.specs.declared.so_far.FilesSoFar.{FilesSoFar}
 use Rattle.snapshots.specs.declared.write_fault.WriteFault.{WriteFault}
 use Rattle.snapshots.specs.declared.write_fault.WriteFault.TheVariants as rules
-use Rattle.snapshots.specs.Keeping.{a_file}
-use Rattle.snapshots.specs.Rules.{broken_rule}
+use Rattle.snapshots.specs.Keeping.{a_file, broken_rule}
 use Rattle.snapshots.specs.Writers.{Took}
 use Rattle.program.specs.declared.fault.Fault.{Fault}
 use Rattle.program.specs.declared.fault.Fault.TheVariants.{Folder, Open, Write, Memory}

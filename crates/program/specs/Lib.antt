@@ -1,4 +1,3 @@
-pub mod Sinks
 pub mod Ports
 pub mod FaultLines
 pub mod Bundles

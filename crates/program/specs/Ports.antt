@@ -4,11 +4,18 @@ use Rattle.std.specs.Prelude.{◌≡◌, ◌⊎◌, ℕ, Bool, true, false, not,
 use Rattle.std.specs.Prelude.{Result, Ok, Err, OnOk}
 use Rattle.std.specs.Io.KnownBytes.{Keeps}
 use Rattle.captures.specs.Passes.{BlamesReader}
-use Rattle.captures.specs.declared.pass_fault.PassFault.TheVariants as passes
 use Rattle.program.specs.declared.fault.Fault.{Fault}
 use Rattle.program.specs.declared.fault.Fault.TheVariants.{Replay, Upgrade, Slim, Write, Memory}
 use Rattle.program.specs.declared.fault.Place.{Place}
 use Rattle.program.specs.declared.fault.Place.TheVariants.{Replies, Report, Output}
+use Rattle.captures.specs.declared.pass_fault.PassFault.TheVariants as passes
+
+-- What a writer at the end of a run shows.
+
+-- how often it failed: after a failure it isn't asked again
+abbrev pub once : Bool → ℕ
+once true = 1
+once false = 0
 
 -- a device before a call and after it
 pub record Port : Type 0 where

@@ -19,8 +19,8 @@ use Rattle.command_line.specs.declared.words.Engine.TheVariants as engines
 use Rattle.report.specs.Reports.{report_text}
 use Rattle.program.specs.Bundles.{writer_failures}
 use Rattle.program.specs.Ports.{Port, blames, is_cut, port}
-use Rattle.program.specs.declared.replaying.Wanted.{Wanted}
-use Rattle.program.specs.declared.replaying.Wanted.TheVariants as wants
+use Rattle.program.specs.declared.wanted.Wanted.{Wanted}
+use Rattle.program.specs.declared.wanted.Wanted.TheVariants as wants
 use Rattle.program.specs.declared.fault.Fault.{Fault}
 use Rattle.program.specs.declared.fault.Fault.TheVariants.{Snapshot, Replay, Write, Memory}
 use Rattle.program.specs.declared.fault.Place.TheVariants.{Replies, Report}

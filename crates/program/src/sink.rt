@@ -21,7 +21,7 @@ pub struct Sink<W: Write> {
 
 impl<W: Write> Model for Sink<W> {
     ghost use Rattle.devices.specs.Devices.{Device};
-    ghost use Rattle.program.specs.Sinks.{once};
+    ghost use Rattle.program.specs.Ports.{once};
 
     ghost Value = { Device };
 

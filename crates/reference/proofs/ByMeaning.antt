@@ -4,7 +4,7 @@ use Rattle.std.specs.List.{list_any}
 use Rattle.std.proofs.lemmas.List.{length-map, map-append}
 use Rattle.std.proofs.lemmas.List.Sums.{sum_by-cons}
 use Rattle.admission.specs.Reference.{Offer, decide, decided}
-use Rattle.admission.specs.Decisions.{outlook}
+use Rattle.admission.specs.After.{outlook}
 use Rattle.http_requests.specs.declared.messages.Meaning.{Meaning}
 use Rattle.responses.specs.Reference.{statuses}
 use Rattle.arrivals.specs.Reference.{Arrival}

@@ -4,7 +4,7 @@ use Rattle.std.specs.Io.KnownBytes.{Appends}
 use Rattle.http_requests.specs.declared.messages.Meaning.{Meaning}
 use Rattle.http_requests.specs.declared.messages.Meaning.TheVariants.{Request, Bad}
 use Rattle.admission.specs.Reference.{Offer, decide, decided}
-use Rattle.admission.specs.Decisions.{outlook}
+use Rattle.admission.specs.After.{outlook}
 use Rattle.decision_table.specs.declared.row.Offered.{Offered}
 use Rattle.decision_table.specs.declared.row.Row.{Row}
 use Rattle.decision_table.specs.Rows.{heading, row_text}

@@ -26,11 +26,10 @@ use Rattle.arrivals.specs.Batches.{ReadsOn, sent_to, origin_now, origins_after, 
 use Rattle.arrivals.specs.Connections.{HaveRead, connection_at, text_now, messages_now, arrivals_with}
 use Rattle.arrivals.specs.SeatStates.{SeatState, seat_at, with_lists, size, total, CanRead, IsReady, IsCutOf, count_to}
 use Rattle.arrivals.specs.declared.connections.Connection.TheVariants.{Silent}
-use Rattle.arrivals.specs.declared.waiting.Waiting.{Waiting as Sent}
-use Rattle.arrivals.specs.declared.waiting.Waiting.TheVariants.{Piece as Comes, End as Ends}
+use Rattle.arrivals.specs.declared.seat.Waiting.{Waiting as Sent}
+use Rattle.arrivals.specs.declared.seat.Waiting.TheVariants.{Piece as Comes, End as Ends}
 use Rattle.replay.specs.Serving.{Serves}
-use Rattle.replay.specs.Pending.{incoming_of, InTime}
-use Rattle.replay.specs.Waiting.{connections_of, Waiting, ComeNext, Upcoming}
+use Rattle.replay.specs.Waiting.{incoming_of, InTime, connections_of, Waiting, ComeNext, Upcoming}
 use Rattle.arrivals.specs.Gathering.{Adds}
 use Rattle.arrivals.specs.declared.connections.Connection.{Connection}
 use Rattle.replay.specs.declared.desk.Desk.{Desk}

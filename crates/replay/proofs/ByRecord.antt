@@ -23,7 +23,8 @@ use Rattle.captures.proofs.Lines.{within_longest}
 use Rattle.captures.specs.Captures.{size_of, sizes_of}
 use Rattle.captures.specs.Readers.{ReaderAfter, Gave, FailsFirst, FailsNext}
 use Rattle.captures.proofs.PassLemmas.{reads_of}
-use Rattle.arrivals.specs.Tiers.{AreTiers}
+use Rattle.arrivals.specs.Connections.{AreTiers, HasRead, HasRoom, ReadMore, HaveRead, IsNumber, connection_at}
+use Rattle.arrivals.specs.Connections.{text_now, messages_now, arrivals_with}
 use Rattle.arrivals.specs.Batches.{Reads, Stand, origin_now}
 use Rattle.http_requests.specs.declared.messages.Message.{Message}
 use Rattle.arrivals.specs.declared.incoming.Origin.{Origin}
@@ -35,7 +36,6 @@ use Rattle.captures.specs.declared.pass_fault.PassFault.{PassFault}
 use Rattle.captures.specs.declared.pass_fault.PassFault.TheVariants as faults
 use Rattle.reference.specs.Reference.{Terms, handled, replies_of, first_line, last_line, text_before_stop, summary_of, outcome_of, Answers}
 use Rattle.arrivals.specs.Reference.{Arrival, AreArrivals, bytes_to, text_of}
-use Rattle.arrivals.specs.Connections.{HasRead, HasRoom, ReadMore, HaveRead, IsNumber, connection_at, text_now, messages_now, arrivals_with}
 use Rattle.replay.specs.Serving.{DeskAfter, AreBy, IsLater, Serves, Written, ServesFull, ServesInPart, WritesMore, WritesFull, WritesInPart, WritesWhole}
 use Rattle.reference.specs.Texts.{Texts, AreTexts, Wrote, WroteInPart, reply_texts}
 use Rattle.devices.specs.Reference.{WhereKnown}

@@ -12,7 +12,7 @@ use Rattle.responses.specs.Reference.{statuses}
 use Rattle.reference.specs.declared.summary.Counts.{Counts}
 use Rattle.reference.specs.Reference.{Terms, Handled, status_for, count_of, counts_of, bypassed_of, rejected_of, breaks_a_rule}
 use Rattle.arrivals.specs.Reference.{Arrival}
-use Rattle.replay.specs.Counting.{one_if, with_status, AreBelow}
+use Rattle.replay.specs.Totals.{one_if, with_status, AreBelow}
 
 count_more : (terms : Terms) (messages : List Handled) (h : Handled) (status : ℕ) → count_of terms (messages ++ h ∷ []) status ≡ count_of terms messages status + one_if (status_for terms h) status
 count_more terms messages h status = sum_by_push (λ h. cond (status_for terms h == status) 1 0) messages h

@@ -27,9 +27,7 @@ use Rattle.reference.specs.Outcomes.{IfCutShort, IfTooMany}
 use Rattle.arrivals.specs.declared.incoming.Origin.{Origin}
 use Rattle.captures.specs.declared.pass_fault.PassFault.{PassFault}
 use Rattle.captures.specs.declared.pass_fault.PassFault.TheVariants.{Capture, TooMany, Memory, Write as Unwritten}
-use Rattle.replay.specs.Counting.{AreBelow}
-use Rattle.replay.specs.Totals.{no_counts, totals_of, noted}
-use Rattle.replay.specs.Deciding.{decided_totals, Decides}
+use Rattle.replay.specs.Totals.{AreBelow, no_counts, totals_of, noted, decided_totals, Decides}
 use Rattle.replay.specs.Serving.{DeskAfter, AreBy, records_after}
 use Rattle.http_requests.specs.declared.messages.Message.{Message}
 use Rattle.arrivals.specs.Connections.{arrivals_with}

@@ -9,7 +9,7 @@ use Rattle.arrivals.specs.Reference.{Arrival}
 use Rattle.replay.specs.Serving.{DeskAfter, AreBy}
 use Rattle.replay.specs.Fronts.{front_value, lookup_of}
 use Rattle.replay.specs.Backs.{is_back, slip_of_pending}
-use Rattle.replay.specs.Pending.{incoming_of, AreLookedUp, InTime}
+use Rattle.replay.specs.Waiting.{incoming_of, AreLookedUp, InTime}
 use Rattle.arrivals.specs.declared.incoming.Incoming.{Incoming}
 use Rattle.replay.specs.declared.lookup.LookedUp.{LookedUp}
 use Rattle.replay.specs.declared.pending.PendingReply.{PendingReply}

@@ -14,8 +14,7 @@ use Rattle.http_requests.specs.declared.messages.Meaning.TheVariants.{Request, B
 use Rattle.admission.specs.declared.control.Outlook.{Outlook}
 use Rattle.admission.specs.declared.control.Decision.TheVariants.{Admitted, Rejected}
 use Rattle.admission.specs.Reference.{Station, Offer, served, free_at, is_rejected, decide, decided}
-use Rattle.admission.specs.Decisions.{outlook}
-use Rattle.admission.specs.After.{ControllerAfter}
+use Rattle.admission.specs.After.{outlook, ControllerAfter}
 use Rattle.admission.specs.Standing.{station_of}
 use Rattle.responses.specs.Reference.{status_of}
 use Rattle.responses.specs.declared.slip.Given.{Given}

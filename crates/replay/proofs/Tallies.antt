@@ -5,7 +5,7 @@ use Rattle.std.proofs.lemmas.Option.{slice_get-map, slice_get_read}
 use lib.ListN.{get_or}
 use Rattle.admission.specs.declared.control.Control.{Control}
 use Rattle.admission.specs.Reference.{Station, Offer}
-use Rattle.admission.specs.Decisions.{controls_in}
+use Rattle.admission.specs.After.{controls_in}
 use Rattle.reference.specs.declared.summary.Tally.{Tally}
 use Rattle.reference.specs.Reference.{tally_of}
 

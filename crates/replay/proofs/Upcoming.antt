@@ -16,10 +16,9 @@ use Rattle.replay.specs.Serving.{DeskAfter, records_after, Written, WrittenInPar
 use Rattle.replay.specs.Fronts.{front_value}
 use Rattle.replay.specs.Backs.{slip_of_pending, reply_to}
 use Rattle.arrivals.specs.Batches.{joined}
-use Rattle.replay.specs.Pending.{incoming_of, AreOf, AreLookedUp, InTime}
+use Rattle.replay.specs.Waiting.{incoming_of, AreOf, AreLookedUp, InTime, Upcoming}
 use Rattle.reference.specs.Outcomes.{IfTooMany, IfCutShort}
 use Rattle.captures.specs.Passes.{IsWriteOrMemory}
-use Rattle.replay.specs.Waiting.{Upcoming}
 use Rattle.arrivals.specs.declared.incoming.Incoming.{Incoming}
 use Rattle.replay.specs.declared.lookup.LookedUp.{LookedUp}
 use Rattle.replay.specs.declared.pending.PendingReply.{PendingReply}

@@ -1,11 +1,8 @@
 pub mod Backs
-pub mod Counting
-pub mod Deciding
 pub mod Fronts
 pub mod Groups
 pub mod Rowing
 pub mod Serving
 pub mod Steps
-pub mod Pending
 pub mod Totals
 pub mod Waiting

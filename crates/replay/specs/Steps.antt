@@ -5,9 +5,8 @@ use Rattle.captures.specs.declared.record.Record.{Record}
 use Rattle.http_requests.specs.declared.messages.Message.{Message}
 use Rattle.http_requests.specs.declared.messages.Meaning.{Meaning}
 use Rattle.arrivals.specs.Reference.{Arrival}
-use Rattle.arrivals.specs.Connections.{arrivals_with}
+use Rattle.arrivals.specs.Connections.{arrivals_with, AreTiers}
 use Rattle.arrivals.specs.SeatStates.{SeatState}
-use Rattle.arrivals.specs.Tiers.{AreTiers}
 use Rattle.arrivals.specs.declared.connections.Connection.{Connection}
 use Rattle.arrivals.specs.declared.incoming.Incoming.{Incoming}
 use Rattle.arrivals.specs.declared.incoming.Origin.{Origin}

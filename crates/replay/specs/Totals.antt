@@ -1,12 +1,31 @@
 -- What the engines count of the messages that they answered.
-use Rattle.std.specs.Prelude.{ℕ, ◌+◌, Bool, List, length, map, if◌then◌else◌}
+use Rattle.std.specs.Prelude.{ℕ, ◌+◌, Bool, List, length, map, if◌then◌else◌, ◌<◌, ◌==◌, All, zip, ◌≡◌, [], ◌∷◌, ◌++◌}
 use Rattle.responses.specs.Reference.{statuses}
 use Rattle.reference.specs.Reference.{Terms, station_for, offers_of, handled, counts_of, bypassed_of, rejected_of}
-use Rattle.reference.specs.Reference.{samples_of}
+use Rattle.reference.specs.Reference.{samples_of, rejects}
 use Rattle.arrivals.specs.Reference.{Arrival}
-use Rattle.replay.specs.Counting.{with_status}
 use Rattle.reference.specs.declared.summary.Counts.{Counts}
 use Rattle.replay.specs.declared.totals.Totals.{Totals}
+use Rattle.std.specs.List.{list_any}
+use Rattle.admission.specs.Reference.{Offer}
+use Rattle.admission.specs.After.{ControllerAfter}
+use Rattle.admission.specs.Standing.{station_of}
+use Rattle.replay.specs.declared.desk.Desk.{Desk}
+
+-- How many messages there were of each kind, and how long the admitted requests took.
+
+-- one more where it is this status
+abbrev pub one_if : ℕ → ℕ → ℕ
+one_if status wanted = if status == wanted then 1 else 0
+
+-- the counts with one more reply of this status
+abbrev pub with_status : Counts → ℕ → Counts
+with_status c status =
+    record { by_status = map (λ entry. entry.1 + one_if status entry.0) (zip statuses c.by_status) }
+
+-- each count is below n
+abbrev pub AreBelow : ℕ → Counts → Type 0
+AreBelow n c = All (λ count. count < n) c.by_status
 
 abbrev pub no_counts : Counts
 no_counts = record { by_status = map (λ status. 0) statuses }
@@ -30,3 +49,23 @@ noted t status breaks = record {
   rejected = t.rejected;
   samples = t.samples;
 }
+
+-- What an offer changes at the desk.
+
+-- the totals once these samples are taken, and its next message was turned away or not
+abbrev pub decided_totals : Totals → List ℕ → Bool → Totals
+decided_totals t samples away = record {
+  answered = t.answered;
+  counts = t.counts;
+  bypassed = t.bypassed;
+  rejected = t.rejected ++ (if away then t.answered ∷ [] else []);
+  samples = samples;
+}
+
+-- after these offers the next (one, or none) was decided on: whether it was turned away
+pub record Decides (offers next : List Offer) (old new : Desk) (away : Bool) : Type 0 where
+  pub station : station_of new.controller ≡ station_of old.controller
+  pub fits : ControllerAfter (offers ++ next) new.controller
+  pub is_away : away ≡ list_any (rejects (station_of old.controller) offers) next
+  pub totals : new.totals ≡ decided_totals old.totals (samples_of (station_of old.controller) (offers ++ next)) away
+  pub start : new.start ≡ old.start

@@ -1,8 +1,8 @@
 -- A batch between its being read and served: its pieces wait at the seats of their numbers.
-use Rattle.std.specs.Prelude.{◌≡◌, ℕ, ◌≤◌, List, [], ◌++◌, map}
+use Rattle.std.specs.Prelude.{◌≡◌, ℕ, ◌≤◌, List, [], ◌++◌, map, ◌<◌, ◌∷◌}
 use Rattle.captures.specs.declared.record.Record.{Record}
 use Rattle.captures.specs.declared.version.Version.{Version}
-use Rattle.captures.specs.Reference.{IsCapture}
+use Rattle.captures.specs.Reference.{IsCapture, max_tick}
 use Rattle.captures.specs.CaptureFaults.{longest_text}
 use Rattle.captures.specs.Captures.{sizes_of}
 use Rattle.arrivals.specs.Reference.{Arrival}
@@ -12,9 +12,32 @@ use Rattle.arrivals.specs.declared.connections.Connection.{Connection}
 use Rattle.arrivals.specs.declared.incoming.Incoming.{Incoming}
 use Rattle.arrivals.specs.declared.incoming.Origin.{Origin}
 use Rattle.reference.specs.Reference.{Terms}
-use Rattle.replay.specs.Serving.{Serves, DeskAfter}
-use Rattle.replay.specs.Pending.{AreOf, InTime}
+use Rattle.replay.specs.Serving.{Serves, DeskAfter, AreBy}
 use Rattle.replay.specs.declared.desk.Desk.{Desk}
+use Rattle.paths.specs.declared.file.File.{File}
+use Rattle.cost_model.specs.Reference.{Tariff}
+use Rattle.replay.specs.Fronts.{front_value}
+use Rattle.replay.specs.declared.lookup.LookedUp.{LookedUp}
+
+-- The messages of a batch between the two floors.
+
+-- what an arrival brings: its message, and where that came from
+abbrev pub incoming_of : Arrival → Incoming
+incoming_of a = record { origin = a.origin; what = a.message.what }
+
+-- these are the messages of the arrivals
+abbrev pub AreOf : List Arrival → List Incoming → Type 0
+AreOf arrivals messages = map incoming_of arrivals ≡ messages
+
+-- these arrivals were looked up
+abbrev pub AreLookedUp : List File → Tariff → List Arrival → List LookedUp → Type 0
+AreLookedUp files tariff arrivals lookups = lookups ≡ map (λ a. front_value files tariff (incoming_of a)) arrivals
+
+-- none of them comes before an earlier one, and each is of some tier
+abbrev pub InTime : List Arrival → List Arrival → Type 0
+InTime earlier [] = Unit {0}
+InTime earlier (a ∷ more) = AreBy a.origin.tick earlier × (a.origin.tick ≤ max_tick) × (a.origin.tier < 4)
+    × InTime (earlier ++ a ∷ []) more
 
 -- the connections at the seats
 abbrev pub connections_of : List SeatState → List Connection

@@ -12,8 +12,7 @@ ghost use Rattle.paths.specs.Resolution.{IsOutcome};
 ghost use Rattle.replay.specs.declared.lookup.Lookup.TheVariants.{Unseen, Found};
 ghost use Rattle.replay.specs.Fronts.{floor_lookup, floor_step, seen_as, message_at, each_looked_up};
 
-use crate::answering::{answers_head, charge_of};
-use crate::lookup::{LookedUp, Lookup};
+use crate::lookup::{LookedUp, Lookup, answers_head, charge_of};
 use crate::server::Server;
 use arrivals::Incoming;
 use cost_model::Tariff;

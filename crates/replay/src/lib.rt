@@ -1,7 +1,7 @@
 //! The engines: a capture is replayed against a snapshot, and every reply is written.
 #![tactic(auto)]
 
-mod answering;
+mod answers;
 mod back;
 mod desk;
 mod explain;

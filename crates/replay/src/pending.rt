@@ -1,11 +1,24 @@
-//! A message that was decided on, with what is due for it.
+//! A message that was decided on, with what is due for it, and its answer by the plain engine.
 
-ghost use Rattle.std.specs.Prelude.{◌≡◌, slice_get};
-ghost use Rattle.responses.specs.Reference.{status_of, statuses};
-ghost use Rattle.replay.specs.Backs.{given_by};
+ghost use Rattle.std.specs.Prelude.{◌≡◌, slice_get, ◌<◌, ◌≤◌, ◌-◌, ◌+◌, ◌^◌, [], true, length, OnOk, IfErr, OnErr};
+ghost use Rattle.responses.specs.Reference.{status_of, statuses, record_text};
+ghost use Rattle.replay.specs.Backs.{given_by, slip_of_pending, reply_to, given_as, is_back};
+ghost use Rattle.std.specs.Io.KnownBytes.{Appends};
+ghost use Rattle.devices.specs.Devices.{CanFail, CountsBy, AppendsPrefix};
+ghost use Rattle.paths.specs.Reference.{file_of};
+ghost use Rattle.paths.specs.Snapshots.{max_time};
+ghost use Rattle.captures.specs.Passes.{writer_failures, IsWriteOrMemory};
+ghost use Rattle.replay.specs.declared.back.BackState.TheVariants.{Due as Waits};
 
+use crate::ReplayFault;
+use crate::answers::known_file;
+use crate::server::Server;
+use devices::Output;
 use paths::Tree;
-use responses::{Given, OK_PLACE, Persistence};
+use responses::{
+    Given, HeadRenderer, OK_PLACE, Persistence, Slip, render, write_record, write_reply,
+};
+use std::io::Write;
 use std::marker::Model;
 
 /// How a message is to be answered: with a page that is still to be fetched, or with all else.
@@ -42,4 +55,85 @@ pub struct PendingReply<F: Tree> {
     pub head: bool,
     pub link: Persistence,
     pub due: Due<F>,
+}
+
+/// Writes the reply that gives a file, by the slip of the answer to HEAD. The bytes go to the writer as they stand in
+/// the snapshot.
+fn give_file<F: Tree, W: Write>(
+    server: &Server<'_, F>,
+    heads: &mut HeadRenderer,
+    slip: &Slip<F>,
+    file: usize,
+    writer: &mut Output<W>,
+) -> Result<(), ReplayFault>
+    requires file { file < length F.files }
+    requires date { slip.now.date ≤ max_time }
+    requires failures { CanFail writer.old }
+    ensures written { OnOk result (Appends writer.old.bytes writer.new.bytes
+        (record_text (given_as F.files slip.now (file_of F.files file).bytes))) }
+    ensures part { OnErr result (AppendsPrefix writer.old.bytes writer.new.bytes
+        (record_text (given_as F.files slip.now (file_of F.files file).bytes))) }
+    ensures failures { CountsBy writer_failures writer.old.failures writer.new.failures result }
+    ensures own { IfErr result IsWriteOrMemory }
+{
+    heads.render(slip)?;
+    let body: &[u8] = if slip.head {
+        &[]
+    } else {
+        server.snapshot.bytes(file)
+    };
+    write_record(writer, slip.number, slip.conn, heads.as_slice(), body)?;
+    Ok(())
+}
+
+/// Answers a message that was decided on.
+pub(crate) fn answer_pending<F: Tree, W: Write>(
+    server: &Server<'_, F>,
+    heads: &mut HeadRenderer,
+    pending: PendingReply<F>,
+    writer: &mut Output<W>,
+) -> Result<(), ReplayFault>
+    requires ready { is_back F.files (Waits pending) ≡ true }
+    requires failures { CanFail writer.old }
+    ensures written { OnOk result (Appends writer.old.bytes writer.new.bytes
+        (record_text (reply_to F.files (slip_of_pending pending)))) }
+    ensures part { OnErr result (AppendsPrefix writer.old.bytes writer.new.bytes
+        (record_text (reply_to F.files (slip_of_pending pending)))) }
+    ensures failures { CountsBy writer_failures writer.old.failures writer.new.failures result }
+    ensures own { IfErr result IsWriteOrMemory }
+{
+    let PendingReply {
+        number,
+        conn,
+        date,
+        head,
+        link,
+        due,
+    } = pending;
+    match due {
+        Due::Page { file, mtime } => {
+            let slip = Slip {
+                number,
+                conn,
+                date,
+                head,
+                link,
+                what: known_file(server.snapshot, file, mtime),
+            };
+            give_file(server, heads, &slip, file, writer)
+        }
+        Due::Ready(what) => {
+            let slip = Slip {
+                number,
+                conn,
+                date,
+                head,
+                link,
+                what,
+            };
+            let reply = render(server.alloc, slip)?;
+            write_reply(writer, &reply)?;
+            Ok(())
+        }
+    }
 }

@@ -15,14 +15,13 @@ ghost use Rattle.captures.specs.Passes.{reader_failures};
 ghost use Rattle.captures.specs.Passes.{writer_failures};
 ghost use Rattle.replay.specs.Serving.{IsLater, Serves, DeskAfter, WritesWhole};
 ghost use Rattle.replay.specs.Steps.{AnswersRecord, FillsWithRecord, AnswersRecordInPart};
-ghost use Rattle.arrivals.specs.Tiers.{AreTiers};
+ghost use Rattle.arrivals.specs.Connections.{AreTiers};
 ghost use Rattle.admission.specs.Reference.{Offer};
 ghost use Rattle.admission.specs.After.{ControllerAfter};
 ghost use Rattle.admission.specs.Standing.{station_of};
 
-use crate::answering::answer_all;
 use crate::desk::{Desk, controller_of};
-use crate::format::Format;
+use crate::format::{Format, answer_all};
 use crate::replies::Replies;
 use crate::server::Server;
 use crate::totals::Totals;

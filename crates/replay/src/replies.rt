@@ -7,9 +7,10 @@ ghost use Rattle.reference.specs.Reference.{first_line, last_line};
 ghost use Rattle.captures.specs.Passes.{IsWriteOrMemory, writer_failures};
 
 use crate::ReplayFault;
-use crate::answering::{answer_pending, look_up};
 use crate::desk::{Desk, settle};
 use crate::format::Format;
+use crate::lookup::look_up;
+use crate::pending::answer_pending;
 use crate::server::Server;
 use arrivals::Origin;
 use devices::Output;

@@ -4,7 +4,7 @@ ghost use Rattle.std.specs.Prelude.{◌≡◌, ◌≤◌, ◌+◌, ◌*◌, ℕ,
 ghost use Rattle.std.specs.Option.{option_map};
 ghost use Rattle.responses.specs.Reference.{status_of};
 ghost use Rattle.admission.specs.Reference.{decided};
-ghost use Rattle.admission.specs.Decisions.{outlook};
+ghost use Rattle.admission.specs.After.{outlook};
 ghost use Rattle.arrivals.specs.Reference.{Arrival};
 ghost use Rattle.reference.specs.Reference.{station_for, Terms, tick_in, handled_next, offers_of, slip_of};
 ghost use Rattle.replay.specs.Fronts.{lookup_of};
@@ -13,10 +13,9 @@ ghost use Rattle.reference.specs.Explaining.{row_of, method_of, target_of};
 ghost use Rattle.replay.specs.Rowing.{service_in, turns_away, offered_with};
 
 use crate::ReplayFault;
-use crate::answering::look_up;
 use crate::desk::{Desk, settle};
 use crate::format::Format;
-use crate::lookup::Lookup;
+use crate::lookup::{Lookup, look_up};
 use crate::pending::{Due, PendingReply};
 use crate::server::Server;
 use admission::{Decision, MAX_OFFERS, MAX_SERVICE, MAX_TICK, Outlook};

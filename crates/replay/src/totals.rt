@@ -3,8 +3,7 @@
 ghost use Rattle.std.specs.Prelude.{◌≡◌, ◌-◌, ◌<◌, ◌^◌, []};
 ghost use Rattle.responses.specs.Reference.{status_of};
 ghost use Rattle.reference.specs.Reference.{breaks_a_rule};
-ghost use Rattle.replay.specs.Counting.{AreBelow, with_status};
-ghost use Rattle.replay.specs.Totals.{no_counts, noted};
+ghost use Rattle.replay.specs.Totals.{AreBelow, with_status, no_counts, noted};
 ghost use Rattle.replay.specs.Backs.{given_by};
 
 use crate::pending::Due;

@@ -1,6 +1,6 @@
 -- The text of a report (docs/FORMATS.md, "Report").
 use Rattle.std.specs.Prelude.{ℕ, ◌+◌, ◌-◌, ◌*◌, ◌/◌, List, [], ◌∷◌, ◌++◌, length, Option, Some, None, codes, decimal}
-use Rattle.std.specs.Prelude.{flat_map, drop, slice_get, zip, Bool, nat_lt, if◌then◌else◌}
+use Rattle.std.specs.Prelude.{flat_map, drop, slice_get, zip, Bool, nat_lt, if◌then◌else◌, ◌≡◌}
 use Rattle.captures.specs.declared.version.Version.{Version}
 use Rattle.captures.specs.Reference.{format_of}
 use Rattle.admission.specs.Reference.{sorted}
@@ -9,6 +9,9 @@ use Rattle.responses.specs.Reference.{statuses}
 use Rattle.reference.specs.declared.summary.Outcome.{Outcome}
 use Rattle.reference.specs.declared.summary.Counts.{Counts}
 use Rattle.reference.specs.declared.summary.Tally.{Tally}
+use Rattle.devices.specs.Devices.{Device, AppendsProperPrefix}
+use Rattle.report.specs.declared.writing.ReportFault.{ReportFault}
+use Rattle.report.specs.declared.writing.ReportFault.TheVariants.{Write, Memory}
 
 -- a line of a name and a number
 abbrev pub line : List ℕ → ℕ → List ℕ
@@ -143,3 +146,15 @@ lines_before_rejects outcome =
 -- the report of what a replay has come to
 abbrev pub report_text : Outcome → List ℕ
 report_text outcome = lines_before_rejects outcome ++ reject_lines outcome.rejected ++ codes "end\n"
+
+-- What a report that isn't written whole leaves at its device.
+
+-- a prefix of its text, where the device failed; nothing, where there was no memory
+abbrev pub IsReportFault : List ℕ → Device → Device → ReportFault → Type 0
+IsReportFault text old new Write = AppendsProperPrefix old.bytes new.bytes text
+IsReportFault text old new Memory = new ≡ old
+
+-- how often the device failed
+abbrev pub writer_failures : ReportFault → ℕ
+writer_failures Write = 1
+writer_failures Memory = 0

@@ -3,8 +3,7 @@
 ghost use Rattle.std.specs.Prelude.{◌≡◌, ◌++◌, codes, ◌-◌, ◌<◌, ◌^◌, OnOk, IfErr};
 ghost use Rattle.std.specs.Io.KnownBytes.{Appends};
 ghost use Rattle.devices.specs.Devices.{CanFail, CountsBy, CountsFailed, WritesProperPrefix};
-ghost use Rattle.report.specs.Reports.{reject_line, reject_lines, report_text};
-ghost use Rattle.report.specs.Writing.{IsReportFault, writer_failures};
+ghost use Rattle.report.specs.Reports.{reject_line, reject_lines, report_text, IsReportFault, writer_failures};
 
 use crate::reports::lines_before_rejects;
 use arrayvec::ArrayVec;

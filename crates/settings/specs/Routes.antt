@@ -2,8 +2,7 @@
 use Rattle.std.specs.Prelude.{ℕ, ◌+◌, nat_le, List, [], ◌∷◌, Option, Some, None, Result, Ok, Err, if◌then◌else◌}
 use Rattle.toml.specs.Data.{Data, string, array, Items, no_items, item, Members, get_member, as_table}
 use Rattle.cost_model.specs.Reference.{Route}
-use Rattle.cost_model.specs.Services.{MAX_ROUTES}
-use Rattle.cost_model.specs.Prefixes.{prefix_of}
+use Rattle.cost_model.specs.Services.{MAX_ROUTES, prefix_of}
 use Rattle.settings.specs.declared.keys.Key.{Key}
 use Rattle.settings.specs.declared.keys.Key.TheVariants as keys
 use Rattle.settings.specs.declared.config_fault.ConfigFault.{ConfigFault}

@@ -20,8 +20,7 @@ use Rattle.std.proofs.lemmas.Bool.{cond-true}
 use Rattle.std.proofs.lemmas.Grind.{common_steps}
 use Rattle.httpdate.proofs.CalendarLemmas.{days_from_civil_bound}
 use Rattle.responses.specs.Reference.{parts_at}
-use Rattle.slim.specs.Dates.{short_date, last_second}
-use Rattle.slim.specs.Blocks.{since_line, request_block, faulty_block, block_of}
+use Rattle.slim.specs.Blocks.{short_date, last_second, since_line, request_block, faulty_block, block_of}
 use Rattle.responses.proofs.DateLemmas.{parts_right}
 use Rattle.slim.proofs.Values.{passes, good_short, trimmed}
 use Rattle.slim.specs.Targets.{kept_target, kept_what}

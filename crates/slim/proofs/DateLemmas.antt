@@ -11,7 +11,7 @@ use Rattle.httpdate.proofs.Theorems.{date_text_is}
 use Rattle.httpdate.proofs.ValidLemmas.{is_valid_complete}
 use Rattle.responses.specs.Reference.{parts_at}
 use Rattle.responses.proofs.DateLemmas.{parts_right}
-use Rattle.slim.specs.Dates.{short_date}
+use Rattle.slim.specs.Blocks.{short_date}
 
 -- the names of days and months have three letters
 named : (names : List (List ℕ)) (n : ℕ) → list_all (λ name. length name == 3) names ≡ true → n < length names → length (get_or names n []) ≡ 3

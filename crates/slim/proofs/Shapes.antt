@@ -14,8 +14,8 @@ use Rattle.http_requests.specs.declared.messages.MessageFault.TheVariants as fau
 use Rattle.http_requests.specs.declared.messages.Meaning.{Meaning}
 use Rattle.http_requests.specs.declared.heads.Verdict.{Verdict}
 use Rattle.http_requests.specs.Reference.{IsBlockEnd, IsBlock, blank_len, IsVerdict, IsRequest, lines_of, head_fault, version_of, is_closing, bad}
-use Rattle.slim.specs.Dates.{short_date, last_second}
-use Rattle.slim.specs.Blocks.{version_text, host_line, connection_line, since_line, request_block, faulty_block, block_of}
+use Rattle.slim.specs.Blocks.{short_date, last_second, version_text, host_line, connection_line, since_line}
+use Rattle.slim.specs.Blocks.{request_block, faulty_block, block_of}
 use Rattle.slim.proofs.Values.{both, good_short, list_all-append}
 use Rattle.slim.proofs.BlockLemmas.{AreParts, MayShow, may_show, never_long, below}
 

@@ -22,8 +22,8 @@ use Rattle.http_requests.specs.declared.messages.Meaning.TheVariants.{Request, B
 use Rattle.http_requests.specs.declared.heads.Verdict.{Verdict}
 use Rattle.http_requests.specs.Reference.{lines_of, values_of, same_text, options_of, has_option, is_given, is_get_or_head, IsOnlySecond, IsModifiedSince, IsVerdict, IsRequest, head_fault, is_host_fault, version_of, is_closing, bad}
 use Rattle.responses.specs.Reference.{parts_at}
-use Rattle.slim.specs.Dates.{short_date, last_second}
-use Rattle.slim.specs.Blocks.{version_text, host_line, connection_line, since_line, request_block, faulty_block, block_of}
+use Rattle.slim.specs.Blocks.{short_date, last_second, version_text, host_line, connection_line, since_line}
+use Rattle.slim.specs.Blocks.{request_block, faulty_block, block_of}
 use Rattle.responses.proofs.DateLemmas.{parts_right}
 use Rattle.slim.proofs.DateLemmas.{day_three, month_three}
 use Rattle.slim.proofs.BlockLemmas.{ShowsDate, may_show, below}

@@ -11,7 +11,7 @@ use Rattle.httpdate.specs.Calendar.{days_in_month, days_from_civil, weekday}
 use Rattle.httpdate.specs.Valid.{IsValid}
 use Rattle.httpdate.specs.Text.{day_name, month_name, two_digits, time_of_day, asctime_date}
 use Rattle.responses.specs.Reference.{parts_at}
-use Rattle.slim.specs.Dates.{short_date}
+use Rattle.slim.specs.Blocks.{short_date}
 use Rattle.responses.proofs.DateLemmas.{parts_right}
 use Rattle.slim.proofs.DateLemmas.{day_three}
 

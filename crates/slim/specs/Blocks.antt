@@ -5,10 +5,22 @@ use Rattle.std.specs.Prelude.{if◌then◌else◌}
 use Rattle.http_requests.specs.declared.messages.HttpVersion.{HttpVersion}
 use Rattle.http_requests.specs.declared.messages.HttpVersion.TheVariants.{Http10, Http11}
 use Rattle.http_requests.specs.declared.messages.MessageFault.{MessageFault}
-use Rattle.http_requests.specs.declared.messages.MessageFault.TheVariants as faults
 use Rattle.http_requests.specs.declared.messages.Meaning.{Meaning}
 use Rattle.http_requests.specs.declared.messages.Meaning.TheVariants.{Request, Bad}
-use Rattle.slim.specs.Dates.{short_date, last_second}
+use Rattle.httpdate.specs.Text.{two_digits, asctime_date}
+use Rattle.responses.specs.Reference.{parts_at}
+use Rattle.http_requests.specs.declared.messages.MessageFault.TheVariants as faults
+
+-- The second of a date, as a head writes it in 24 bytes (RFC 9110, 5.6.7).
+
+-- the text of a second since 1970-01-01, up to the year 9999, as `Sun Nov 06 08:49:37 1994`: the shortest of the three
+-- formats
+unfoldable pub short_date : ℕ → List ℕ
+short_date second = asctime_date (two_digits (parts_at second).day) (parts_at second)
+
+-- the last second of the year 9999
+abbrev pub last_second : ℕ
+last_second = 253402300799
 
 -- the end of the first line (RFC 9112, 2.3)
 abbrev pub version_text : HttpVersion → List ℕ

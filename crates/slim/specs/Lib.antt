@@ -1,4 +1,3 @@
-pub mod Dates
 pub mod Targets
 pub mod Blocks
 pub mod Slims

@@ -1,7 +1,7 @@
 //! The text of a second in 24 bytes.
 
 ghost use Rattle.std.specs.Prelude.{◌≡◌, ◌≤◌, IfSome, IfNone, ◌<◌};
-ghost use Rattle.slim.specs.Dates.{last_second, short_date};
+ghost use Rattle.slim.specs.Blocks.{last_second, short_date};
 
 use httpdate::HttpDate;
 

@@ -13,8 +13,7 @@ use Rattle.devices.proofs.Again.{pass}
 use Rattle.paths.proofs.NoFault.{follows_prefix}
 use Rattle.paths.proofs.FilesOrFault.{rules_more}
 use Rattle.snapshots.specs.declared.so_far.FilesSoFar.{FilesSoFar}
-use Rattle.snapshots.specs.Rules.{is_good_name, broken_rule}
-use Rattle.snapshots.specs.Keeping.{last_name, IsSoFar, broken_by, more}
+use Rattle.snapshots.specs.Keeping.{is_good_name, broken_rule, last_name, IsSoFar, broken_by, more}
 use Rattle.snapshots.proofs.Prefixes.{passes, any_within}
 use Rattle.snapshots.proofs.Keeps.{whole_size}
 

@@ -14,8 +14,7 @@ use Rattle.paths.proofs.NoFault.{no_fault}
 use Rattle.paths.specs.SnapshotFaults.{IsForeseen, IsFirstFault, is_unforeseen_kind}
 use Rattle.paths.specs.declared.snapshot_fault.SnapshotFault.{SnapshotFault}
 use Rattle.snapshots.specs.declared.so_far.FilesSoFar.{FilesSoFar}
-use Rattle.snapshots.specs.Rules.{broken_rule}
-use Rattle.snapshots.specs.Keeping.{Grown, more}
+use Rattle.snapshots.specs.Keeping.{broken_rule, Grown, more}
 use Rattle.snapshots.specs.Writers.{Took}
 use Rattle.snapshots.proofs.Keeps.{kept_more, text_push, whole_size}
 use Rattle.snapshots.proofs.Rulings.{none_broken}

@@ -1,15 +1,32 @@
 -- What a writer keeps of the files so far, and how it finds the first rule that one more breaks.
 use Rattle.std.specs.Prelude.{◌≡◌, ℕ, ◌+◌, ◌-◌, ◌^◌, not, List, [], ◌∷◌, ◌++◌, length, take, map, min, decimal, Option}
-use Rattle.std.specs.Prelude.{Some, None, nat_eq, nat_lt, nat_le, if◌then◌else◌}
-use Rattle.std.specs.List.{list_any, filter, starts_with}
+use Rattle.std.specs.Prelude.{Some, None, nat_eq, nat_lt, nat_le, if◌then◌else◌, ◌==◌, ◌&&◌, Bool}
+use Rattle.std.specs.List.{list_any, filter, starts_with, list_all}
 use Rattle.paths.specs.declared.file.File.{File}
 use Rattle.paths.specs.Reference.{lies_in, file_of}
 use Rattle.paths.specs.Snapshots.{max_time, max_file_bytes, max_files, max_text_bytes, comes_before, file_text}
-use Rattle.paths.specs.Snapshots.{text_before_end}
-use Rattle.snapshots.specs.Rules.{is_good_name}
+use Rattle.paths.specs.Snapshots.{text_before_end, max_name_bytes, is_name, snapshot_text}
 use Rattle.snapshots.specs.declared.write_fault.WriteFault.{WriteFault}
 use Rattle.snapshots.specs.declared.write_fault.WriteFault.TheVariants.{Time, Size, Count, Name, Order, Conflict, Text}
 use Rattle.snapshots.specs.declared.so_far.FilesSoFar.{FilesSoFar}
+
+-- The rules that a file may break after others (docs/FORMATS.md, "Snapshot").
+
+-- a name of 1 to 1,024 bytes that is allowed
+abbrev pub is_good_name : List ℕ → Bool
+is_good_name name = not (length name == 0) && nat_le (length name) max_name_bytes && is_name name
+
+-- the first rule that the file breaks after these files, or none
+unfoldable pub broken_rule : List File → File → Option WriteFault
+broken_rule files f =
+    if nat_lt max_time f.mtime then Some Time
+    else if nat_lt max_file_bytes (length f.bytes) then Some Size
+    else if nat_le max_files (length files) then Some Count
+    else if not (is_good_name f.name) then Some Name
+    else if not (list_all (λ g. comes_before g.name f.name) files) then Some Order
+    else if list_any (λ g. lies_in g.name f.name) files then Some Conflict
+    else if nat_lt max_text_bytes (length (snapshot_text (files ++ f ∷ []))) then Some Text
+    else None
 
 abbrev pub a_file : List ℕ → ℕ → List ℕ → File
 a_file name mtime bytes = record { name = name; mtime = mtime; bytes = bytes }

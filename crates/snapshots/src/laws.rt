@@ -4,7 +4,7 @@ ghost use Rattle.paths.specs.declared.file.File.{File as AFile};
 ghost use Rattle.paths.specs.Snapshots.{snapshot_text, IsSnapshotText};
 ghost use Rattle.paths.specs.SnapshotFaults.{ReadsWhole, IsForeseen, IsFirstFault, is_unforeseen_kind};
 ghost use Rattle.paths.specs.declared.snapshot_fault.SnapshotFault.{SnapshotFault as AFault};
-ghost use Rattle.snapshots.specs.Rules.{broken_rule};
+ghost use Rattle.snapshots.specs.Keeping.{broken_rule};
 
 /// After files that keep the rules, a file that breaks none keeps them too.
 pub fn rules_kept()

@@ -3,8 +3,7 @@
 ghost use Rattle.std.specs.Prelude.{◌≡◌, ◌≢◌, ◌≤◌, ◌<◌, ◌-◌, ◌^◌, [], length, decimal, IfOk, IfErr, IfSome, Err, Some};
 ghost use Rattle.devices.specs.Devices.{CanFail, AppendsPrefix};
 ghost use Rattle.paths.specs.Snapshots.{file_text, text_before_end, max_name_bytes, max_file_bytes};
-ghost use Rattle.snapshots.specs.Keeping.{a_file, broken_by, Grown};
-ghost use Rattle.snapshots.specs.Rules.{is_good_name};
+ghost use Rattle.snapshots.specs.Keeping.{a_file, broken_by, Grown, is_good_name};
 ghost use Rattle.snapshots.specs.Writers.{Took, refused_for, Counts};
 
 use crate::WriteFault;

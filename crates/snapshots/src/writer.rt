@@ -4,8 +4,7 @@ ghost use Rattle.std.specs.Prelude.{◌≡◌, ◌≢◌, ◌<◌, ◌-◌, ◌^
 ghost use Rattle.devices.specs.Devices.{CanFail, AppendsPrefix, WritesPrefix};
 ghost use Rattle.paths.specs.declared.file.File.{File as AFile};
 ghost use Rattle.paths.specs.Snapshots.{text_before_end, snapshot_text, IsSnapshotText};
-ghost use Rattle.snapshots.specs.Keeping.{a_file};
-ghost use Rattle.snapshots.specs.Rules.{broken_rule};
+ghost use Rattle.snapshots.specs.Keeping.{a_file, broken_rule};
 ghost use Rattle.snapshots.specs.Writers.{Took, refused_for, Counts};
 
 use crate::WriteFault;

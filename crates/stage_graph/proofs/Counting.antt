@@ -6,9 +6,8 @@ use Rattle.std.proofs.lemmas.Bool.{ltb-true, eqb-true, eq-eqb, le-leb}
 use Rattle.std.proofs.lemmas.Bool.Decides.{nat_tests}
 use Rattle.stage_graph.specs.Layouts.{Layout, IsPlan, stages, stage_at, is_last}
 use Rattle.stage_graph.specs.Floors.{State, opening, is_allowed, after, after_all, is_legal, standing, is_legal_from_opening, all_done, all_left}
-use Rattle.stage_graph.specs.Places.{one_at}
+use Rattle.stage_graph.specs.Counts.{one_at, KeepsBounds, is_take, takes_of, is_feed, feeds_of, is_give, gives_of}
 use Rattle.stage_graph.proofs.Weights.{Weights, of_slot, total}
-use Rattle.stage_graph.specs.Counts.{KeepsBounds, is_take, takes_of, is_feed, feeds_of, is_give, gives_of}
 use Rattle.stage_graph.specs.declared.event.Event.{Event}
 use Rattle.stage_graph.specs.declared.event.Event.TheVariants.{Feed, Take, Give, Back, Leave, Halt}
 use Rattle.stage_graph.proofs.Sizes.{IsSized-standing}

@@ -3,7 +3,7 @@ use Rattle.std.proofs.Common.{◌≡◌, ℕ, ◌<◌, true, cond, List, sym, ap
 use Rattle.std.proofs.lemmas.Bool.{lt-ltb}
 use Rattle.stage_graph.specs.Layouts.{Layout, IsPlan}
 use Rattle.stage_graph.specs.Floors.{standing, is_legal_from_opening}
-use Rattle.stage_graph.specs.Places.{places_of}
+use Rattle.stage_graph.specs.Counts.{places_of}
 use Rattle.stage_graph.specs.declared.event.Event.{Event}
 use Rattle.stage_graph.proofs.Weights.{weight-places}
 use Rattle.stage_graph.proofs.Sound.{IsPlaced-standing}

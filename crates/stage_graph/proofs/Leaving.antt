@@ -7,7 +7,7 @@ use Rattle.std.proofs.lemmas.Bool.Decides.{eqb_tells}
 use Rattle.std.proofs.lemmas.List.{get_or-set_same, get_or-set_other, get_or-replicate}
 use Rattle.stage_graph.specs.Layouts.{Layout, IsPlan, stages, workers, stage_at, cut_at, is_last}
 use Rattle.stage_graph.specs.Floors.{State, queue_at, hand_at, has_left, is_nil, idle_before, is_drained, opening, is_allowed, after, after_all, is_legal, standing, is_legal_from_opening, all_true, all_left, all_done}
-use Rattle.stage_graph.specs.Places.{one_at}
+use Rattle.stage_graph.specs.Counts.{one_at}
 use Rattle.stage_graph.proofs.Weights.{sum_from, of_hand, of_slot, of_flag, total, of_number}
 use Rattle.stage_graph.specs.declared.event.Event.{Event}
 use Rattle.stage_graph.specs.declared.event.Event.TheVariants.{Feed, Take, Give, Back, Leave, Halt}

@@ -6,10 +6,8 @@ use Rattle.std.proofs.lemmas.List.Elements.{All-map, All-weaker}
 use Rattle.std.proofs.lemmas.List.FromFn.{length-map-range_with_len}
 use Rattle.std.specs.List.{range_with_len}
 use Rattle.stage_graph.specs.After.{with_steps}
-use Rattle.stage_graph.specs.Layouts.{Layout, IsPlan, HasRoom, stages, capacity_at}
-use Rattle.stage_graph.specs.Loads.{IsLotSize, IsLot, AreLots}
-use Rattle.stage_graph.specs.Stopped.{IsStopped}
-use Rattle.stage_graph.specs.Through.{IsFloorInLots, AreLotsOf, IsWhole, HasGoneThrough, IsStoppedInLots}
+use Rattle.stage_graph.specs.Layouts.{Layout, IsPlan, HasRoom, stages, capacity_at, IsLotSize, IsLot, AreLots}
+use Rattle.stage_graph.specs.Through.{IsStopped, IsFloorInLots, AreLotsOf, IsWhole, HasGoneThrough, IsStoppedInLots}
 use Rattle.stage_graph.specs.declared.event.Event.{Event}
 use Rattle.stage_graph.specs.declared.unrun.Unrun.{Unrun}
 use Rattle.stage_graph.specs.declared.unrun.Unrun.TheVariants.{Memory, Stopped}

@@ -2,8 +2,8 @@
 use Rattle.std.proofs.Common.{◌≡◌, ℕ, zero, suc, ◌<◌, Bool, true, false, ◌&&◌, List, [], ◌∷◌, length, take, get_or, refl, sym, ap, ◌∙◌, arith, Some}
 use Rattle.std.proofs.lemmas.Option.{slice_get-get_or}
 use Rattle.stage_graph.specs.Layouts.{Layout}
-use Rattle.stage_graph.specs.Floors.{State, opening, after, after_all, is_allowed, is_legal, standing, is_legal_from_opening}
-use Rattle.stage_graph.specs.Verdicts.{IsFirstRefused}
+use Rattle.stage_graph.specs.Floors.{State, opening, after, after_all, is_allowed, is_legal, standing}
+use Rattle.stage_graph.specs.Floors.{is_legal_from_opening, IsFirstRefused}
 use Rattle.stage_graph.specs.declared.event.Event.{Event}
 
 illegal_at : (p : Layout) (s : State) (h : List Event) (k : ℕ) (e : Event) → k < length h → is_allowed p (after_all p s (take k h)) (get_or h k e) ≡ false → is_legal p s h ≡ false

@@ -4,7 +4,7 @@ use Rattle.std.specs.Prelude.{Result, Ok, Err, OnOk, IfErr, is_err}
 use Rattle.std.proofs.lemmas.Bool.{leb-true, eqb-false}
 use Rattle.stage_graph.specs.Layouts.{Layout, stages, stage_at}
 use Rattle.stage_graph.specs.Floors.{State, standing, feed_cause, give_cause, halt_cause}
-use Rattle.stage_graph.specs.Waiting.{HasNoRoom}
+use Rattle.stage_graph.specs.After.{HasNoRoom}
 use Rattle.stage_graph.specs.declared.event.Event.{Event}
 use Rattle.stage_graph.specs.declared.event.Event.TheVariants.{Back, Halt}
 use Rattle.stage_graph.specs.declared.event.Cause.{Cause}

@@ -7,7 +7,7 @@ use Rattle.std.proofs.lemmas.List.Sums.{sum_by-cons}
 use Rattle.std.proofs.lemmas.List.Folds.{sum_by-replicate}
 use Rattle.stage_graph.specs.Layouts.{Layout, IsPlan, stages, workers, stage_at, cut_at, is_last}
 use Rattle.stage_graph.specs.Floors.{State, queue_at, hand_at, is_at, opening, give_cause, is_allowed, after, after_all, is_legal, standing, is_legal_from_opening, most_events}
-use Rattle.stage_graph.specs.Places.{one_at}
+use Rattle.stage_graph.specs.Counts.{one_at}
 use Rattle.stage_graph.proofs.Weights.{sum_from, Weights, of_hand, of_slot, of_flag, total, of_number, numbers, to_come}
 use Rattle.stage_graph.specs.declared.event.Cause.{Cause}
 use Rattle.stage_graph.specs.declared.event.Cause.TheVariants.{NotHeld}

@@ -6,7 +6,7 @@ use Rattle.std.proofs.lemmas.Bool.Decides.{eqb_tells}
 use Rattle.std.proofs.lemmas.List.Sums.{sum_by-cons}
 use Rattle.stage_graph.specs.Layouts.{Layout, stages, stage_at}
 use Rattle.stage_graph.specs.Floors.{State}
-use Rattle.stage_graph.specs.Places.{one_at, times_in, times_in_hand, places_of}
+use Rattle.stage_graph.specs.Counts.{one_at, times_in, times_in_hand, places_of}
 
 -- the sum of f over a list, with each place
 abbrev pub sum_from : {A : Type 0} → (ℕ → A → ℕ) → ℕ → List A → ℕ

@@ -1,13 +1,15 @@
 -- The floor as a machine of numbers: its state, what each event needs and does, and legal histories.
 use Rattle.std.specs.Prelude.{ℕ, ◌+◌, ◌*◌, Bool, true, false, ◌&&◌, ◌||◌, List, [], ◌∷◌, ◌++◌, length, take, drop}
 use Rattle.std.specs.Prelude.{replicate, slice_index_or, slice_set, nat_eq, nat_lt, nat_le, if◌then◌else◌, Option, Some}
-use Rattle.std.specs.Prelude.{None, is_some, is_none}
+use Rattle.std.specs.Prelude.{None, is_some, is_none, ◌≡◌, slice_get}
 use Rattle.std.specs.List.{list_all, range_with_len}
 use Rattle.stage_graph.specs.Layouts.{Layout, stages, workers, stage_at, cut_at, capacity_at, is_last}
 use Rattle.stage_graph.specs.declared.event.Event.{Event}
 use Rattle.stage_graph.specs.declared.event.Event.TheVariants.{Feed, Take, Give, Back, Leave, Halt}
 use Rattle.stage_graph.specs.declared.event.Cause.{Cause}
 use Rattle.stage_graph.specs.declared.event.Cause.TheVariants.{Stopped, Empty, Full, Gone, Busy, NotHeld, Early}
+use Rattle.stage_graph.specs.declared.legality.Checked.{Checked}
+use Rattle.stage_graph.specs.declared.legality.Checked.TheVariants.{Legal, Illegal}
 
 -- A staged floor, by the numbers of its items.
 --
@@ -194,3 +196,18 @@ is_stop Halt = true
 abbrev pub has_stop : List Event → Bool
 has_stop [] = false
 has_stop (e ∷ es) = is_stop e || has_stop es
+
+-- Whether a history is legal, or the first place of it that is not.
+
+-- The event at place k, from 0, isn't allowed where it stands, and those before it are.
+pub record IsFirstRefused (p : Layout) (n : ℕ) (h : List Event) (k : ℕ) : Type 0 where
+  pub refused : Event
+  pub there : slice_get h k ≡ Some refused
+  pub before : is_legal_from_opening p n (take k h) ≡ true
+  pub not_allowed : is_allowed p (standing p n (take k h)) refused ≡ false
+  pub illegal : is_legal_from_opening p n h ≡ false
+
+-- the answer to whether a history is legal from the opening floor of n numbers
+abbrev pub IsVerdict : Layout → ℕ → List Event → Checked → Type 0
+IsVerdict p n h Legal = is_legal_from_opening p n h ≡ true
+IsVerdict p n h (Illegal k) = IsFirstRefused p n h k

@@ -1,7 +1,7 @@
 -- The layout of a plan: stages with their cuts, workers and capacities.
 use Rattle.std.specs.Prelude.{◌≡◌, ℕ, ◌+◌, ◌-◌, ◌<◌, ◌≤◌, Bool, List, [], ◌∷◌, length, slice_index, nat_eq, nat_lt}
 use Rattle.std.specs.Prelude.{if◌then◌else◌, true, ◌&&◌, ◌++◌, replicate, nat_le}
-use Rattle.std.specs.List.{list_all}
+use Rattle.std.specs.List.{list_all, All}
 use Rattle.std.proofs.Common.{suc}
 
 -- A plan: how many steps are done where each stage ends, the stage of each worker, and the capacity of each queue.
@@ -67,3 +67,23 @@ pub record IsPlan (p : Layout) : Type 0 where
   pub manned : (k : ℕ) → k < stages p → (w : ℕ) × (w < workers p) × (stage_at p w ≡ k)
   pub bounded : (k : ℕ) → k < stages p → cut_at p k ≤ cut_at p (stages p - 1)
   pub rising : (k : ℕ) → k < stages p → cut_before p k < cut_at p k
+
+-- Items that are to be carried through a floor, in lots.
+
+-- The items, in their order, and the plan of the floor that is to carry them.
+pub record Load (T : Type 0) : Type 0 where
+  pub plan : Layout
+  pub items : List T
+
+-- the most items in a lot: one at least, and no more than the queue of each stage has room for
+pub record IsLotSize (plan : Layout) (size : ℕ) : Type 0 where
+  pub some : 0 < size
+  pub fits : (k : ℕ) → k < stages plan → size ≤ capacity_at plan k
+
+-- a lot has an item, and at most so many
+abbrev pub IsLot : {X : Type 0} → ℕ → List X → Type 0
+IsLot size xs = (0 < length xs) × (length xs ≤ size)
+
+-- each of these lists is a lot
+abbrev pub AreLots : {L X : Type 0} → (L → List X) → ℕ → List L → Type 0
+AreLots items size lots = All (λ l. IsLot size (items l)) lots

@@ -1,14 +1,21 @@
 -- That items went through a floor of a plan, in lots.
 use Rattle.std.specs.Prelude.{◌≡◌, ℕ, ◌*◌, ◌<◌, ◌≤◌, List, length, flat_map, true}
 use Rattle.std.specs.List.{range_with_len}
-use Rattle.stage_graph.specs.Layouts.{Layout, stages, capacity_at}
-use Rattle.stage_graph.specs.Floors.{standing, is_legal_from_opening, all_left, all_done}
+use Rattle.stage_graph.specs.Layouts.{Layout, stages, capacity_at, AreLots}
+use Rattle.stage_graph.specs.Floors.{standing, is_legal_from_opening, all_left, all_done, has_stop}
 use Rattle.stage_graph.specs.Counts.{KeepsBounds, takes_of, feeds_of, gives_of}
-use Rattle.stage_graph.specs.Loads.{AreLots}
-use Rattle.stage_graph.specs.Stopped.{IsStopped}
 use Rattle.stage_graph.specs.declared.event.Event.{Event}
 use Rattle.stage_graph.specs.declared.unrun.Unrun.{Unrun}
 use Rattle.stage_graph.specs.declared.unrun.Unrun.TheVariants.{Memory, Stopped}
+
+-- What is known of a floor that was stopped.
+
+-- What is known where there is no run: of a stopped floor, that its history is legal from the opening floor, that all
+-- workers left, and that it has a back or the halt.
+abbrev pub IsStopped : Layout → ℕ → Unrun → Type 0
+IsStopped p n Memory = Unit {0}
+IsStopped p n (Stopped h) = (is_legal_from_opening p n h ≡ true) × (all_left (standing p n h) ≡ true)
+    × (has_stop h ≡ true) × KeepsBounds p n h
 
 -- The floor of a plan on which items travel in lots of at most this size: the plan's own steps, stages and workers,
 -- and in each queue room for one lot at least, and for so many that their items are no more than the plan's queue has

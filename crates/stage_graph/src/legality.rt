@@ -3,9 +3,8 @@
 ghost use Rattle.std.specs.Prelude.{◌≡◌, ℕ, ◌+◌, ◌<◌, ◌≤◌, ◌++◌, [], ◌∷◌, length, map, true, false, IfOk, OnOk};
 ghost use Rattle.std.specs.List.{range_with_len};
 ghost use Rattle.stage_graph.specs.Layouts.{stages, workers, stage_at, cut_at, cut_before};
-ghost use Rattle.stage_graph.specs.Floors.{standing, is_allowed};
+ghost use Rattle.stage_graph.specs.Floors.{standing, is_allowed, IsVerdict};
 ghost use Rattle.stage_graph.specs.After.{with_steps};
-ghost use Rattle.stage_graph.specs.Verdicts.{IsVerdict};
 
 use crate::{Chain, Event, Floor, Named, Plan, RunName};
 use stage_queue::Memory;

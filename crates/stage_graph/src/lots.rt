@@ -5,8 +5,7 @@ ghost use Rattle.std.specs.List.{range_with_len};
 ghost use Rattle.stage_graph.specs.After.{with_steps, last_cut};
 ghost use Rattle.stage_graph.specs.Lots.{step_each, inputs_in, numbers_in, lot_content, lot_value, lot_holds};
 ghost use Rattle.stage_graph.specs.Steps.{value_of};
-ghost use Rattle.stage_graph.specs.Stopped.{IsStopped};
-ghost use Rattle.stage_graph.specs.Through.{IsWhole, HasGoneThrough, IsStoppedInLots};
+ghost use Rattle.stage_graph.specs.Through.{IsStopped, IsWhole, HasGoneThrough, IsStoppedInLots};
 
 use crate::lot_gate::LotGate;
 use crate::lotted::Packed;

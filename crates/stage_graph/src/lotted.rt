@@ -1,7 +1,7 @@
 //! Items in lots, for the queues of a plan.
 
 ghost use Rattle.std.specs.Prelude.{◌≡◌, ◌<◌, ◌≤◌, ◌++◌, [], ◌∷◌, flat_map, length, IfOk, OnOk, OnErr};
-ghost use Rattle.stage_graph.specs.Loads.{IsLotSize, AreLots};
+ghost use Rattle.stage_graph.specs.Layouts.{IsLotSize, AreLots};
 
 use crate::Plan;
 use std::alloc::{AllocError, Global};
@@ -27,7 +27,7 @@ pub struct Lotted<T> {
 
 impl<T> Model for Lotted<T> {
     ghost use Rattle.std.specs.Prelude.{◌≤◌, ◌++◌, flat_map, length};
-    ghost use Rattle.stage_graph.specs.Loads.{Load, IsLotSize, AreLots};
+    ghost use Rattle.stage_graph.specs.Layouts.{Load, IsLotSize, AreLots};
 
     ghost Value = { Load T };
 

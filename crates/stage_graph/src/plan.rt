@@ -6,8 +6,7 @@ ghost use Rattle.stage_graph.specs.Floors.{idle_before};
 ghost use Rattle.stage_graph.specs.After.{last_cut};
 ghost use Rattle.stage_graph.specs.PlanFaults.{plan_fault, AnswersFault};
 ghost use Rattle.stage_graph.specs.Layouts.{layout_of, is_rising, are_within, posts_of, IsPlan, stages, workers};
-ghost use Rattle.stage_graph.specs.Layouts.{stage_at, cut_at, capacity_at};
-ghost use Rattle.stage_graph.specs.Loads.{IsLotSize};
+ghost use Rattle.stage_graph.specs.Layouts.{stage_at, cut_at, capacity_at, IsLotSize};
 ghost use Rattle.stage_graph.specs.Through.{IsFloorInLots};
 
 use stage_queue::Memory;

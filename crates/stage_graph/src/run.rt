@@ -6,8 +6,7 @@ ghost use Rattle.std.specs.List.{range_with_len};
 ghost use Rattle.stage_graph.specs.Layouts.{IsPlan, stages, workers, stage_at, cut_at, cut_before};
 ghost use Rattle.stage_graph.specs.Floors.{standing, all_left};
 ghost use Rattle.stage_graph.specs.After.{with_steps, last_cut};
-ghost use Rattle.stage_graph.specs.Stopped.{IsStopped};
-ghost use Rattle.stage_graph.specs.Through.{IsWhole};
+ghost use Rattle.stage_graph.specs.Through.{IsStopped, IsWhole};
 
 mod locked;
 pub(crate) mod pool;

@@ -4,7 +4,7 @@ use Rattle.std.specs.Prelude.{sum_by}
 use Rattle.std.specs.List.{range_with_len}
 use Rattle.std.proofs.lemmas.List.Sums.{sum_by-cons}
 use Rattle.token_bucket.specs.Reference.{accrual}
-use Rattle.token_bucket.specs.Accrual.{AccrualSplits}
+use Rattle.token_bucket.specs.After.{AccrualSplits}
 
 -- the sum over n ticks from s on
 unfoldable total : (ℕ → ℕ) → ℕ → ℕ → ℕ

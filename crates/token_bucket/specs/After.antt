@@ -1,8 +1,14 @@
 -- What a bucket keeps of the calls on it.
 use Rattle.std.specs.Prelude.{◌≡◌, ℕ, ◌+◌, ◌*◌, ◌≤◌, List, [], ◌∷◌, count_by}
-use Rattle.token_bucket.specs.Reference.{TOKEN}
+use Rattle.token_bucket.specs.Reference.{TOKEN, accrual}
 use Rattle.token_bucket.specs.Calls.{Call, Past, tick_after, rate_after, takes_token, clock, accrued, credit_of}
 use Rattle.token_bucket.specs.Standing.{Standing}
+
+-- What a bucket gains while time passes.
+
+-- the ticks from s to t and those from t to u are the ticks from s to u
+abbrev pub AccrualSplits : Type 0
+AccrualSplits = (rate : ℕ → ℕ) (s t u : ℕ) → s ≤ t → t ≤ u → accrual rate s u ≡ accrual rate s t + accrual rate t u
 
 -- the rate after the calls
 unfoldable pub last_rate : ℕ → List Call → ℕ

@@ -1,8 +1,5 @@
-pub mod Accrual
 pub mod After
 pub mod Calls
-pub mod Limits
-pub mod Ranges
 pub mod Reference
 pub mod Running
 pub mod Standing

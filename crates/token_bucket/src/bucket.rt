@@ -21,7 +21,7 @@ impl Model for Bucket {
 
     ghost Value = { Standing };
 
-    ghost use Rattle.token_bucket.specs.Ranges.{IsInRange};
+    ghost use Rattle.token_bucket.specs.Standing.{IsInRange};
 
     ghost view = { λ b. record { depth = b.depth; rate = b.rate; tick = b.tick; credit = b.credit } };
 

@@ -1,7 +1,7 @@
 //! Laws of the definitions that the contracts of a bucket cite. Each function is there for its clause alone.
 
 ghost use Rattle.token_bucket.specs.Running.{CreditRuns, StandingRuns};
-ghost use Rattle.token_bucket.specs.Accrual.{AccrualSplits};
+ghost use Rattle.token_bucket.specs.After.{AccrualSplits};
 
 /// The least balance over all calls so far can be carried from call to call: it is the credit before
 /// the last call with what that call's ticks accrue, without what it takes, up to the depth.

@@ -3,7 +3,7 @@
 ghost use Rattle.std.specs.Prelude.{◌≡◌, ℕ, ◌+◌, ◌<◌, ◌++◌, [], ◌∷◌, true, OnOk, OnErr, IfOk, IfErr};
 ghost use Rattle.stage_graph.specs.Layouts.{IsPlan, stages, workers, stage_at, cut_at, cut_before};
 ghost use Rattle.stage_graph.specs.Floors.{standing, all_left, left_on};
-ghost use Rattle.stage_graph.specs.Waiting.{HasNoRoom, IsTask};
+ghost use Rattle.stage_graph.specs.After.{HasNoRoom, IsTask};
 
 use crate::{Cause, Chain, Event, Floor, Named, RunName};
 use std::sync::ledger::{Book, Ledger, Share};

@@ -3,10 +3,8 @@
 ghost use Rattle.std.specs.Prelude.{◌≡◌, ◌+◌, ◌<◌, ◌≤◌, map, true, IfOk, IfErr, vec_len, vec_capacity};
 ghost use Rattle.std.specs.List.{range_with_len};
 ghost use Rattle.stage_graph.specs.Layouts.{workers};
-ghost use Rattle.stage_graph.specs.After.{with_steps, last_cut};
-ghost use Rattle.stage_graph.specs.Waiting.{IsTask};
-ghost use Rattle.stage_graph.specs.Stopped.{IsStopped};
-ghost use Rattle.stage_graph.specs.Through.{IsWhole};
+ghost use Rattle.stage_graph.specs.After.{with_steps, last_cut, IsTask};
+ghost use Rattle.stage_graph.specs.Through.{IsStopped, IsWhole};
 
 use super::locked::new_locked;
 use super::shared::{Picked, Shared, new_shared};

@@ -4,8 +4,7 @@ ghost use Rattle.std.specs.Prelude.{◌≡◌, ◌+◌, ◌-◌, ◌/◌, ◌<�
 ghost use Rattle.std.specs.Prelude.{vec_len};
 ghost use Rattle.stage_graph.specs.Layouts.{stages, workers, stage_at, cut_at, cut_before};
 ghost use Rattle.stage_graph.specs.Floors.{standing, all_left};
-ghost use Rattle.stage_graph.specs.After.{last_cut};
-ghost use Rattle.stage_graph.specs.Waiting.{HasNoRoom, IsTask};
+ghost use Rattle.stage_graph.specs.After.{last_cut, HasNoRoom, IsTask};
 ghost use Rattle.std.specs.Sync.Mutex.{mutex_guard_value};
 
 use super::locked::{Locked, Passed};

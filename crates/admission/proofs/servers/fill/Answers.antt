@@ -1,6 +1,6 @@
 use Rattle.std.proofs.Common.{◌≡◌, ℕ, ◌<◌, false, true, List, ◌∷◌, ◌∙◌, ap, arith}
 use Rattle.std.specs.BinaryHeap.{heap_items, heap_len, heap_capacity}
-use Rattle.admission.specs.Others.{ticks_of}
+use Rattle.admission.specs.Servers.{ticks_of}
 use Rattle.admission.proofs.HeapLemmas.{ticks-permutation, zero_first, zero_more}
 use Rattle.admission.proofs.servers.fill.Goals as goal
 

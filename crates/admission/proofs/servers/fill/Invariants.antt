@@ -1,7 +1,7 @@
 use Rattle.std.proofs.Common.{◌≡◌, ◌+◌, ◌≤◌, ◌∷◌, replicate}
 use Rattle.std.specs.BinaryHeap.{heap_items, heap_len, heap_capacity}
 use Rattle.admission.specs.Reference.{sorted}
-use Rattle.admission.specs.Others.{ticks_of, IsOrdered}
+use Rattle.admission.specs.Servers.{ticks_of, IsOrdered}
 use Rattle.admission.proofs.servers.fill.Given as goal
 
 abbrev pub invariant-loop : goal.invariant-loop

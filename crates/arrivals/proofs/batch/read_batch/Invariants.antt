@@ -4,7 +4,7 @@ use Rattle.captures.specs.Readers.{ReaderAfter}
 use Rattle.captures.specs.declared.record.Record.{Record}
 use Rattle.captures.specs.declared.progress.ReaderState.TheVariants.{Reading}
 use Rattle.arrivals.specs.Batches.{origins_after}
-use Rattle.arrivals.specs.Tiers.{AreTiers}
+use Rattle.arrivals.specs.Connections.{AreTiers}
 use Rattle.captures.specs.Reference.{max_piece_bytes}
 use Rattle.captures.specs.Captures.{sizes_of}
 use Rattle.arrivals.specs.Gathering.{Adds, piece_count, enough_bytes}

@@ -1,7 +1,7 @@
 use Rattle.std.proofs.Common.{◌≡◌, ◌<◌, List, ◌++◌, length}
 use Rattle.arrivals.specs.Batches.{ReadsOn}
 use Rattle.arrivals.specs.SeatStates.{CanRead}
-use Rattle.arrivals.specs.declared.waiting.Waiting.{Waiting}
+use Rattle.arrivals.specs.declared.seat.Waiting.{Waiting}
 use Rattle.arrivals.proofs.seat.cut_waiting.Given as goal
 
 abbrev pub invariant-loop-next : goal.invariant-loop-next

@@ -1,5 +1,5 @@
 use Rattle.devices.proofs.Appending.{writes_then, prefix_first}
-use Rattle.captures.specs.Writing.{line_of, rest_of}
+use Rattle.captures.specs.Captures.{line_of, rest_of}
 use Rattle.captures.proofs.WritingLemmas.{line_then}
 use Rattle.captures.proofs.record_writer.write_record.Goals as goal
 

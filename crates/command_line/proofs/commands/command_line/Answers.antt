@@ -1,25 +1,15 @@
-use Rattle.std.proofs.Common.{◌≡◌, ◌∙◌, codes, ap, ap₂}
 use Rattle.std.proofs.lemmas.Result.{IfOk-weaker}
-use Rattle.clap.specs.Words.{App, app_of, new_app, with_subcommand}
-use Rattle.command_line.specs.CommandLine.{command_line, program_of, slim_command, upgrade_command}
+use Rattle.command_line.specs.CommandLine.{command_line}
+use Rattle.command_line.proofs.Clap.{with_one_more}
 use Rattle.command_line.proofs.commands.command_line.Goals as goal
 
 pub returns : goal.returns
-unfolding command_line upgrade_command slim_command
+unfolding command_line
 returns c =
-    let start : app_of c.after_help.result ≡ program_of (new_app (codes "haboob")) =
-    rw (c.after_help.ensures, c.about.ensures, c.version.ensures, c.subcommand_required.ensures, c.no_binary_name.ensures, c.in_ok-bin_name.ensures.0) (ap program_of c.new.ensures.app) in
-    let one = c.in_ok-subcommand.ensures.shape c.in_ok-replay.ensures.local
-    ∙ ap₂ with_subcommand start (ap (λ (a : App). a.top) c.in_ok-replay.ensures.app) in
-    let two = c.in_ok-subcommand-2.ensures.shape c.in_ok-upgrade.ensures.local
-    ∙ ap₂ with_subcommand one (ap (λ (a : App). a.top) c.in_ok-upgrade.ensures.app) in
-    let three = c.in_ok-subcommand-3.ensures.shape c.in_ok-slim.ensures.local
-    ∙ ap₂ with_subcommand two (ap (λ (a : App). a.top) c.in_ok-slim.ensures.app) in
-    let four = c.in_ok-subcommand-4.ensures.shape c.in_ok-snapshot.ensures.local
-    ∙ ap₂ with_subcommand three (ap (λ (a : App). a.top) c.in_ok-snapshot.ensures.app) in
-    let five = c.in_ok-subcommand-5.ensures.shape c.in_ok-inspect.ensures.local
-    ∙ ap₂ with_subcommand four (ap (λ (a : App). a.top) c.in_ok-inspect.ensures.app) in
-    let six = c.in_ok-subcommand-6.ensures.shape c.in_ok-explain.ensures.local
-    ∙ ap₂ with_subcommand five (ap (λ (a : App). a.top) c.in_ok-explain.ensures.app) in
-    IfOk-weaker c.subcommand-7.result _ _ (λ whole adds. adds.shape c.in_ok-settings.ensures.local
-    ∙ ap₂ with_subcommand six (ap (λ (a : App). a.top) c.in_ok-settings.ensures.app)) c.subcommand-7.ensures
+    let one = with_one_more c.in_ok-command.command c.in_ok-command-2.command c.replay_command.result _ _ c.in_ok-command.ensures c.replay_command.ensures.app c.replay_command.ensures.local c.in_ok-command-2.ensures in
+    let two = with_one_more c.in_ok-command-2.command c.in_ok-command-3.command c.upgrade_command.result _ _ one c.upgrade_command.ensures.app c.upgrade_command.ensures.local c.in_ok-command-3.ensures in
+    let three = with_one_more c.in_ok-command-3.command c.in_ok-command-4.command c.slim_command.result _ _ two c.slim_command.ensures.app c.slim_command.ensures.local c.in_ok-command-4.ensures in
+    let four = with_one_more c.in_ok-command-4.command c.in_ok-command-5.command c.snapshot_command.result _ _ three c.snapshot_command.ensures.app c.snapshot_command.ensures.local c.in_ok-command-5.ensures in
+    let five = with_one_more c.in_ok-command-5.command c.in_ok-command-6.command c.inspect_command.result _ _ four c.inspect_command.ensures.app c.inspect_command.ensures.local c.in_ok-command-6.ensures in
+    let six = with_one_more c.in_ok-command-6.command c.in_ok-command-7.command c.explain_command.result _ _ five c.explain_command.ensures.app c.explain_command.ensures.local c.in_ok-command-7.ensures in
+    IfOk-weaker c.with_subcommand-7.result _ _ (λ whole adds. with_one_more c.in_ok-command-7.command whole c.settings_command.result _ _ six c.settings_command.ensures.app c.settings_command.ensures.local adds) c.with_subcommand-7.ensures

@@ -1,36 +1,26 @@
-use Rattle.std.proofs.Common.{◌≡◌, codes, true, false, ap, ◌∷◌, []}
+use Rattle.std.proofs.Common.{codes}
 use Rattle.std.proofs.lemmas.Result.{IfOk-weaker}
-use Rattle.clap.specs.Words.{Rule, app_of, new_app, rule_of}
-use Rattle.clap.specs.declared.builder.Command.TheViews.{out-Command}
-use Rattle.command_line.specs.CommandLine.{option_of, required_of, replay_command}
-use Rattle.command_line.proofs.Clap.{added, still_local}
+use Rattle.clap.specs.Words.{AddsArg, new_app}
+use Rattle.clap.specs.declared.builder.Command.{Command}
+use Rattle.command_line.specs.CommandLine.{replay_command}
+use Rattle.command_line.proofs.Clap.{HasRules, added}
 use Rattle.command_line.proofs.commands.replay_command.Goals as goal
 
-pub returns-clause-app : goal.returns-clause-app
+pub returns : goal.returns
 unfolding replay_command
-returns-clause-app c =
-    let snapshot : rule_of c.required-snapshot.result ≡ required_of (codes "snapshot") =
-    rw c.required-snapshot.ensures (ap (λ (r : Rule). record r { required = true }) c.file_option.ensures.rule) in
-    let capture : rule_of c.required-capture.result ≡ required_of (codes "capture") =
-    rw c.required-capture.ensures (ap (λ (r : Rule). record r { required = true }) c.file_option-2.ensures.rule) in
-    let replies : rule_of c.required-replies.result ≡ required_of (codes "replies") =
-    rw c.required-replies.ensures (ap (λ (r : Rule). record r { required = true }) c.file_option-3.ensures.rule) in
-    let engine : rule_of c.default_value-engine.result ≡ record (option_of (codes "engine")) { defaults = codes "staged" ∷ [] } =
-    rw (c.default_value-engine.ensures, c.help.ensures) (ap (λ (r : Rule). record r { defaults = codes "staged" ∷ [] }) c.option.ensures.rule) in
-    let start : app_of c.after_help.result ≡ new_app (codes "replay") = rw (c.after_help.ensures, c.about.ensures) c.new.ensures.app in
-    let one = added c.after_help.result c.in_ok-arg.field-0 c.required-snapshot.result _ _ c.in_ok-arg.ensures (rw c.required-snapshot.ensures c.file_option.ensures.local) start snapshot in
-    let two = added c.in_ok-arg.field-0 c.in_ok-arg-2.field-0 c.required-capture.result _ _ c.in_ok-arg-2.ensures (rw c.required-capture.ensures c.file_option-2.ensures.local) one capture in
-    let three = added c.in_ok-arg-2.field-0 c.in_ok-arg-3.field-0 c.required-replies.result _ _ c.in_ok-arg-3.ensures (rw c.required-replies.ensures c.file_option-3.ensures.local) two replies in
-    let four = added c.in_ok-arg-3.field-0 c.in_ok-arg-4.field-0 c.file_option-settings.result _ _ c.in_ok-arg-4.ensures c.file_option-settings.ensures.local three c.file_option-settings.ensures.rule in
-    let five = added c.in_ok-arg-4.field-0 c.in_ok-arg-5.field-0 c.default_value-engine.result _ _ c.in_ok-arg-5.ensures (rw (c.default_value-engine.ensures, c.help.ensures) c.option.ensures.local) four engine in
-    IfOk-weaker c.arg-6.result _ _ (λ whole adds. added c.in_ok-arg-5.field-0 whole c.speed_option-speed.result _ _ adds c.speed_option-speed.ensures.local five c.speed_option-speed.ensures.rule) c.arg-6.ensures
-
-pub returns-clause-local : goal.returns-clause-local
-returns-clause-local c =
-    let start : (out-Command c.after_help.result).has_globals ≡ false = rw (c.after_help.ensures, c.about.ensures) c.new.ensures.local in
-    let one = still_local c.after_help.result c.in_ok-arg.field-0 c.required-snapshot.result c.in_ok-arg.ensures (rw c.required-snapshot.ensures c.file_option.ensures.local) start in
-    let two = still_local c.in_ok-arg.field-0 c.in_ok-arg-2.field-0 c.required-capture.result c.in_ok-arg-2.ensures (rw c.required-capture.ensures c.file_option-2.ensures.local) one in
-    let three = still_local c.in_ok-arg-2.field-0 c.in_ok-arg-3.field-0 c.required-replies.result c.in_ok-arg-3.ensures (rw c.required-replies.ensures c.file_option-3.ensures.local) two in
-    let four = still_local c.in_ok-arg-3.field-0 c.in_ok-arg-4.field-0 c.file_option-settings.result c.in_ok-arg-4.ensures c.file_option-settings.ensures.local three in
-    let five = still_local c.in_ok-arg-4.field-0 c.in_ok-arg-5.field-0 c.default_value-engine.result c.in_ok-arg-5.ensures (rw (c.default_value-engine.ensures, c.help.ensures) c.option.ensures.local) four in
-    IfOk-weaker c.arg-6.result _ _ (λ whole adds. still_local c.in_ok-arg-5.field-0 whole c.speed_option-speed.result adds c.speed_option-speed.ensures.local five) c.arg-6.ensures
+returns c =
+    let start : HasRules c.after_help.result (new_app (codes "replay")) = record {
+      app_is = rw (c.after_help.ensures, c.about.ensures) c.new.ensures.app;
+      local = rw (c.after_help.ensures, c.about.ensures) c.new.ensures.local;
+    } in
+    let one = added c.after_help.result c.in_ok-arg.field-0 c.required_file.result _ _ start c.in_ok-arg.ensures c.required_file.ensures.rule c.required_file.ensures.local in
+    let two = added c.in_ok-arg.field-0 c.in_ok-arg-2.field-0 c.required_file-2.result _ _ one c.in_ok-arg-2.ensures c.required_file-2.ensures.rule c.required_file-2.ensures.local in
+    let three = added c.in_ok-arg-2.field-0 c.in_ok-arg-3.field-0 c.required_file-3.result _ _ two c.in_ok-arg-3.ensures c.required_file-3.ensures.rule c.required_file-3.ensures.local in
+    let four = added c.in_ok-arg-3.field-0 c.in_ok-arg-4.field-0 c.settings_option.result _ _ three c.in_ok-arg-4.ensures c.settings_option.ensures.rule c.settings_option.ensures.local in
+    let five = added c.in_ok-arg-4.field-0 c.in_ok-arg-5.field-0 c.engine_option.result _ _ four c.in_ok-arg-5.ensures c.engine_option.ensures.rule c.engine_option.ensures.local in
+    let whole : (command : Command) → AddsArg c.in_ok-arg-5.field-0 c.speed_option.result command → HasRules command replay_command =
+    λ command adds. added c.in_ok-arg-5.field-0 command c.speed_option.result _ _ five adds c.speed_option.ensures.rule c.speed_option.ensures.local in
+    record {
+      app = IfOk-weaker c.arg-6.result _ _ (λ command adds. (whole command adds).app_is) c.arg-6.ensures;
+      local = IfOk-weaker c.arg-6.result _ _ (λ command adds. (whole command adds).local) c.arg-6.ensures;
+    }

@@ -1,26 +1,23 @@
-use Rattle.std.proofs.Common.{◌≡◌, codes, true, false, ap}
+use Rattle.std.proofs.Common.{codes}
 use Rattle.std.proofs.lemmas.Result.{IfOk-weaker}
-use Rattle.clap.specs.Words.{Rule, app_of, new_app, rule_of}
-use Rattle.clap.specs.declared.builder.Command.TheViews.{out-Command}
-use Rattle.command_line.specs.CommandLine.{required_of, snapshot_command}
-use Rattle.command_line.proofs.Clap.{added, still_local}
+use Rattle.clap.specs.Words.{AddsArg, new_app}
+use Rattle.clap.specs.declared.builder.Command.{Command}
+use Rattle.command_line.specs.CommandLine.{snapshot_command}
+use Rattle.command_line.proofs.Clap.{HasRules, added}
 use Rattle.command_line.proofs.commands.snapshot_command.Goals as goal
 
-pub returns-clause-app : goal.returns-clause-app
+pub returns : goal.returns
 unfolding snapshot_command
-returns-clause-app c =
-    let folder : rule_of c.required-folder.result ≡ required_of (codes "folder") =
-    rw (c.required-folder.ensures, c.help.ensures) (ap (λ (r : Rule). record r { required = true }) c.option.ensures.rule) in
-    let output : rule_of c.required-output.result ≡ required_of (codes "output") =
-    rw c.required-output.ensures (ap (λ (r : Rule). record r { required = true }) c.file_option.ensures.rule) in
-    let start : app_of c.after_help.result ≡ new_app (codes "snapshot") = rw (c.after_help.ensures, c.about.ensures) c.new.ensures.app in
-    let one = added c.after_help.result c.in_ok-arg.field-0 c.required-folder.result _ _ c.in_ok-arg.ensures (rw (c.required-folder.ensures, c.help.ensures) c.option.ensures.local) start folder in
-    let two = added c.in_ok-arg.field-0 c.in_ok-arg-2.field-0 c.required-output.result _ _ c.in_ok-arg-2.ensures (rw c.required-output.ensures c.file_option.ensures.local) one output in
-    IfOk-weaker c.arg-3.result _ _ (λ whole adds. added c.in_ok-arg-2.field-0 whole c.flag-skip.result _ _ adds c.flag-skip.ensures.local two c.flag-skip.ensures.rule) c.arg-3.ensures
-
-pub returns-clause-local : goal.returns-clause-local
-returns-clause-local c =
-    let start : (out-Command c.after_help.result).has_globals ≡ false = rw (c.after_help.ensures, c.about.ensures) c.new.ensures.local in
-    let one = still_local c.after_help.result c.in_ok-arg.field-0 c.required-folder.result c.in_ok-arg.ensures (rw (c.required-folder.ensures, c.help.ensures) c.option.ensures.local) start in
-    let two = still_local c.in_ok-arg.field-0 c.in_ok-arg-2.field-0 c.required-output.result c.in_ok-arg-2.ensures (rw c.required-output.ensures c.file_option.ensures.local) one in
-    IfOk-weaker c.arg-3.result _ _ (λ whole adds. still_local c.in_ok-arg-2.field-0 whole c.flag-skip.result adds c.flag-skip.ensures.local two) c.arg-3.ensures
+returns c =
+    let start : HasRules c.after_help.result (new_app (codes "snapshot")) = record {
+      app_is = rw (c.after_help.ensures, c.about.ensures) c.new.ensures.app;
+      local = rw (c.after_help.ensures, c.about.ensures) c.new.ensures.local;
+    } in
+    let one = added c.after_help.result c.in_ok-arg.field-0 c.folder_option.result _ _ start c.in_ok-arg.ensures c.folder_option.ensures.rule c.folder_option.ensures.local in
+    let two = added c.in_ok-arg.field-0 c.in_ok-arg-2.field-0 c.required_file.result _ _ one c.in_ok-arg-2.ensures c.required_file.ensures.rule c.required_file.ensures.local in
+    let whole : (command : Command) → AddsArg c.in_ok-arg-2.field-0 c.flag.result command → HasRules command snapshot_command =
+    λ command adds. added c.in_ok-arg-2.field-0 command c.flag.result _ _ two adds c.flag.ensures.rule c.flag.ensures.local in
+    record {
+      app = IfOk-weaker c.arg-3.result _ _ (λ command adds. (whole command adds).app_is) c.arg-3.ensures;
+      local = IfOk-weaker c.arg-3.result _ _ (λ command adds. (whole command adds).local) c.arg-3.ensures;
+    }

@@ -7,7 +7,7 @@ use Rattle.std.specs.Io.KnownBytes.{Appends}
 use Rattle.reference.specs.Reference.{terms_of}
 use Rattle.arrivals.specs.Reference.{Arrival}
 use Rattle.replay.specs.Serving.{Serves}
-use Rattle.arrivals.specs.Tiers.{AreTiers}
+use Rattle.arrivals.specs.Connections.{AreTiers}
 use Rattle.replay.proofs.plain.replay_writing.Given as goal
 
 -- some records were read, and the messages that arrived with them are answered

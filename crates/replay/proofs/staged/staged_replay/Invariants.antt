@@ -7,7 +7,7 @@ use Rattle.captures.specs.declared.record.Record.{Record}
 use Rattle.reference.specs.Reference.{terms_of, handled, replies_of, text_before_stop}
 use Rattle.arrivals.specs.Reference.{Arrival}
 use Rattle.replay.specs.Serving.{Serves}
-use Rattle.arrivals.specs.Tiers.{AreTiers}
+use Rattle.arrivals.specs.Connections.{AreTiers}
 use Rattle.replay.specs.Waiting.{Waiting, connections_of}
 use Rattle.replay.proofs.staged.staged_replay.Given as goal
 

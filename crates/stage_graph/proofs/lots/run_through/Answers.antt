@@ -2,7 +2,7 @@ use Rattle.std.proofs.Common.{ℕ, ap, sym, ◌∙◌, length, map}
 use Rattle.std.specs.List.{range_with_len}
 use Rattle.std.proofs.lemmas.List.{length-map}
 use Rattle.std.proofs.lemmas.Result.{IfOk-weaker, IfErr-weaker}
-use Rattle.stage_graph.specs.Loads.{IsLotSize}
+use Rattle.stage_graph.specs.Layouts.{IsLotSize}
 use Rattle.stage_graph.specs.Steps.{value_of}
 use Rattle.stage_graph.specs.Through.{IsFloorInLots}
 use Rattle.stage_graph.proofs.Lotting.{fresh_lots, lots_of, each_a_lot, length-each, plain_floor, gone_through, stopped_in_lots, flat_map-mapped}

@@ -1,6 +1,6 @@
 use Rattle.std.proofs.Common.{◌≡◌, arith}
 use Rattle.std.specs.BinaryHeap.{heap_items}
-use Rattle.admission.specs.Others.{ticks_of}
+use Rattle.admission.specs.Servers.{ticks_of}
 use Rattle.admission.proofs.HeapLemmas.{from-zero, zero_first}
 use Rattle.admission.proofs.servers.Servers.new.Goals as goal
 use Rattle.admission.proofs.servers.Servers.new.Goals.{then-servers-gt1+in_ok-fill, else-servers-gt1}

@@ -1,7 +1,7 @@
 use Rattle.std.proofs.Common.{◌≡◌, length, rules}
 use Rattle.std.specs.BinaryHeap.{heap_items, heap_len}
 use Rattle.admission.specs.Reference.{sorted}
-use Rattle.admission.specs.Others.{ticks_of}
+use Rattle.admission.specs.Servers.{ticks_of}
 use Rattle.admission.proofs.HeapLemmas.{from-none, first_exchanged, alone_exchanged, none_of}
 use Rattle.admission.proofs.servers.Servers.take.Goals as goal
 

@@ -1,7 +1,7 @@
 use Rattle.std.proofs.Common.{refl, ◌∙◌, ap}
 use Rattle.std.specs.Prelude.{unwrap_or}
 use Rattle.admission.specs.Reference.{percentile}
-use Rattle.admission.specs.Window.{Window}
+use Rattle.admission.specs.Standing.{Window}
 use Rattle.admission.proofs.SoundLemmas.{sound_admitted}
 use Rattle.admission.proofs.tier.Tier.admit.Goals as goal
 

@@ -1,7 +1,7 @@
 use Rattle.std.proofs.Common.{◌≡◌, ◌∙◌, ◌<◌, length, arith}
 use Rattle.std.proofs.lemmas.List.{length_push, get_or_default}
 use Rattle.arrivals.specs.SeatStates.{seat_at, empty_seat}
-use Rattle.arrivals.specs.declared.waiting.Waiting.{Waiting}
+use Rattle.arrivals.specs.declared.seat.Waiting.{Waiting}
 use Rattle.arrivals.proofs.PickedSeats.{noted_longer, noted_piece}
 use Rattle.arrivals.proofs.seats.Seats.take.Goals as goal
 

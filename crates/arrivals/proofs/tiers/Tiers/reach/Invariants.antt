@@ -1,5 +1,5 @@
 use Rattle.std.proofs.Common.{◌≡◌, ◌+◌, ◌-◌, ◌<◌, ◌≤◌, ℕ, length, max, All}
-use Rattle.arrivals.specs.Tiers.{tier_at}
+use Rattle.arrivals.specs.Connections.{tier_at}
 use Rattle.arrivals.proofs.tiers.Tiers.reach.Given as goal
 
 abbrev pub invariant-loop-self : goal.invariant-loop-self

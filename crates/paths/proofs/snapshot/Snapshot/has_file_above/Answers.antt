@@ -1,6 +1,6 @@
 use Rattle.std.proofs.Common.{◌≡◌, ℕ, take, inl, inr, sym, subst, arith}
 use Rattle.std.proofs.lemmas.Bool.{cases_lt}
-use Rattle.paths.specs.Above.{HasNoFile}
+use Rattle.paths.specs.Snapshots.{HasNoFile}
 use Rattle.paths.proofs.Names.{above_found, above_none, no_file_at}
 use Rattle.paths.proofs.snapshot.Snapshot.has_file_above.Goals as goal
 

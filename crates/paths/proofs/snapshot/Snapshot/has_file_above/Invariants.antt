@@ -1,4 +1,4 @@
-use Rattle.paths.specs.Above.{HasNoFileAbove}
+use Rattle.paths.specs.Snapshots.{HasNoFileAbove}
 use Rattle.paths.proofs.snapshot.Snapshot.has_file_above.Given as goal
 
 abbrev pub invariant-loop-at : goal.invariant-loop-at

@@ -1,6 +1,6 @@
 use Rattle.std.proofs.Common.{◌<◌, length, sym}
 use Rattle.std.proofs.lemmas.List.Elements.{All-push}
-use Rattle.stage_graph.specs.Loads.{IsLot}
+use Rattle.stage_graph.specs.Layouts.{IsLot}
 use Rattle.stage_graph.proofs.Lotting.{some_left}
 use Rattle.stage_graph.proofs.lotted.Lotted.into_lots.Goals as goal
 

@@ -2,8 +2,7 @@ use Rattle.std.proofs.Common.{◌≡◌, ℕ, ◌+◌, ◌<◌, List, ◌∷◌,
 use Rattle.std.proofs.lemmas.Bool.{cases_lt}
 use Rattle.std.proofs.lemmas.List.{get_or_append_left}
 use Rattle.std.proofs.Math.Seq.{get_or-append_seam}
-use Rattle.stage_graph.specs.Layouts.{Layout}
-use Rattle.stage_graph.specs.Loads.{IsLotSize}
+use Rattle.stage_graph.specs.Layouts.{Layout, IsLotSize}
 use Rattle.stage_graph.proofs.Lotting.{FitIn, lot_fits, laid_in_lots}
 use Rattle.stage_graph.proofs.plan.Plan.in_lots.Goals as goal
 

@@ -1,0 +1,98 @@
+//! What a message is answered with, by its outcome.
+
+ghost use Rattle.std.specs.Prelude.{◌≡◌, ◌<◌, ◌≤◌, ◌-◌, ◌+◌, ◌^◌, true, length, ◌&&◌};
+ghost use Rattle.paths.specs.Reference.{file_of};
+ghost use Rattle.reference.specs.Reference.{fault_status, outcome_answer, persistence_of};
+ghost use Rattle.replay.specs.Backs.{given_by, only_head, has_location, is_due};
+ghost use Rattle.paths.specs.Resolution.{IsOutcome};
+ghost use Rattle.page_cache.specs.Reference.{media_of};
+
+use crate::lookup::is_unmodified;
+use crate::pending::Due;
+use http_requests::{HttpVersion, Meaning, MessageFault};
+use page_cache::MediaType;
+use paths::{Outcome, Snapshot, Tree};
+use responses::{Given, Persistence, Status};
+
+/// The status of a message that breaks a rule.
+pub(crate) fn fault_status(fault: MessageFault) -> Status
+    ensures { result ≡ fault_status fault }
+{
+    match fault {
+        MessageFault::Coding => Status::NotImplemented,
+        MessageFault::BodySize => Status::ContentTooLarge,
+        MessageFault::TooLong | MessageFault::Block | MessageFault::Host | MessageFault::Length =>
+            Status::BadRequest,
+    }
+}
+
+/// What HEAD is answered for a file that was last changed at `mtime`, in seconds since 1970-01-01.
+pub(crate) fn known_file<F: Tree>(snapshot: &Snapshot, file: usize, mtime: u64) -> Given<F>
+    requires { file < length snapshot.now }
+    ensures { result ≡ Given.Known (media_of (file_of snapshot.now file).name)
+        (length (file_of snapshot.now file).bytes) mtime }
+{
+    Given::Known {
+        media: MediaType::of_name(snapshot.name(file)),
+        len: snapshot.bytes(file).len() as u64,
+        mtime,
+    }
+}
+
+/// What a file is answered with.
+fn file_answer<F: Tree>(snapshot: &Snapshot, head: bool, since: Option<u64>, file: usize) -> Due<F>
+    requires snapshot { snapshot.now ≡ F.files }
+    requires file { file < length snapshot.now }
+    ensures given_by { given_by result ≡ outcome_answer F.files head since (Outcome.File file) }
+    ensures due { is_due F.files result ≡ true }
+    ensures can { (only_head head (given_by result) && has_location (given_by result)) ≡ true }
+{
+    let mtime = snapshot.mtime(file);
+    if is_unmodified(since, mtime) {
+        return Due::Ready(Given::Unmodified { mtime });
+    }
+    if head {
+        return Due::Ready(known_file(snapshot, file, mtime));
+    }
+    Due::Page { file, mtime }
+}
+
+/// What an outcome is answered with.
+pub(crate) fn outcome_answer<F: Tree>(
+    snapshot: &Snapshot,
+    head: bool,
+    since: Option<u64>,
+    outcome: Outcome,
+) -> Due<F>
+    requires snapshot { snapshot.now ≡ F.files }
+    requires is { IsOutcome F.files outcome }
+    ensures given_by { given_by result ≡ outcome_answer F.files head since outcome }
+    ensures due { is_due F.files result ≡ true }
+    ensures can { (only_head head (given_by result) && has_location (given_by result)) ≡ true }
+{
+    let status = match outcome {
+        Outcome::File(file) => return file_answer(snapshot, head, since, file),
+        Outcome::Move(location) => return Due::Ready(Given::Moved { location }),
+        Outcome::Missing => Status::NotFound,
+        Outcome::BadTarget => Status::BadRequest,
+        Outcome::NotAllowed => Status::MethodNotAllowed,
+        Outcome::NotKnown => Status::NotImplemented,
+    };
+    Due::Ready(Given::Plain { status })
+}
+
+/// What the reply says of its connection.
+pub(crate) fn persistence_of(what: &Meaning) -> Persistence
+    ensures { result ≡ persistence_of what.now }
+{
+    if what.closes() {
+        return Persistence::Close;
+    }
+    match what {
+        Meaning::Request {
+            version: HttpVersion::Http10,
+            ..
+        } => Persistence::KeepAlive,
+        _ => Persistence::Silent,
+    }
+}
