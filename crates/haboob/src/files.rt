@@ -1,18 +1,18 @@
 //! Each job with the files that its arguments name.
 
 use crate::folder::{FileFolder, list_folder, open_root};
+use crate::opening::{Names, check_standard, open, open_both, open_files};
 use crate::overwritten::{Node, Overwritten};
 use captures::Version;
 use command_line::WordFault;
 use devices::Output;
 use program::{
-    Devices, Fault, Place, Sink, Wanted, buffered_input, bundle_into, inspect_into, replay_into,
+    Devices, Fault, Place, Sink, buffered_input, bundle_into, inspect_into, replay_into,
     run_snapshot, settings_into, slim_into, upgrade_into, words_line, write_skipped,
 };
 use reference::Settings;
 use settings::{MAX_SETTINGS_BYTES, default_settings, read_settings};
 use slim::Queries;
-use std::fs::File;
 use std::io::{ErrorKind, Read};
 use std::sync::Wait;
 use std::thread::Threads;
@@ -22,14 +22,6 @@ const MAX_SETTINGS_READ: u64 = MAX_SETTINGS_BYTES as u64 + 1;
 
 /// Where the system shows what standard input is open on.
 const STANDARD_INPUT: &str = "/proc/self/fd/0";
-
-/// A file that is there, to be read.
-fn open(rt: &HostRuntime, name: &str, place: Place) -> Result<File, Fault> {
-    match File::open(rt, name) {
-        Ok(file) => Ok(file),
-        Err(_) => Err(Fault::Open(place)),
-    }
-}
 
 /// The bytes of a settings file, and which file it is.
 fn document_in(rt: &HostRuntime, name: &str) -> Result<(Vec<u8>, Node), Fault> {
@@ -59,18 +51,6 @@ fn at_speed(settings: Settings, percent: u64) -> Result<Settings, Fault> {
         Ok(settings.with_speed(percent))
     } else {
         Err(Fault::Words(WordFault::Speed))
-    }
-}
-
-/// Refuses a standard output that is one of the inputs, before anything is written.
-fn check_standard(
-    standard: Option<Node>,
-    inputs: &[Option<Node>],
-    place: Place,
-) -> Result<(), Fault> {
-    match standard {
-        Some(node) if node.is_kept_in(inputs) => Err(Fault::Open(place)),
-        _ => Ok(()),
     }
 }
 
@@ -118,17 +98,6 @@ pub(crate) fn inspect_named(
     check_standard(standard, &[Some(node)], Place::Report)?;
     let input = buffered_input(rt.alloc(), capture)?;
     inspect_into(rt.alloc(), input, Sink::new(rt.stdout())).0
-}
-
-/// A capture file, and another that is to hold a text of it.
-fn open_both(rt: &HostRuntime, capture: &str, output: &str) -> Result<(File, Overwritten), Fault> {
-    let capture = open(rt, capture, Place::Capture)?;
-    let inputs = [Some(Node::of(&capture, Place::Capture)?)];
-    let mut output = Overwritten::open(rt, output, Place::Output, &inputs)?;
-    if output.empty().is_err() {
-        return Err(Fault::Open(Place::Output));
-    }
-    Ok((capture, output))
 }
 
 /// Writes the upgraded text of a capture file to another.
@@ -186,23 +155,8 @@ pub(crate) fn snapshot_named(
     Ok(())
 }
 
-/// The names of a replay's files, and what is wanted of its messages.
-#[derive(Drop)]
-pub(crate) struct Names<'a> {
-    pub snapshot: &'a str,
-    pub capture: &'a str,
-    pub settings: Option<&'a str>,
-    /// In percent of that at which the traffic was recorded.
-    pub speed: u64,
-    pub wanted: Wanted,
-    /// The file that what is wanted goes into.
-    pub written: &'a str,
-    pub place: Place,
-}
-
-/// Replays one file against another, with the report on standard output. The files are opened in the order settings,
-/// snapshot, capture, output; the settings are read before the snapshot is opened. `threads` is the runtime once more,
-/// for the engine that starts threads.
+/// Replays one file against another, with the report on standard output. The settings are read before any other file is
+/// opened. `threads` is the runtime once more, for the engine that starts threads.
 pub(crate) fn replay_named<T: Threads + Wait + Sync>(
     rt: &HostRuntime,
     threads: &T,
@@ -211,19 +165,12 @@ pub(crate) fn replay_named<T: Threads + Wait + Sync>(
 ) -> Result<(), Fault> {
     let (settings, node) = settings_in(rt, names.settings)?;
     let settings = at_speed(settings, names.speed)?;
-    let snapshot = open(rt, names.snapshot, Place::Snapshot)?;
-    let capture = open(rt, names.capture, Place::Capture)?;
-    let first = Some(Node::of(&snapshot, Place::Snapshot)?);
-    let second = Some(Node::of(&capture, Place::Capture)?);
-    check_standard(standard, &[first, second, node], Place::Report)?;
-    let others = [first, second, node, standard];
-    let written = Overwritten::open(rt, names.written, names.place, &others)?;
-    let alloc = rt.alloc();
+    let opened = open_files(rt, standard, node, names)?;
     let devices = Devices {
-        snapshot: buffered_input(alloc, snapshot)?,
-        capture: buffered_input(alloc, capture)?,
-        written: Sink::new(written),
+        snapshot: opened.snapshot,
+        capture: opened.capture,
+        written: Sink::new(opened.written),
         report: Sink::new(rt.stdout()),
     };
-    replay_into(threads, alloc, &settings, names.wanted, devices).0
+    replay_into(threads, rt.alloc(), &settings, names.wanted, devices).0
 }

@@ -11,15 +11,16 @@
 mod files;
 mod folder;
 mod open_folder;
+mod opening;
 mod overwritten;
 
 use captures::Version;
 use command_line::{Job, Target, WordFault, read_words};
 use devices::Output;
 use files::{
-    Names, bundle, inspect_named, replay_named, settings_named, slim_named, snapshot_named,
-    upgrade_named,
+    bundle, inspect_named, replay_named, settings_named, slim_named, snapshot_named, upgrade_named,
 };
+use opening::Names;
 use overwritten::Node;
 use program::{Fault, Place, Wanted, shown_name};
 use std::alloc::{AllocError, Global};
