@@ -1,5 +1,8 @@
 //! The files that a job names, opened.
 
+ghost use Rattle.std.specs.Prelude.{◌≡◌, ◌<◌, ◌-◌, ◌^◌, IfOk};
+ghost use Rattle.devices.specs.Devices.{CanFail};
+
 use crate::overwritten::{Node, Overwritten};
 use devices::Input;
 use program::{Fault, Place, Wanted, buffered_input};
@@ -105,7 +108,10 @@ pub(crate) fn open_files(
     standard: Option<Node>,
     settings: Option<Node>,
     names: &Names,
-) -> Result<Opened, Fault> {
+) -> Result<Opened, Fault>
+    // No read of them has failed yet.
+    ensures { IfOk result (λ opened. CanFail opened.snapshot × CanFail opened.capture) }
+{
     let Inputs {
         snapshot,
         capture,
