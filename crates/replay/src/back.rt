@@ -272,6 +272,19 @@ fn back_items<F: Tree, K: Backs>(
     Ok(items)
 }
 
+/// The reply of an item, where it is rendered, after others.
+fn add_reply<F: Tree>(replies: &mut Vec<Reply<F>>, state: BackState<F>) -> Result<(), AllocError>
+    ensures { OnOk result (replies.new.items ≡ replies.old.items ++ reply_in state) }
+{
+    match state {
+        BackState::Rendered(reply) => {
+            replies.push(reply)?;
+            Ok(())
+        }
+        BackState::Due(_) | BackState::Fetched(_) => Ok(()),
+    }
+}
+
 /// The replies of the items of a lot, after others.
 fn add_replies<F: Tree, K: Backs>(
     replies: &mut Vec<Reply<F>>,
@@ -282,9 +295,7 @@ fn add_replies<F: Tree, K: Backs>(
 {
     for item in lot {
         let BackItem { state, .. } = item;
-        if let BackState::Rendered(reply) = state {
-            replies.push(reply)?;
-        }
+        add_reply(replies, state)?;
     }
     Ok(())
 }
