@@ -38,7 +38,7 @@ INSTALL_SECONDS = 30
 # What changes in a system also where nothing is left: what users have, and what the package manager notes.
 OTHERS = tuple("/%s/" % name for name in "home root tmp var/cache var/log var/lib/apt var/lib/dpkg".split())
 # Where the package and another one stand in the fresh system, from its top.
-PACKAGE, OTHER = "./root/haboob.deb", "./root/other.deb"
+PACKAGE, OTHER = "./var/cache/haboob.deb", "./var/cache/other.deb"
 # Root in the fresh system, with its own processes and devices; these are gone with the command.
 INSIDE = """
 mount -t proc proc "$0/proc" && mount --rbind /dev "$0/dev" || exit
