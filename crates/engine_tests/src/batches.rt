@@ -2,13 +2,12 @@
 use crate::policies::{NONE, default_costs, default_policy, nimble, tight};
 use crate::replaying::{
     DEFAULT_SHAPE, Engine, Ran, Shape, check_parts, fault_of, is_same, outcome_of, outline,
-    run_engine, shaped,
+    run_by_floors_too, shaped,
 };
 use admission::{Control, Policy};
 use captures::{CaptureFault, CaptureFaultKind};
 use cost_model::Costs;
 use replay::ReplayFault;
-use stage_graph::NoGate;
 use std::alloc::{AllocError, AllocGlobal, Global};
 use std::process::Abort;
 use std::sync::Wait;
@@ -36,7 +35,7 @@ pub static WIDE: Shape<'static> = Shape {
     cache: 1_073_741_824,
 };
 
-/// Replays a capture on an engine of this shape.
+/// Replays a capture on an engine of this shape. The staged one is to do the same by its floors.
 fn run_shape<T: Abort + AllocGlobal + Threads + Wait + Sync>(
     rt: &T,
     engine: Engine,
@@ -47,16 +46,7 @@ fn run_shape<T: Abort + AllocGlobal + Threads + Wait + Sync>(
 ) -> Ran {
     let (costs, policy) = (costs.expect(rt, "costs"), policy.expect(rt, "a policy"));
     let settings = shaped(rt.alloc(), shape, costs, policy).expect(rt, "settings");
-    run_engine(
-        rt,
-        rt.alloc(),
-        engine,
-        SNAPSHOT,
-        &settings,
-        &NoGate,
-        capture.as_bytes(),
-    )
-    .expect(rt, "a snapshot")
+    run_by_floors_too(rt, engine, SNAPSHOT, &settings, capture).expect(rt, "a snapshot")
 }
 
 /// What the controller carries, and the numbers of the messages, go on from batch to batch.

@@ -238,6 +238,9 @@ fn check_meetings<R: Abort + AllocGlobal + Threads + Wait + Sync + Clock + Drop>
     let plain = run_long(rt, Engine::Plain, &NoGate)?;
     let staged = run_long(rt, Engine::Staged, &gate)?;
     assert!(rt; is_same(&staged, &plain));
+    // The same without a gate: there is work for two threads.
+    let ungated = run_long(rt, Engine::Staged, &NoGate)?;
+    assert!(rt; is_same(&ungated, &plain));
     // Each reply gives the file.
     assert!(rt; staged.text.len() > 96 * 65_536);
     if has_two_processors(rt) {
@@ -425,17 +428,19 @@ static CAPTURE: &str = "haboob-capture 1 784111777\n\
 /// How many bytes its first line, its records and its last line have.
 static SIZES: [usize; 5] = [27, 46, 46, 46, 7];
 
-/// With batches of n pieces so many bytes are written when the last line is asked for.
-fn check_written<R: Abort + AllocGlobal + Threads + Wait + Sync>(
+/// So many bytes of a replay in batches of n pieces are written when the last line is asked for, and in all.
+fn written_by<R: Abort + AllocGlobal + Threads + Wait + Sync>(
     rt: &R,
+    engine: Engine,
     batch: usize,
-    before: u64,
-) {
+    capture: &str,
+    sizes: &[usize],
+) -> (u64, u64) {
     let (written, at_last) = (AtomicU64::new(0), AtomicU64::new(0));
     let settings = in_batches(rt, batch);
     let mut reader = Input::new(Records {
-        bytes: CAPTURE.as_bytes(),
-        sizes: &SIZES,
+        bytes: capture.as_bytes(),
+        sizes,
         left: 0,
         written: &written,
         at_last: &at_last,
@@ -444,7 +449,7 @@ fn check_written<R: Abort + AllocGlobal + Threads + Wait + Sync>(
     let ran = run_devices(
         rt,
         rt.alloc(),
-        Engine::Staged,
+        engine,
         SNAPSHOT,
         &settings,
         &NoGate,
@@ -452,15 +457,43 @@ fn check_written<R: Abort + AllocGlobal + Threads + Wait + Sync>(
         &mut writer,
     );
     assert!(rt; ran.expect(rt, "a snapshot").is_ok());
-    let at_last = at_last.load(Ordering::SeqCst);
-    assert_eq!(rt; at_last, before, "batches of {batch}");
-    assert_eq!(rt; written.load(Ordering::SeqCst), 17 + 3 * 165 + 7);
+    (
+        at_last.load(Ordering::SeqCst),
+        written.load(Ordering::SeqCst),
+    )
 }
 
 /// The replies of a batch are written before the next batch is read.
 #[test]
 fn written_before_the_next_batch(rt: HostRuntime) {
     for (batch, before) in [(1, 17 + 3 * 165), (2, 17 + 2 * 165), (4, 17)] {
-        check_written(&rt, batch, before);
+        for engine in [Engine::Staged, Engine::Floors] {
+            let written = written_by(&rt, engine, batch, CAPTURE, &SIZES);
+            assert_eq!(rt; written, (before, 17 + 3 * 165 + 7), "batches of {batch}");
+        }
     }
+}
+
+/// Of 300 light pieces 256 are answered before the others are read, where no gate sees them; else all are read first.
+/// The bucket holds 100 tokens. Up to number 9 a reply has 165 bytes with its line and a line feed, up to 99 166, and
+/// what is turned away 176.
+#[test]
+fn few_light_pieces_are_read_at_a_time(rt: HostRuntime) -> Result<(), Fail> {
+    let alloc = rt.alloc();
+    let mut capture = String::from_str(alloc, "haboob-capture 1 784111777\n")?;
+    let mut sizes = Vec::new(alloc);
+    sizes.push(27)?;
+    for _ in 0..300usize {
+        write!(capture, "piece 0 0 32\n{A}\n")?;
+        sizes.push(46)?;
+    }
+    capture.push_str("stop 300\n")?;
+    sizes.push(9)?;
+    let all = 17 + 10 * 165 + 90 * 166 + 200 * 176 + 9;
+    let few = 17 + 10 * 165 + 90 * 166 + 156 * 176;
+    for (engine, before) in [(Engine::Staged, few), (Engine::Floors, 17)] {
+        let written = written_by(&rt, engine, 1024, &capture, &sizes);
+        assert_eq!(rt; written, (before, all));
+    }
+    Ok(())
 }

@@ -1,6 +1,6 @@
 //! Devices that fail.
 use crate::policies::{default_costs, default_policy};
-use crate::replaying::{Engine, run_devices, settings};
+use crate::replaying::{ENGINES, Engine, run_devices, settings};
 use captures::CaptureFaultKind;
 use devices::{Input, Output};
 use replay::{ReplayFault, Settings};
@@ -81,7 +81,7 @@ fn each_read_and_write_failing(rt: HostRuntime) -> Result<(), Fail> {
     let policy = default_policy().expect(&rt, "a policy");
     let settings = settings(alloc, costs, policy).expect(&rt, "settings");
     let capture = capture_of(alloc, &[(0, 0, A)])?;
-    for engine in [Engine::Plain, Engine::Staged] {
+    for engine in ENGINES {
         let reads = calls_to_the_end(&rt, engine, &settings, &capture, true);
         assert!(rt; 10 < reads && reads < 200);
         let writes = calls_to_the_end(&rt, engine, &settings, &capture, false);

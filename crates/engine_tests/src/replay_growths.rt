@@ -1,7 +1,7 @@
 //! Out of memory: `checks/refuse_growths.py` refuses each growth of these tests in turn.
 use crate::batches::{NARROW, WIDE};
 use crate::policies::{NONE, default_costs, default_policy, nimble, tight};
-use crate::replaying::{DEFAULT_SHAPE, Engine, Shape, fault_of, run_engine, shaped};
+use crate::replaying::{DEFAULT_SHAPE, ENGINES, Engine, Shape, fault_of, run_engine, shaped};
 use admission::Policy;
 use cost_model::Costs;
 use replay::ReplayFault;
@@ -109,7 +109,7 @@ fn check<T: Abort + AllocGlobal + Threads + Wait + Sync>(
 
 #[test]
 fn each_growth_refused(rt: HostRuntime) {
-    for engine in [Engine::Plain, Engine::Staged] {
+    for engine in ENGINES {
         let (costs, policy) = (default_costs(), default_policy());
         check(&rt, engine, DEFAULT_SHAPE, costs, policy, CAPTURE, WANT);
     }
@@ -120,7 +120,7 @@ fn each_growth_refused_in_byte_pieces(rt: HostRuntime) {
     let Ok(capture) = in_bytes(rt.alloc(), A) else {
         return;
     };
-    for engine in [Engine::Plain, Engine::Staged] {
+    for engine in ENGINES {
         let (costs, policy) = (default_costs(), default_policy());
         check(
             &rt,
@@ -142,16 +142,18 @@ fn each_growth_refused_on_any_floor(rt: HostRuntime) {
         return;
     };
     for shape in [NARROW, WIDE] {
-        let (costs, policy) = (default_costs(), tight(1));
-        check(
-            &rt,
-            Engine::Staged,
-            shape,
-            costs,
-            policy,
-            &capture,
-            TIGHT_REPLIES,
-        );
+        for engine in [Engine::Staged, Engine::Floors] {
+            let (costs, policy) = (default_costs(), tight(1));
+            check(
+                &rt,
+                engine,
+                shape,
+                costs,
+                policy,
+                &capture,
+                TIGHT_REPLIES,
+            );
+        }
     }
 }
 
@@ -162,7 +164,7 @@ fn each_growth_refused_with_controls(rt: HostRuntime) {
     let Ok(capture) = capture_of(rt.alloc(), &pieces) else {
         return;
     };
-    for engine in [Engine::Plain, Engine::Staged] {
+    for engine in ENGINES {
         let (costs, policy) = (Costs::new(100, 0, 5000).ok(), nimble(500, 1));
         check(
             &rt,

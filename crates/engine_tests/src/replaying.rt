@@ -21,6 +21,25 @@ use std::thread::Threads;
 pub enum Engine {
     Plain,
     Staged,
+    /// The staged one, each message through its floors.
+    Floors,
+}
+
+/// All of them.
+pub static ENGINES: [Engine; 3] = [Engine::Plain, Engine::Staged, Engine::Floors];
+
+/// A gate that holds nothing, and might see each message: what goes through it goes through the floors.
+#[derive(Drop)]
+struct Open;
+
+impl Gate for Open {
+    fn enter(&self, _stage: usize, _number: usize) {}
+
+    fn left(&self, _stage: usize, _number: usize) {}
+
+    fn is_open(&self) -> bool {
+        true
+    }
 }
 
 /// What a replay answers, and what it has written. The answer is in a box, so that one call drops it.
@@ -130,6 +149,9 @@ fn run_named<F: Tree + Send + Sync, G: Gate + Sync, T: Threads + Wait + Sync, R:
         Engine::Staged => {
             staged_replay::<F, G, T, R, W>(rt, alloc, files, settings, gate, reader, writer)
         }
+        Engine::Floors => {
+            staged_replay::<F, Open, T, R, W>(rt, alloc, files, settings, &Open, reader, writer)
+        }
     }
 }
 
@@ -218,7 +240,24 @@ pub fn is_same(one: &Ran, other: &Ran) -> bool {
     is_same_answer(one, other) && one.text.as_slice() == other.text.as_slice()
 }
 
-/// Replays it on both engines, which are to write and answer the same; what they do.
+/// Replays a capture on an engine, and the staged one by its floors too, which is to do the same.
+pub fn run_by_floors_too<T: Abort + AllocGlobal + Threads + Wait + Sync>(
+    rt: &T,
+    engine: Engine,
+    snapshot: &str,
+    settings: &Settings,
+    capture: &str,
+) -> Option<Ran> {
+    let (alloc, bytes) = (rt.alloc(), capture.as_bytes());
+    let ran = run_engine(rt, alloc, engine, snapshot, settings, &NoGate, bytes)?;
+    if let Engine::Staged = engine {
+        let floors = run_engine(rt, alloc, Engine::Floors, snapshot, settings, &NoGate, bytes)?;
+        assert!(rt; is_same(&ran, &floors));
+    }
+    Some(ran)
+}
+
+/// Replays it on each engine, which are to write and answer the same; what they do.
 pub fn run_settings<T: Abort + Threads + Wait + Sync>(
     rt: &T,
     alloc: Global,
@@ -226,29 +265,15 @@ pub fn run_settings<T: Abort + Threads + Wait + Sync>(
     settings: &Settings,
     capture: &[u8],
 ) -> Option<Ran> {
-    let plain = run_engine(
-        rt,
-        alloc,
-        Engine::Plain,
-        snapshot,
-        settings,
-        &NoGate,
-        capture,
-    )?;
-    let staged = run_engine(
-        rt,
-        alloc,
-        Engine::Staged,
-        snapshot,
-        settings,
-        &NoGate,
-        capture,
-    )?;
-    assert!(rt; is_same(&plain, &staged), "the engines differ");
-    Some(staged)
+    let plain = run_engine(rt, alloc, Engine::Plain, snapshot, settings, &NoGate, capture)?;
+    for engine in [Engine::Staged, Engine::Floors] {
+        let staged = run_engine(rt, alloc, engine, snapshot, settings, &NoGate, capture)?;
+        assert!(rt; is_same(&plain, &staged), "the engines differ");
+    }
+    Some(plain)
 }
 
-/// Replays it on both with the default settings.
+/// Replays it on each with the default settings.
 pub fn run<T: Abort + Threads + Wait + Sync>(
     rt: &T,
     alloc: Global,

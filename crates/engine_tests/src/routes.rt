@@ -1,7 +1,7 @@
 //! Requests on a route, which cost what it says, whatever their replies are.
 use crate::explaining::{HEADING, explain};
 use crate::policies::{NONE, default_policy};
-use crate::replaying::{Engine, fault_of, outcome_of, outline, run_engine, run_settings, settings};
+use crate::replaying::{ENGINES, fault_of, outcome_of, outline, run_engine, run_settings, settings};
 use cost_model::{Costs, Prefix, Route, Routes};
 use replay::{ReplayFault, Settings};
 use stage_graph::NoGate;
@@ -70,7 +70,7 @@ fn each_growth_refused_on_a_route(rt: HostRuntime) {
         return;
     };
     let capture = capture.as_bytes();
-    for engine in [Engine::Plain, Engine::Staged] {
+    for engine in ENGINES {
         let Some(ran) = run_engine(&rt, alloc, engine, SNAPSHOT, &settings, &NoGate, capture) else {
             return;
         };

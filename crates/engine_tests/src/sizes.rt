@@ -1,11 +1,10 @@
 //! Sizes at which a body might give up: each engine answers there as anywhere, with memory enough.
 use crate::policies::{default_costs, default_policy};
 use crate::replaying::{
-    DEFAULT_SHAPE, Engine, Ran, Shape, is_same, outcome_of, run_engine, shaped,
+    DEFAULT_SHAPE, Engine, Ran, Shape, is_same, outcome_of, run_by_floors_too, shaped,
 };
 use captures::{CaptureFault, CaptureFaultKind};
 use inspection::InspectFault;
-use stage_graph::NoGate;
 use std::alloc::AllocGlobal;
 use std::process::Abort;
 use std::sync::Wait;
@@ -29,16 +28,7 @@ fn run_batches<T: Abort + AllocGlobal + Threads + Wait + Sync>(
         ..DEFAULT_SHAPE
     };
     let settings = shaped(rt.alloc(), shape, costs, policy).expect(rt, "settings");
-    run_engine(
-        rt,
-        rt.alloc(),
-        engine,
-        SNAPSHOT,
-        &settings,
-        &NoGate,
-        capture.as_bytes(),
-    )
-    .expect(rt, "a snapshot")
+    run_by_floors_too(rt, engine, SNAPSHOT, &settings, capture).expect(rt, "a snapshot")
 }
 
 /// Both engines answer so many messages, of which so many are rejected, the same.

@@ -6,6 +6,7 @@ pub mod Texts
 pub mod RowByRow
 pub mod ByRecord
 pub mod Lookups
+pub mod OneByOne
 pub mod PendingReplies
 pub mod Upcoming
 pub mod Grouping

@@ -1,6 +1,6 @@
 -- What a step of an engine does to its desk and writes, whatever was decided on before it: the next message, the
 -- messages of a piece, those that come next in a batch, and the next records.
-use Rattle.std.specs.Prelude.{◌≡◌, ℕ, List, [], ◌∷◌, ◌++◌, take, Option}
+use Rattle.std.specs.Prelude.{◌≡◌, ℕ, List, [], ◌∷◌, ◌++◌, map, take, Option}
 use Rattle.captures.specs.declared.record.Record.{Record}
 use Rattle.http_requests.specs.declared.messages.Message.{Message}
 use Rattle.http_requests.specs.declared.messages.Meaning.{Meaning}
@@ -10,7 +10,7 @@ use Rattle.arrivals.specs.SeatStates.{SeatState}
 use Rattle.arrivals.specs.declared.connections.Connection.{Connection}
 use Rattle.arrivals.specs.declared.incoming.Incoming.{Incoming}
 use Rattle.arrivals.specs.declared.incoming.Origin.{Origin}
-use Rattle.reference.specs.Reference.{Terms}
+use Rattle.reference.specs.Reference.{Terms, slip_of, handled_after}
 use Rattle.replay.specs.Serving.{
   DeskAfter,
   Serves,
@@ -25,6 +25,8 @@ use Rattle.replay.specs.Serving.{
 }
 use Rattle.reference.specs.Texts.{Texts, Wrote, WroteInPart}
 use Rattle.replay.specs.Waiting.{ComeNext, Upcoming, connections_of}
+use Rattle.replay.specs.Backs.{slip_of_pending}
+use Rattle.replay.specs.declared.pending.PendingReply.{PendingReply}
 use Rattle.replay.specs.declared.desk.Desk.{Desk}
 
 -- the next message, of this origin and meaning, was decided on
@@ -83,6 +85,12 @@ AnswersRecordInPart most t terms next tiers connections desk old new = (records 
 abbrev pub DecidesComing : Terms → List Incoming → Desk → Desk → Type 0
 DecidesComing terms messages before after = (arrivals more : List Arrival)
     → Upcoming terms arrivals more messages before → DeskAfter terms (arrivals ++ more) after
+
+-- these are their replies, which are still to be written
+abbrev pub ArePending : {X : Type 0} → Terms → List Incoming → Desk → List (PendingReply X) → Type 0
+ArePending {X} terms messages desk pending_replies = (arrivals more : List Arrival)
+    → Upcoming terms arrivals more messages desk
+    → map slip_of_pending pending_replies ≡ map (slip_of {X = X} terms desk.start) (handled_after terms arrivals more)
 
 -- the replies to them were written; a prefix of that was; the replies to the first of them were; a prefix of that
 abbrev pub WritesComing : Terms → List Incoming → Desk → Option (List ℕ) → Option (List ℕ) → Type 0

@@ -87,6 +87,27 @@ impl<F: Tree, K: Backs> Named for BackItem<F, K> {
     }
 }
 
+/// The page of a file: from the cache, or built and kept there.
+pub(crate) fn find_page<F: Tree, R: Wait>(
+    rt: &R,
+    alloc: Global,
+    snapshot: &Snapshot,
+    cache: &Mutex<PageCache<F>>,
+    file: usize,
+) -> Result<Arc<Page<F>>, AllocError>
+    requires snapshot { snapshot.now ≡ F.files }
+    requires file { file < length F.files }
+    ensures { IfOk result (λ p. arc_value p ≡ file) }
+{
+    let found = cache.lock(rt).look(file)?;
+    if let Some(page) = found {
+        return Ok(page);
+    }
+    let page = Page::build(alloc, snapshot, file)?;
+    let _kept = cache.lock(rt).keep(Arc::try_clone(&page)?);
+    Ok(page)
+}
+
 /// The steps after the decision: the page is fetched through a cache that all workers share, and the reply is
 /// rendered.
 #[derive(Drop)]
@@ -105,12 +126,7 @@ impl<'a, F: Tree, K: Backs, R: Wait> Back<'a, F, K, R> {
         requires { file < length F.files }
         ensures { IfOk result (λ p. p ≡ file) }
     {
-        let found = self.cache.lock(self.rt).look(file)?;
-        if let Some(page) = found {
-            return Ok(SharedPage::new(page));
-        }
-        let page = Page::build(self.alloc, self.snapshot, file)?;
-        let _kept = self.cache.lock(self.rt).keep(Arc::try_clone(&page)?);
+        let page = find_page(self.rt, self.alloc, self.snapshot, self.cache, file)?;
         Ok(SharedPage::new(page))
     }
 

@@ -89,14 +89,31 @@ fn all_fit<F: Tree>(snapshot: &Snapshot, room: usize, pending_replies: &[Pending
     true
 }
 
+/// How much work a group is at most, in bytes that are copied: what its replies cost besides their pages, and all pages
+/// that are due.
+fn most_work_of<F: Tree>(snapshot: &Snapshot, pending_replies: &[PendingReply<F>]) -> usize {
+    let mut work: usize = 0;
+    for pending in pending_replies {
+        let page = page_len(snapshot, pending);
+        work = work.saturating_add(REPLY).saturating_add(page);
+    }
+    work
+}
+
 /// How much work a group is, in bytes that are copied: what its replies cost besides their pages, and the pages that
-/// aren't in the cache when the group is begun, each counted as often as it is due.
+/// aren't in the cache when the group is begun, each counted as often as it is due. Where it isn't more than `little`
+/// with the pages that are in the cache, these count too.
 pub(crate) fn work_of<F: Tree, R: Wait>(
     rt: &R,
     snapshot: &Snapshot,
     cache: &Mutex<PageCache<F>>,
+    little: usize,
     pending_replies: &[PendingReply<F>],
 ) -> usize {
+    let most = most_work_of(snapshot, pending_replies);
+    if most <= little {
+        return most;
+    }
     let pages = cache.lock(rt);
     let mut work: usize = 0;
     for pending in pending_replies {

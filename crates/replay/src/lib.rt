@@ -4,6 +4,7 @@
 mod answers;
 mod back;
 mod desk;
+mod direct;
 mod explain;
 mod format;
 mod front;

@@ -1,6 +1,6 @@
 //! A batch: both floors, the decisions between them, and the writing.
 
-ghost use Rattle.std.specs.Prelude.{◌≡◌, ◌<◌, ◌≤◌, ◌-◌, ◌+◌, ℕ, List, flat_map, length, IfErr, OnOk, OnErr, true};
+ghost use Rattle.std.specs.Prelude.{◌≡◌, ◌<◌, ◌≤◌, ◌-◌, ◌+◌, ℕ, List, flat_map, length, IfOk, IfErr, OnOk, OnErr, true};
 ghost use Rattle.std.specs.List.{list_all};
 ghost use Rattle.replay.specs.Backs.{is_back};
 ghost use Rattle.replay.specs.declared.back.BackState.TheVariants.{Due as Waits};
@@ -12,13 +12,15 @@ ghost use Rattle.arrivals.specs.Batches.{joined};
 ghost use Rattle.reference.specs.Reference.{terms_of};
 ghost use Rattle.reference.specs.Outcomes.{IsOwn, IfTooMany, IfCutShort};
 ghost use Rattle.captures.specs.Passes.{writer_failures, IsWriteOrMemory};
-ghost use Rattle.replay.specs.Steps.{DecidesComing, WritesComing, WritesComingInPart, WritesFirst, WritesFirstInPart};
+ghost use Rattle.replay.specs.Steps.{DecidesComing, ArePending, WritesComing, WritesComingInPart};
+ghost use Rattle.replay.specs.Steps.{WritesFirst, WritesFirstInPart};
 ghost use Rattle.replay.specs.Waiting.{Upcoming};
 ghost use Rattle.std.specs.Io.KnownBytes.{Appends};
 ghost use Rattle.devices.specs.Devices.{CanFail, CountsBy, AppendsPrefix};
 
 use crate::back::run_back;
 use crate::desk::{Desk, decide_all};
+use crate::direct::{answer_each, settle_all};
 use crate::front::run_front;
 use crate::groups::{Pages, groups_of, work_of};
 use crate::pending::PendingReply;
@@ -31,6 +33,7 @@ use http_requests::Meaning;
 use paths::Tree;
 use responses::{Reply, write_reply};
 use stage_graph::{Gate, Unrun};
+use std::cell::Cell;
 use std::io::Write;
 use std::sync::Wait;
 use std::thread::Threads;
@@ -44,6 +47,13 @@ const MESSAGE: usize = 256;
 /// How many bytes of work are worth a thread of the back floor.
 const WORTH_ANSWERING: usize = 524_288;
 
+/// Into how many shares the work is divided that is worth a thread.
+const SHARES: usize = 64;
+
+/// How many pieces are read at a time where the calling thread serves them by itself: what comes of so few stays in the
+/// cache of its processor.
+const FEW: usize = 256;
+
 /// What the floors of the staged engine work with, besides what they serve.
 #[derive(Drop)]
 pub(crate) struct Floors<'a, F: Tree, G, T> {
@@ -54,6 +64,37 @@ pub(crate) struct Floors<'a, F: Tree, G, T> {
     pub gate: &'a G,
     /// How many messages are answered at most.
     pub most: usize,
+    /// The greatest work of a floor in this batch, in shares of a thread.
+    pub share: Cell<usize>,
+}
+
+impl<'a, F: Tree, G: Gate, T> Floors<'a, F, G, T> {
+    /// How many threads a floor with so much work is given, of which `worth` is worth a thread. Its work is noted.
+    fn threads_for(&self, work: usize, worth: usize) -> usize {
+        let share = work / (worth / SHARES).max(1);
+        self.share.set(self.share.get().max(share));
+        self.threads.min(work / worth.max(1))
+    }
+
+    /// Whether the calling thread takes one message after another through all stages, without a floor: where it would
+    /// run the floor alone, and no gate sees the messages.
+    fn is_alone(&self, threads: usize) -> bool {
+        self.gate.is_absent() && threads <= 1
+    }
+
+    /// How many pieces to read next, of a batch that has so many at most, after a batch with `read` pieces: all, where
+    /// a whole batch of such pieces would be worth a second thread, and few where not.
+    pub fn next_pieces(&self, batch: usize, read: usize) -> usize
+        ensures { 0 < batch → 0 < result }
+    {
+        let share = self.share.replace(0);
+        let whole = share.saturating_mul(batch) / read.max(1);
+        if self.is_alone(self.threads.min(whole / SHARES)) {
+            batch.min(FEW)
+        } else {
+            batch
+        }
+    }
 }
 
 /// How much work it is to look messages up, in bytes of targets.
@@ -96,7 +137,7 @@ fn write_replies<F: Tree, W: Write>(
 }
 
 /// Answers a group of messages that were decided on: their pages are fetched and their replies rendered by a floor, and
-/// written in their order.
+/// written in their order; or each is answered before the next.
 fn answer_group<F: Tree + Send + Sync, G: Gate + Sync, T: Threads + Wait + Sync, W: Write>(
     server: &Server<'_, F>,
     floors: &Floors<'_, F, G, T>,
@@ -116,22 +157,19 @@ fn answer_group<F: Tree + Send + Sync, G: Gate + Sync, T: Threads + Wait + Sync,
         Some(pending) => pending.number,
         None => return Ok(()),
     };
+    let cache = &floors.pages.cache;
+    let work = work_of(floors.rt, server.snapshot, cache, WORTH_ANSWERING, &group);
+    let threads = floors.threads_for(work, WORTH_ANSWERING);
+    if floors.is_alone(threads) {
+        return answer_each(server, floors.rt, cache, group, writer);
+    }
     let settings = server.settings;
     let following = Shifted {
         gate: floors.gate,
         stages: settings.front().stages(),
         first,
     };
-    let cache = &floors.pages.cache;
-    let work = work_of(floors.rt, server.snapshot, cache, &group);
-    match run_back::<F, Shifted<G>, T>(
-        server,
-        floors.rt,
-        floors.threads.min(work / WORTH_ANSWERING),
-        cache,
-        group,
-        &following,
-    ) {
+    match run_back::<F, Shifted<G>, T>(server, floors.rt, threads, cache, group, &following) {
         Ok(replies) => write_replies(&replies, writer),
         Err(unrun) => Err(of_unrun(unrun)),
     }
@@ -164,7 +202,42 @@ fn answer_all_pending<F: Tree + Send + Sync, G: Gate + Sync, T: Threads + Wait +
     Ok(())
 }
 
-/// Serves messages within the limit, by a pair of floors with the decisions between them.
+/// Looks messages up and decides on them: a floor looks them up, and then they are decided on in their order; or each
+/// is looked up and decided on before the next.
+fn settle_messages<F: Tree + Send + Sync, G: Gate + Sync, T: Threads + Wait + Sync>(
+    server: &Server<'_, F>,
+    floors: &Floors<'_, F, G, T>,
+    messages: Vec<Incoming>,
+    desk: &mut Desk,
+) -> Result<Vec<PendingReply<F>>, ReplayFault>
+    requires start { desk.old.start ≤ max_start }
+    requires next { (arrivals : List Arrival) × (more : List Arrival)
+        × Upcoming (terms_of F.files server.now) arrivals more messages.items desk.old
+        × (length arrivals + length more ≤ MAX_MESSAGES) }
+    ensures stands { OnOk result
+        (DecidesComing (terms_of F.files server.now) messages.items desk.old desk.new) }
+    ensures slips { IfOk result
+        (λ v. ArePending (terms_of F.files server.now) messages.items desk.old v.items) }
+    ensures ready { IfOk result (λ v. list_all (λ t. is_back F.files (Waits t)) v.items ≡ true) }
+    ensures start { OnOk result (desk.new.start ≡ desk.old.start) }
+    ensures memory { IfErr result (λ f. f ≡ ReplayFault.Memory) }
+{
+    let threads = floors.threads_for(looking_of(&messages), WORTH_LOOKING);
+    if floors.is_alone(threads) {
+        return Ok(settle_all(server, messages, desk)?);
+    }
+    let before = Shifted {
+        gate: floors.gate,
+        stages: 0,
+        first: desk.totals.answered,
+    };
+    match run_front::<F, Shifted<G>, T>(server, floors.rt, threads, messages, &before) {
+        Ok(lookups) => Ok(decide_all(server, lookups, desk)?),
+        Err(unrun) => Err(of_unrun(unrun)),
+    }
+}
+
+/// Serves messages within the limit: they are looked up, decided on, and answered.
 fn serve_few<F: Tree + Send + Sync, G: Gate + Sync, T: Threads + Wait + Sync, W: Write>(
     server: &Server<'_, F>,
     floors: &Floors<'_, F, G, T>,
@@ -190,24 +263,7 @@ fn serve_few<F: Tree + Send + Sync, G: Gate + Sync, T: Threads + Wait + Sync, W:
     if messages.is_empty() {
         return Ok(());
     }
-    let first = desk.totals.answered;
-    let before = Shifted {
-        gate: floors.gate,
-        stages: 0,
-        first,
-    };
-    let worth = looking_of(&messages) / WORTH_LOOKING;
-    let lookups = match run_front::<F, Shifted<G>, T>(
-        server,
-        floors.rt,
-        floors.threads.min(worth),
-        messages,
-        &before,
-    ) {
-        Ok(lookups) => lookups,
-        Err(unrun) => return Err(of_unrun(unrun)),
-    };
-    let pending_replies = decide_all(server, lookups, desk)?;
+    let pending_replies = settle_messages(server, floors, messages, desk)?;
     answer_all_pending(server, floors, pending_replies, writer)
 }
 

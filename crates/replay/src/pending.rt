@@ -2,10 +2,9 @@
 
 ghost use Rattle.std.specs.Prelude.{◌≡◌, slice_get, ◌<◌, ◌≤◌, ◌-◌, ◌+◌, ◌^◌, [], true, length, OnOk, IfErr, OnErr};
 ghost use Rattle.responses.specs.Reference.{status_of, statuses, record_text};
-ghost use Rattle.replay.specs.Backs.{given_by, slip_of_pending, reply_to, given_as, is_back};
+ghost use Rattle.replay.specs.Backs.{given_by, slip_of_pending, reply_to, given_as, is_back, can_render};
 ghost use Rattle.std.specs.Io.KnownBytes.{Appends};
 ghost use Rattle.devices.specs.Devices.{CanFail, CountsBy, AppendsPrefix};
-ghost use Rattle.paths.specs.Reference.{file_of};
 ghost use Rattle.paths.specs.Snapshots.{max_time};
 ghost use Rattle.captures.specs.Passes.{writer_failures, IsWriteOrMemory};
 ghost use Rattle.replay.specs.declared.back.BackState.TheVariants.{Due as Waits};
@@ -18,8 +17,8 @@ use paths::Tree;
 use responses::{
     Given, HeadRenderer, OK_PLACE, Persistence, Slip, render, write_record, write_reply,
 };
+use std::alloc::Global;
 use std::io::Write;
-use std::marker::Model;
 
 /// How a message is to be answered: with a page that is still to be fetched, or with all else.
 #[derive(Drop)]
@@ -57,36 +56,49 @@ pub struct PendingReply<F: Tree> {
     pub due: Due<F>,
 }
 
-/// Writes the reply that gives a file, by the slip of the answer to HEAD. The bytes go to the writer as they stand in
-/// the snapshot.
-fn give_file<F: Tree, W: Write>(
-    server: &Server<'_, F>,
+/// Writes the reply that gives a file these bytes, by the slip of the answer to HEAD.
+pub(crate) fn give_file<F: Tree, W: Write>(
     heads: &mut HeadRenderer,
     slip: &Slip<F>,
-    file: usize,
+    bytes: &[u8],
     writer: &mut Output<W>,
 ) -> Result<(), ReplayFault>
-    requires file { file < length F.files }
     requires date { slip.now.date ≤ max_time }
     requires failures { CanFail writer.old }
     ensures written { OnOk result (Appends writer.old.bytes writer.new.bytes
-        (record_text (given_as F.files slip.now (file_of F.files file).bytes))) }
+        (record_text (given_as F.files slip.now bytes.now))) }
     ensures part { OnErr result (AppendsPrefix writer.old.bytes writer.new.bytes
-        (record_text (given_as F.files slip.now (file_of F.files file).bytes))) }
+        (record_text (given_as F.files slip.now bytes.now))) }
     ensures failures { CountsBy writer_failures writer.old.failures writer.new.failures result }
     ensures own { IfErr result IsWriteOrMemory }
 {
     heads.render(slip)?;
-    let body: &[u8] = if slip.head {
-        &[]
-    } else {
-        server.snapshot.bytes(file)
-    };
+    let body: &[u8] = if slip.head { &[] } else { bytes };
     write_record(writer, slip.number, slip.conn, heads.as_slice(), body)?;
     Ok(())
 }
 
-/// Answers a message that was decided on.
+/// Renders and writes the reply of a slip.
+pub(crate) fn give_ready<F: Tree, W: Write>(
+    alloc: Global,
+    slip: Slip<F>,
+    writer: &mut Output<W>,
+) -> Result<(), ReplayFault>
+    requires can { can_render slip ≡ true }
+    requires failures { CanFail writer.old }
+    ensures written { OnOk result
+        (Appends writer.old.bytes writer.new.bytes (record_text (reply_to F.files slip))) }
+    ensures part { OnErr result
+        (AppendsPrefix writer.old.bytes writer.new.bytes (record_text (reply_to F.files slip))) }
+    ensures failures { CountsBy writer_failures writer.old.failures writer.new.failures result }
+    ensures own { IfErr result IsWriteOrMemory }
+{
+    let reply = render(alloc, slip)?;
+    write_reply(writer, &reply)?;
+    Ok(())
+}
+
+/// Answers a message that was decided on. The bytes of a file go to the writer as they stand in the snapshot.
 pub(crate) fn answer_pending<F: Tree, W: Write>(
     server: &Server<'_, F>,
     heads: &mut HeadRenderer,
@@ -120,7 +132,7 @@ pub(crate) fn answer_pending<F: Tree, W: Write>(
                 link,
                 what: known_file(server.snapshot, file, mtime),
             };
-            give_file(server, heads, &slip, file, writer)
+            give_file::<F, W>(heads, &slip, server.snapshot.bytes(file), writer)
         }
         Due::Ready(what) => {
             let slip = Slip {
@@ -131,9 +143,7 @@ pub(crate) fn answer_pending<F: Tree, W: Write>(
                 link,
                 what,
             };
-            let reply = render(server.alloc, slip)?;
-            write_reply(writer, &reply)?;
-            Ok(())
+            give_ready(server.alloc, slip, writer)
         }
     }
 }

@@ -28,6 +28,7 @@ use paths::{Snapshot, Tree};
 use reference::Outcome;
 use stage_graph::Gate;
 use std::alloc::Global;
+use std::cell::Cell;
 use std::io::{Read, Write};
 use std::marker::PhantomData;
 use std::sync::{Mutex, Wait};
@@ -147,16 +148,13 @@ pub fn staged_replay<
         pages,
         gate,
         most: version.max_messages(),
+        share: Cell::new(0),
     };
+    let mut pieces = floors.next_pieces(settings.batch(), 0);
     loop {
-        let batch = read_batch(
-            alloc,
-            &mut capture,
-            settings.batch(),
-            &mut seats,
-            &mut tiers,
-        )?;
+        let batch = read_batch(alloc, &mut capture, pieces, &mut seats, &mut tiers)?;
         seats = serve_batch(&server, &floors, seats, &batch.origins, &mut desk, writer)?;
+        pieces = floors.next_pieces(settings.batch(), batch.origins.len());
         match batch.ending {
             Ending::More => {}
             Ending::End => break,

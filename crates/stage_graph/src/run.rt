@@ -41,6 +41,11 @@ pub trait Gate {
     fn is_open(&self) -> bool {
         false
     }
+
+    /// Whether there is no gate: whether none of its calls does anything, so that they need not be made.
+    fn is_absent(&self) -> bool {
+        false
+    }
 }
 
 /// A gate that does nothing.
@@ -53,6 +58,10 @@ impl Gate for NoGate {
     fn left(&self, _stage: usize, _number: usize) {}
 
     fn is_open(&self) -> bool {
+        true
+    }
+
+    fn is_absent(&self) -> bool {
         true
     }
 }

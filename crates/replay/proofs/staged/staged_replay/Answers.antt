@@ -51,6 +51,7 @@ loop-floors-init g c =
       waits_none _ c.new-seats.ensures,
       (let none = ap (λ (t : Totals). t.answered) c.new.ensures in omega (arith, none)),
       c.max_messages.ensures,
+      c.next_pieces-pieces.ensures c.batch.ensures.range.0,
     )
 
 pub returns-in_err-batch-clause-fault : goal.returns-in_err-batch-clause-fault
@@ -153,6 +154,7 @@ loop-floors-preserved g c =
       one.idle,
       one.within,
       inv.7,
+      c.next_pieces-pieces-in-loop-floors.ensures c.batch-in-loop-floors.ensures.range.0,
     )
 
 pub returns-in_err-write_last_line-clause-fault : goal.returns-in_err-write_last_line-clause-fault

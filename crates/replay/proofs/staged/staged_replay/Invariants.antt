@@ -1,4 +1,4 @@
-use Rattle.std.proofs.Common.{◌≡◌, ◌≤◌, [], List}
+use Rattle.std.proofs.Common.{◌≡◌, ◌≤◌, ◌<◌, [], List}
 use Rattle.std.specs.Io.KnownBytes.{Appends}
 use Rattle.captures.specs.declared.version.Version.{Version}
 use Rattle.captures.specs.Reference.{format_of}
@@ -21,6 +21,7 @@ invariant-loop-floors g l =
     × (l.capture.input.ghost_name ≡ l.initial.capture.input.ghost_name) × (l.capture.input.now.failures ≡ l.fn.reader.failures) × (l.writer.failures ≡ l.fn.writer.failures)
     × (l.desk.start ≤ 4102444800) × Waiting [] l.seats
     × (l.desk.totals.answered ≤ l.floors.most) × (l.floors.most ≡ (format_of l.version).max_messages)
+    × (0 < l.pieces)
 
 abbrev pub decreases-loop-floors : goal.decreases-loop-floors
 decreases-loop-floors g l = l.capture.progress.room
