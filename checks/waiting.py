@@ -25,7 +25,7 @@ CRATE = os.path.join(TOP, "crates", "stage_graph")
 FLOOR, POOL = "waiting.pml", "pool.pml"
 SOURCES = ["run.rt", "run/locked.rt", "run/pool.rt", "run/shared.rt", "run/sleepers.rt", "run/visit.rt",
            "floor/causes.rt", "floor/events.rt"]
-MIRRORED = "c7bbbd7e794395ba"
+MIRRORED = "9b29b88db70e7cbd"
 FLOORS = [
     "S=1 W0=2 C0=1 N=3 SPUR=1",
     "S=1 W0=3 C0=2 N=3 COUNTS",

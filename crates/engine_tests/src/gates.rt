@@ -193,15 +193,15 @@ fn has_two_processors<R: Threads>(rt: &R) -> bool {
     }
 }
 
-/// The capture of 96 requests for `a`, with queries of 7,000 bytes: more than two threads' worth of targets.
-fn long_requests(alloc: Global) -> Result<String, AllocError> {
+/// The capture of n requests for `a`, with queries of 7,000 bytes: 96 are more than two threads' worth of targets.
+fn long_requests(alloc: Global, count: usize) -> Result<String, AllocError> {
     let query = "x".repeat(alloc, 7_000)?;
     let request = format!(in alloc; "GET /a?{query} HTTP/1.1\r\nHost: a\r\n\r\n")?;
     let mut capture = String::from_str(alloc, "haboob-capture 1 784111777\n")?;
-    for conn in 0..96usize {
+    for conn in 0..count {
         write!(capture, "piece 0 {conn} {}\n{request}\n", request.len())?;
     }
-    capture.push_str("stop 96\n")?;
+    write!(capture, "stop {count}\n")?;
     Ok(capture)
 }
 
@@ -218,7 +218,7 @@ fn run_long<G: Gate + Sync, R: Abort + AllocGlobal + Threads + Wait + Sync>(
     gate: &G,
 ) -> Result<Ran, Fail> {
     let files = long_file(rt.alloc())?;
-    let capture = long_requests(rt.alloc())?;
+    let capture = long_requests(rt.alloc(), 96)?;
     let settings = in_batches(rt, 96);
     let bytes = capture.as_bytes();
     let ran = run_engine(rt, rt.alloc(), engine, &files, &settings, gate, bytes);
@@ -238,9 +238,6 @@ fn check_meetings<R: Abort + AllocGlobal + Threads + Wait + Sync + Clock + Drop>
     let plain = run_long(rt, Engine::Plain, &NoGate)?;
     let staged = run_long(rt, Engine::Staged, &gate)?;
     assert!(rt; is_same(&staged, &plain));
-    // The same without a gate: there is work for two threads.
-    let ungated = run_long(rt, Engine::Staged, &NoGate)?;
-    assert!(rt; is_same(&ungated, &plain));
     // Each reply gives the file.
     assert!(rt; staged.text.len() > 96 * 65_536);
     if has_two_processors(rt) {
@@ -260,6 +257,21 @@ fn check_meetings<R: Abort + AllocGlobal + Threads + Wait + Sync + Clock + Drop>
 #[test]
 fn two_threads_overlap_on_both_floors(rt: HostRuntime) -> Result<(), Fail> {
     check_meetings(&rt, rt.clone()?)
+}
+
+/// Without a gate 160 of them, which have more than a MiB of targets, go through the front floor too.
+#[test]
+fn long_targets_without_a_gate(rt: HostRuntime) -> Result<(), Fail> {
+    let alloc = rt.alloc();
+    let capture = long_requests(alloc, 160)?;
+    let settings = in_batches(&rt, 160);
+    let bytes = capture.as_bytes();
+    let plain = run_engine(&rt, alloc, Engine::Plain, SNAPSHOT, &settings, &NoGate, bytes);
+    let staged = run_engine(&rt, alloc, Engine::Staged, SNAPSHOT, &settings, &NoGate, bytes);
+    let (plain, staged) = (plain.expect(&rt, "a snapshot"), staged.expect(&rt, "a snapshot"));
+    assert!(rt; is_same(&staged, &plain));
+    assert!(rt; staged.text.ends_with(b"\n\nstop 160\n".as_slice()));
+    Ok(())
 }
 
 /// A gate that notes how many messages enter the back floor together: until one of them leaves its first stage.

@@ -101,17 +101,17 @@ fn most_work_of<F: Tree>(snapshot: &Snapshot, pending_replies: &[PendingReply<F>
 }
 
 /// How much work a group is, in bytes that are copied: what its replies cost besides their pages, and the pages that
-/// aren't in the cache when the group is begun, each counted as often as it is due. Where it isn't more than `little`
-/// with the pages that are in the cache, these count too.
+/// aren't in the cache when the group is begun, each counted as often as it is due. Where it is less than `much` with
+/// the pages that are in the cache, these count too.
 pub(crate) fn work_of<F: Tree, R: Wait>(
     rt: &R,
     snapshot: &Snapshot,
     cache: &Mutex<PageCache<F>>,
-    little: usize,
+    much: usize,
     pending_replies: &[PendingReply<F>],
 ) -> usize {
     let most = most_work_of(snapshot, pending_replies);
-    if most <= little {
+    if most < much {
         return most;
     }
     let pages = cache.lock(rt);

@@ -47,7 +47,15 @@ const MESSAGE: usize = 256;
 /// How many bytes of work are worth a thread of the back floor.
 const WORTH_ANSWERING: usize = 524_288;
 
-/// Into how many shares the work is divided that is worth a thread.
+/// How many bytes of targets a part has where a floor pays: to look them up takes longer than to take messages through
+/// queues, and to start threads.
+const LOOKING_PAYS: usize = 1_048_576;
+
+/// How many bytes of work a group is where a floor pays. A thread by itself builds a page where the last one was, and
+/// holds one at a time; a floor asks the system for room for the pages of a group.
+const ANSWERING_PAYS: usize = 67_108_864;
+
+/// Into how many shares the work is divided with which a floor pays.
 const SHARES: usize = 64;
 
 /// How many pieces are read at a time where the calling thread serves them by itself: what comes of so few stays in the
@@ -64,32 +72,27 @@ pub(crate) struct Floors<'a, F: Tree, G, T> {
     pub gate: &'a G,
     /// How many messages are answered at most.
     pub most: usize,
-    /// The greatest work of a floor in this batch, in shares of a thread.
+    /// The greatest work of a floor in this batch, in shares of what pays.
     pub share: Cell<usize>,
 }
 
 impl<'a, F: Tree, G: Gate, T> Floors<'a, F, G, T> {
-    /// How many threads a floor with so much work is given, of which `worth` is worth a thread. Its work is noted.
-    fn threads_for(&self, work: usize, worth: usize) -> usize {
-        let share = work / (worth / SHARES).max(1);
+    /// Whether the calling thread takes one message after another through all stages, without a floor: where no gate
+    /// sees the messages, and the work is less than what pays, or no second thread is there. The work is noted.
+    fn is_alone(&self, work: usize, pays: usize) -> bool {
+        let share = work / (pays / SHARES).max(1);
         self.share.set(self.share.get().max(share));
-        self.threads.min(work / worth.max(1))
-    }
-
-    /// Whether the calling thread takes one message after another through all stages, without a floor: where it would
-    /// run the floor alone, and no gate sees the messages.
-    fn is_alone(&self, threads: usize) -> bool {
-        self.gate.is_absent() && threads <= 1
+        self.gate.is_absent() && (work < pays || self.threads <= 1)
     }
 
     /// How many pieces to read next, of a batch that has so many at most, after a batch with `read` pieces: all, where
-    /// a whole batch of such pieces would be worth a second thread, and few where not.
+    /// a floor would pay for a whole batch of such pieces, and few where not.
     pub fn next_pieces(&self, batch: usize, read: usize) -> usize
         ensures { 0 < batch → 0 < result }
     {
         let share = self.share.replace(0);
         let whole = share.saturating_mul(batch) / read.max(1);
-        if self.is_alone(self.threads.min(whole / SHARES)) {
+        if self.gate.is_absent() && (whole < SHARES || self.threads <= 1) {
             batch.min(FEW)
         } else {
             batch
@@ -97,17 +100,17 @@ impl<'a, F: Tree, G: Gate, T> Floors<'a, F, G, T> {
     }
 }
 
-/// How much work it is to look messages up, in bytes of targets.
-fn looking_of(messages: &[Incoming]) -> usize {
-    let mut work: usize = 0;
+/// How many bytes the targets of messages have.
+fn targets_of(messages: &[Incoming]) -> usize {
+    let mut bytes: usize = 0;
     for message in messages {
         let target = match &message.what {
             Meaning::Request { target, .. } => target.as_slice().len(),
             Meaning::Bad(_) => 0,
         };
-        work = work.saturating_add(MESSAGE).saturating_add(target);
+        bytes = bytes.saturating_add(target);
     }
-    work
+    bytes
 }
 
 /// The fault of a replay whose floor has no run: it was out of memory, or a thread could not be started.
@@ -158,11 +161,11 @@ fn answer_group<F: Tree + Send + Sync, G: Gate + Sync, T: Threads + Wait + Sync,
         None => return Ok(()),
     };
     let cache = &floors.pages.cache;
-    let work = work_of(floors.rt, server.snapshot, cache, WORTH_ANSWERING, &group);
-    let threads = floors.threads_for(work, WORTH_ANSWERING);
-    if floors.is_alone(threads) {
+    let work = work_of(floors.rt, server.snapshot, cache, ANSWERING_PAYS, &group);
+    if floors.is_alone(work, ANSWERING_PAYS) {
         return answer_each(server, floors.rt, cache, group, writer);
     }
+    let threads = floors.threads.min(work / WORTH_ANSWERING);
     let settings = server.settings;
     let following = Shifted {
         gate: floors.gate,
@@ -222,10 +225,12 @@ fn settle_messages<F: Tree + Send + Sync, G: Gate + Sync, T: Threads + Wait + Sy
     ensures start { OnOk result (desk.new.start ≡ desk.old.start) }
     ensures memory { IfErr result (λ f. f ≡ ReplayFault.Memory) }
 {
-    let threads = floors.threads_for(looking_of(&messages), WORTH_LOOKING);
-    if floors.is_alone(threads) {
+    let targets = targets_of(&messages);
+    if floors.is_alone(targets, LOOKING_PAYS) {
         return Ok(settle_all(server, messages, desk)?);
     }
+    let work = targets.saturating_add(messages.len().saturating_mul(MESSAGE));
+    let threads = floors.threads.min(work / WORTH_LOOKING);
     let before = Shifted {
         gate: floors.gate,
         stages: 0,
