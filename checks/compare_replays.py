@@ -7,7 +7,7 @@ status, line on standard error and what is written.
 Two runs of 100,000 requests come first, then replays at the limits and just past them, then COUNT random ones (40
 without it), made from the seeds FIRST (0 without it), FIRST + 1 and so on: the same seed gives the same replay. About
 a third of these have a fault. One of LONG_TURN is long: it has small pieces for several batches of a usual size. Then
-come HEAVY heavy ones, from the seeds FIRST, FIRST + 1 and so on too: most have batches so large that the staged engine
+come HEAVY heavy ones, from the seeds FIRST, FIRST + 1 and so on too: half have batches so large that the staged engine
 shares the work among threads. Each is run with both engines, and compared byte for byte. The cuts of the steps into
 stages, the workers, the capacities, the batch and the cache are drawn at random for each, but for the first, which has
 those of the default settings: nothing that is written may depend on them.
@@ -115,7 +115,7 @@ HEAVY_KINDS = {
     "plain": 500,
     "odd": 1,
     "target": 60,
-    "segments": 100,
+    "segments": 500,
     "line": 100,
     "fields": 60,
     "body": 100,

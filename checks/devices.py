@@ -8,10 +8,10 @@ byte; the replies go into a pipe that is read byte by byte, or into one whose re
 into a file that may have only so many bytes, and replies onto a disk with little room (where one can be mounted: a
 user's own tmpfs). With a C compiler (CC, or cc) besides: each read gives one byte, each write takes one byte; each read
 fails in turn, then each write, by an error and by an interruption; and each thread in turn can't be started, in small
-batches and in large ones. Of these one has work for all threads, and three for those that cut pieces alone, for those
-of the front floor alone and for those of the back floor alone: each has to start some. (Whatever the machine has, the
-program is told of PROCESSORS processors.) What stands at a device is always a prefix of what is right, all of it where
-the status is 0, and a file that is full has all that it may have.
+batches and in large ones. Of these one has work for threads that cut pieces and for those of the front floor, and three
+for threads of one kind alone, those that cut, of the front floor and of the back floor: each has to start some.
+(Whatever the machine has, the program is told of PROCESSORS processors.) What stands at a device is always a prefix of
+what is right, all of it where the status is 0, and a file that is full has all that it may have.
 """
 import errno
 import os
@@ -32,14 +32,14 @@ TOP = os.path.dirname(os.path.dirname(os.path.abspath(__file__)))
 SNAPSHOT = b"haboob-snapshot 1\nfile 784111777 5 3\na.txt\nhi\n\nend 1\n"
 REQUEST = b"GET /a.txt HTTP/1.1\r\nHost: a\r\n\r\n"
 SETTINGS = b"[policy]\ndepth = 50\n[floor]\nbatch = 100\n"
-# A batch that is worth threads: for its cutting, 6,000,000 bytes without the first 1,024 of each piece, and for both
-# floors, more than 4,096 messages.
+# A batch that is worth threads, once it is read whole for its long targets: for its cutting, more than 5,000,000 bytes
+# without the first 1,024 of each piece, and for the front floor 4 MiB of targets and more.
 LARGE = 6000
-LARGE_REQUEST = REQUEST[:-2] + b"Padding: %b\r\n\r\n" % (b"x" * 2005)
+LARGE_REQUEST = REQUEST.replace(b".txt", b".txt?" + b"x" * 2005)
 LARGE_SETTINGS = b"[policy]\ndepth = 50\n[floor]\nbatch = 8192\n"
 # Batches that are worth threads of one kind alone: one connection's pieces aren't shared by threads, nor is the work of
-# a floor with one worker. Without a cache each page is built anew.
-ALONE = b"[policy]\ndepth = 1000000\n[floor]\nbatch = 8192\ncache = 0\n"
+# a floor with one worker. A back floor pays for 64 MiB of pages that aren't in the cache.
+ALONE = b"[policy]\ndepth = 1000000\n[floor]\nbatch = 8192\n"
 NARROW_FRONT = b"front_cuts = [3]\nfront_workers = [1]\nfront_capacities = [64]\n"
 NARROW_BACK = b"back_cuts = [2]\nback_workers = [1]\nback_capacities = [64]\n"
 LONG_TARGET = b"GET /%b HTTP/1.1\r\nHost: a\r\n\r\n" % (b"a.txt/" * 250)
@@ -283,7 +283,7 @@ def staged_replays():
     yield "a large batch", Replay(LARGE, LARGE_SETTINGS, LARGE_REQUEST), 1
     yield "cutting alone", Replay(LARGE, ALONE + NARROW_FRONT + NARROW_BACK, LARGE_REQUEST), 1
     yield "the front floor alone", Replay(1500, ALONE + NARROW_BACK, LONG_TARGET, 1), 1
-    yield "the back floor alone", Replay(8, ALONE + NARROW_FRONT, REQUEST, 1, LARGE_FILE), 1
+    yield "the back floor alone", Replay(70, ALONE + NARROW_FRONT, REQUEST, 1, LARGE_FILE), 1
 
 
 def check_staged_threads(checks, program, shim):

@@ -266,9 +266,28 @@ fn long_targets_without_a_gate(rt: HostRuntime) -> Result<(), Fail> {
     let capture = long_requests(alloc, 160)?;
     let settings = in_batches(&rt, 160);
     let bytes = capture.as_bytes();
-    let plain = run_engine(&rt, alloc, Engine::Plain, SNAPSHOT, &settings, &NoGate, bytes);
-    let staged = run_engine(&rt, alloc, Engine::Staged, SNAPSHOT, &settings, &NoGate, bytes);
-    let (plain, staged) = (plain.expect(&rt, "a snapshot"), staged.expect(&rt, "a snapshot"));
+    let plain = run_engine(
+        &rt,
+        alloc,
+        Engine::Plain,
+        SNAPSHOT,
+        &settings,
+        &NoGate,
+        bytes,
+    );
+    let staged = run_engine(
+        &rt,
+        alloc,
+        Engine::Staged,
+        SNAPSHOT,
+        &settings,
+        &NoGate,
+        bytes,
+    );
+    let (plain, staged) = (
+        plain.expect(&rt, "a snapshot"),
+        staged.expect(&rt, "a snapshot"),
+    );
     assert!(rt; is_same(&staged, &plain));
     assert!(rt; staged.text.ends_with(b"\n\nstop 160\n".as_slice()));
     Ok(())

@@ -144,15 +144,7 @@ fn each_growth_refused_on_any_floor(rt: HostRuntime) {
     for shape in [NARROW, WIDE] {
         for engine in [Engine::Staged, Engine::Floors] {
             let (costs, policy) = (default_costs(), tight(1));
-            check(
-                &rt,
-                engine,
-                shape,
-                costs,
-                policy,
-                &capture,
-                TIGHT_REPLIES,
-            );
+            check(&rt, engine, shape, costs, policy, &capture, TIGHT_REPLIES);
         }
     }
 }

@@ -251,7 +251,15 @@ pub fn run_by_floors_too<T: Abort + AllocGlobal + Threads + Wait + Sync>(
     let (alloc, bytes) = (rt.alloc(), capture.as_bytes());
     let ran = run_engine(rt, alloc, engine, snapshot, settings, &NoGate, bytes)?;
     if let Engine::Staged = engine {
-        let floors = run_engine(rt, alloc, Engine::Floors, snapshot, settings, &NoGate, bytes)?;
+        let floors = run_engine(
+            rt,
+            alloc,
+            Engine::Floors,
+            snapshot,
+            settings,
+            &NoGate,
+            bytes,
+        )?;
         assert!(rt; is_same(&ran, &floors));
     }
     Some(ran)
@@ -265,7 +273,15 @@ pub fn run_settings<T: Abort + Threads + Wait + Sync>(
     settings: &Settings,
     capture: &[u8],
 ) -> Option<Ran> {
-    let plain = run_engine(rt, alloc, Engine::Plain, snapshot, settings, &NoGate, capture)?;
+    let plain = run_engine(
+        rt,
+        alloc,
+        Engine::Plain,
+        snapshot,
+        settings,
+        &NoGate,
+        capture,
+    )?;
     for engine in [Engine::Staged, Engine::Floors] {
         let staged = run_engine(rt, alloc, engine, snapshot, settings, &NoGate, capture)?;
         assert!(rt; is_same(&plain, &staged), "the engines differ");

@@ -1,7 +1,9 @@
 //! Requests on a route, which cost what it says, whatever their replies are.
 use crate::explaining::{HEADING, explain};
 use crate::policies::{NONE, default_policy};
-use crate::replaying::{ENGINES, fault_of, outcome_of, outline, run_engine, run_settings, settings};
+use crate::replaying::{
+    ENGINES, fault_of, outcome_of, outline, run_engine, run_settings, settings,
+};
 use cost_model::{Costs, Prefix, Route, Routes};
 use replay::{ReplayFault, Settings};
 use stage_graph::NoGate;
