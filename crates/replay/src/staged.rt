@@ -83,7 +83,9 @@ fn processors<T: Threads>(rt: &T) -> usize {
 /// Replays a capture through stages of threads: a batch of its pieces at a time is cut, its messages are looked up by
 /// the front floor, decided on in the order of their arrival, and answered by the back floor, with pages from a cache.
 /// The replies of a batch are written before the next batch is read. `gate` sees each message, by its number, enter and
-/// leave each stage, the stages of the back floor numbered after those of the front floor.
+/// leave each stage, the stages of the back floor numbered after those of the front floor. Without a gate
+/// ([`Gate::is_absent`]) a floor is run where it pays; else the calling thread takes one message after another through
+/// the steps, and a batch has few pieces.
 ///
 /// What is written and answered is what [`plain_replay`](crate::plain_replay) writes and answers.
 ///
