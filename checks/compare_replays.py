@@ -913,7 +913,7 @@ def heavy_replay(seed, faults=HEAVY_FAULTS):
     form = chance.choice(reference.FORMATS)
     conns = chance.sample(range(form.last + 1), chance.randint(5, 40))
     weights = [chance.choice((1, 1, 1, 8)) for _ in conns]
-    counts = collections.Counter(chance.choices(conns, weights, k=chance.choice((300, 600, 900, 900))))
+    counts = collections.Counter(chance.choices(conns, weights, k=chance.choice((300, 900, 1200, 1200))))
     waiting = {conn: heavy_pieces(chance, names, times, count) for conn, count in counts.items()}
     if form.again:
         waiting = {conn: in_lives(chance, pieces) for conn, pieces in waiting.items()}

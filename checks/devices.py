@@ -38,12 +38,13 @@ LARGE = 6000
 LARGE_REQUEST = REQUEST.replace(b".txt", b".txt?" + b"x" * 2005)
 LARGE_SETTINGS = b"[policy]\ndepth = 50\n[floor]\nbatch = 8192\n"
 # Batches that are worth threads of one kind alone: one connection's pieces aren't shared by threads, nor is the work of
-# a floor with one worker. A back floor pays for 64 MiB of pages that aren't in the cache.
+# a floor with one worker. A back floor pays for 64 MiB of pages that aren't in the cache. Each comes after 256 pieces
+# that tell that floors pay.
 ALONE = b"[policy]\ndepth = 1000000\n[floor]\nbatch = 8192\n"
 NARROW_FRONT = b"front_cuts = [3]\nfront_workers = [1]\nfront_capacities = [64]\n"
 NARROW_BACK = b"back_cuts = [2]\nback_workers = [1]\nback_capacities = [64]\n"
 LONG_TARGET = b"GET /%b HTTP/1.1\r\nHost: a\r\n\r\n" % (b"a.txt/" * 250)
-LARGE_FILE = b"haboob-snapshot 1\nfile 784111777 5 1048576\na.txt\n%b\nend 1\n" % (b"hi" * 2**19)
+LARGE_FILE = SNAPSHOT.replace(b"end 1\n", b"file 784111777 5 1048576\nb.txt\n%b\nend 2\n" % (b"hi" * 2**19))
 PROCESSORS = 4
 ENGINES = (["--engine", "plain"], ["--engine", "staged"])
 # How often the settings are read: once whole, once more at their end.
@@ -56,18 +57,20 @@ REPORT = 6, b"haboob: write: report\n"
 MEMORY = 7, b"haboob: memory\n"
 
 
-def capture_of(count, request, connections=50):
-    """A capture of so many of a request, one to a piece, on so many connections."""
-    lines = (b"piece %d %d %d\n" % (100 * number, number % connections, len(request)) for number in range(count))
-    pieces = b"".join(line + request + b"\n" for line in lines)
-    return b"haboob-capture 1 784111777\n%bstop %d\n" % (pieces, count)
+def capture_of(requests, connections=50):
+    """A capture of these requests, one to a piece, on so many connections."""
+    pieces = b"".join(
+        b"piece %d %d %d\n%b\n" % (100 * number, number % connections, len(request), request)
+        for number, request in enumerate(requests)
+    )
+    return b"haboob-capture 1 784111777\n%bstop %d\n" % (pieces, len(requests))
 
 
 class Replay:
     """The files of a replay, and what it is to write."""
 
-    def __init__(self, count, settings=SETTINGS, request=REQUEST, connections=50, snapshot=SNAPSHOT):
-        self.snapshot, self.capture, self.settings = snapshot, capture_of(count, request, connections), settings
+    def __init__(self, requests, settings=SETTINGS, connections=50, snapshot=SNAPSHOT):
+        self.snapshot, self.capture, self.settings = snapshot, capture_of(requests, connections), settings
         status, line, self.replies, self.report = reference.replay(snapshot, self.capture, settings)
         assert (status, line) == (0, b"")
 
@@ -148,7 +151,7 @@ def by_pipes(program, replay, engine, most):
 
 
 def check_pipes(checks, program):
-    small, large = Replay(40), Replay(5000)
+    small, large = Replay([REQUEST] * 40), Replay([REQUEST] * 5000)
     for engine in ENGINES:
         ran, got = by_pipes(program, small, engine, len(small.replies) + 1)
         good = (ran, got) == ((0, b"", small.report), small.replies)
@@ -167,7 +170,7 @@ def full_at(place):
 
 
 def check_full_files(checks, program):
-    replay = Replay(1000)
+    replay = Replay([REQUEST] * 1000)
     for engine in ENGINES:
         for place in PLACES:
             with tempfile.TemporaryDirectory() as folder:
@@ -190,7 +193,7 @@ MOUNTED = 'mount -t tmpfs -o size=%d none disk || exit 99; "$@"; status=$?; cat 
 
 def check_full_disk(checks, program):
     """The replies go onto a disk of its own with room for a part of them; whether there was one."""
-    replay = Replay(1000)
+    replay = Replay([REQUEST] * 1000)
     for engine in ENGINES:
         with tempfile.TemporaryDirectory() as folder:
             replay.put(folder)
@@ -213,7 +216,7 @@ class Task:
 
 
 def tasks():
-    replay = Replay(12)
+    replay = Replay([REQUEST] * 12)
     lines = reference.replay(SNAPSHOT, replay.capture)[2]
     upgraded = replay.capture.replace(b"capture 1", b"capture 2")
     for engine in ENGINES:
@@ -279,11 +282,13 @@ def check_threads(checks, program, replay, task, shim):
 
 def staged_replays():
     """Replays of the staged engine: what they have work for, and how many threads they start at least."""
-    yield "small batches", Replay(300), 0
-    yield "a large batch", Replay(LARGE, LARGE_SETTINGS, LARGE_REQUEST), 1
-    yield "cutting alone", Replay(LARGE, ALONE + NARROW_FRONT + NARROW_BACK, LARGE_REQUEST), 1
-    yield "the front floor alone", Replay(1500, ALONE + NARROW_BACK, LONG_TARGET, 1), 1
-    yield "the back floor alone", Replay(70, ALONE + NARROW_FRONT, REQUEST, 1, LARGE_FILE), 1
+    large = [LARGE_REQUEST] * LARGE
+    files = [LARGE_REQUEST] * 256 + [REQUEST.replace(b"a.txt", b"b.txt")] * 70
+    yield "small batches", Replay([REQUEST] * 300), 0
+    yield "a large batch", Replay(large, LARGE_SETTINGS), 1
+    yield "cutting alone", Replay(large, ALONE + NARROW_FRONT + NARROW_BACK), 1
+    yield "the front floor alone", Replay([LONG_TARGET] * 1500, ALONE + NARROW_BACK, 1), 1
+    yield "the back floor alone", Replay(files, ALONE + NARROW_FRONT, 1, LARGE_FILE), 1
 
 
 def check_staged_threads(checks, program, shim):

@@ -169,7 +169,7 @@ def lives(count):
 def make_shared(shared):
     """The files of a replay that is worth threads: the large batch of devices.py, which sees that some are started."""
     os.mkdir(shared)
-    capture = devices.capture_of(devices.LARGE, devices.LARGE_REQUEST)
+    capture = devices.capture_of([devices.LARGE_REQUEST] * devices.LARGE)
     for name, text in (("snapshot", devices.SNAPSHOT), ("capture", capture), ("settings", devices.LARGE_SETTINGS)):
         with open(os.path.join(shared, name), "wb") as file:
             file.write(text)

@@ -31,6 +31,9 @@ with_next next p = record { connection = p.connection; waiting = p.waiting ++ ne
 abbrev pub with_lists : List (List Message) → SeatState → SeatState
 with_lists lists p = record { connection = p.connection; waiting = p.waiting; lists = lists }
 
+abbrev pub with_connection : Connection → SeatState → SeatState
+with_connection x p = record { connection = x; waiting = p.waiting; lists = p.lists }
+
 -- how many bytes wait
 abbrev pub size : Waiting → ℕ
 size (Comes piece) = length piece

@@ -1,9 +1,11 @@
 //! What comes on one number in a batch, and its cutting into messages.
 
 ghost use Rattle.std.specs.Prelude.{◌≡◌, ◌<◌, ◌↔◌, [], ◌∷◌, length, true, IsTrue, IfOk, OnOk, OnErr};
-ghost use Rattle.arrivals.specs.Batches.{ReadsOn};
+ghost use Rattle.arrivals.specs.Batches.{Reads, ReadsOn};
+ghost use Rattle.arrivals.specs.Connections.{HasRoom, LacksAt};
 ghost use Rattle.arrivals.specs.SeatStates.{empty_seat, with_next, with_lists, CanRead, IsReady, IsCutOf};
-ghost use Rattle.arrivals.specs.SeatStates.{MayTake, TakesNext};
+ghost use Rattle.arrivals.specs.SeatStates.{MayTake, TakesNext, with_connection};
+ghost use Rattle.arrivals.specs.declared.connections.Connection.TheVariants.{Silent};
 
 use crate::Series;
 use crate::connections::Connection;
@@ -175,6 +177,39 @@ impl Seat {
                 Ok(())
             }
         }
+    }
+
+    /// Reads one more piece at once, and adds the messages that end in it.
+    pub(crate) fn read(
+        &mut self,
+        alloc: Global,
+        piece: &[u8],
+        out: &mut Vec<Message>,
+    ) -> Result<(), AllocError>
+        requires empty { out.old.items ≡ [] }
+        requires room { HasRoom self.old.connection (length piece.now) }
+        ensures own { OnOk result (Reads self.old.connection piece.now out.new.items self.new.connection) }
+        ensures rest { self.new ≡ with_connection self.new.connection self.old }
+        ensures lacks { OnErr result
+            (LacksAt self.old.connection self.new.connection piece.now out.new.items) }
+    {
+        if self.taken.is_none() {
+            self.taken = Some(Box::new(alloc, Taken::new())?);
+        }
+        match &mut self.taken {
+            Some(taken) => taken.connection.read(alloc, piece, out),
+            None => unreachable!(),
+        }
+    }
+
+    /// Ends the connection at once.
+    pub(crate) fn close(&mut self)
+        ensures { self.new ≡ with_connection Silent self.old }
+    {
+        if let Some(taken) = &mut self.taken {
+            taken.connection = Connection::Silent;
+        }
+        self.give_back();
     }
 
     /// Whether something waits to be cut.

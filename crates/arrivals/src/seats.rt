@@ -3,8 +3,11 @@
 ghost use Rattle.std.specs.Prelude.{◌≡◌, ◌≢◌, ◌+◌, ◌<◌, ◌≤◌, ◌∷◌, [], ℕ, length, map, max, All, IfOk, OnOk, OnErr};
 ghost use Rattle.std.specs.Prelude.{vec_len, vec_capacity};
 ghost use Rattle.std.specs.List.{AllZip};
-ghost use Rattle.arrivals.specs.Batches.{lists_to};
+ghost use Rattle.arrivals.specs.Batches.{Reads, lists_to};
+ghost use Rattle.arrivals.specs.Connections.{HasRoom, LacksAt};
 ghost use Rattle.arrivals.specs.SeatStates.{with_noted, seat_at, with_next, with_lists, IsReady, IsCutOf, count_to};
+ghost use Rattle.arrivals.specs.SeatStates.{with_connection};
+ghost use Rattle.arrivals.specs.declared.connections.Connection.TheVariants.{Silent};
 ghost use Rattle.arrivals.specs.declared.seat.Waiting.TheVariants.{Piece as Comes, End as Ends};
 
 use crate::Series;
@@ -125,6 +128,40 @@ impl Seats {
         ensures room { length self.new ≤ max (length self.old) (conn + 1) }
     {
         self.take(alloc, conn, Waiting::End)
+    }
+
+    /// A piece came on a number, and is read at once: adds the messages that end in it. What waits at the seat stays
+    /// there. Seats are made up to that number's, and no further. Once out of memory the seats are of no use any more.
+    pub fn read_piece(
+        &mut self,
+        alloc: Global,
+        conn: usize,
+        piece: &[u8],
+        out: &mut Vec<Message>,
+    ) -> Result<(), AllocError>
+        requires empty { out.old.items ≡ [] }
+        requires room { HasRoom (seat_at self.old conn).connection (length piece.now) }
+        ensures own { OnOk result (Reads (seat_at self.old conn).connection
+            piece.now out.new.items (seat_at self.new conn).connection) }
+        ensures rest { seat_at self.new conn
+            ≡ with_connection (seat_at self.new conn).connection (seat_at self.old conn) }
+        ensures others { (c : ℕ) → c ≢ conn → seat_at self.new c ≡ seat_at self.old c }
+        ensures lacks { OnErr result (LacksAt (seat_at self.old conn).connection
+            (seat_at self.new conn).connection piece.now out.new.items) }
+        ensures room { length self.new ≤ max (length self.old) (conn + 1) }
+    {
+        reach(&mut self.list, conn)?;
+        self.list[conn].read(alloc, piece, out)
+    }
+
+    /// The connection of a number has ended, at once: a further one comes after it. What waits at the seat stays there.
+    pub fn close(&mut self, conn: usize)
+        ensures own { seat_at self.new conn ≡ with_connection Silent (seat_at self.old conn) }
+        ensures others { (c : ℕ) → c ≢ conn → seat_at self.new c ≡ seat_at self.old c }
+    {
+        if let Some(seat) = self.list.get_mut(conn) {
+            seat.close();
+        }
     }
 
     /// Cuts what waits at each seat, the seats in parallel where the pieces are worth it.

@@ -259,11 +259,12 @@ fn two_threads_overlap_on_both_floors(rt: HostRuntime) -> Result<(), Fail> {
     check_meetings(&rt, rt.clone()?)
 }
 
-/// Without a gate 160 of them, which have more than a MiB of targets, go through the front floor too.
+/// Without a gate 160 of them, which have more than a MiB of targets, go through the front floor too, after 256 that
+/// tell that it pays.
 #[test]
 fn long_targets_without_a_gate(rt: HostRuntime) -> Result<(), Fail> {
     let alloc = rt.alloc();
-    let capture = long_requests(alloc, 160)?;
+    let capture = long_requests(alloc, 416)?;
     let settings = in_batches(&rt, 160);
     let bytes = capture.as_bytes();
     let plain = run_engine(
@@ -289,7 +290,7 @@ fn long_targets_without_a_gate(rt: HostRuntime) -> Result<(), Fail> {
         staged.expect(&rt, "a snapshot"),
     );
     assert!(rt; is_same(&staged, &plain));
-    assert!(rt; staged.text.ends_with(b"\n\nstop 160\n".as_slice()));
+    assert!(rt; staged.text.ends_with(b"\n\nstop 416\n".as_slice()));
     Ok(())
 }
 
@@ -494,37 +495,65 @@ fn written_by<R: Abort + AllocGlobal + Threads + Wait + Sync>(
     )
 }
 
-/// The replies of a batch are written before the next batch is read.
+/// The replies of a batch are written before the next batch is read; and without a floor those of a record before the
+/// next record is.
 #[test]
 fn written_before_the_next_batch(rt: HostRuntime) {
-    for (batch, before) in [(1, 17 + 3 * 165), (2, 17 + 2 * 165), (4, 17)] {
-        for engine in [Engine::Staged, Engine::Floors] {
+    let all = 17 + 3 * 165;
+    for (batch, before) in [(1, all), (2, 17 + 2 * 165), (4, 17)] {
+        for (engine, before) in [(Engine::Staged, all), (Engine::Floors, before)] {
             let written = written_by(&rt, engine, batch, CAPTURE, &SIZES);
-            assert_eq!(rt; written, (before, 17 + 3 * 165 + 7), "batches of {batch}");
+            assert_eq!(rt; written, (before, all + 7), "batches of {batch}");
         }
     }
 }
 
-/// Of 300 light pieces 256 are answered before the others are read, where no gate sees them; else all are read first.
-/// The bucket holds 100 tokens. Up to number 9 a reply has 165 bytes with its line and a line feed, up to 99 166, and
-/// what is turned away 176.
-#[test]
-fn few_light_pieces_are_read_at_a_time(rt: HostRuntime) -> Result<(), Fail> {
-    let alloc = rt.alloc();
+/// The capture of 300 requests of one connection with this after their target, and the bytes of its lines and records.
+fn requests_with(alloc: Global, query: &str) -> Result<(String, Vec<usize>), AllocError> {
+    let request = format!(in alloc; "GET /a.txt{query} HTTP/1.1\r\nHost: a\r\n\r\n")?;
+    let record = format!(in alloc; "piece 0 0 {}\n{request}\n", request.len())?;
     let mut capture = String::from_str(alloc, "haboob-capture 1 784111777\n")?;
     let mut sizes = Vec::new(alloc);
     sizes.push(27)?;
     for _ in 0..300usize {
-        write!(capture, "piece 0 0 32\n{A}\n")?;
-        sizes.push(46)?;
+        capture.push_str(&record)?;
+        sizes.push(record.len())?;
     }
     capture.push_str("stop 300\n")?;
     sizes.push(9)?;
-    let all = 17 + 10 * 165 + 90 * 166 + 200 * 176 + 9;
-    let few = 17 + 10 * 165 + 90 * 166 + 156 * 176;
-    for (engine, before) in [(Engine::Staged, few), (Engine::Floors, 17)] {
+    Ok((capture, sizes))
+}
+
+/// 300 replies with their lines: up to number 9 one has 165 bytes, up to 99 166; the bucket holds 100 tokens, and what
+/// is turned away has 176.
+const REPLIES: u64 = 10 * 165 + 90 * 166 + 200 * 176;
+
+/// Of 300 light pieces each is answered before the next is read, where no gate sees them; else all are read first.
+#[test]
+fn light_pieces_are_answered_as_they_come(rt: HostRuntime) -> Result<(), Fail> {
+    let (capture, sizes) = requests_with(rt.alloc(), "")?;
+    for (engine, before) in [(Engine::Staged, 17 + REPLIES), (Engine::Floors, 17)] {
         let written = written_by(&rt, engine, 1024, &capture, &sizes);
-        assert_eq!(rt; written, (before, all));
+        assert_eq!(rt; written, (before, 17 + REPLIES + 9));
+    }
+    Ok(())
+}
+
+/// Of 300 pieces with long targets 256 are answered so, and the others are read as a batch, where a second thread may
+/// look them up.
+#[test]
+fn long_targets_are_read_in_batches(rt: HostRuntime) -> Result<(), Fail> {
+    let alloc = rt.alloc();
+    let query = format!(in alloc; "?{}", "x".repeat(alloc, 7_000)?)?;
+    let (capture, sizes) = requests_with(alloc, &query)?;
+    let before = if has_two_processors(&rt) {
+        17 + REPLIES - 44 * 176
+    } else {
+        17 + REPLIES
+    };
+    for (engine, before) in [(Engine::Staged, before), (Engine::Floors, 17)] {
+        let written = written_by(&rt, engine, 1024, &capture, &sizes);
+        assert_eq!(rt; written, (before, 17 + REPLIES + 9));
     }
     Ok(())
 }

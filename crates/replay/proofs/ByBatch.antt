@@ -1,5 +1,5 @@
 -- A batch of records: how it is read, cut, and merged into arrivals.
-use Rattle.std.proofs.Common.{◌≡◌, ℕ, suc, zero, ◌+◌, ◌-◌, ◌<◌, ◌≤◌, ◌==◌, ◌⊎◌, inl, inr, Bool, true, false, List, [], ◌∷◌, ◌++◌, length, take, map, get_or, All, Option, Some, refl, sym, ap, ◌∙◌, subst, arith, append_assoc}
+use Rattle.std.proofs.Common.{◌≡◌, ◌≢◌, ℕ, suc, zero, ◌+◌, ◌-◌, ◌<◌, ◌≤◌, ◌==◌, ◌⊎◌, inl, inr, Bool, true, false, List, [], ◌∷◌, ◌++◌, length, take, map, get_or, All, Option, Some, refl, sym, ap, ◌∙◌, subst, arith, append_assoc}
 use Rattle.std.specs.Prelude.{flat_map, slice_get, if◌then◌else◌}
 use Rattle.std.specs.List.{AllPairs, AllZip}
 use Rattle.std.proofs.lemmas.List.{length-append, length-map, map-append, get_or_append_left, get_or_default}
@@ -15,7 +15,7 @@ use Rattle.captures.specs.Reference.{connection_of as number_of, connection_now,
 use Rattle.captures.specs.CaptureFaults.{longest_text}
 use Rattle.captures.proofs.Lines.{within_longest}
 use Rattle.captures.proofs.Lives.{IsLow, all_low}
-use Rattle.std.proofs.lemmas.Bool.{cases_lt}
+use Rattle.std.proofs.lemmas.Bool.{cases_eq, cases_lt}
 use Rattle.std.proofs.lemmas.Bool.Decides.{eqb_tells}
 use Rattle.captures.specs.Captures.{size_of, sizes_of}
 use Rattle.captures.specs.Readers.{ReaderAfter}
@@ -24,7 +24,7 @@ use Rattle.reference.specs.Reference.{Terms}
 use Rattle.arrivals.specs.Reference.{Arrival, ArrivesWith, AreArrivals, Precedes}
 use Rattle.arrivals.specs.Batches.{ReadsOn, sent_to, origin_now, origins_after, lists_to, arrivals_in, incoming_from, Stand}
 use Rattle.arrivals.specs.Connections.{HaveRead, connection_at, text_now, messages_now, arrivals_with}
-use Rattle.arrivals.specs.SeatStates.{SeatState, seat_at, with_lists, size, total, CanRead, IsReady, IsCutOf, count_to}
+use Rattle.arrivals.specs.SeatStates.{SeatState, seat_at, with_connection, with_lists, size, total, CanRead, IsReady, IsCutOf, count_to}
 use Rattle.arrivals.specs.declared.connections.Connection.TheVariants.{Silent}
 use Rattle.arrivals.specs.declared.seat.Waiting.{Waiting as Sent}
 use Rattle.arrivals.specs.declared.seat.Waiting.TheVariants.{Piece as Comes, End as Ends}
@@ -46,6 +46,18 @@ connection_of [] zero = refl
 connection_of [] (suc c) = refl
 connection_of (p ∷ places) zero = refl
 connection_of (p ∷ places) (suc c) = connection_of places c
+
+-- a seat that is as it was keeps its connection
+pub same_at : (old new : List SeatState) (c : ℕ) → seat_at new c ≡ seat_at old c → connection_at (connections_of new) c ≡ connection_at (connections_of old) c
+same_at old new c same = connection_of new c ∙ ap (λ (p : SeatState). p.connection) same ∙ sym (connection_of old c)
+
+-- nothing waits still, where one connection alone is another
+pub idle_still : (old new : List SeatState) (conn : ℕ) (x : Connection) → seat_at new conn ≡ with_connection x (seat_at old conn) → ((c : ℕ) → c ≢ conn → seat_at new c ≡ seat_at old c)
+    → Waiting [] old → Waiting [] new
+idle_still old new conn x own others idle c = elim (cases_eq c conn) [
+  | inl e ↦ rw (e, own) (idle conn)
+  | inr apart ↦ rw (others c apart) (idle c)
+]
 
 serves_same : (terms : Terms) (records : List Record) (arrivals : List Arrival) (old new : List SeatState) (desk : Desk) → ((c : ℕ) → (seat_at new c).connection ≡ (seat_at old c).connection)
     → Serves terms records arrivals (connections_of old) desk → Serves terms records arrivals (connections_of new) desk

@@ -11,5 +11,6 @@ pub mod PendingReplies
 pub mod Upcoming
 pub mod Grouping
 pub mod ByBatch
+pub mod Stepping
 pub mod Tallies
 pub mod GroupLemmas

@@ -1,4 +1,5 @@
 pub mod Backs
+pub mod Between
 pub mod Fronts
 pub mod Groups
 pub mod Rowing

@@ -6,27 +6,24 @@ ghost use Rattle.std.specs.Io.KnownBytes.{Appends};
 ghost use Rattle.devices.specs.Devices.{CanFail, CountsBy, AppendsPrefix};
 ghost use Rattle.captures.specs.Reference.{max_start};
 ghost use Rattle.captures.specs.Passes.{writer_failures, IsWriteOrMemory};
-ghost use Rattle.responses.specs.Reference.{record_text};
 ghost use Rattle.arrivals.specs.Reference.{Arrival};
 ghost use Rattle.reference.specs.Reference.{terms_of};
-ghost use Rattle.replay.specs.Backs.{is_back, reply_to, slip_of_pending};
+ghost use Rattle.replay.specs.Backs.{is_back};
 ghost use Rattle.replay.specs.Groups.{records_of};
 ghost use Rattle.replay.specs.Steps.{DecidesComing, ArePending};
 ghost use Rattle.replay.specs.Waiting.{Upcoming};
 ghost use Rattle.replay.specs.declared.back.BackState.TheVariants.{Due as Waits};
 
-use crate::answers::known_file;
-use crate::back::find_page;
 use crate::desk::{Desk, settle};
 use crate::lookup::look_up;
-use crate::pending::{Due, PendingReply, give_file, give_ready};
+use crate::pending::{PendingReply, answer_pending};
 use crate::server::Server;
 use crate::{MAX_MESSAGES, ReplayFault};
 use arrivals::Incoming;
 use devices::Output;
 use page_cache::PageCache;
 use paths::Tree;
-use responses::{HeadRenderer, Slip};
+use responses::HeadRenderer;
 use std::alloc::AllocError;
 use std::io::Write;
 use std::sync::{Mutex, Wait};
@@ -57,60 +54,7 @@ pub(crate) fn settle_all<F: Tree>(
     Ok(pending_replies)
 }
 
-/// Answers a message that was decided on, with its page from the cache.
-fn answer_by_cache<F: Tree, R: Wait, W: Write>(
-    server: &Server<'_, F>,
-    rt: &R,
-    cache: &Mutex<PageCache<F>>,
-    heads: &mut HeadRenderer,
-    pending: PendingReply<F>,
-    writer: &mut Output<W>,
-) -> Result<(), ReplayFault>
-    requires ready { is_back F.files (Waits pending) ≡ true }
-    requires failures { CanFail writer.old }
-    ensures written { OnOk result (Appends writer.old.bytes writer.new.bytes
-        (record_text (reply_to F.files (slip_of_pending pending)))) }
-    ensures part { OnErr result (AppendsPrefix writer.old.bytes writer.new.bytes
-        (record_text (reply_to F.files (slip_of_pending pending)))) }
-    ensures failures { CountsBy writer_failures writer.old.failures writer.new.failures result }
-    ensures own { IfErr result IsWriteOrMemory }
-{
-    let PendingReply {
-        number,
-        conn,
-        date,
-        head,
-        link,
-        due,
-    } = pending;
-    match due {
-        Due::Page { file, mtime } => {
-            let page = find_page(rt, server.alloc, server.snapshot, cache, file)?;
-            let slip = Slip {
-                number,
-                conn,
-                date,
-                head,
-                link,
-                what: known_file(server.snapshot, file, mtime),
-            };
-            give_file::<F, W>(heads, &slip, page.body(), writer)
-        }
-        Due::Ready(what) => {
-            let slip = Slip {
-                number,
-                conn,
-                date,
-                head,
-                link,
-                what,
-            };
-            give_ready(server.alloc, slip, writer)
-        }
-    }
-}
-
-/// Answers messages that were decided on, one after another.
+/// Answers messages that were decided on, one after another, with pages from the cache.
 pub(crate) fn answer_each<F: Tree, R: Wait, W: Write>(
     server: &Server<'_, F>,
     rt: &R,
@@ -128,8 +72,9 @@ pub(crate) fn answer_each<F: Tree, R: Wait, W: Write>(
     ensures own { IfErr result IsWriteOrMemory }
 {
     let mut heads = HeadRenderer::new(server.alloc);
+    let mut pages = cache.lock(rt);
     for pending in pending_replies {
-        answer_by_cache(server, rt, cache, &mut heads, pending, writer)?;
+        answer_pending(server, &mut heads, &mut *pages, pending, writer)?;
     }
     Ok(())
 }

@@ -15,6 +15,7 @@ ghost use Rattle.reference.specs.Outcomes.{IsOwn, IfTooMany, IfCutShort};
 
 use crate::desk::Desk;
 use crate::server::Server;
+use crate::source::Source;
 use crate::{MAX_MESSAGES, ReplayFault};
 use arrivals::Origin;
 use devices::Output;
@@ -44,10 +45,12 @@ pub(crate) trait Format {
         ensures failures { CountsBy writer_failures writer.old.failures writer.new.failures result }
         ensures own { IfErr result IsWriteOrMemory };
 
-    /// Decides on the next message, counts it, and writes its text. `heads` renders the head of a reply.
-    fn write_message<F: Tree, W: Write>(
+    /// Decides on the next message, counts it, and writes its text. `heads` renders the head of a reply, and `source`
+    /// has the bytes of its file.
+    fn write_message<F: Tree, S: Source<F>, W: Write>(
         server: &Server<'_, F>,
         heads: &mut HeadRenderer,
+        source: &mut S,
         origin: Origin,
         what: &Meaning,
         desk: &mut Desk,
@@ -90,9 +93,10 @@ pub(crate) trait Format {
 }
 
 /// Answers the messages that ended in a piece, in their order, so many in all at most.
-pub(crate) fn answer_all<T: Format, F: Tree, W: Write>(
+pub(crate) fn answer_all<T: Format, F: Tree, S: Source<F>, W: Write>(
     server: &Server<'_, F>,
     heads: &mut HeadRenderer,
+    source: &mut S,
     origin: Origin,
     messages: &[Message],
     desk: &mut Desk,
@@ -131,7 +135,7 @@ pub(crate) fn answer_all<T: Format, F: Tree, W: Write>(
         if desk.totals.answered == most {
             return Err(ReplayFault::TooMany(most));
         }
-        T::write_message::<F, W>(server, heads, origin, &message.what, desk, writer)?;
+        T::write_message::<F, S, W>(server, heads, source, origin, &message.what, desk, writer)?;
     }
     Ok(())
 }

@@ -1,6 +1,7 @@
 //! The engines: a capture is replayed against a snapshot, and every reply is written.
 #![tactic(auto)]
 
+mod advance;
 mod answers;
 mod back;
 mod desk;
@@ -9,14 +10,17 @@ mod explain;
 mod format;
 mod front;
 mod groups;
+mod load;
 mod lookup;
 mod parts;
 mod pending;
 mod plain;
+mod reading;
 mod replies;
 mod rows;
 mod server;
 mod shifted;
+mod source;
 mod staged;
 mod totals;
 

@@ -23,17 +23,16 @@ use crate::desk::{Desk, decide_all};
 use crate::direct::{answer_each, settle_all};
 use crate::front::run_front;
 use crate::groups::{Pages, groups_of, work_of};
+use crate::load::{ANSWERING_PAYS, LOOKING_PAYS, Load, target_len};
 use crate::pending::PendingReply;
 use crate::server::Server;
 use crate::shifted::Shifted;
 use crate::{MAX_MESSAGES, ReplayFault};
 use arrivals::{Incoming, Series};
 use devices::Output;
-use http_requests::Meaning;
 use paths::Tree;
 use responses::{Reply, write_reply};
 use stage_graph::{Gate, Unrun};
-use std::cell::Cell;
 use std::io::Write;
 use std::sync::Wait;
 use std::thread::Threads;
@@ -47,21 +46,6 @@ const MESSAGE: usize = 256;
 /// How many bytes of work are worth a thread of the back floor.
 const WORTH_ANSWERING: usize = 524_288;
 
-/// How many bytes of targets a part has where a floor pays: to look them up takes longer than to take messages through
-/// queues, and to start threads.
-const LOOKING_PAYS: usize = 1_048_576;
-
-/// How many bytes of work a group is where a floor pays. A thread by itself builds a page where the last one was, and
-/// holds one at a time; a floor asks the system for room for the pages of a group.
-const ANSWERING_PAYS: usize = 67_108_864;
-
-/// Into how many shares the work is divided with which a floor pays.
-const SHARES: usize = 64;
-
-/// How many pieces are read at a time where the calling thread serves them by itself: what comes of so few stays in the
-/// cache of its processor.
-const FEW: usize = 256;
-
 /// What the floors of the staged engine work with, besides what they serve.
 #[derive(Drop)]
 pub(crate) struct Floors<'a, F: Tree, G, T> {
@@ -72,31 +56,22 @@ pub(crate) struct Floors<'a, F: Tree, G, T> {
     pub gate: &'a G,
     /// How many messages are answered at most.
     pub most: usize,
-    /// The greatest work of a floor in this batch, in shares of what pays.
-    pub share: Cell<usize>,
+    /// How much work they have, or would have.
+    pub load: Load,
 }
 
 impl<'a, F: Tree, G: Gate, T> Floors<'a, F, G, T> {
-    /// Whether the calling thread takes one message after another through all stages, without a floor: where no gate
-    /// sees the messages, and the work is less than what pays, or no second thread is there. The work is noted.
-    fn is_alone(&self, work: usize, pays: usize) -> bool {
-        let share = work / (pays / SHARES).max(1);
-        self.share.set(self.share.get().max(share));
-        self.gate.is_absent() && (work < pays || self.threads <= 1)
+    /// Whether batches are read and taken through floors: where a gate sees the messages, and where a floor pays, if a
+    /// second thread is there.
+    pub fn pay(&self) -> bool {
+        !self.gate.is_absent() || (self.threads > 1 && self.load.pays())
     }
 
-    /// How many pieces to read next, of a batch that has so many at most, after a batch with `read` pieces: all, where
-    /// a floor would pay for a whole batch of such pieces, and few where not.
-    pub fn next_pieces(&self, batch: usize, read: usize) -> usize
-        ensures { 0 < batch → 0 < result }
-    {
-        let share = self.share.replace(0);
-        let whole = share.saturating_mul(batch) / read.max(1);
-        if self.gate.is_absent() && (whole < SHARES || self.threads <= 1) {
-            batch.min(FEW)
-        } else {
-            batch
-        }
+    /// Whether the calling thread takes one message of a batch after another through all stages, without a floor: where
+    /// no gate sees the messages, and the work is less than what pays, or no second thread is there. The work is noted.
+    fn is_alone(&self, work: usize, pays: usize) -> bool {
+        self.load.note(work, pays);
+        self.gate.is_absent() && (work < pays || self.threads <= 1)
     }
 }
 
@@ -104,11 +79,7 @@ impl<'a, F: Tree, G: Gate, T> Floors<'a, F, G, T> {
 fn targets_of(messages: &[Incoming]) -> usize {
     let mut bytes: usize = 0;
     for message in messages {
-        let target = match &message.what {
-            Meaning::Request { target, .. } => target.as_slice().len(),
-            Meaning::Bad(_) => 0,
-        };
-        bytes = bytes.saturating_add(target);
+        bytes = bytes.saturating_add(target_len(&message.what));
     }
     bytes
 }

@@ -1,8 +1,8 @@
-//! A message that was decided on, with what is due for it, and its answer by the plain engine.
+//! A message that was decided on, with what is due for it, and its answer by one thread.
 
 ghost use Rattle.std.specs.Prelude.{◌≡◌, slice_get, ◌<◌, ◌≤◌, ◌-◌, ◌+◌, ◌^◌, [], true, length, OnOk, IfErr, OnErr};
 ghost use Rattle.responses.specs.Reference.{status_of, statuses, record_text};
-ghost use Rattle.replay.specs.Backs.{given_by, slip_of_pending, reply_to, given_as, is_back, can_render};
+ghost use Rattle.replay.specs.Backs.{given_by, slip_of_pending, reply_to, is_back, can_render};
 ghost use Rattle.std.specs.Io.KnownBytes.{Appends};
 ghost use Rattle.devices.specs.Devices.{CanFail, CountsBy, AppendsPrefix};
 ghost use Rattle.paths.specs.Snapshots.{max_time};
@@ -12,11 +12,10 @@ ghost use Rattle.replay.specs.declared.back.BackState.TheVariants.{Due as Waits}
 use crate::ReplayFault;
 use crate::answers::known_file;
 use crate::server::Server;
+use crate::source::Source;
 use devices::Output;
 use paths::Tree;
-use responses::{
-    Given, HeadRenderer, OK_PLACE, Persistence, Slip, render, write_record, write_reply,
-};
+use responses::{Given, HeadRenderer, OK_PLACE, Persistence, Slip, render, write_reply};
 use std::alloc::Global;
 use std::io::Write;
 
@@ -56,28 +55,6 @@ pub struct PendingReply<F: Tree> {
     pub due: Due<F>,
 }
 
-/// Writes the reply that gives a file these bytes, by the slip of the answer to HEAD.
-pub(crate) fn give_file<F: Tree, W: Write>(
-    heads: &mut HeadRenderer,
-    slip: &Slip<F>,
-    bytes: &[u8],
-    writer: &mut Output<W>,
-) -> Result<(), ReplayFault>
-    requires date { slip.now.date ≤ max_time }
-    requires failures { CanFail writer.old }
-    ensures written { OnOk result (Appends writer.old.bytes writer.new.bytes
-        (record_text (given_as F.files slip.now bytes.now))) }
-    ensures part { OnErr result (AppendsPrefix writer.old.bytes writer.new.bytes
-        (record_text (given_as F.files slip.now bytes.now))) }
-    ensures failures { CountsBy writer_failures writer.old.failures writer.new.failures result }
-    ensures own { IfErr result IsWriteOrMemory }
-{
-    heads.render(slip)?;
-    let body: &[u8] = if slip.head { &[] } else { bytes };
-    write_record(writer, slip.number, slip.conn, heads.as_slice(), body)?;
-    Ok(())
-}
-
 /// Renders and writes the reply of a slip.
 pub(crate) fn give_ready<F: Tree, W: Write>(
     alloc: Global,
@@ -98,10 +75,11 @@ pub(crate) fn give_ready<F: Tree, W: Write>(
     Ok(())
 }
 
-/// Answers a message that was decided on. The bytes of a file go to the writer as they stand in the snapshot.
-pub(crate) fn answer_pending<F: Tree, W: Write>(
+/// Answers a message that was decided on.
+pub(crate) fn answer_pending<F: Tree, S: Source<F>, W: Write>(
     server: &Server<'_, F>,
     heads: &mut HeadRenderer,
+    source: &mut S,
     pending: PendingReply<F>,
     writer: &mut Output<W>,
 ) -> Result<(), ReplayFault>
@@ -132,7 +110,7 @@ pub(crate) fn answer_pending<F: Tree, W: Write>(
                 link,
                 what: known_file(server.snapshot, file, mtime),
             };
-            give_file::<F, W>(heads, &slip, server.snapshot.bytes(file), writer)
+            source.give::<W>(server, heads, &slip, file, writer)
         }
         Due::Ready(what) => {
             let slip = Slip {

@@ -22,8 +22,10 @@ ghost use Rattle.admission.specs.Standing.{station_of};
 
 use crate::desk::{Desk, controller_of};
 use crate::format::{Format, answer_all};
+use crate::reading::Reading;
 use crate::replies::Replies;
 use crate::server::Server;
+use crate::source::{FromSnapshot, Source};
 use crate::totals::Totals;
 use crate::{MAX_MESSAGES, ReplayFault, Settings, Summary, Tally};
 use admission::{Control, Controller};
@@ -99,13 +101,14 @@ pub(crate) fn outcome_of(version: Version, desk: Desk) -> Outcome
 }
 
 /// Reads one more record: answers the messages that arrive with it, so many in all at most. `messages` is room for
-/// them.
-fn answer_record<T: Format, F: Tree, W: Write>(
+/// them, and holds those of the record afterwards.
+pub(crate) fn answer_record<T: Format, F: Tree, S: Source<F>, C: Reading, W: Write>(
     server: &Server<'_, F>,
     heads: &mut HeadRenderer,
+    source: &mut S,
     messages: &mut Vec<Message>,
     next: &Record,
-    connections: &mut Connections,
+    connections: &mut C,
     tiers: &mut Tiers,
     desk: &mut Desk,
     writer: &mut Output<W>,
@@ -116,28 +119,30 @@ fn answer_record<T: Format, F: Tree, W: Write>(
     requires limit { (desk.old.totals.answered ≤ most) × (most ≤ MAX_MESSAGES) }
     requires record { (version : AVersion) × IsRecord version next.now }
     requires room { (records : List ARecord) × (arrivals : List Arrival)
-        × Serves (terms_of F.files server.now) records arrivals connections.old desk.old
+        × Serves (terms_of F.files server.now) records arrivals (C.connections connections.old) desk.old
         × (sizes_of records + size_of next.now ≤ longest_text) × IsLater next.now arrivals }
     requires failures { CanFail writer.old }
     ensures tiers { OnOk result ((records : List ARecord) → AreTiers records tiers.old
         → AreTiers (records ++ next.now ∷ []) tiers.new) }
     ensures serves { OnOk result
         (AnswersRecord (T.texts (terms_of F.files server.now)) (terms_of F.files server.now)
-        next.now tiers.old connections.old desk.old connections.new desk.new writer.old.bytes writer.new.bytes) }
+        next.now tiers.old (C.connections connections.old) desk.old
+        (C.connections connections.new) desk.new writer.old.bytes writer.new.bytes) }
+    ensures idle { OnOk result (C.idle connections.old → C.idle connections.new) }
     ensures start { OnOk result (desk.new.start ≡ desk.old.start) }
     ensures within { OnOk result (desk.new.totals.answered ≤ most) }
     ensures many { IfErr result (λ f. IfTooMany f (λ n. (n ≡ most)
         × FillsWithRecord most (T.texts (terms_of F.files server.now)) (terms_of F.files server.now)
-        next.now tiers.old connections.old desk.old writer.old.bytes writer.new.bytes)) }
+        next.now tiers.old (C.connections connections.old) desk.old writer.old.bytes writer.new.bytes)) }
     ensures part { IfErr result (λ f. IfCutShort f ((writer.new.bytes ≡ writer.old.bytes)
         ⊎ AnswersRecordInPart most (T.texts (terms_of F.files server.now)) (terms_of F.files server.now)
-        next.now tiers.old connections.old desk.old writer.old.bytes writer.new.bytes)) }
+        next.now tiers.old (C.connections connections.old) desk.old writer.old.bytes writer.new.bytes)) }
     ensures failures { CountsBy writer_failures writer.old.failures writer.new.failures result }
     ensures own { IfErr result IsOwn }
 {
     match next {
         Record::End { conn, .. } => {
-            connections.end(usize::from(*conn));
+            connections.close(usize::from(*conn));
             tiers.end(*conn);
             Ok(())
         }
@@ -147,13 +152,13 @@ fn answer_record<T: Format, F: Tree, W: Write>(
         }
         Record::Piece { tick, conn, bytes } => {
             messages.clear();
-            connections.read_piece(server.alloc, usize::from(*conn), bytes.as_slice(), messages)?;
+            connections.read(server.alloc, usize::from(*conn), bytes.as_slice(), messages)?;
             let origin = Origin {
                 conn: *conn,
                 tick: *tick,
                 tier: tiers.of(*conn),
             };
-            answer_all::<T, F, W>(server, heads, origin, messages, desk, writer, most)
+            answer_all::<T, F, S, W>(server, heads, source, origin, messages, desk, writer, most)
         }
     }
 }
@@ -189,6 +194,7 @@ pub(crate) fn replay_writing<T: Format, F: Tree, R: Read, W: Write>(
         tree: PhantomData,
     };
     let mut heads = HeadRenderer::new(alloc);
+    let mut source = FromSnapshot;
     let mut messages = Vec::new(alloc);
     let mut connections = Connections::new(alloc);
     let mut tiers = Tiers::new(alloc);
@@ -205,9 +211,10 @@ pub(crate) fn replay_writing<T: Format, F: Tree, R: Read, W: Write>(
             Ok(None) => break,
             Err(fault) => return Err(ReplayFault::from(fault)),
         };
-        answer_record::<T, F, W>(
+        answer_record::<T, F, FromSnapshot, Connections, W>(
             &server,
             &mut heads,
+            &mut source,
             &mut messages,
             &next,
             &mut connections,

@@ -12,6 +12,7 @@ use crate::format::Format;
 use crate::lookup::look_up;
 use crate::pending::answer_pending;
 use crate::server::Server;
+use crate::source::Source;
 use arrivals::Origin;
 use devices::Output;
 use http_requests::Meaning;
@@ -62,9 +63,10 @@ impl Format for Replies {
         write_first_line(writer)
     }
 
-    fn write_message<F: Tree, W: Write>(
+    fn write_message<F: Tree, S: Source<F>, W: Write>(
         server: &Server<'_, F>,
         heads: &mut HeadRenderer,
+        source: &mut S,
         origin: Origin,
         what: &Meaning,
         desk: &mut Desk,
@@ -72,7 +74,7 @@ impl Format for Replies {
     ) -> Result<(), ReplayFault> {
         let lookup = look_up(server, what)?;
         let pending = settle(server, origin, what, lookup, desk)?;
-        answer_pending(server, heads, pending, writer)
+        answer_pending(server, heads, source, pending, writer)
     }
 
     fn finish<W: Write>(

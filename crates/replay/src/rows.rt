@@ -18,6 +18,7 @@ use crate::format::Format;
 use crate::lookup::{Lookup, look_up};
 use crate::pending::{Due, PendingReply};
 use crate::server::Server;
+use crate::source::Source;
 use admission::{Decision, MAX_OFFERS, MAX_SERVICE, MAX_TICK, Outlook};
 use arrivals::Origin;
 use decision_table::{Offered, Row, write_heading, write_row};
@@ -159,9 +160,10 @@ impl Format for Rows {
         Ok(())
     }
 
-    fn write_message<F: Tree, W: Write>(
+    fn write_message<F: Tree, S: Source<F>, W: Write>(
         server: &Server<'_, F>,
         _heads: &mut HeadRenderer,
+        _source: &mut S,
         origin: Origin,
         what: &Meaning,
         desk: &mut Desk,

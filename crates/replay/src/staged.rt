@@ -1,76 +1,35 @@
-//! The staged engine: batch by batch, each over floors of threads.
+//! The staged engine: records that are answered as they come, and batches that go over floors of threads.
 
-ghost use Rattle.std.specs.Prelude.{◌≡◌, ◌<◌, ◌≤◌, ◌-◌, ◌+◌, ◌^◌, ◌⊎◌, [], List, IfOk, IfErr, OnOk};
+ghost use Rattle.std.specs.Prelude.{◌≡◌, ◌≤◌, ◌-◌, ◌^◌, ◌⊎◌, IfOk, IfErr};
 ghost use Rattle.devices.specs.Devices.{CanFail, CountsBy};
-ghost use Rattle.captures.specs.Reference.{max_start};
-ghost use Rattle.captures.specs.declared.record.Record.{Record as ARecord};
-ghost use Rattle.arrivals.specs.Reference.{Arrival};
 ghost use Rattle.reference.specs.Reference.{terms_of, Answers};
-ghost use Rattle.reference.specs.Outcomes.{IfTooMany, IfCutShort, IsOwn, Leaves};
+ghost use Rattle.reference.specs.Outcomes.{Leaves};
 ghost use Rattle.captures.specs.Passes.{BlamesReader, leaves_reads_untold, reader_failures, writer_failures};
 ghost use Rattle.reference.specs.Texts.{reply_texts};
-ghost use Rattle.replay.specs.Steps.{AnswersBatch, FillsWithBatch, AnswersBatchInPart};
-ghost use Rattle.replay.specs.Waiting.{ComeNext, Waiting};
 
+use crate::advance::serve_next;
 use crate::desk::{Desk, controller_of};
 use crate::groups::{Pages, room_for_pages};
-use crate::parts::{Floors, serve_parts};
+use crate::load::Load;
+use crate::parts::Floors;
 use crate::plain::outcome_of;
 use crate::replies::{write_first_line, write_last_line};
 use crate::server::Server;
 use crate::totals::Totals;
-use crate::{MAX_MESSAGES, ReplayFault, Settings};
-use arrivals::{Ending, Origin, Seats, Tiers, parts_of, read_batch};
+use crate::{ReplayFault, Settings};
+use arrivals::{Seats, Tiers};
 use captures::CaptureReader;
 use devices::{Input, Output};
 use page_cache::PageCache;
 use paths::{Snapshot, Tree};
 use reference::Outcome;
+use responses::HeadRenderer;
 use stage_graph::Gate;
 use std::alloc::Global;
-use std::cell::Cell;
 use std::io::{Read, Write};
 use std::marker::PhantomData;
 use std::sync::{Mutex, Wait};
 use std::thread::{Threads, available_parallelism};
-
-/// Serves a batch whose pieces wait at the seats: the connections are cut in parallel, and their messages answered in
-/// the order of their arrival.
-fn serve_batch<F: Tree + Send + Sync, G: Gate + Sync, T: Threads + Wait + Sync, W: Write>(
-    server: &Server<'_, F>,
-    floors: &Floors<'_, F, G, T>,
-    seats: Seats,
-    origins: &[Origin],
-    desk: &mut Desk,
-    writer: &mut Output<W>,
-) -> Result<Seats, ReplayFault>
-    requires start { desk.old.start ≤ max_start }
-    requires next { (records : List ARecord) × (rs : List ARecord) × (arrivals : List Arrival)
-        × ComeNext (terms_of F.files server.now) records rs arrivals seats origins.now desk.old }
-    requires limit { (desk.old.totals.answered ≤ floors.now.most)
-        × (floors.now.most ≤ MAX_MESSAGES) }
-    requires failures { CanFail writer.old }
-    ensures serves { IfOk result
-        (λ after. AnswersBatch (terms_of F.files server.now) seats origins.now desk.old
-        after desk.new writer.old.bytes writer.new.bytes) }
-    ensures idle { IfOk result (Waiting []) }
-    ensures start { OnOk result (desk.new.start ≡ desk.old.start) }
-    ensures within { OnOk result (desk.new.totals.answered ≤ floors.now.most) }
-    ensures many { IfErr result (λ f. IfTooMany f (λ n. (n ≡ floors.now.most)
-        × FillsWithBatch floors.now.most (terms_of F.files server.now) seats origins.now desk.old
-        writer.old.bytes writer.new.bytes)) }
-    ensures part { IfErr result (λ f. IfCutShort f ((writer.new.bytes ≡ writer.old.bytes)
-        ⊎ AnswersBatchInPart floors.now.most (terms_of F.files server.now) seats origins.now desk.old
-        writer.old.bytes writer.new.bytes)) }
-    ensures failures { CountsBy writer_failures writer.old.failures writer.new.failures result }
-    ensures own { IfErr result IsOwn }
-{
-    let mut seats = seats.cut(floors.rt, server.alloc)?;
-    let pieces = seats.merge(server.alloc, origins)?;
-    let parts = parts_of(server.alloc, pieces)?;
-    serve_parts(server, floors, parts, desk, writer)?;
-    Ok(seats)
-}
 
 /// How many processors there are for threads; more than any, where that isn't known.
 fn processors<T: Threads>(rt: &T) -> usize {
@@ -150,19 +109,21 @@ pub fn staged_replay<
         pages,
         gate,
         most: version.max_messages(),
-        share: Cell::new(0),
+        load: Load::new(),
     };
-    let mut pieces = floors.next_pieces(settings.batch(), 0);
-    loop {
-        let batch = read_batch(alloc, &mut capture, pieces, &mut seats, &mut tiers)?;
-        seats = serve_batch(&server, &floors, seats, &batch.origins, &mut desk, writer)?;
-        pieces = floors.next_pieces(settings.batch(), batch.origins.len());
-        match batch.ending {
-            Ending::More => {}
-            Ending::End => break,
-            Ending::Fault(fault) => return Err(ReplayFault::from(fault)),
-        }
-    }
+    let mut heads = HeadRenderer::new(alloc);
+    let mut messages = Vec::new(alloc);
+    while serve_next(
+        &server,
+        &floors,
+        &mut heads,
+        &mut messages,
+        &mut capture,
+        &mut seats,
+        &mut tiers,
+        &mut desk,
+        writer,
+    )? {}
     let answered = desk.totals.answered;
     let outcome = outcome_of(version, desk);
     write_last_line(alloc, writer, answered)?;

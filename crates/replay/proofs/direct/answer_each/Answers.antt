@@ -9,19 +9,19 @@ use Rattle.replay.proofs.direct.answer_each.Goals as goal
 pub loop-pending-init : goal.loop-pending-init
 loop-pending-init g c = (each_none _ _ _ _ (search rules), refl)
 
-pub answer_by_cache-requires-clause-ready : goal.answer_by_cache-requires-clause-ready
-answer_by_cache-requires-clause-ready g c =
+pub answer_pending-requires-clause-ready : goal.answer_pending-requires-clause-ready
+answer_pending-requires-clause-ready g c =
     each_ready (λ t. is_back g.F.Tree.files (Waits t)) g.F.Tree.files _ c.in-Some.pending _ _ _ _ c.loop-pending.invariant.0 c.in-Some.ensures.steps.0 c.requires.ready
 
 pub loop-pending-preserved : goal.loop-pending-preserved
 loop-pending-preserved g c = (
-  each_more _ _ c.in-Some.pending _ _ _ _ _ c.loop-pending.invariant.0 c.in-Some.ensures.steps.0 c.in_ok-answer_by_cache.ensures.written,
-  c.in_ok-answer_by_cache.ensures.failures ∙ c.loop-pending.invariant.1,
+  each_more _ _ c.in-Some.pending _ _ _ _ _ c.loop-pending.invariant.0 c.in-Some.ensures.steps.0 c.in_ok-answer_pending.ensures.written,
+  c.in_ok-answer_pending.ensures.failures ∙ c.loop-pending.invariant.1,
 )
 
-pub returns-in_err-answer_by_cache-clause-part : goal.returns-in_err-answer_by_cache-clause-part
-returns-in_err-answer_by_cache-clause-part g c =
-    on_err _ _ (each_part _ _ c.in-Some.pending _ _ _ _ _ c.loop-pending.invariant.0 c.in-Some.ensures.steps.0 c.in_err-answer_by_cache.ensures.part)
+pub returns-in_err-answer_pending-clause-part : goal.returns-in_err-answer_pending-clause-part
+returns-in_err-answer_pending-clause-part g c =
+    on_err _ _ (each_part _ _ c.in-Some.pending _ _ _ _ _ c.loop-pending.invariant.0 c.in-Some.ensures.steps.0 c.in_err-answer_pending.ensures.part)
 
 pub returns-clause-written : goal.returns-clause-written
 returns-clause-written g c =

@@ -11,37 +11,37 @@ use Rattle.replay.proofs.plain.answer_record.Goals as goal
 from_own : {conn tick tier own : ℕ} → tier ≡ own → ◌≡◌ {A = Origin} (record { conn = conn; tick = tick; tier = tier }) (record { conn = conn; tick = tick; tier = own })
 from_own {conn} {tick} e = ap (λ t. record { conn = conn; tick = tick; tier = t }) e
 
-pub read_piece-requires-clause-room : goal.read_piece-requires-clause-room
-read_piece-requires-clause-room g c =
+pub read-requires-clause-room : goal.read-requires-clause-room
+read-requires-clause-room g c =
     let given = c.requires.room in
     let size : size_of c.args.next.now ≡ length c.as_slice.result.now = ap size_of c.in-Piece.is ∙ ap length (sym c.as_slice.ensures) in
     let fits : sizes_of given.0 + length c.as_slice.result.now ≤ 1125899906842624 = (let h = given.3 in omega (arith, size, h)) in
-    has_room (terms_of g.F.Tree.files c.args.server.now) given.0 given.1 c.args.connections.now c.args.desk.now c.from-in-Piece.result (length c.as_slice.result.now) (rw c.from-in-Piece.ensures (number_in _ _ _ c.in-Piece.is c.requires.record.1)) given.2 fits
+    has_room (terms_of g.F.Tree.files c.args.server.now) given.0 given.1 (g.C.Reading.connections c.args.connections.now) c.args.desk.now c.from-in-Piece.result (length c.as_slice.result.now) (rw c.from-in-Piece.ensures (number_in _ _ _ c.in-Piece.is c.requires.record.1)) given.2 fits
 
 pub returns-in-End-clause-serves : goal.returns-in-End-clause-serves
 returns-in-End-clause-serves g c = λ records arrivals tiers serves.
-    serves_end (g.T.Format.texts (terms_of g.F.Tree.files c.args.server.now)) (terms_of g.F.Tree.files c.args.server.now) _ c.in-End.conn c.from.result records arrivals c.args.next.now c.args.connections.now c.«end».new.self _ c.args.desk.now c.args.writer.now.bytes (c.requires.texts (terms_of g.F.Tree.files c.args.server.now)) c.in-End.is c.from.ensures (number_in _ _ _ c.in-End.is c.requires.record.1) c.«end».ensures.own c.«end».ensures.others tiers serves
+    serves_end (g.T.Format.texts (terms_of g.F.Tree.files c.args.server.now)) (terms_of g.F.Tree.files c.args.server.now) _ c.in-End.conn c.from.result records arrivals c.args.next.now (g.C.Reading.connections c.args.connections.now) (g.C.Reading.connections c.close.new.self) _ c.args.desk.now c.args.writer.now.bytes (c.requires.texts (terms_of g.F.Tree.files c.args.server.now)) c.in-End.is c.from.ensures (number_in _ _ _ c.in-End.is c.requires.record.1) c.close.ensures.own c.close.ensures.others tiers serves
 
 pub returns-in-End-clause-tiers : goal.returns-in-End-clause-tiers
-returns-in-End-clause-tiers g c = λ records are. tiers_end _ _ _ records _ _ c.in-End.is (number_in _ _ _ c.in-End.is c.requires.record.1) c.end-in-End.ensures are
+returns-in-End-clause-tiers g c = λ records are. tiers_end _ _ _ records _ _ c.in-End.is (number_in _ _ _ c.in-End.is c.requires.record.1) c.«end».ensures are
 
 pub returns-in_ok-give-in-Tier-clause-tiers : goal.returns-in_ok-give-in-Tier-clause-tiers
 returns-in_ok-give-in-Tier-clause-tiers g c = λ records are. tiers_tier _ _ _ records _ _ c.in-Tier.is (number_in _ _ _ c.in-Tier.is c.requires.record.1) c.in_ok-give-in-Tier.ensures.ok are
 
-pub returns-in_ok-read_piece-in-Piece-clause-serves : goal.returns-in_ok-read_piece-in-Piece-clause-serves
-returns-in_ok-read_piece-in-Piece-clause-serves g c =
+pub returns-in_ok-read-in-Piece-clause-serves : goal.returns-in_ok-read-in-Piece-clause-serves
+returns-in_ok-read-in-Piece-clause-serves g c =
     let terms = terms_of g.F.Tree.files c.args.server.now in
     let o : Origin = record { conn = c.in-Piece.conn; tick = c.in-Piece.tick; tier = c.of.result } in
     let low = number_in _ _ _ c.in-Piece.is c.requires.record.1 in
     on_ok c.answer_all.result _ _ _ _ c.answer_all.ensures.stands c.answer_all.ensures.written c.answer_all.ensures.start
     (λ stands written start records arrivals tiers serves.
-    (let brings = brought terms c.in-Piece.tick c.in-Piece.conn c.from-in-Piece.result o c.in-Piece.bytes c.as_slice.result.now c.deref.result.now c.read_piece.new.out.items records arrivals c.args.next.now c.args.connections.now c.read_piece.new.self c.args.desk.now
-    (from_own (c.of.ensures.tier ∙ tiers.each c.in-Piece.conn low)) low c.in-Piece.is c.from-in-Piece.ensures c.as_slice.ensures c.deref.ensures.value (record { own = c.in_ok-read_piece-in-Piece.ensures.own; others = c.in_ok-read_piece-in-Piece.ensures.others }) serves in
-    serves_piece (g.T.Format.texts terms) terms (connection_now c.in-Piece.conn records) o c.deref.result.now records arrivals c.args.next.now c.read_piece.new.self c.args.desk.now c.answer_all.new.desk c.args.writer.now.bytes c.answer_all.new.writer.bytes
+    (let brings = brought terms c.in-Piece.tick c.in-Piece.conn c.from-in-Piece.result o c.in-Piece.bytes c.as_slice.result.now c.deref.result.now c.read.new.out.items records arrivals c.args.next.now (g.C.Reading.connections c.args.connections.now) (g.C.Reading.connections c.read.new.self) c.args.desk.now
+    (from_own (c.of.ensures.tier ∙ tiers.each c.in-Piece.conn low)) low c.in-Piece.is c.from-in-Piece.ensures c.as_slice.ensures c.deref.ensures.value (record { own = c.in_ok-read-in-Piece.ensures.own; others = c.in_ok-read-in-Piece.ensures.others }) serves in
+    serves_piece (g.T.Format.texts terms) terms (connection_now c.in-Piece.conn records) o c.deref.result.now records arrivals c.args.next.now (g.C.Reading.connections c.read.new.self) c.args.desk.now c.answer_all.new.desk c.args.writer.now.bytes c.answer_all.new.writer.bytes
     brings start (stands arrivals (length records) (connection_now c.in-Piece.conn records) serves.stands) (written arrivals (length records) (connection_now c.in-Piece.conn records) serves.stands)))
 
-pub returns-in_ok-read_piece-in-Piece-clause-many : goal.returns-in_ok-read_piece-in-Piece-clause-many
-returns-in_ok-read_piece-in-Piece-clause-many g c =
+pub returns-in_ok-read-in-Piece-clause-many : goal.returns-in_ok-read-in-Piece-clause-many
+returns-in_ok-read-in-Piece-clause-many g c =
     let terms = terms_of g.F.Tree.files c.args.server.now in
     let o : Origin = record { conn = c.in-Piece.conn; tick = c.in-Piece.tick; tier = c.of.result } in
     let low = number_in _ _ _ c.in-Piece.is c.requires.record.1 in
@@ -49,29 +49,29 @@ returns-in_ok-read_piece-in-Piece-clause-many g c =
     (λ n full. (
       full.0,
       λ records arrivals tiers serves.
-          (let brings = brought terms c.in-Piece.tick c.in-Piece.conn c.from-in-Piece.result o c.in-Piece.bytes c.as_slice.result.now c.deref.result.now c.read_piece.new.out.items records arrivals c.args.next.now c.args.connections.now c.read_piece.new.self c.args.desk.now
-          (from_own (c.of.ensures.tier ∙ tiers.each c.in-Piece.conn low)) low c.in-Piece.is c.from-in-Piece.ensures c.as_slice.ensures c.deref.ensures.value (record { own = c.in_ok-read_piece-in-Piece.ensures.own; others = c.in_ok-read_piece-in-Piece.ensures.others }) serves in
-          serves_full (g.T.Format.texts terms) terms c.args.most (connection_now c.in-Piece.conn records) o full.1 c.deref.result.now records arrivals c.args.next.now c.read_piece.new.self c.args.connections.now c.args.desk.now c.args.writer.now.bytes c.answer_all.new.writer.bytes
+          (let brings = brought terms c.in-Piece.tick c.in-Piece.conn c.from-in-Piece.result o c.in-Piece.bytes c.as_slice.result.now c.deref.result.now c.read.new.out.items records arrivals c.args.next.now (g.C.Reading.connections c.args.connections.now) (g.C.Reading.connections c.read.new.self) c.args.desk.now
+          (from_own (c.of.ensures.tier ∙ tiers.each c.in-Piece.conn low)) low c.in-Piece.is c.from-in-Piece.ensures c.as_slice.ensures c.deref.ensures.value (record { own = c.in_ok-read-in-Piece.ensures.own; others = c.in_ok-read-in-Piece.ensures.others }) serves in
+          serves_full (g.T.Format.texts terms) terms c.args.most (connection_now c.in-Piece.conn records) o full.1 c.deref.result.now records arrivals c.args.next.now (g.C.Reading.connections c.read.new.self) (g.C.Reading.connections c.args.connections.now) c.args.desk.now c.args.writer.now.bytes c.answer_all.new.writer.bytes
           brings serves full.2 full.3 (full.4 arrivals (length records) (connection_now c.in-Piece.conn records) serves.stands)),
     ))
     c.answer_all.ensures.many
 
-pub returns-in_ok-read_piece-in-Piece-clause-part : goal.returns-in_ok-read_piece-in-Piece-clause-part
-returns-in_ok-read_piece-in-Piece-clause-part g c =
+pub returns-in_ok-read-in-Piece-clause-part : goal.returns-in_ok-read-in-Piece-clause-part
+returns-in_ok-read-in-Piece-clause-part g c =
     let terms = terms_of g.F.Tree.files c.args.server.now in
     let o : Origin = record { conn = c.in-Piece.conn; tick = c.in-Piece.tick; tier = c.of.result } in
     let low = number_in _ _ _ c.in-Piece.is c.requires.record.1 in
     err_cut c.answer_all.result _ _
     (λ short. inr (λ records arrivals tiers serves.
-    (let brings = brought terms c.in-Piece.tick c.in-Piece.conn c.from-in-Piece.result o c.in-Piece.bytes c.as_slice.result.now c.deref.result.now c.read_piece.new.out.items records arrivals c.args.next.now c.args.connections.now c.read_piece.new.self c.args.desk.now
-    (from_own (c.of.ensures.tier ∙ tiers.each c.in-Piece.conn low)) low c.in-Piece.is c.from-in-Piece.ensures c.as_slice.ensures c.deref.ensures.value (record { own = c.in_ok-read_piece-in-Piece.ensures.own; others = c.in_ok-read_piece-in-Piece.ensures.others }) serves in
-    serves_part (g.T.Format.texts terms) terms c.args.most (connection_now c.in-Piece.conn records) o short.0 c.deref.result.now records arrivals c.args.next.now c.read_piece.new.self c.args.connections.now c.args.desk.now c.args.writer.now.bytes c.answer_all.new.writer.bytes
+    (let brings = brought terms c.in-Piece.tick c.in-Piece.conn c.from-in-Piece.result o c.in-Piece.bytes c.as_slice.result.now c.deref.result.now c.read.new.out.items records arrivals c.args.next.now (g.C.Reading.connections c.args.connections.now) (g.C.Reading.connections c.read.new.self) c.args.desk.now
+    (from_own (c.of.ensures.tier ∙ tiers.each c.in-Piece.conn low)) low c.in-Piece.is c.from-in-Piece.ensures c.as_slice.ensures c.deref.ensures.value (record { own = c.in_ok-read-in-Piece.ensures.own; others = c.in_ok-read-in-Piece.ensures.others }) serves in
+    serves_part (g.T.Format.texts terms) terms c.args.most (connection_now c.in-Piece.conn records) o short.0 c.deref.result.now records arrivals c.args.next.now (g.C.Reading.connections c.read.new.self) (g.C.Reading.connections c.args.connections.now) c.args.desk.now c.args.writer.now.bytes c.answer_all.new.writer.bytes
     brings serves short.2 (short.3 arrivals (length records) (connection_now c.in-Piece.conn records) serves.stands))))
     c.answer_all.ensures.part
 
 pub returns-in_ok-give-in-Tier-clause-serves : goal.returns-in_ok-give-in-Tier-clause-serves
 returns-in_ok-give-in-Tier-clause-serves g c = λ records arrivals tiers serves.
-    serves_tier (g.T.Format.texts (terms_of g.F.Tree.files c.args.server.now)) (terms_of g.F.Tree.files c.args.server.now) c.in-Tier.conn c.in-Tier.tier records arrivals c.args.next.now c.args.connections.now c.args.desk.now c.args.writer.now.bytes (c.requires.texts (terms_of g.F.Tree.files c.args.server.now)) c.in-Tier.is serves
+    serves_tier (g.T.Format.texts (terms_of g.F.Tree.files c.args.server.now)) (terms_of g.F.Tree.files c.args.server.now) c.in-Tier.conn c.in-Tier.tier records arrivals c.args.next.now (g.C.Reading.connections c.args.connections.now) c.args.desk.now c.args.writer.now.bytes (c.requires.texts (terms_of g.F.Tree.files c.args.server.now)) c.in-Tier.is serves
 
-pub returns-in_ok-read_piece-in-Piece-clause-tiers : goal.returns-in_ok-read_piece-in-Piece-clause-tiers
-returns-in_ok-read_piece-in-Piece-clause-tiers g c = ok_all c.answer_all.result _ (λ records are. tiers_piece _ _ _ _ records _ c.in-Piece.is (number_in _ _ _ c.in-Piece.is c.requires.record.1) are)
+pub returns-in_ok-read-in-Piece-clause-tiers : goal.returns-in_ok-read-in-Piece-clause-tiers
+returns-in_ok-read-in-Piece-clause-tiers g c = ok_all c.answer_all.result _ (λ records are. tiers_piece _ _ _ _ records _ c.in-Piece.is (number_in _ _ _ c.in-Piece.is c.requires.record.1) are)

@@ -2,7 +2,7 @@ use Rattle.std.proofs.Common.{inr, arith}
 use Rattle.replay.proofs.Judging.{answered_is, passed_on, on_many, on_cut}
 use Rattle.replay.proofs.Upcoming.{come_count}
 use Rattle.replay.proofs.ByBatch.{all_ready, lists_count, none_wait, brings}
-use Rattle.replay.proofs.staged.serve_batch.Goals as goal
+use Rattle.replay.proofs.advance.serve_batch.Goals as goal
 
 pub cut-requires-clause-ready : goal.cut-requires-clause-ready
 cut-requires-clause-ready g c = λ κs lives.

@@ -1,0 +1,120 @@
+//! Where the bytes of files come from that replies give.
+
+ghost use Rattle.std.specs.Prelude.{◌≡◌, ◌<◌, ◌≤◌, [], length, OnOk, OnErr, IfOk, IfErr};
+ghost use Rattle.std.specs.Arc.{arc_value};
+ghost use Rattle.std.specs.Io.KnownBytes.{Appends};
+ghost use Rattle.devices.specs.Devices.{CanFail, CountsBy, AppendsPrefix};
+ghost use Rattle.captures.specs.Passes.{writer_failures, IsWriteOrMemory};
+ghost use Rattle.paths.specs.Reference.{file_of};
+ghost use Rattle.paths.specs.Snapshots.{max_time};
+ghost use Rattle.responses.specs.Reference.{record_text};
+ghost use Rattle.replay.specs.Backs.{given_as};
+
+use crate::ReplayFault;
+use crate::server::Server;
+use devices::Output;
+use page_cache::{Page, PageCache};
+use paths::{Snapshot, Tree};
+use responses::{HeadRenderer, Slip, write_record};
+use std::alloc::{AllocError, Global};
+use std::io::Write;
+use std::sync::Arc;
+
+/// Writes the reply that gives a file these bytes, by the slip of the answer to HEAD.
+fn give_file<F: Tree, W: Write>(
+    heads: &mut HeadRenderer,
+    slip: &Slip<F>,
+    bytes: &[u8],
+    writer: &mut Output<W>,
+) -> Result<(), ReplayFault>
+    requires date { slip.now.date ≤ max_time }
+    requires failures { CanFail writer.old }
+    ensures written { OnOk result (Appends writer.old.bytes writer.new.bytes
+        (record_text (given_as F.files slip.now bytes.now))) }
+    ensures part { OnErr result (AppendsPrefix writer.old.bytes writer.new.bytes
+        (record_text (given_as F.files slip.now bytes.now))) }
+    ensures failures { CountsBy writer_failures writer.old.failures writer.new.failures result }
+    ensures own { IfErr result IsWriteOrMemory }
+{
+    heads.render(slip)?;
+    let body: &[u8] = if slip.head { &[] } else { bytes };
+    write_record(writer, slip.number, slip.conn, heads.as_slice(), body)?;
+    Ok(())
+}
+
+/// Where one thread takes the bytes of files from, reply after reply.
+pub(crate) trait Source<F: Tree> {
+    /// Writes the reply that gives a file, by the slip of the answer to HEAD.
+    fn give<W: Write>(
+        &mut self,
+        server: &Server<'_, F>,
+        heads: &mut HeadRenderer,
+        slip: &Slip<F>,
+        file: usize,
+        writer: &mut Output<W>,
+    ) -> Result<(), ReplayFault>
+        requires file { file < length F.files }
+        requires date { slip.now.date ≤ max_time }
+        requires failures { CanFail writer.old }
+        ensures written { OnOk result (Appends writer.old.bytes writer.new.bytes
+            (record_text (given_as F.files slip.now (file_of F.files file).bytes))) }
+        ensures part { OnErr result (AppendsPrefix writer.old.bytes writer.new.bytes
+            (record_text (given_as F.files slip.now (file_of F.files file).bytes))) }
+        ensures failures { CountsBy writer_failures writer.old.failures writer.new.failures result }
+        ensures own { IfErr result IsWriteOrMemory };
+}
+
+/// The bytes go to the writer as they stand in the snapshot.
+#[derive(Drop)]
+pub(crate) struct FromSnapshot;
+
+impl<F: Tree> Source<F> for FromSnapshot {
+    fn give<W: Write>(
+        &mut self,
+        server: &Server<'_, F>,
+        heads: &mut HeadRenderer,
+        slip: &Slip<F>,
+        file: usize,
+        writer: &mut Output<W>,
+    ) -> Result<(), ReplayFault> {
+        give_file::<F, W>(heads, slip, server.snapshot.bytes(file), writer)
+    }
+}
+
+/// The page of a file: from a cache that no other thread asks, or built and kept there.
+fn page_of<F: Tree>(
+    alloc: Global,
+    snapshot: &Snapshot,
+    cache: &mut PageCache<F>,
+    file: usize,
+) -> Result<Arc<Page<F>>, AllocError>
+    requires snapshot { snapshot.now ≡ F.files }
+    requires file { file < length F.files }
+    ensures { IfOk result (λ p. arc_value p ≡ file) }
+{
+    if let Some(page) = cache.look(file)? {
+        return Ok(page);
+    }
+    let page = Page::build(alloc, snapshot, file)?;
+    let _kept = cache.keep(Arc::try_clone(&page)?);
+    Ok(page)
+}
+
+/// The bytes come from the pages of a cache; those of a file that it can't keep, from the snapshot.
+impl<F: Tree> Source<F> for PageCache<F> {
+    fn give<W: Write>(
+        &mut self,
+        server: &Server<'_, F>,
+        heads: &mut HeadRenderer,
+        slip: &Slip<F>,
+        file: usize,
+        writer: &mut Output<W>,
+    ) -> Result<(), ReplayFault> {
+        let bytes = server.snapshot.bytes(file);
+        if bytes.len() > server.settings.cache() {
+            return give_file::<F, W>(heads, slip, bytes, writer);
+        }
+        let page = page_of(server.alloc, server.snapshot, self, file)?;
+        give_file::<F, W>(heads, slip, page.body(), writer)
+    }
+}
