@@ -43,8 +43,8 @@ fn processors<T: Threads>(rt: &T) -> usize {
 /// the front floor, decided on in the order of their arrival, and answered by the back floor, with pages from a cache.
 /// The replies of a batch are written before the next batch is read. `gate` sees each message, by its number, enter and
 /// leave each stage, the stages of the back floor numbered after those of the front floor. Without a gate
-/// ([`Gate::is_absent`]) a floor is run where it pays; else the calling thread takes one message after another through
-/// the steps, and a batch has few pieces.
+/// ([`Gate::is_absent`]) batches are read, and floors run, where they pay; else the calling thread answers the messages
+/// of a record before it reads the next.
 ///
 /// What is written and answered is what [`plain_replay`](crate::plain_replay) writes and answers.
 ///
