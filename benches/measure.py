@@ -7,9 +7,8 @@ Each input is replayed from files with a report, by the plain and the staged eng
 left out), with settings that admit each request and that leave the stages, the batch and the cache as they are by
 default. Of each engine's runs the fastest is taken: its seconds, the seconds that all processors worked for it,
 requests a second, microseconds a request, bytes a second (read and written), and the peak of memory beside the size
-of the snapshot. The last line of an input says how many times as many requests a second the staged engine answers as
-the plain one. The inputs stand in a folder of their own while it runs, and need about 100 MB. Run it on a machine
-that does nothing else.
+of the snapshot. A line of each input says how its two times stand to those of the plain engine. The inputs stand in a
+folder of their own while it runs, and need about 300 MB. Run it on a machine that does nothing else.
 
 Where `valgrind` is there, it also counts the instructions that a request takes: those of 3,000 requests less those of
 1,000, by 2,000. That count doesn't depend on what else the machine does. At the end stands the table as README has it.
@@ -24,6 +23,24 @@ import time
 
 START = 784111777
 CONNECTIONS = 100
+FIELDS = [
+    (b"Host", b"www.example.org"),
+    (b"Connection", b"keep-alive"),
+    (b"sec-ch-ua", b'"Chromium";v="126", "Google Chrome";v="126", "Not-A.Brand";v="99"'),
+    (b"sec-ch-ua-mobile", b"?0"),
+    (b"sec-ch-ua-platform", b'"Linux"'),
+    (b"Upgrade-Insecure-Requests", b"1"),
+    (b"User-Agent", b"Mozilla/5.0 (X11; Linux x86_64) AppleWebKit/537.36 (KHTML, like Gecko) Chrome/126.0.0.0 "
+                    b"Safari/537.36"),
+    (b"Accept", b"text/html,application/xhtml+xml,application/xml;q=0.9,image/avif,image/webp,*/*;q=0.8"),
+    (b"Sec-Fetch-Site", b"same-origin"),
+    (b"Sec-Fetch-Mode", b"navigate"),
+    (b"Sec-Fetch-User", b"?1"),
+    (b"Sec-Fetch-Dest", b"document"),
+    (b"Referer", b"https://www.example.org/index.html"),
+    (b"Accept-Encoding", b"gzip, deflate, br, zstd"),
+    (b"Accept-Language", b"en-GB,en;q=0.9"),
+]
 
 
 def snapshot(files):
@@ -59,6 +76,14 @@ def large(count):
     return files, (requests[number * 617 % 1000] for number in range(count))
 
 
+def browsers(count):
+    """n requests over 1,000 files of 1 to 16 KiB as a browser writes them: some 700 bytes in 15 fields."""
+    files, _ = large(0)
+    fields = b"".join(b"%b: %b\r\n" % field for field in FIELDS)
+    requests = [b"GET /%b HTTP/1.1\r\n%b\r\n" % (name, fields) for name, _ in files]
+    return files, (requests[number * 617 % 1000] for number in range(count))
+
+
 def huge(count):
     """n requests over 64 files of 256 KiB to 1 MiB, in an order that jumps. The default cache has room for all."""
     names = [b"files/%02d.html" % number for number in range(64)]
@@ -70,6 +95,7 @@ def huge(count):
 INPUTS = [
     ("1,000,000 of 32 bytes", 1_000_000, small),
     ("1,000,000 for 1 to 16 KiB", 1_000_000, large),
+    ("300,000 of browsers", 300_000, browsers),
     ("20,000 for 256 KiB to 1 MiB", 20_000, huge),
 ]
 ENGINES = ["plain", "staged"]
@@ -174,11 +200,10 @@ def count_instructions(program, make, folder):
     return {engine: (totals[engine, MANY] - totals[engine, FEW]) / (MANY - FEW) for engine in ENGINES}
 
 
-def row_of(title, size, rates, instructions):
+def row_of(title, size, rates, ratios):
     """A row of README's table."""
     counts = ["%s, %.0f MiB" % (format(round(rate, -3), ",.0f"), peak / 2**20) for rate, peak in rates]
-    if instructions:
-        counts.append(format(round(instructions["plain"], -1), ",.0f"))
+    counts.append("%.2f, %.2f" % ratios)
     return "| %s (snapshot %.0f MiB) | %s |" % (title, size / 2**20, " | ".join(counts))
 
 
@@ -197,14 +222,13 @@ def measure(program, runs, title, count, make, folder):
     for name, (seconds, usage) in best.items():
         peak = engines[name].peak_of_memory()
         rates.append((count / seconds, peak))
-        worked = usage.ru_utime + usage.ru_stime
         print(
             "  %-6s %6.2f s (processors %.2f s)  %9.0f requests/s  %6.2f us a request"
             "  %5.0f MB/s read  %5.0f MB/s written  peak %.1f MiB"
             % (
                 name,
                 seconds,
-                worked,
+                usage.ru_utime + usage.ru_stime,
                 count / seconds,
                 seconds / count * 1e6,
                 size / seconds / 1e6,
@@ -212,13 +236,15 @@ def measure(program, runs, title, count, make, folder):
                 peak / 2**20,
             )
         )
-    print("  staged answers %.2f times as many requests a second" % (best["plain"][0] / best["staged"][0]), flush=True)
+    worked = {name: usage.ru_utime + usage.ru_stime for name, (_, usage) in best.items()}
+    ratios = best["staged"][0] / best["plain"][0], worked["staged"] / worked["plain"]
+    print("  staged to plain: %.2f the time, %.2f that of the processors" % ratios, flush=True)
     instructions = count_instructions(program, make, folder) if shutil.which("valgrind") else {}
     for name, each in instructions.items():
         print("  %-6s %.0f instructions a request" % (name, each), flush=True)
     for name in names.values():
         os.unlink(name)
-    return row_of(title, len(text), rates, instructions)
+    return row_of(title, len(text), rates, ratios)
 
 
 def main():
