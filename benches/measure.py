@@ -200,11 +200,10 @@ def count_instructions(program, make, folder):
     return {engine: (totals[engine, MANY] - totals[engine, FEW]) / (MANY - FEW) for engine in ENGINES}
 
 
-def row_of(title, size, rates, ratios):
+def row_of(title, rates, ratio):
     """A row of README's table."""
     counts = ["%s, %.0f MiB" % (format(round(rate, -3), ",.0f"), peak / 2**20) for rate, peak in rates]
-    counts.append("%.2f, %.2f" % ratios)
-    return "| %s (snapshot %.0f MiB) | %s |" % (title, size / 2**20, " | ".join(counts))
+    return "| %s | %s | %.2f |" % (title, " | ".join(counts), ratio)
 
 
 def measure(program, runs, title, count, make, folder):
@@ -244,7 +243,7 @@ def measure(program, runs, title, count, make, folder):
         print("  %-6s %.0f instructions a request" % (name, each), flush=True)
     for name in names.values():
         os.unlink(name)
-    return row_of(title, len(text), rates, ratios)
+    return row_of(title, rates, ratios[0])
 
 
 def main():
