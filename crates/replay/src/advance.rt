@@ -20,12 +20,12 @@ use crate::parts::{Floors, serve_parts};
 use crate::plain::answer_record;
 use crate::replies::Replies;
 use crate::server::Server;
-use crate::source::FromSnapshot;
 use crate::{MAX_MESSAGES, ReplayFault};
 use arrivals::{Ending, Origin, Seats, Tiers, parts_of, read_batch};
 use captures::{CaptureReader, Record};
 use devices::Output;
 use http_requests::Message;
+use page_cache::PageCache;
 use paths::Tree;
 use responses::HeadRenderer;
 use stage_graph::Gate;
@@ -123,8 +123,7 @@ fn serve_next_batch<
 }
 
 /// Takes a step: reads the next batch, where floors pay, or the next record, whose messages are answered one after
-/// another, with the bytes of files as they stand in the snapshot; `heads` and `messages` are kept from record to
-/// record. Answers whether there may be more.
+/// another; `heads` and `messages` are kept from record to record. Answers whether there may be more.
 pub(crate) fn serve_next<
     F: Tree + Send + Sync,
     G: Gate + Sync,
@@ -171,10 +170,11 @@ pub(crate) fn serve_next<
         Ok(None) => return Ok(false),
         Err(fault) => return Err(ReplayFault::from(fault)),
     };
-    answer_record::<Replies, F, FromSnapshot, Seats, W>(
+    let mut pages = floors.pages.cache.lock(floors.rt);
+    answer_record::<Replies, F, PageCache<F>, Seats, W>(
         server,
         heads,
-        &mut FromSnapshot,
+        &mut *pages,
         messages,
         &next,
         seats,

@@ -100,7 +100,7 @@ fn page_of<F: Tree>(
     Ok(page)
 }
 
-/// The bytes come from the pages of a cache; those of a file that it can't keep, from the snapshot.
+/// The bytes come from the pages of a cache.
 impl<F: Tree> Source<F> for PageCache<F> {
     fn give<W: Write>(
         &mut self,
@@ -110,10 +110,6 @@ impl<F: Tree> Source<F> for PageCache<F> {
         file: usize,
         writer: &mut Output<W>,
     ) -> Result<(), ReplayFault> {
-        let bytes = server.snapshot.bytes(file);
-        if bytes.len() > server.settings.cache() {
-            return give_file::<F, W>(heads, slip, bytes, writer);
-        }
         let page = page_of(server.alloc, server.snapshot, self, file)?;
         give_file::<F, W>(heads, slip, page.body(), writer)
     }
