@@ -188,7 +188,8 @@ impl Seat {
     ) -> Result<(), AllocError>
         requires empty { out.old.items ≡ [] }
         requires room { HasRoom self.old.connection (length piece.now) }
-        ensures own { OnOk result (Reads self.old.connection piece.now out.new.items self.new.connection) }
+        ensures own { OnOk result
+            (Reads self.old.connection piece.now out.new.items self.new.connection) }
         ensures rest { self.new ≡ with_connection self.new.connection self.old }
         ensures lacks { OnErr result
             (LacksAt self.old.connection self.new.connection piece.now out.new.items) }
