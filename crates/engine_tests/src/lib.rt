@@ -1,23 +1,12 @@
-//! Tests of the engines and of what is told of a capture: the crates `cost_model`, `replay`, `decision_table`, `report`
-//! and `inspection`.
+//! Tests of the engines: the crates `arrivals` and `replay`.
 #![tactic(auto)]
 
 #[cfg(test)]
 mod batches;
 #[cfg(test)]
-mod charges;
-#[cfg(test)]
 mod explaining;
 #[cfg(test)]
 mod gates;
-#[cfg(test)]
-mod inspected_in_part;
-#[cfg(test)]
-mod inspected_pieces;
-#[cfg(test)]
-mod inspected_texts;
-#[cfg(test)]
-mod inspection_limits;
 #[cfg(test)]
 mod lives;
 #[cfg(test)]
@@ -41,13 +30,7 @@ mod replaying;
 #[cfg(test)]
 mod replies;
 #[cfg(test)]
-mod report_outcomes;
-#[cfg(test)]
-mod report_rows;
-#[cfg(test)]
 mod routes;
-#[cfg(test)]
-mod row_limits;
 #[cfg(test)]
 mod settings_faults;
 #[cfg(test)]

@@ -23,6 +23,18 @@ pub fn found(alloc: Global, files: &Snapshot, name: &str) -> Result<Option<usize
     Ok(find_plain(files, b"GET", target.as_bytes()))
 }
 
+/// A name is that of this file, or of none.
+fn check_name(
+    rt: &(impl Abort + AllocGlobal),
+    files: &Snapshot,
+    name: &str,
+    want: Option<usize>,
+) -> Result<(), AllocError> {
+    let is = found(rt.alloc(), files, name)?;
+    assert_eq!(rt; is, want, "{name}");
+    Ok(())
+}
+
 /// Names of one hash, more than an index tries; the last one is of no file.
 static ALIKE: [&str; 24] = [
     "00kcazgk&CNaM6Dq",
@@ -63,39 +75,37 @@ fn names_of_one_hash(rt: HostRuntime) -> Result<(), Fail> {
     Ok(())
 }
 
-/// Each name of so many files is found at its number, and no name that is a byte longer or shorter, or comes after all.
-fn check_many(rt: &(impl Abort + AllocGlobal), count: usize) -> Result<(), Fail> {
-    let alloc = rt.alloc();
+/// A snapshot of so many empty files in one folder.
+fn many(alloc: Global, count: usize) -> Result<Snapshot, Fail> {
     let mut text = String::from_str(alloc, "haboob-snapshot 1\n")?;
     for n in 0..count {
-        let file = format!(in alloc; "file 0 10 0\nd/{n:05}.md\n\n")?;
-        text.push_str(file.as_str())?;
+        write!(text, "file 0 10 0\nd/{n:05}.md\n\n")?;
     }
-    let end = format!(in alloc; "end {count}\n")?;
-    text.push_str(end.as_str())?;
-    let files = snapshot(alloc, text.as_bytes())?;
+    write!(text, "end {count}\n")?;
+    Ok(snapshot(alloc, text.as_bytes())?)
+}
+
+/// The name with this number and this end is that of this file of `many`, or of none.
+fn check_number(
+    rt: &(impl Abort + AllocGlobal),
+    files: &Snapshot,
+    number: usize,
+    end: &str,
+    want: Option<usize>,
+) -> Result<(), AllocError> {
+    let name = format!(in rt.alloc(); "d/{number:05}{end}")?;
+    check_name(rt, files, &name, want)
+}
+
+/// Each name of so many files is found at its number, and no name that is a byte longer or shorter, or comes after all.
+fn check_many(rt: &(impl Abort + AllocGlobal), count: usize) -> Result<(), Fail> {
+    let files = many(rt.alloc(), count)?;
     for n in 0..count {
-        let name = format!(in alloc; "d/{n:05}.md")?;
-        assert_eq!(rt;
-            found(alloc, &files, name.as_str())?,
-            Some(n),
-            "{name} of {count}"
-        );
-        let longer = format!(in alloc; "d/{n:05}.mdx")?;
-        assert_eq!(rt;
-            found(alloc, &files, longer.as_str())?,
-            None,
-            "{longer} of {count}"
-        );
-        let shorter = format!(in alloc; "d/{n:05}.m")?;
-        assert_eq!(rt;
-            found(alloc, &files, shorter.as_str())?,
-            None,
-            "{shorter} of {count}"
-        );
+        for (end, want) in [(".md", Some(n)), (".mdx", None), (".m", None)] {
+            check_number(rt, &files, n, end, want)?;
+        }
     }
-    let after = format!(in alloc; "d/{count:05}.md")?;
-    assert_eq!(rt; found(alloc, &files, after.as_str())?, None);
+    check_number(rt, &files, count, ".md", None)?;
     Ok(())
 }
 
@@ -126,40 +136,41 @@ fn longest_names(rt: HostRuntime) -> Result<(), Fail> {
 /// How many bytes the longest name has in `check_longest`.
 const LONGEST: usize = 40;
 
+/// A snapshot of so many empty files with short names, and one with a longer.
+fn with_a_long_name(alloc: Global, count: usize) -> Result<Snapshot, Fail> {
+    let mut text = String::from_str(alloc, "haboob-snapshot 1\n")?;
+    for n in 0..count {
+        write!(text, "file 0 4 0\nd{n:03}\n\n")?;
+    }
+    let longest = "m".repeat(alloc, LONGEST)?;
+    let files = count.saturating_add(1);
+    write!(text, "file 0 {LONGEST} 0\n{longest}\n\nend {files}\n")?;
+    Ok(snapshot(alloc, text.as_bytes())?)
+}
+
+/// A name of so many `m` is that of this file, or of none, and with an `n` behind them it is of none.
+fn check_length(
+    rt: &(impl Abort + AllocGlobal),
+    files: &Snapshot,
+    bytes: usize,
+    want: Option<usize>,
+) -> Result<(), AllocError> {
+    let mut name = "m".repeat(rt.alloc(), bytes)?;
+    check_name(rt, files, &name, want)?;
+    name.push('n')?;
+    check_name(rt, files, &name, None)
+}
+
 /// Of so many files with short names and one with a longer, each is found, and none whose name has as many bytes as the
 /// longest, fewer or more.
 fn check_longest(rt: &(impl Abort + AllocGlobal), count: usize) -> Result<(), Fail> {
-    let alloc = rt.alloc();
-    let mut text = String::from_str(alloc, "haboob-snapshot 1\n")?;
+    let files = with_a_long_name(rt.alloc(), count)?;
     for n in 0..count {
-        let file = format!(in alloc; "file 0 4 0\nd{n:03}\n\n")?;
-        text.push_str(file.as_str())?;
-    }
-    let longest = "m".repeat(alloc, LONGEST)?;
-    let end = format!(in alloc;
-        "file 0 {LONGEST} 0\n{longest}\n\nend {}\n",
-        count.saturating_add(1)
-    )?;
-    text.push_str(end.as_str())?;
-    let files = snapshot(alloc, text.as_bytes())?;
-    for n in 0..count {
-        let name = format!(in alloc; "d{n:03}")?;
-        assert_eq!(rt; found(alloc, &files, &name)?, Some(n), "{name} of {count}");
+        let name = format!(in rt.alloc(); "d{n:03}")?;
+        check_name(rt, &files, &name, Some(n))?;
     }
     for bytes in [0, 1, 4, 39, 40, 41, 42, 48, 1000, 1023, 1024, 1025, 8000] {
-        let name = "m".repeat(alloc, bytes)?;
-        let want = (bytes == LONGEST).then_some(count);
-        assert_eq!(rt;
-            found(alloc, &files, &name)?,
-            want,
-            "{bytes} bytes, {count} files"
-        );
-        let other = format!(in alloc; "{name}n")?;
-        assert_eq!(rt;
-            found(alloc, &files, &other)?,
-            None,
-            "{bytes} bytes and one, {count} files"
-        );
+        check_length(rt, &files, bytes, (bytes == LONGEST).then_some(count))?;
     }
     Ok(())
 }

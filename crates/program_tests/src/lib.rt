@@ -1,8 +1,6 @@
-//! Tests of the crates `settings`, `command_line` and `program`.
+//! Tests of the crate `program`.
 #![tactic(auto)]
 
-#[cfg(test)]
-mod command_words;
 #[cfg(test)]
 mod faults;
 #[cfg(test)]
@@ -20,8 +18,6 @@ mod reports;
 #[cfg(test)]
 mod running;
 #[cfg(test)]
-mod settings_documents;
-#[cfg(test)]
 mod sinks;
 #[cfg(test)]
 mod slim_texts;
@@ -30,8 +26,4 @@ mod traffic;
 #[cfg(test)]
 mod upgrades;
 #[cfg(test)]
-mod words_of_faults;
-#[cfg(test)]
 mod written_out;
-#[cfg(test)]
-mod written_settings;

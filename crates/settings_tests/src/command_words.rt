@@ -130,41 +130,27 @@ fn no_words(rt: HostRuntime) {
 
 #[test]
 fn replays(rt: HostRuntime) {
-    match read_words(rt.alloc(), PLAINEST.as_slice()) {
-        Ok(
-            Job::Replay {
-                snapshot,
-                capture,
-                replies,
-                settings,
-                engine,
-                speed,
-            },
-        ) => {
-            assert!(rt; snapshot == "s" && capture == "c" && replies == "o");
-            assert!(rt; settings.is_none());
-            assert_eq!(rt; engine, Engine::Staged);
-            assert_eq!(rt; speed, 100);
+    let table = [
+        (PLAINEST.as_slice(), None, Engine::Staged, 100),
+        (WHOLE.as_slice(), Some("t"), Engine::Plain, 200),
+    ];
+    for (words, document, chosen, percent) in table {
+        match read_words(rt.alloc(), words) {
+            Ok(
+                Job::Replay {
+                    snapshot,
+                    capture,
+                    replies,
+                    settings,
+                    engine,
+                    speed,
+                },
+            ) => {
+                assert_eq!(rt; (snapshot, capture, replies), ("s", "c", "o"));
+                assert_eq!(rt; (settings, engine, speed), (document, chosen, percent));
+            }
+            _ => assert!(rt; false, "the words of a replay"),
         }
-        _ => assert!(rt; false, "the plainest words"),
-    }
-    match read_words(rt.alloc(), WHOLE.as_slice()) {
-        Ok(
-            Job::Replay {
-                snapshot,
-                capture,
-                replies,
-                settings,
-                engine,
-                speed,
-            },
-        ) => {
-            assert!(rt; snapshot == "s" && capture == "c" && replies == "o");
-            assert!(rt; settings.unwrap_or("") == "t");
-            assert_eq!(rt; engine, Engine::Plain);
-            assert_eq!(rt; speed, 200);
-        }
-        _ => assert!(rt; false, "all words"),
     }
 }
 
@@ -209,9 +195,10 @@ fn slim_texts(rt: HostRuntime) {
                     drop_queries,
                 },
             ) => {
-                assert!(rt; capture == "c" && output == "n");
-                assert_eq!(rt; to, want);
-                assert_eq!(rt; drop_queries, drops);
+                assert_eq!(rt;
+                    (capture, output, to, drop_queries),
+                    ("c", "n", want, drops)
+                );
             }
             _ => assert!(rt; false, "the words of a slim text"),
         }

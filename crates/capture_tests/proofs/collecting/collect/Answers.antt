@@ -1,6 +1,6 @@
 use Rattle.std.proofs.Common.{◌∙◌}
 use Rattle.captures.proofs.Callers.{gave_record, gave_all, first_after, first_of_all}
-use Rattle.format_tests.proofs.collecting.collect.Goals as goal
+use Rattle.capture_tests.proofs.collecting.collect.Goals as goal
 
 pub returns-in-Err-clause-fault : goal.returns-in-Err-clause-fault
 returns-in-Err-clause-fault g c = first_of_all _ _ c.in-Err.ensures.fault.foreseen

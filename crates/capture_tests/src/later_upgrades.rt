@@ -1,7 +1,6 @@
 //! Texts of each format upgraded to each: they come out in the later of the two.
 use crate::capture_inputs::fault;
-use crate::upgrades::run;
-use crate::writing::ALL;
+use crate::upgrades::{ALL, run};
 use captures::{CaptureFaultKind as Kind, UpgradeFault, Version};
 use test_support::{NEWER, OLDER};
 

@@ -96,122 +96,65 @@ fn prefixes_by_their_texts(rt: HostRuntime) {
     }
 }
 
-/// A target, what it is answered with, whether only a head is given, a length, and what comes of it.
-#[derive(Drop)]
-struct ChargeRow {
-    target: &'static [u8],
-    file: bool,
-    head: bool,
-    len: u16,
-    service: u64,
-    delay: u64,
+/// A target, whether a file answers it, whether only a head is given, a length, and what comes of it: how long the
+/// server works, and the delay.
+type ChargeRow = (&'static str, bool, bool, u16, (u64, u64));
+
+/// By hand: 2,000 and 100 for each begun 1,024 bytes in whole ticks, 200 and 10 for them beside the routes.
+static CHARGE_ROWS: [ChargeRow; 9] = [
+    ("/api/slow", false, false, 0, (9000, 3000)),
+    ("/api/slow/x?q", true, false, 9000, (9000, 3000)),
+    ("/api/slower", false, false, 0, (2000, 0)),
+    ("/api", true, false, 1025, (2101, 0)),
+    ("/%61pi/x", true, true, 1025, (2000, 0)),
+    ("/x/../api", false, false, 0, (2000, 0)),
+    ("/apis", true, false, 1025, (211, 7)),
+    ("/", false, false, 0, (50, 7)),
+    ("*", false, false, 0, (50, 7)),
+];
+
+/// The costs beside the routes.
+fn costs_beside() -> Option<Costs> {
+    Some(Costs::new(200, 10, 50).ok()?.served_by(1, 7))
+}
+
+/// A tariff of two routes, the first of them below the second.
+fn two_routes(alloc: Global) -> Option<Tariff> {
+    let mut routes = Vec::new(alloc);
+    routes
+        .push(route(alloc, b"/api/slow", 9000, 0, 3000)?)
+        .ok()?;
+    routes.push(route(alloc, b"/api/", 2000, 100, 0)?).ok()?;
+    Some(Tariff::new(costs_beside()?, Routes::new(routes)))
+}
+
+/// What comes of a row's request.
+fn charged(alloc: Global, tariff: &Tariff, row: &ChargeRow) -> Option<(u64, u64)> {
+    let (target, file, head, len, _) = row;
+    let outcome = if *file {
+        Outcome::File(0)
+    } else {
+        Outcome::NotAllowed
+    };
+    let charge = tariff
+        .charge(
+            alloc,
+            target.as_bytes(),
+            &outcome,
+            *head,
+            false,
+            u64::from(*len),
+        )
+        .ok()?;
+    Some((charge.service(), charge.delay()))
 }
 
 #[test]
-fn charges_by_the_first_route(rt: HostRuntime) -> Result<(), Fail> {
-    let alloc = rt.alloc();
-    let costs = Costs::new(200, 10, 50).expect(&rt, "costs").served_by(1, 7);
-    let mut routes = Vec::new(alloc);
-    routes.push(route(alloc, b"/api/slow", 9000, 0, 3000).expect(&rt, "a prefix"))?;
-    routes.push(route(alloc, b"/api/", 2000, 100, 0).expect(&rt, "a prefix"))?;
-    let tariff = Tariff::new(costs, Routes::new(routes));
+fn charges_by_the_first_route(rt: HostRuntime) {
+    let tariff = two_routes(rt.alloc()).expect(&rt, "a tariff");
     assert_eq!(rt; tariff.routes().as_slice().len(), 2);
-    assert_eq!(rt; tariff.costs(), costs);
-    // by hand: 2000 and 100 for each begun 1,024 bytes in whole ticks, 200 and 10 for them beside the routes
-    let rows = [
-        ChargeRow {
-            target: b"/api/slow",
-            file: false,
-            head: false,
-            len: 0,
-            service: 9000,
-            delay: 3000,
-        },
-        ChargeRow {
-            target: b"/api/slow/x?q",
-            file: true,
-            head: false,
-            len: 9000,
-            service: 9000,
-            delay: 3000,
-        },
-        ChargeRow {
-            target: b"/api/slower",
-            file: false,
-            head: false,
-            len: 0,
-            service: 2000,
-            delay: 0,
-        },
-        ChargeRow {
-            target: b"/api",
-            file: true,
-            head: false,
-            len: 1025,
-            service: 2101,
-            delay: 0,
-        },
-        ChargeRow {
-            target: b"/%61pi/x",
-            file: true,
-            head: true,
-            len: 1025,
-            service: 2000,
-            delay: 0,
-        },
-        ChargeRow {
-            target: b"/x/../api",
-            file: false,
-            head: false,
-            len: 0,
-            service: 2000,
-            delay: 0,
-        },
-        ChargeRow {
-            target: b"/apis",
-            file: true,
-            head: false,
-            len: 1025,
-            service: 211,
-            delay: 7,
-        },
-        ChargeRow {
-            target: b"/",
-            file: false,
-            head: false,
-            len: 0,
-            service: 50,
-            delay: 7,
-        },
-        ChargeRow {
-            target: b"*",
-            file: false,
-            head: false,
-            len: 0,
-            service: 50,
-            delay: 7,
-        },
-    ];
-    for row in rows.iter() {
-        let outcome = if row.file {
-            Outcome::File(0)
-        } else {
-            Outcome::NotAllowed
-        };
-        let charge = tariff
-            .charge(
-                alloc,
-                row.target,
-                &outcome,
-                row.head,
-                false,
-                u64::from(row.len),
-            )
-            .expect(&rt, "memory");
-        assert_eq!(rt;
-            (charge.service(), charge.delay()),
-            (row.service, row.delay)
-        );
+    assert_eq!(rt; Some(tariff.costs()), costs_beside());
+    for row in CHARGE_ROWS.iter() {
+        assert_eq!(rt; charged(rt.alloc(), &tariff, row), Some(row.4), "{}", row.0);
     }
-    Ok(())
 }

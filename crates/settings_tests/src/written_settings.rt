@@ -270,40 +270,19 @@ fn document(alloc: Global) -> Result<String, AllocError> {
         alloc,
         "# Each key with the value that is in force, below its unit, its range and its meaning.\n",
     )?;
-    add_table(
-        &mut text,
-        "floor",
-        FLOOR.as_slice(),
-        FLOOR_VALUES.as_slice(),
-    )?;
-    add_table(&mut text, "costs", COSTS.as_slice(), COST_VALUES.as_slice())?;
-    add_table(
-        &mut text,
-        "policy",
-        POLICY.as_slice(),
-        POLICY_VALUES.as_slice(),
-    )?;
-    add_table(&mut text, "page", PAGE.as_slice(), PAGE_VALUES.as_slice())?;
-    add_table(
-        &mut text,
-        "tier1",
-        POLICY.as_slice(),
-        TIER1_VALUES.as_slice(),
-    )?;
-    add_table(
-        &mut text,
-        "tier2",
-        POLICY.as_slice(),
-        TIER2_VALUES.as_slice(),
-    )?;
-    add_table(
-        &mut text,
-        "tier3",
-        POLICY.as_slice(),
-        TIER3_VALUES.as_slice(),
-    )?;
-    for values in [FIRST_VALUES.as_slice(), SECOND_VALUES.as_slice()] {
-        add_table(&mut text, "[route]", ROUTE.as_slice(), values)?;
+    let tables = [
+        ("floor", FLOOR.as_slice(), FLOOR_VALUES.as_slice()),
+        ("costs", COSTS.as_slice(), COST_VALUES.as_slice()),
+        ("policy", POLICY.as_slice(), POLICY_VALUES.as_slice()),
+        ("page", PAGE.as_slice(), PAGE_VALUES.as_slice()),
+        ("tier1", POLICY.as_slice(), TIER1_VALUES.as_slice()),
+        ("tier2", POLICY.as_slice(), TIER2_VALUES.as_slice()),
+        ("tier3", POLICY.as_slice(), TIER3_VALUES.as_slice()),
+        ("[route]", ROUTE.as_slice(), FIRST_VALUES.as_slice()),
+        ("[route]", ROUTE.as_slice(), SECOND_VALUES.as_slice()),
+    ];
+    for (name, rows, values) in tables {
+        add_table(&mut text, name, rows, values)?;
     }
     Ok(text)
 }

@@ -1,6 +1,6 @@
 use Rattle.std.proofs.Common.{◌≡◌}
 use Rattle.captures.specs.Readers.{ReaderAfter}
-use Rattle.format_tests.proofs.collecting.collect.Given as goal
+use Rattle.capture_tests.proofs.collecting.collect.Given as goal
 
 abbrev pub invariant-loop-record : goal.invariant-loop-record
 invariant-loop-record g l = ReaderAfter l.version l.fn.input.bytes l.start l.records.items l.reader.progress l.reader.input.now.bytes

@@ -1,6 +1,7 @@
 //! What is said in words of a fault.
 use settings::{fault_words, read_settings};
-use std::alloc::Global;
+use std::alloc::{AllocGlobal, Global};
+use std::process::Abort;
 use std::test::Fail;
 
 /// Documents, each with the pieces of what is said of its fault.
@@ -128,11 +129,18 @@ fn said(alloc: Global, bytes: &[u8]) -> Result<String, Fail> {
     }
 }
 
+/// A document's fault is told by these words.
+fn check(rt: &(impl Abort + AllocGlobal), document: &str, words: &str) -> Result<(), Fail> {
+    let said = said(rt.alloc(), document.as_bytes())?;
+    assert_eq!(rt; said.as_str(), words);
+    Ok(())
+}
+
 #[test]
 fn each_fault(rt: HostRuntime) -> Result<(), Fail> {
     for (text, pieces) in WORDS.iter() {
-        let said = said(rt.alloc(), text.as_bytes())?;
-        assert_eq!(rt; said.as_str(), pieces.concat(rt.alloc())?.as_str());
+        let words = pieces.concat(rt.alloc())?;
+        check(&rt, text, &words)?;
     }
     Ok(())
 }
@@ -183,8 +191,7 @@ fn each_key_is_nearest_to_its_name(rt: HostRuntime) -> Result<(), Fail> {
             let wanted = format!(in alloc;
                 "{table}.{name}x is no key of the settings; the nearest is {table}.{name}"
             )?;
-            let said = said(alloc, document.as_bytes())?;
-            assert_eq!(rt; said.as_str(), wanted.as_str());
+            check(&rt, &document, &wanted)?;
         }
     }
     Ok(())

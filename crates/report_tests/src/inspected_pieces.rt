@@ -87,10 +87,18 @@ fn share(bytes: u64) -> Share {
 fn one_piece(rt: HostRuntime) {
     for (bytes, messages, after_close, unfinished) in ROWS {
         let inspection = inspect_piece(rt.alloc(), bytes).expect(&rt, "a capture");
-        assert_eq!(rt; inspection.messages.all, messages);
-        assert_eq!(rt; inspection.received, share(bytes.len() as u64));
-        assert_eq!(rt; inspection.after_close, share(after_close));
-        assert_eq!(rt; inspection.unfinished, share(unfinished));
+        let is = (
+            inspection.messages.all,
+            inspection.received,
+            inspection.after_close,
+            inspection.unfinished,
+        );
+        let received = share(bytes.len() as u64);
+        assert_eq!(rt;
+            is,
+            (messages, received, share(after_close), share(unfinished)),
+            "{bytes}"
+        );
     }
 }
 

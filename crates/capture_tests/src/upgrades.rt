@@ -1,10 +1,12 @@
 //! Captures upgraded to version 2.
 use crate::capture_inputs::fault;
-use crate::writing::ALL;
 use captures::{CaptureFaultKind as Kind, UpgradeFault, Version, upgrade};
 use devices::{Input, Output};
 use std::alloc::Global;
 use test_support::{Flaky, NEWER, OLDER, Slow};
+
+/// More calls than any of these runs makes.
+pub const ALL: usize = 1_000_000;
 
 static TIERS: &str =
     "haboob-capture 2 4102444800\nend 7 0\ntier 65535 3\npiece 1000000000000000 65535 7\nstop 0\n\nstop 3\n";

@@ -1,6 +1,7 @@
 //! At the sizes of the limits.
 use crate::inspected_texts::inspect_bytes;
-use inspection::{Second, Share, inspection_text};
+use inspection::{Inspection, Second, Share, inspection_text};
+use std::alloc::Global;
 use test_support::A;
 
 /// The last connection, the latest start and the latest tick.
@@ -21,56 +22,46 @@ fn greatest_numbers(rt: HostRuntime) {
     );
 }
 
-/// A block of 8,192 bytes without an end is a message, and so closes; of 8,191 bytes it is unfinished.
+/// What a capture tells whose first piece is of 8,191 bytes that end no line.
+fn after_a_long_line(alloc: Global, rest: &str) -> Option<Inspection> {
+    let mut text = String::from_str(alloc, "haboob-capture 1 0\npiece 0 0 8191\n").ok()?;
+    text.push_str(&"a".repeat(alloc, 8191).ok()?).ok()?;
+    text.push_str(rest).ok()?;
+    inspect_bytes(alloc, text.as_bytes()).ok()
+}
+
+/// A block of 8,191 bytes without an end is unfinished.
 #[test]
 fn longest_block(rt: HostRuntime) {
-    let mut capture = Vec::from_slice(rt.alloc(), b"haboob-capture 1 0\npiece 0 0 8191\n").expect(
-        &rt, "memory",
-    );
-    for _ in 0..8_191 {
-        capture.push(b'a').expect(&rt, "memory");
-    }
-    let one = capture.len();
-    capture
-        .extend_from_slice(b"\nstop 1\n")
-        .expect(&rt, "memory");
-    let short = inspect_bytes(rt.alloc(), &capture).expect(&rt, "a capture");
-    assert_eq!(rt; short.messages.all, 0);
-    assert_eq!(rt;
-        short.unfinished,
-        Share {
-            bytes: 8_191,
-            connections: 1
-        }
-    );
-    capture.truncate(one);
-    capture
-        .extend_from_slice(b"\npiece 7 0 3\nabc\nstop 2\n")
-        .expect(&rt, "memory");
-    let long = inspect_bytes(rt.alloc(), &capture).expect(&rt, "a capture");
-    assert_eq!(rt; long.messages.all, 1);
-    assert_eq!(rt; long.messages.faults.too_long, 1);
-    assert_eq!(rt;
-        long.unfinished,
-        Share {
-            bytes: 0,
-            connections: 0
-        }
-    );
-    assert_eq!(rt;
-        long.after_close,
-        Share {
-            bytes: 2,
-            connections: 1
-        }
-    );
-    assert_eq!(rt;
-        long.busiest,
-        Second {
-            number: 0,
-            messages: 1
-        }
-    );
+    let short = after_a_long_line(rt.alloc(), "\nstop 1\n").expect(&rt, "a capture");
+    let unfinished = Share {
+        bytes: 8_191,
+        connections: 1,
+    };
+    assert_eq!(rt; (short.messages.all, short.unfinished), (0, unfinished));
+}
+
+/// With a byte more it is a message, a fault, and so closes: two bytes come after it.
+#[test]
+fn block_beyond_the_longest(rt: HostRuntime) {
+    let rest = "\npiece 7 0 3\nabc\nstop 2\n";
+    let long = after_a_long_line(rt.alloc(), rest).expect(&rt, "a capture");
+    let (all, faults) = (long.messages.all, &long.messages.faults);
+    assert_eq!(rt; (all, faults.too_long), (1, 1));
+    let none = Share {
+        bytes: 0,
+        connections: 0,
+    };
+    let two = Share {
+        bytes: 2,
+        connections: 1,
+    };
+    assert_eq!(rt; (long.unfinished, long.after_close), (none, two));
+    let first = Second {
+        number: 0,
+        messages: 1,
+    };
+    assert_eq!(rt; long.busiest, first);
 }
 
 /// More connections than there are numbers, one after the other with one number.

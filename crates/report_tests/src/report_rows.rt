@@ -4,7 +4,7 @@ use crate::report_outcomes::{
     two_buckets,
 };
 use captures::Version;
-use replay::Counts;
+use reference::Counts;
 use report::report;
 use std::alloc::AllocGlobal;
 use std::process::Abort;

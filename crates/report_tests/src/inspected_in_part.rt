@@ -35,16 +35,14 @@ fn cut_anywhere(rt: HostRuntime) {
     for end in 0..text.len() {
         match inspect_bytes(rt.alloc(), &text[..end]) {
             Err(InspectFault::FirstLine(fault)) => {
-                assert!(rt; end < 19);
-                assert_eq!(rt; fault.kind, Kind::Cut);
+                assert_eq!(rt; (end < 19, fault.kind), (true, Kind::Cut));
             }
             Err(InspectFault::Stopped { held, fault }) => {
                 let whole = whole_in(end);
-                assert_eq!(rt; fault.kind, Kind::Cut);
-                assert_eq!(rt; fault.at as u64, whole + 1);
-                assert_eq!(rt; held.records.all, whole);
-                assert_eq!(rt; held.messages.all, u64::from(whole > 1));
-                assert_eq!(rt; held.unfinished.bytes, if whole > 2 { 2 } else { 0 });
+                let is = (held.records.all, held.messages.all, held.unfinished.bytes);
+                let unfinished = if whole > 2 { 2 } else { 0 };
+                assert_eq!(rt; (fault.kind, fault.at as u64), (Kind::Cut, whole + 1));
+                assert_eq!(rt; is, (whole, u64::from(whole > 1), unfinished));
             }
             _ => assert!(rt; false, "another answer"),
         }

@@ -1,7 +1,8 @@
 //! Outcomes that are put together from their parts.
 use admission::Control;
+use arrivals::Series;
 use captures::Version;
-use replay::{Counts, Outcome, Series, Summary, Tally};
+use reference::{Counts, Outcome, Summary, Tally};
 use std::alloc::{AllocError, Global};
 use test_support::A;
 
