@@ -1,0 +1,178 @@
+"""Reads the rows of tests/*.toml, runs the program as they say, and compares what came of it. README.md has the form."""
+import os
+import re
+import subprocess
+import tempfile
+import tomllib
+
+HERE = os.path.dirname(os.path.abspath(__file__))
+SECONDS = 60
+# The options of each command: those that are always there, with the file of the row that each names (where it isn't
+# named otherwise), and those that are there where the row has such a file.
+COMMANDS = {
+    "replay": (["snapshot", "capture", "replies"], ["settings"]),
+    "explain": (["snapshot", "capture", "messages"], ["settings"]),
+    "inspect": (["capture"], []),
+    "upgrade": (["capture", "output"], []),
+    "slim": (["capture", "output"], []),
+    "snapshot": (["folder", "output"], []),
+    "settings": ([], ["settings"]),
+}
+KEYS = {"name", "command", "words", "engines", "texts", "files", "pieces", "bytes", "stdin", "each_cut", "status",
+        "error", "prints", "lines", "writes", "outline", "parts", "absent"}
+MARK = re.compile(r"\$\{(?:'([^']*)'|(\w+))(?: \* (\d+))?\}")
+
+
+def read(path):
+    with open(path, "rb") as file:
+        return tomllib.load(file)
+
+
+def merged(below, above):
+    """A table with the keys of both; where both have one, the second's, but tables are merged in turn."""
+    both = dict(below)
+    for key, value in above.items():
+        old = both.get(key)
+        both[key] = merged(old, value) if isinstance(old, dict) and isinstance(value, dict) else value
+    return both
+
+
+def capture_text(pieces):
+    """The capture of these pieces, each with its tick, its connection and its bytes."""
+    parts = ["haboob-capture 1 784111777\n"]
+    parts += ["piece %d %d %d\n%s\n" % (tick, conn, len(text), text) for tick, conn, text in pieces]
+    return "".join(parts) + "stop %d\n" % len(pieces)
+
+
+def outline(replies):
+    """Of a replies text the lines that tell a reply's number, connection, length and status, and its last line."""
+    told = ""
+    for line in replies.replace("\r", "").split("\n"):
+        if line.startswith(("reply ", "stop ")):
+            told += line + ";"
+        elif line.startswith("HTTP/1.1 "):
+            told += " " + line.removeprefix("HTTP/1.1 ") + ";"
+    return told
+
+
+class Row:
+    """A row: what is given, and what has to come of it."""
+
+    class Wrong(Exception):
+        """What differs."""
+
+    def __init__(self, table, values):
+        self.values = merged(table.get("default", {}), values)
+        self.name = values["name"]
+        unknown = set(self.values) - KEYS
+        if unknown:
+            raise ValueError("%s: no such key: %s" % (self.name, ", ".join(sorted(unknown))))
+        self.texts = merged(read(os.path.join(HERE, "texts.toml")), table.get("texts", {}))
+        self.texts.update(self.values.get("texts", {}))
+
+    def text(self, given):
+        """A text with its marks filled in: `${NAME}`, `${NAME * 3}`, `${'x' * 3}`."""
+        while MARK.search(given):
+            given = MARK.sub(lambda at: (self.texts[at[2]] if at[1] is None else at[1]) * int(at[3] or 1), given)
+        return given
+
+    def files(self):
+        """The files that are there before the run, by their names."""
+        files = {name: self.text(text) for name, text in self.values.get("files", {}).items()}
+        if "pieces" in self.values:
+            pieces = [(tick, conn, self.text(text)) for tick, conn, text in self.values["pieces"]]
+            files["capture"] = capture_text(pieces)
+        if "bytes" in self.values:
+            text = self.text(self.values["bytes"])
+            files["capture"] = capture_text([(tick, 0, byte) for tick, byte in enumerate(text)])
+        return files
+
+    def words(self, files):
+        """The words of a run, without its engine."""
+        command = self.values.get("command")
+        if command is None:
+            return self.values.get("words", [])
+        always, optional = COMMANDS[command]
+        options = always + [name for name in optional if name in files]
+        given = self.values.get("words", [])
+        named = [word for name in options if "--" + name not in given for word in ("--" + name, name)]
+        return [command] + named + given
+
+    def runs(self):
+        """The names of a row's runs, and their words: a replay runs on both engines where it names none."""
+        words = self.words(self.files())
+        if self.values.get("command") != "replay" or "--engine" in words:
+            return [(self.name, words)]
+        engines = self.values.get("engines", ["plain", "staged"])
+        return [("%s[%s]" % (self.name, engine), words + ["--engine", engine]) for engine in engines]
+
+    def try_on(self, program, words):
+        """What is wrong with a run; nothing where all is as the row says."""
+        files, cuts = self.files(), self.values.get("each_cut")
+        if cuts is None:
+            return self.compare(*run(program, words, files, self.text(self.values.get("stdin", ""))), self.values)
+        wrong = []
+        for first, last, wanted in cuts["of"]:
+            for length in range(first, last):
+                cut = dict(files, **{cuts["file"]: files[cuts["file"]][:length]})
+                came = run(program, words, cut, "")
+                told = self.compare(*came, merged(self.values, wanted))
+                wrong += ["after %d bytes: %s" % (length, line) for line in told]
+        return wrong
+
+    def compare(self, status, error, printed, files, wanted):
+        """What differs between what came of a run and what is wanted."""
+        wrong = []
+
+        def see(what, got, want):
+            if got != want:
+                wrong.append("%s: %r\n  wanted %r" % (what, got, want))
+
+        see("status", status, wanted.get("status", 0))
+        see("standard error", error, self.text(wanted["error"]) + "\n" if wanted.get("error") else "")
+        if "prints" in wanted:
+            see("standard output", printed, self.text(wanted["prints"]))
+        lines = printed.split("\n")
+        for line in wanted.get("lines", []):
+            if self.text(line) not in lines:
+                wrong.append("standard output has no line %r: %r" % (line, printed))
+        for name, text in wanted.get("writes", {}).items():
+            see(name, files.get(name), self.text(text))
+        replies = files.get("replies", printed)
+        if "outline" in wanted:
+            see("outline", outline(replies), self.text(wanted["outline"]))
+        wrong += ["no part %r: %r" % (part, replies) for part in wanted.get("parts", []) if self.text(part) not in replies]
+        wrong += ["there is a file %s" % name for name in wanted.get("absent", []) if name in files]
+        return wrong
+
+
+def run(program, words, files, given):
+    """Runs the program in a folder with these files: its status, what it told on standard error and on standard output,
+    and the files that stand there afterwards. A text's characters are its bytes."""
+    with tempfile.TemporaryDirectory() as folder:
+        for name, text in files.items():
+            path = os.path.join(folder, name)
+            os.makedirs(os.path.dirname(path), exist_ok=True)
+            with open(path, "wb") as file:
+                file.write(text.encode("latin-1"))
+        ran = subprocess.run([program, *words], cwd=folder, input=given.encode("latin-1"), capture_output=True,
+                             timeout=SECONDS, check=False)
+        after = {}
+        for path, _, names in os.walk(folder):
+            for name in names:
+                with open(os.path.join(path, name), "rb") as file:
+                    after[os.path.relpath(os.path.join(path, name), folder)] = file.read().decode("latin-1")
+    return ran.returncode, ran.stderr.decode("latin-1"), ran.stdout.decode("latin-1"), after
+
+
+def read_table(path):
+    """The rows of a table, in order; each has a name of its own."""
+    table, rows = read(path), []
+    for values in table["row"]:
+        cases = values.pop("cases", [{}])
+        for number, case in enumerate(cases, 1):
+            name = values["name"] if cases == [{}] else "%s-%s" % (values["name"], case.get("name", number))
+            rows.append(Row(table, dict(merged(values, case), name=name)))
+    if len({row.name for row in rows}) != len(rows):
+        raise ValueError("%s: two rows have one name" % path)
+    return rows
