@@ -1,23 +1,26 @@
 #!/usr/bin/env python3
-"""Ties the promises of docs/PROMISES.md to the edits that must be refused.
+"""Ties the promises of docs/PROMISES.md to the wrong bodies that must be refused.
 
-    checks/promises.py            checks that each edit names a promise and still fits its sources, and that each test
-                                  that a row names is there
-    checks/promises.py --print    prints each promise with its edits
+    checks/promises.py            checks that each wrong body names a promise, that those of must-fail/ fit their
+                                  sources, and that each test that a row names is there
+    checks/promises.py --print    prints each promise with its wrong bodies
 
-An edit names its promise by a line `promise: KEY`, or `promise: CRATE/KEY` where that is another crate's. Exits with 1
-where something is amiss, with a line for each.
+A mutant of checks/mutants/ names its promises by `promise`, an edit of must-fail/ by a line `promise: KEY`, or
+`promise: CRATE/KEY` where that is another crate's. Exits with 1 where something is amiss, with a line for each.
 """
 import argparse
 import glob
 import os
 import re
 import sys
+import tomllib
+
+from mutants import load, tables
 
 TOP = os.path.dirname(os.path.dirname(os.path.abspath(__file__)))
 PAGE = os.path.join(TOP, "docs", "PROMISES.md")
 ROW = re.compile(r"^\| `(?P<key>\w+)` \| (?P<promise>.*) \| (?P<clause>.*) \| (?P<tests>.*) \|$")
-PROMISE = re.compile(r"^promise: (?:(\w+)/)?(\w+)$", re.MULTILINE)
+PROMISE = re.compile(r"^promise: (\S.*)$", re.MULTILINE)
 TEST = re.compile(r"^(?:\w+: )?((?:\w+::)*\w+)$")
 FUNCTION = re.compile(r"^\s*(?:pub )?fn (\w+)|^\s*(?:pub )?mod (\w+);", re.MULTILINE)
 
@@ -39,21 +42,32 @@ def promises():
 
 
 def edits():
-    """Each edit with its crate and the promises that it names."""
+    """The edits of must-fail/, each with its crate."""
     for path in sorted(glob.glob(os.path.join(TOP, "crates", "*", "must-fail", "*.edit"))):
         yield path, path.split(os.sep)[-3]
-    for path in sorted(glob.glob(os.path.join(TOP, "checks", "edits", "*", "*.edit"))):
-        yield path, path.split(os.sep)[-2]
+
+
+def wrong_bodies():
+    """Each wrong body: its crate, its name and the promises that it names."""
+    for path, crate in edits():
+        yield crate, os.path.basename(path)[: -len(".edit")], PROMISE.findall(read(path))
+    for crate in tables():
+        for mutant in load(crate)["mutant"]:
+            yield crate, mutant["name"], [word for word in mutant["promise"].split(", ") if word]
 
 
 def named():
-    """The names of the functions and modules of all tests, of a function also that with its module."""
+    """The names of the functions and modules of all tests and of the rows of tests/, of a function or a row also that
+    with its module or table."""
     names = set()
     for path in glob.glob(os.path.join(TOP, "crates", "*", "src", "**", "*.rt"), recursive=True):
         if "tests" in path:
             module = os.path.basename(path)[: -len(".rt")]
             found = [name for pair in FUNCTION.findall(read(path)) for name in pair if name]
             names.update(found, ("%s::%s" % (module, name) for name in found))
+    for path in glob.glob(os.path.join(TOP, "tests", "*.toml")):
+        table, rows = os.path.basename(path)[: -len(".toml")], tomllib.loads(read(path)).get("row", [])
+        names.update([table], *(["%s::%s" % (table, row["name"]), row["name"]] for row in rows))
     return names
 
 
@@ -76,13 +90,13 @@ def fits(path, crate):
 
 def amiss(rows, refused, unnamed):
     yield from ("%s: doesn't fit" % os.path.relpath(path, TOP) for path, crate in edits() if not fits(path, crate))
-    yield from ("%s: names no promise" % os.path.relpath(path, TOP) for path in unnamed)
-    for place, paths in refused.items():
+    yield from ("%s: names no promise" % name for name in unnamed)
+    for place, names in refused.items():
         if place not in rows:
-            yield from ("%s: no promise %s/%s" % (os.path.relpath(path, TOP), *place) for path in paths)
+            yield from ("%s: no promise %s/%s" % (name, *place) for name in names)
     tests = named()
     for place, row in rows.items():
-        for test in filter(None, map(str.strip, row["tests"].split(","))):
+        for test in filter(None, map(str.strip, re.split("[,;]", row["tests"]))):
             found = TEST.match(test)
             if found and found[1] not in tests:
                 yield "%s/%s: no test %s" % (*place, test)
@@ -90,22 +104,21 @@ def amiss(rows, refused, unnamed):
 
 def main():
     parser = argparse.ArgumentParser(description=__doc__, formatter_class=argparse.RawDescriptionHelpFormatter)
-    parser.add_argument("--print", action="store_true", dest="shown", help="print each promise with its edits")
+    parser.add_argument("--print", action="store_true", dest="shown", help="print each promise with its wrong bodies")
     options = parser.parse_args()
     rows, refused, unnamed = promises(), {}, []
-    for path, crate in edits():
-        found = PROMISE.findall(read(path))
-        unnamed += [] if found else [path]
-        for other, key in found:
-            refused.setdefault((other or crate, key), []).append(path)
+    for crate, name, found in wrong_bodies():
+        unnamed += [] if found else ["%s/%s" % (crate, name)]
+        for word in found:
+            place = tuple(word.split("/")) if "/" in word else (crate, word)
+            refused.setdefault(place, []).append(name)
     if options.shown:
         for place, row in rows.items():
-            names = [os.path.basename(path)[: -len(".edit")] for path in refused.get(place, [])]
-            print("%s/%s: %s\n    %s" % (*place, row["promise"], ", ".join(names) or "(no edit)"))
+            print("%s/%s: %s\n    %s" % (*place, row["promise"], ", ".join(refused.get(place, [])) or "(none)"))
         return 0
     wrong = list(amiss(rows, refused, unnamed))
     bare = sum(1 for place in rows if place not in refused)
-    print("\n".join(wrong + ["%d promises (%d with no edit), %d wrong" % (len(rows), bare, len(wrong))]))
+    print("\n".join(wrong + ["%d promises (%d with no wrong body), %d wrong" % (len(rows), bare, len(wrong))]))
     return int(bool(wrong))
 
 

@@ -4,9 +4,9 @@
     checks/refusals.py
 
 No contract can forbid a body to answer out of memory at will. So by form: such an answer is made by `?`, in a `From` of
-another refusal, in an arm of a match that names one, or where a call that is handed the allocator, or that lets a
-collection grow, failed. Each other place stands in a list here with its reason, by its file and function. Exits with 1
-where a place is in neither, or where the list names one that isn't there.
+another refusal, in an arm of a match that names one, or right in the block of the `else` or of the arm `Err(_)` of a call
+that is handed the allocator, or that lets a collection grow. Each other place stands in a list here with its reason, by
+its file and function. Exits with 1 where a place is in neither, or where the list names one that isn't there.
 """
 import glob
 import os
@@ -16,11 +16,10 @@ import sys
 TOP = os.path.dirname(os.path.dirname(os.path.abspath(__file__)))
 NAME = r"(?:\w+::)*(?:AllocError|Memory|MEMORY|NoMemory)"
 MADE = re.compile(r"(?:Err\(|=> |= |return |^\s*)%s\)?[,;)}\s]|kind: \w+::Memory," % NAME)
-ARM = re.compile(r"(?:Memory|AllocError|OutOfMemory)\b.*=> ")
+ARM = re.compile(r"(?:\b(?:Memory|AllocError|OutOfMemory)\b|is_memory\(\)).*=> ")
 SAID = re.compile(r"\b(?:ghost|requires|ensures|use)\b|^\s*(?:Memory|NoMemory),$")
 CALL = re.compile(r"\balloc\b|\.push\(|\.put\(|laid_out|FolderFault::new")
 FUNCTION = re.compile(r"^\s*(?:pub(?:\(crate\))? )?(?:fn|const) (\w+)")
-REACH = 8
 REASONS = {
     ("command_line", "refusal"): "clap's own out of memory has this kind, and its text takes memory",
     ("http_requests", "cut"): "a cutter that was refused memory answers so from then on",
@@ -38,29 +37,51 @@ REASONS = {
 
 def places():
     """Each line of the crates' code, without tests and contracts, that makes such an answer: crate, file, function, the
-    line and the lines before it in the function."""
+    line, and the function's text up to the answer."""
     for path in sorted(glob.glob(os.path.join(TOP, "crates", "*", "src", "**", "*.rt"), recursive=True)):
         crate = os.path.relpath(path, TOP).split(os.sep)[1]
         if crate.endswith("_tests") or crate == "test_support" or path.endswith("tests.rt"):
             continue
-        function, before = "", []
+        function, before = "", ""
         with open(path, encoding="utf-8") as file:
             for line in file.read().split("\n"):
                 found = FUNCTION.match(line)
                 if found:
-                    function, before = found[1], []
+                    function, before = found[1], ""
                 code = line.split("//")[0]
-                if MADE.search(code) and not SAID.search(code):
-                    yield crate, path, function, code, before[-REACH:]
-                before.append(code)
+                made = MADE.search(code)
+                if made and not SAID.search(code):
+                    yield crate, path, function, code, before + code[: made.start()]
+                before += code + "\n"
+
+
+def opened(text):
+    """What stands before the brace that is open at the end of a text, and what follows it."""
+    depth = 0
+    for at in range(len(text) - 1, -1, -1):
+        depth += {"}": 1, "{": -1}.get(text[at], 0)
+        if depth < 0:
+            return text[:at].rstrip(), text[at + 1 :]
+    return "", text
+
+
+def statement(text):
+    """The last statement of a text, from its first word on."""
+    return re.split(r"[;{}]\s*\n|=>\s", text)[-1]
 
 
 def is_refusal(function, line, before):
     """Whether the answer comes from a refusal by its form."""
     if function == "from" or ARM.search(line):
         return True
-    failed = re.search(r"Err\(_\) =>|\belse \{", line + " ".join(before))
-    return bool(failed and CALL.search(" ".join(before + [line])))
+    head, inside = opened(before)
+    if re.search(r"Err\(_\) (?:=>\s*\S*)?$", inside):
+        return bool(CALL.search(statement(head)))
+    if head.endswith("Err(_) =>"):
+        return bool(CALL.search(statement(opened(head)[0])))
+    if head.endswith("} else"):
+        return bool(CALL.search(statement(opened(head[: -len("} else")])[0])))
+    return head.endswith("else") and bool(CALL.search(statement(head)))
 
 
 def main():

@@ -19,7 +19,7 @@ COMMANDS = {
     "settings": ([], ["settings"]),
 }
 KEYS = {"name", "command", "words", "engines", "texts", "files", "pieces", "bytes", "stdin", "each_cut", "status",
-        "error", "prints", "lines", "writes", "outline", "parts", "absent"}
+        "error", "prints", "lines", "columns", "writes", "outline", "parts", "absent"}
 MARK = re.compile(r"\$\{(?:'([^']*)'|(\w+))(?: \* (\d+))?\}")
 
 
@@ -53,6 +53,12 @@ def outline(replies):
         elif line.startswith("HTTP/1.1 "):
             told += " " + line.removeprefix("HTTP/1.1 ") + ";"
     return told
+
+
+def column(table, name):
+    """The values of a column of a table of decisions, `-` for those that are empty."""
+    heading, *rows = [line.split(",") for line in table.split("\n")[:-1]]
+    return " ".join(row[heading.index(name)] or "-" for row in rows)
 
 
 class Row:
@@ -136,6 +142,8 @@ class Row:
         for line in wanted.get("lines", []):
             if self.text(line) not in lines:
                 wrong.append("standard output has no line %r: %r" % (line, printed))
+        for name, values in wanted.get("columns", {}).items():
+            see(name, column(files["messages"], name), values)
         for name, text in wanted.get("writes", {}).items():
             see(name, files.get(name), self.text(text))
         replies = files.get("replies", printed)

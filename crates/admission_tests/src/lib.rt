@@ -6,8 +6,6 @@ mod buckets;
 #[cfg(test)]
 mod memory;
 #[cfg(test)]
-mod plain;
-#[cfg(test)]
 mod rows;
 #[cfg(test)]
 mod window;

@@ -1,0 +1,468 @@
+#!/usr/bin/env python3
+"""Tries the wrong bodies of checks/mutants/CRATE.toml, each of which the checker must refuse, and keeps the record of it.
+
+    checks/mutants.py [--jobs N] [CRATE ..]   tries those of these crates (of all where none is named) and writes the
+                                              tables' records; it proves these crates and those below them first
+    checks/mutants.py --check                 compares each record with the sources, in seconds, as the gate does
+
+Each function is checked against the contracts of those that it calls, so wrong bodies of different functions don't
+disturb each other: a pass puts as many as stand in different functions into one copy of the crate, checks it once, past
+open goals, over what the crate's own check kept, and judges each by the goals of its function. What changes something
+else than a function's body gets a pass of its own, and so does what wasn't refused in a pass. The verdicts:
+
+  values           values are known at which a goal is false
+  goal             a goal can't be proved: what a function ensures, what a call requires, an invariant, a loop, an index
+  answer           the written proof of such a goal doesn't fit it any more
+  limit            the checker came to a limit of its own at such a goal
+  word             by name alone, but `false_goal` says why a goal is false: that was seen by hand
+  name             by name alone: a proof names what the mutant took away, which says little of a contract
+  not refused      the crate is still proved
+  doesn't compile  the compiler, or the reader of contracts, refuses the text
+
+A record is of one text of the crate and of the contracts below it: their sources without the bodies of functions. Exits
+with 1 where a mutant has one of the last three verdicts, or a record isn't of what is there.
+"""
+import argparse
+import collections
+import concurrent.futures
+import glob
+import hashlib
+import json
+import os
+import re
+import shutil
+import subprocess
+import sys
+import tempfile
+import tomllib
+
+TOP = os.path.dirname(os.path.dirname(os.path.abspath(__file__)))
+TABLES = os.path.join(TOP, "checks", "mutants")
+PARTS = ("src", "specs", "proofs")
+REFUSED = ("values", "goal", "answer", "limit", "word")
+UNKNOWN, ALIVE, BROKEN = "no verdict", "not refused", "doesn't compile"
+HEAD = re.compile(r"^( *)(?:pub(?:\(\w+\))? )?(?:const |unsafe )*fn (\w+)")
+IMPL = re.compile(r"^( *)impl(?:<.*?>)? (.*) \{$")
+OPEN = re.compile(r"^note: (?:\./)?(src/\S+?):(\d+):\d+: it is not proved that (.*)")
+FALSE = "allow values at which this goal is false"
+ERROR = re.compile(r"^(?:\./)?(proofs/\S+?\.antt):\d+:\d+: error: (?:`([^`]+)`: )?(.*)")
+FRONT = re.compile(r"^(?:\./)?((?:src|specs)/\S+?):(\d+):\d+: error")
+STATE = re.compile(r"^fn (\S+): (.*)")
+GONE = re.compile(r"has no field|is not in scope|has no `|was not admitted|is no name")
+LIMIT = re.compile(r"antt ran out of (stack|the (steps|memory))|(outgrew the memory limit|stopped at the step limit)")
+
+
+def read(path):
+    with open(path, encoding="utf-8") as file:
+        return file.read()
+
+
+def crates():
+    """The rows of crates.txt: each crate's own row, and the own crates that it stands on."""
+    rows = {row.split(":")[0].split()[0]: row for row in read(os.path.join(TOP, "crates.txt")).splitlines()
+            if ":" in row and not row.startswith("#")}
+    return rows, {name: [low for low in row.split(":")[1].split() if low in rows] for name, row in rows.items()}
+
+
+def below(stands, name):
+    """The own crates that a crate stands on, those far below too."""
+    found, todo = set(), list(stands[name])
+    while todo:
+        low = todo.pop()
+        if low not in found:
+            found.add(low)
+            todo += stands[low]
+    return sorted(found)
+
+
+def files_of(folder, parts=PARTS):
+    """The files of a crate, by their paths in it."""
+    found = {}
+    for part in parts:
+        for path in sorted(glob.glob(os.path.join(folder, part, "**", "*.*"), recursive=True)):
+            if path.endswith((".rt", ".antt")):
+                found[os.path.relpath(path, folder)] = read(path)
+    return found
+
+
+def bodies(text):
+    """The functions of a source as rt fmt lays it out: name, type (with its trait) or "", and the numbers of the first
+    line, of the line that begins the body and of the last one, from 1."""
+    lines, kind, found = text.split("\n"), "", []
+    for number, line in enumerate(lines, 1):
+        impl, head = IMPL.match(line), HEAD.match(line)
+        if impl:
+            kind = impl[2].split(" where ")[0]
+        elif line == "}":
+            kind = ""
+        if head and not line.rstrip().endswith(";"):
+            first, end = number, head[1] + "}"
+            inline = line.endswith("}")
+            last = number if inline else next((at for at in range(number, len(lines)) if lines[at] == end), number - 1) + 1
+            begin = next((at for at in range(first, last + 1) if lines[at - 1] == head[1] + "{"), 0)
+            begin = begin or next((at for at in range(first, last + 1) if lines[at - 1].endswith("{")), first)
+            found.append((head[2], kind, first, begin, last))
+    return found
+
+
+def contracts(text):
+    """A source without the bodies of its functions."""
+    lines = text.split("\n")
+    for _, _, first, begin, last in bodies(text):
+        if last > first:
+            lines[begin : last - 1] = [""] * (last - 1 - begin)
+    return "\n".join(lines)
+
+
+def text_sum(crate):
+    """The checksum of a crate's text and of the contracts that it stands on."""
+    rows, stands = crates()
+    told = hashlib.sha256(rows[crate].encode())
+    for path, text in files_of(os.path.join(TOP, "crates", crate)).items():
+        told.update(("%s\n%s\n" % (path, text)).encode())
+    for low in below(stands, crate):
+        for path, text in files_of(os.path.join(TOP, "crates", low), ("src", "specs")).items():
+            told.update(("%s/%s\n%s\n" % (low, path, contracts(text) if path.endswith(".rt") else text)).encode())
+    return told.hexdigest()[:16]
+
+
+def changes_of(mutant):
+    """The changes that a mutant makes, in order: each with its file, the old text and the new one."""
+    return [(it["file"], it["old"], it["new"]) for it in [mutant, *mutant.get("also", [])]]
+
+
+def own_sum(mutant):
+    return hashlib.sha256(json.dumps(changes_of(mutant)).encode()).hexdigest()[:8]
+
+
+def applied(texts, mutant):
+    """The crate's files with a mutant's changes made; None where an old text doesn't stand once."""
+    texts = dict(texts)
+    for path, old, new in changes_of(mutant):
+        if texts.get(path, "").count(old) != 1:
+            return None
+        texts[path] = texts[path].replace(old, new)
+    return texts
+
+
+# The tables.
+
+
+def quoted(text):
+    """A string as TOML writes it, without escapes where it can be."""
+    return "'%s'" % text if "'" not in text and text.isprintable() else json.dumps(text, ensure_ascii=False)
+
+
+def written(table, crate):
+    """A table as it stands in its file."""
+    parts = ["# Wrong bodies of `%s` that the checker must refuse, by the promise that each breaks. What checks/mutants.py\n"
+             "# found stands under `record` and in each `verdict`.\n" % crate]
+    record = table.get("record")
+    if record:
+        parts.append("[record]\n" + "".join("%s = %s\n" % (key, quoted(value) if isinstance(value, str) else value)
+                                            for key, value in record.items()))
+    for mutant in table["mutant"]:
+        lines = ["[[mutant]]"]
+        for key in ("name", "promise", "file", "old", "new"):
+            lines.append("%s = %s" % (key, quoted(mutant[key])))
+        if mutant.get("also"):
+            rows = ["    { file = %s, old = %s, new = %s }," % tuple(map(quoted, change))
+                    for change in changes_of(mutant)[1:]]
+            lines += ["also = [", *rows, "]"]
+        for key in ("false_goal", "verdict", "tried"):
+            if key in mutant:
+                lines.append("%s = %s" % (key, quoted(mutant[key])))
+        parts.append("\n".join(lines) + "\n")
+    return "\n".join(parts)
+
+
+def load(crate):
+    with open(os.path.join(TABLES, crate + ".toml"), "rb") as file:
+        return tomllib.load(file)
+
+
+def tables():
+    return sorted(os.path.basename(path)[: -len(".toml")] for path in glob.glob(os.path.join(TABLES, "*.toml")))
+
+
+# The passes.
+
+
+class Sites:
+    """Where a crate's functions stand, and the checker's names for them."""
+
+    def __init__(self, crate, texts, names):
+        self.crate, self.names = crate, names
+        self.texts = texts
+        self.bodies = {path: bodies(text) for path, text in texts.items() if path.endswith(".rt")}
+
+    def names_of(self, path, name, kind):
+        """The checker's names of a function and of the closures in it."""
+        module = path[len("src/") : -len(".rt")].replace("/", "::")
+        front = self.crate + "::" + ("" if module in ("lib", "main") else module + "::")
+        words = re.sub(r"<[^<>]*>", "", re.sub(r"<[^<>]*>", "", re.sub(r"<[^<>]*>", "", kind))).split()
+        types = [words[-1] + words[0], words[-1]] if "for" in words else words[-1:] if words else [""]
+        own = [front + (it.split("::")[-1] + "::" if it else "") for it in types]
+        found = [it for it in self.names for top in own if it == top + name or it.startswith("%sfn::%s::" % (top, name))]
+        return found or [it for it in self.names if it.startswith(front) and it.split("::")[-1] == name]
+
+    def of(self, mutant):
+        """The functions whose bodies a mutant changes, as (file, first line, last line, names); None where it changes
+        something else."""
+        found, texts = [], dict(self.texts)
+        for path, old, new in changes_of(mutant):
+            at = texts[path].index(old)
+            first = texts[path].count("\n", 0, at) + 1
+            last = first + old.count("\n")
+            body = [it for it in self.bodies.get(path, []) if it[3] <= first and last <= it[4]]
+            if not body:
+                return None
+            name, kind, begin, _, end = body[-1]
+            site = (path, begin, end, tuple(self.names_of(path, name, kind)))
+            found += [site] if site not in found else []
+            texts[path] = texts[path].replace(old, new)
+        return found
+
+
+def grouped(mutants, sites):
+    """Passes: as many mutants in each as stand in different functions; those that stand elsewhere alone."""
+    passes, alone = [], []
+    for mutant in mutants:
+        where = sites.of(mutant)
+        if where is None:
+            alone.append([mutant])
+            continue
+        keys = {it[:3] for it in where}
+        for taken, members in passes:
+            if not taken & keys:
+                taken |= keys
+                members.append(mutant)
+                break
+        else:
+            passes.append((keys, [mutant]))
+    return [members for _, members in passes] + alone
+
+
+class Checker:
+    """Checks copies of a crate over what its own check kept, and counts the processor seconds."""
+
+    def __init__(self, crate):
+        self.crate, self.seconds = crate, 0.0
+        self.rows, stands = crates()
+        self.low = below(stands, crate)
+        self.folder = os.path.join(TOP, "crates", crate)
+        self.texts = files_of(self.folder)
+
+    def room(self, texts):
+        """A copy of what a check of the crate needs, with these texts in place of its own."""
+        room = tempfile.mkdtemp(prefix="mutants-")
+        for name in [*self.low, self.crate]:
+            here, there = os.path.join(TOP, "crates", name), os.path.join(room, "crates", name)
+            shutil.copytree(here, there, ignore=shutil.ignore_patterns("out", "must-fail"))
+            kept = os.path.join(here, "out")
+            for part in ["rlib"] + ["incremental"] * (name == self.crate):
+                if os.path.isdir(os.path.join(kept, part)):
+                    shutil.copytree(os.path.join(kept, part), os.path.join(there, "out", part), copy_function=linked)
+        shutil.copy(os.path.join(TOP, "HANDLES"), room)
+        with open(os.path.join(room, "crates.txt"), "w", encoding="utf-8") as file:
+            file.writelines(self.rows[name] + "\n" for name in [*self.low, self.crate])
+        for path, text in texts.items():
+            if text != self.texts.get(path):
+                with open(os.path.join(room, "crates", self.crate, path), "w", encoding="utf-8") as file:
+                    file.write(text)
+        return room
+
+    def check(self, texts):
+        """What the checker says of the crate with these texts: its exit status and its lines."""
+        room = self.room(texts)
+        try:
+            with tempfile.TemporaryFile() as said:
+                ran = subprocess.Popen(["rt", "check", "--jobs", "1", "--allow-holes"], stdin=subprocess.DEVNULL, stdout=said,
+                                       stderr=subprocess.STDOUT, cwd=os.path.join(room, "crates", self.crate))
+                _, status, used = os.wait4(ran.pid, 0)
+                ran.returncode = os.waitstatus_to_exitcode(status)
+                self.seconds += used.ru_utime + used.ru_stime
+                said.seek(0)
+                return ran.returncode, said.read().decode(errors="replace").split("\n")
+        finally:
+            shutil.rmtree(room, ignore_errors=True)
+
+
+def linked(one, other):
+    """Copies a file that was kept; one that a check replaces, and never changes, by a link."""
+    if one.endswith(".oantt") or "/rlib/" in one:
+        os.link(one, other)
+    else:
+        shutil.copy2(one, other)
+
+
+class Said:
+    """What the checker said of a copy."""
+
+    def __init__(self, lines):
+        self.states, self.open, self.errors, self.front = {}, [], [], []
+        for line in lines:
+            line = line.removeprefix("so far: ")
+            for form, found in ((OPEN, self.open), (ERROR, self.errors), (FRONT, self.front)):
+                at = form.match(line)
+                if at:
+                    found.append(at)
+            state = STATE.match(line)
+            if state:
+                self.states[state[1]] = state[2]
+
+    def is_whole(self):
+        """Whether the checker came as far as the functions."""
+        return bool(self.states)
+
+    def verdict_of(self, state):
+        """What the state of a function says."""
+        if state.startswith(("no holes", "proved")):
+            return ALIVE
+        if LIMIT.search(state):
+            return "limit"
+        stands = re.search(r"it stands on `Rattle\.\w+\.proofs\.(.*)`, which antt refuses", state)
+        if not stands:
+            return "goal" if "did not prove" in state else UNKNOWN
+        *path, goal = stands[1].split(".")
+        told = [it for it in self.errors if it[2] == goal and it[1] == "proofs/%s.antt" % "/".join(path)]
+        if not told or any(LIMIT.search(it[3]) for it in told):
+            return "limit" if told else UNKNOWN
+        return "name" if all(GONE.search(it[3]) for it in told) else "answer"
+
+    def verdict(self, where):
+        """The verdict on a mutant of these functions; on one that stands elsewhere, of all functions (None)."""
+        inside = [it for it in self.open if where is None or
+                  any(it[1] == path and first <= int(it[2]) <= last for path, first, last, _ in where)]
+        if inside:
+            return "values" if any(FALSE in it[3] for it in inside) else "goal"
+        states = [state for name, state in self.states.items()
+                  if where is None or any(name in names for *_, names in where)]
+        found = [self.verdict_of(state) for state in states]
+        order = ("goal", "answer", "limit", "name", UNKNOWN, ALIVE)
+        return next((it for it in order if it in found), UNKNOWN)
+
+
+class Trial:
+    """Tries a crate's mutants."""
+
+    def __init__(self, crate, pool):
+        self.crate, self.pool, self.checker = crate, pool, Checker(crate)
+        self.verdicts = {}
+
+    def one_pass(self, mutants, sites):
+        """Tries these mutants at once; those that don't compile are taken out until the rest does."""
+        while mutants:
+            texts, kept = self.checker.texts, []
+            for mutant in mutants:
+                after = applied(texts, mutant)
+                if after is not None:
+                    texts = after
+                    kept.append(mutant)
+            status, lines = self.checker.check(texts)
+            said = Said(lines)
+            if said.is_whole():
+                return {it["name"]: said.verdict(sites.of(it) if len(kept) > 1 else sites.of(it)) for it in kept}
+            broken = self.broken(kept, sites, said)
+            if not broken:
+                print("%s: status %s: %s" % (self.crate, status, "\n".join(lines[-12:])), flush=True)
+                return {it["name"]: UNKNOWN for it in kept}
+            if len(kept) == 1:
+                return {kept[0]["name"]: BROKEN}
+            self.verdicts.update({it["name"]: BROKEN for it in broken})
+            mutants = [it for it in kept if it not in broken]
+        return {}
+
+    def broken(self, mutants, sites, said):
+        """The mutants in whose lines the compiler stopped; all, where they stand in none."""
+        found = []
+        for mutant in mutants:
+            where = sites.of(mutant)
+            if where is None or any(it[1] == path and first <= int(it[2]) <= last
+                                    for it in said.front for path, first, last, _ in where):
+                found.append(mutant)
+        return found if said.front else []
+
+    def run(self):
+        """The verdict on each mutant."""
+        table = load(self.crate)
+        status, lines = self.checker.check(self.checker.texts)
+        said = Said(lines)
+        if status or not said.is_whole() or set(map(said.verdict_of, said.states.values())) != {ALIVE}:
+            raise SystemExit("%s isn't proved as it stands:\n%s" % (self.crate, "\n".join(lines[-20:])))
+        sites = Sites(self.crate, self.checker.texts, list(said.states))
+        unfit = [it for it in table["mutant"] if applied(self.checker.texts, it) is None]
+        for mutant in unfit:
+            print("%s/%s: an old text doesn't stand once" % (self.crate, mutant["name"]))
+        mutants = [it for it in table["mutant"] if it not in unfit]
+        passes = grouped(mutants, sites)
+        for came in self.pool.map(lambda members: self.one_pass(members, sites), passes):
+            self.verdicts.update(came)
+        again = [it for it in mutants if self.verdicts.get(it["name"]) not in REFUSED + (BROKEN,)]
+        for came in self.pool.map(lambda it: self.one_pass([it], sites), again):
+            self.verdicts.update(came)
+        self.write(table, len(passes))
+
+    def write(self, table, passes):
+        """Writes the crate's record."""
+        for mutant in table["mutant"]:
+            verdict = self.verdicts.get(mutant["name"], UNKNOWN)
+            if verdict == "name" and "false_goal" in mutant:
+                verdict = "word"
+            mutant.update(verdict=verdict, tried=own_sum(mutant))
+        table["record"] = {"text": text_sum(self.crate), "passes": passes, "seconds": round(self.checker.seconds)}
+        with open(os.path.join(TABLES, self.crate + ".toml"), "w", encoding="utf-8") as file:
+            file.write(written(table, self.crate))
+        count = collections.Counter(it["verdict"] for it in table["mutant"])
+        print("%s: %d passes, %d processor seconds: %s" % (
+            self.crate, passes, self.checker.seconds, ", ".join("%d %s" % it[::-1] for it in count.most_common())), flush=True)
+
+
+def amiss(crate):
+    """What is wrong with a crate's table, beside the sources."""
+    table, texts = load(crate), files_of(os.path.join(TOP, "crates", crate))
+    names = collections.Counter(it["name"] for it in table["mutant"])
+    yield from ("%s/%s: the name stands twice" % (crate, name) for name, count in names.items() if count > 1)
+    for mutant in table["mutant"]:
+        label = "%s/%s" % (crate, mutant["name"])
+        if applied(texts, mutant) is None:
+            yield "%s: an old text doesn't stand once" % label
+        elif mutant.get("tried") != own_sum(mutant):
+            yield "%s: not tried as it stands" % label
+        elif mutant["verdict"] not in REFUSED:
+            yield "%s: %s" % (label, mutant["verdict"])
+    if table.get("record", {}).get("text") != text_sum(crate):
+        yield "%s: the record is of another text: run checks/mutants.py %s" % (crate, crate)
+
+
+def check():
+    """Prints what is wrong with the tables; the status to end with."""
+    wrong, count = [], 0
+    for crate in tables():
+        wrong += amiss(crate)
+        count += len(load(crate)["mutant"])
+    print("\n".join(wrong + ["%d mutants of %d crates, %d wrong" % (count, len(tables()), len(wrong))]))
+    return int(bool(wrong))
+
+
+def main():
+    parser = argparse.ArgumentParser(description=__doc__, formatter_class=argparse.RawDescriptionHelpFormatter)
+    parser.add_argument("--check", action="store_true", help="compare the records with the sources")
+    parser.add_argument("--jobs", type=int, default=os.cpu_count(), metavar="N", help="how many checks at a time")
+    parser.add_argument("crates", nargs="*", metavar="CRATE")
+    words = parser.parse_args()
+    for crate in words.crates:
+        if crate not in tables():
+            parser.error("no table of mutants for a crate %s" % crate)
+    if words.check:
+        return check()
+    chosen = words.crates or tables()
+    subprocess.run([os.path.join(TOP, "build"), "--jobs", str(words.jobs), *chosen], check=True)
+    with concurrent.futures.ThreadPoolExecutor(words.jobs) as pool:
+        for crate in chosen:
+            Trial(crate, pool).run()
+    return int(any(line for crate in chosen for line in amiss(crate)))
+
+
+if __name__ == "__main__":
+    sys.exit(main())

@@ -1,6 +1,0 @@
-use Rattle.std.proofs.Common.{◌≡◌, ◌*◌, ◌≤◌}
-use Rattle.admission.specs.Standing.{last_tick}
-use Rattle.admission_tests.proofs.rows.a_window_longer_than_a_control_apart.Given as goal
-
-abbrev pub invariant-loop-j : goal.invariant-loop-j
-invariant-loop-j g l = (l.controller.offers ≡ l.j) × (last_tick l.controller ≤ 100 * l.j)
