@@ -445,6 +445,14 @@ def check():
     return int(bool(wrong))
 
 
+def is_built(crate):
+    """Whether a crate's library, and what its check keeps, are there and not older than its sources."""
+    folder = os.path.join(TOP, "crates", crate)
+    kept = [os.path.join(folder, "out", name) for name in ("rlib/stamp", "incremental")]
+    sources = [os.path.join(folder, path) for path in files_of(folder)]
+    return all(map(os.path.exists, kept)) and max(map(os.path.getmtime, sources)) <= os.path.getmtime(kept[0])
+
+
 def main():
     parser = argparse.ArgumentParser(description=__doc__, formatter_class=argparse.RawDescriptionHelpFormatter)
     parser.add_argument("--check", action="store_true", help="compare the records with the sources")
@@ -457,7 +465,8 @@ def main():
     if words.check:
         return check()
     chosen = words.crates or tables()
-    subprocess.run([os.path.join(TOP, "build"), "--jobs", str(words.jobs), *chosen], check=True)
+    if not all(map(is_built, {low for crate in chosen for low in [crate, *below(crates()[1], crate)]})):
+        subprocess.run([os.path.join(TOP, "build"), "--jobs", str(words.jobs), *chosen], check=True)
     with concurrent.futures.ThreadPoolExecutor(words.jobs) as pool:
         for crate in chosen:
             Trial(crate, pool).run()
