@@ -1,169 +1,108 @@
-//! Captures upgraded to version 2.
-use crate::capture_inputs::fault;
-use captures::{CaptureFaultKind as Kind, UpgradeFault, Version, upgrade};
+//! Upgrades between devices that fail, or without memory, and to the version that no command asks for.
+use captures::{CaptureFault, CaptureFaultKind as Kind, UpgradeFault, Version, upgrade};
 use devices::{Input, Output};
-use std::alloc::Global;
+use std::alloc::{AllocGlobal, Global};
+use std::process::Abort;
 use test_support::{Flaky, NEWER, OLDER, Slow};
 
 /// More calls than any of these runs makes.
-pub const ALL: usize = 1_000_000;
+const ALL: usize = 1_000_000;
 
-static TIERS: &str =
-    "haboob-capture 2 4102444800\nend 7 0\ntier 65535 3\npiece 1000000000000000 65535 7\nstop 0\n\nstop 3\n";
+/// The records of `OLDER` and `NEWER` as traffic.
+static TRAFFIC: &str =
+    "haboob-traffic 1 784111777\npiece 0 0 32\nGET /a.txt HTTP/1.1\r\nHost: a\r\n\r\n\nend 5 0\nstop 2\n";
 
-/// What an upgrade between devices in memory came to, how often the reader and the writer failed, and what was written.
-pub fn run(
+/// Lives of one number, which no capture can hold.
+static LIVES: &str =
+    "haboob-traffic 1 0\ntier 3 1\npiece 5 3 2\nhi\nend 5 3\npiece 5 3 1\nx\nend 5 3\nend 5 3\ntier 3 0\nstop 7\n";
+
+/// What an upgrade between devices in memory came to, how often the reader and the writer failed, and how much of the
+/// text stands that is wanted, where nothing else does.
+fn run(
     alloc: Global,
-    text: &[u8],
+    text: &str,
     to: Version,
-    reads: usize,
-    writes: usize,
-) -> (Result<(), UpgradeFault>, (u64, u64), Vec<u8>) {
+    calls: (usize, usize),
+    want: &str,
+) -> (Result<(), UpgradeFault>, (u64, u64), Option<usize>) {
     let mut taken = Vec::new(alloc);
-    let mut reader = Input::new(Flaky::new(text, 5, reads));
-    let mut writer = Output::new(Slow::new(&mut taken, 7, writes));
+    let mut reader = Input::new(Flaky::new(text.as_bytes(), 5, calls.0));
+    let mut writer = Output::new(Slow::new(&mut taken, 7, calls.1));
     let result = upgrade(alloc, &mut reader, &mut writer, to);
     let failures = (reader.failures(), writer.failures());
-    (result, failures, taken)
+    drop(writer);
+    let stands = want.as_bytes().starts_with(&taken).then_some(taken.len());
+    (result, failures, stands)
 }
 
 #[test]
-fn version_one_becomes_two(rt: HostRuntime) {
-    let (result, failures, taken) = run(rt.alloc(), OLDER.as_bytes(), Version::Two, ALL, ALL);
-    assert_eq!(rt; result, Ok(()));
-    assert_eq!(rt; failures, (0, 0));
-    assert_eq!(rt; taken.as_slice(), NEWER.as_bytes());
-}
-
-/// A text of version 2 comes out unchanged.
-#[test]
-fn version_two_stays(rt: HostRuntime) {
-    for text in [NEWER, TIERS, "haboob-capture 2 0\nstop 0\n"] {
-        let (result, _, taken) = run(rt.alloc(), text.as_bytes(), Version::Two, ALL, ALL);
-        assert_eq!(rt; result, Ok(()));
-        assert_eq!(rt; taken.as_slice(), text.as_bytes());
+fn to_version_one(rt: HostRuntime) {
+    for text in [OLDER, NEWER, TRAFFIC, LIVES] {
+        let came = run(rt.alloc(), text, Version::One, (ALL, ALL), text);
+        assert_eq!(rt; came, (Ok(()), (0, 0), Some(text.len())), "{text}");
     }
 }
 
-/// Faults, and what is written before them.
-#[test]
-fn faults_of_upgrades(rt: HostRuntime) {
-    let table: [(&[u8], usize, Kind, &[u8]); 7] = [
-        (b"", 0, Kind::Cut, b""),
-        (b"haboob-capture 3 0\nstop 0\n", 0, Kind::Header, b""),
-        (
-            b"haboob-capture 1 7\npiece 0 4096 1\nx\nstop 1\n",
-            1,
-            Kind::Connection,
-            b"haboob-capture 2 7\n",
-        ),
-        (
-            b"haboob-capture 1 7\ntier 0 1\nstop 1\n",
-            1,
-            Kind::Kind,
-            b"haboob-capture 2 7\n",
-        ),
-        (
-            b"haboob-capture 1 7\nend 3 9\nend 3 9\nstop 2\n",
-            2,
-            Kind::Ended,
-            b"haboob-capture 2 7\nend 3 9\n",
-        ),
-        (
-            b"haboob-capture 1 7\nend 3 9\nstop 2\n",
-            2,
-            Kind::Count,
-            b"haboob-capture 2 7\nend 3 9\n",
-        ),
-        (
-            b"haboob-capture 1 7\nend 3 9\nstop 1\n\n",
-            2,
-            Kind::Trailing,
-            b"haboob-capture 2 7\nend 3 9\n",
-        ),
-    ];
-    for (text, at, kind, want) in table {
-        let (result, failures, taken) = run(rt.alloc(), text, Version::Two, ALL, ALL);
-        match result {
-            Err(UpgradeFault::Capture(found)) => assert_eq!(rt; Some(found), fault(at, kind)),
-            _ => assert!(rt; false, "another answer"),
-        }
-        assert_eq!(rt; failures, (0, 0));
-        assert_eq!(rt; taken.as_slice(), want);
+/// How much stands after a read that failed: the first line and the whole records before the one that was being read.
+fn whole_before(fault: UpgradeFault) -> usize {
+    match fault {
+        UpgradeFault::Capture(
+            CaptureFault {
+                at,
+                kind: Kind::Read,
+            },
+        ) => [0, 27, 73, 81][at.min(3)],
+        _ => usize::MAX,
     }
 }
 
-/// How many bytes of the new text stand where the old text ends after n: those of the whole records.
-fn whole_before(end: usize) -> (usize, usize) {
-    if end < 27 {
-        (0, 0)
-    } else if end < 73 {
-        (1, 27)
-    } else if end < 81 {
-        (2, 73)
-    } else {
-        (3, 81)
-    }
-}
-
-/// Cut after each of its bytes, a capture leaves its whole records.
-#[test]
-fn upgrades_cut_anywhere(rt: HostRuntime) {
-    let text = OLDER.as_bytes();
-    assert_eq!(rt; text.len(), 88);
-    for end in 0..text.len() {
-        let (at, len) = whole_before(end);
-        let (result, _, taken) = run(rt.alloc(), &text[..end], Version::Two, ALL, ALL);
-        match result {
-            Err(UpgradeFault::Capture(found)) => assert_eq!(rt; Some(found), fault(at, Kind::Cut)),
-            _ => assert!(rt; false, "another answer"),
-        }
-        assert_eq!(rt; taken.len(), len);
-        assert!(rt; NEWER.as_bytes().starts_with(&taken));
-    }
-}
-
-/// Each read fails in turn: what stands are the first line and the whole records before the one that was being read.
-#[test]
-fn reads_failing(rt: HostRuntime) {
-    for good in 0..1000 {
-        let (result, failures, taken) = run(rt.alloc(), OLDER.as_bytes(), Version::Two, good, ALL);
-        if result == Ok(()) {
-            assert_eq!(rt; failures, (0, 0));
-            assert_eq!(rt; taken.as_slice(), NEWER.as_bytes());
-            return;
-        }
-        assert_eq!(rt; failures, (1, 0));
-        match result {
-            Err(UpgradeFault::Capture(found)) => {
-                assert_eq!(rt; found.kind, Kind::Read);
-                let len = [0, 27, 73, 81][found.at.min(3)];
-                assert_eq!(rt; taken.len(), len);
-                assert!(rt; NEWER.as_bytes().starts_with(&taken));
+fn check_reads(rt: &(impl Abort + AllocGlobal), text: &str, to: Version, want: &str) {
+    for good in 0..1000usize {
+        match run(rt.alloc(), text, to, (good, ALL), want) {
+            (Ok(()), failures, stands) => {
+                assert_eq!(rt; (failures, stands), ((0, 0), Some(want.len())));
+                return;
             }
-            _ => assert!(rt; false, "another answer"),
+            (Err(fault), failures, stands) => {
+                assert_eq!(rt; (failures, stands), ((1, 0), Some(whole_before(fault))));
+            }
         }
     }
     assert!(rt; false, "no run met all its reads");
 }
 
+/// Each read fails in turn.
+#[test]
+fn reads_failing(rt: HostRuntime) {
+    check_reads(&rt, OLDER, Version::Two, NEWER);
+    check_reads(&rt, NEWER, Version::Traffic, TRAFFIC);
+}
+
+/// At last more than so many bytes stand.
+fn check_writes(rt: &(impl Abort + AllocGlobal), text: &str, to: Version, want: &str, most: usize) {
+    let mut last = 0;
+    for good in 0..1000usize {
+        match run(rt.alloc(), text, to, (ALL, good), want) {
+            (Ok(()), failures, stands) => {
+                assert_eq!(rt; (failures, stands), ((0, 0), Some(want.len())));
+                assert!(rt; last > most);
+                return;
+            }
+            (Err(fault), failures, stands) => {
+                assert_eq!(rt; (fault, failures), (UpgradeFault::Write, (0, 1)));
+                assert!(rt; stands.is_some());
+                last = stands.unwrap_or(0);
+            }
+        }
+    }
+    assert!(rt; false, "no run met all its writes");
+}
+
 /// Each write fails in turn: a prefix stands.
 #[test]
 fn writes_failing(rt: HostRuntime) {
-    let mut last = 0;
-    for good in 0..1000 {
-        let (result, failures, taken) = run(rt.alloc(), OLDER.as_bytes(), Version::Two, ALL, good);
-        if result == Ok(()) {
-            assert_eq!(rt; failures, (0, 0));
-            assert!(rt; last > 73);
-            return;
-        }
-        assert_eq!(rt; result, Err(UpgradeFault::Write));
-        assert_eq!(rt; failures, (0, 1));
-        assert!(rt; NEWER.as_bytes().starts_with(&taken));
-        last = taken.len();
-    }
-    assert!(rt; false, "no run met all its writes");
+    check_writes(&rt, OLDER, Version::Two, NEWER, 73);
+    check_writes(&rt, LIVES, Version::Traffic, LIVES, 81);
 }
 
 /// `checks/refuse_growths.py` refuses each growth in turn: a prefix stands then, else the whole text.
