@@ -26,8 +26,8 @@ static TWO_CONNECTIONS: &str = "haboob-capture 1 784111777\n\
 static LIVES: &str =
     "haboob-traffic 1 0\ntier 3 1\npiece 5 3 2\nhi\nend 5 3\npiece 5 3 1\nx\nstop 4\n";
 
-/// How many records a text has, or its fault, where a read fails after so many; how often the input failed, and how many
-/// reads were made.
+/// How many records a text has, or its fault, where a read fails after so many; how often the input failed, and how
+/// many reads were made.
 fn outcome(alloc: Global, text: &str, good: usize) -> (Result<usize, CaptureFault>, u64, usize) {
     let mut device = Flaky::new(text.as_bytes(), 3, good);
     let mut input = Input::new(&mut device);

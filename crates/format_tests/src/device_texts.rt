@@ -1,7 +1,5 @@
 //! Lines and runs at the end of what a text may take.
-ghost use Rattle.devices.specs.Devices.{CanFail};
-
-use devices::{Input, Line, Stop, number, read_byte_of, read_line, read_long_line, read_run};
+use devices::{Input, Stop, number, read_byte_of, read_line, read_long_line, read_run};
 
 /// A text, how many bytes of it may be taken, and the length of its first line.
 static LINES: [(&str, usize, Result<usize, Stop>); 13] = [
@@ -48,41 +46,19 @@ static LINES: [(&str, usize, Result<usize, Stop>); 13] = [
     ),
 ];
 
-#[test]
-fn lines(rt: HostRuntime) {
-    for (text, limit, want) in &LINES {
-        let mut input = Input::new(text.as_bytes());
-        let mut left = *limit;
-        let got = match read_line(&mut input, &mut left) {
-            Ok(line) => Ok(line.as_slice().len()),
-            Err(stop) => Err(stop),
-        };
-        assert_eq!(rt; got, *want);
-    }
-}
-
-#[test]
-fn lines_read_ahead(rt: HostRuntime) {
-    for (text, limit, want) in &LINES {
-        let mut input = Input::ahead(text.as_bytes());
-        let mut left = *limit;
-        let got = match read_long_line(&mut input, &mut left, 6, b"piece ", 12) {
-            Ok(line) => Ok(line.as_slice().len()),
-            Err(stop) => Err(stop),
-        };
-        assert_eq!(rt; got, *want);
-    }
-}
-
-/// A text's first line, the byte after it, and how many more bytes may be taken then.
+/// The length of a text's first line, the byte after it, and how many more may be taken then. A line that isn't the
+/// front of the text counts as the longest that there can be.
 fn line_and_byte(
-    input: Input<&[u8]>,
+    text: &str,
     limit: usize,
+    ahead: bool,
     long: bool,
-) -> Result<(Line, Result<u8, Stop>, usize), Stop>
-    requires { CanFail input }
-{
-    let mut input = input;
+) -> Result<(usize, Result<u8, Stop>, usize), Stop> {
+    let mut input = if ahead {
+        Input::ahead(text.as_bytes())
+    } else {
+        Input::new(text.as_bytes())
+    };
     let mut left = limit;
     let line = if long {
         read_long_line(&mut input, &mut left, 6, b"piece ", 12)?
@@ -90,28 +66,28 @@ fn line_and_byte(
         read_line(&mut input, &mut left)?
     };
     let byte = read_byte_of(&mut input, &mut left);
-    Ok((line, byte, left))
+    let is_front = text.as_bytes().starts_with(line.as_slice());
+    let len = if is_front {
+        line.as_slice().len()
+    } else {
+        usize::MAX
+    };
+    Ok((len, byte, left))
 }
 
 /// An input that reads ahead gives the same line, and the same byte after it, as one that does not.
 #[test]
 fn lines_of_either_input(rt: HostRuntime) {
     for (text, limit, want) in &LINES {
-        let one = line_and_byte(Input::new(text.as_bytes()), *limit, false);
-        for long in [false, true] {
-            let ahead = line_and_byte(Input::ahead(text.as_bytes()), *limit, long);
-            match (&one, &ahead) {
-                (Ok(one), Ok(other)) => {
-                    assert_eq!(rt; Ok(one.0.as_slice().len()), *want);
-                    assert_eq!(rt; one.0.as_slice(), other.0.as_slice());
-                    assert_eq!(rt; (one.1, one.2), (other.1, other.2));
-                }
-                (Err(one), Err(other)) => {
-                    assert_eq!(rt; (Err(*one), Err(*other)), (*want, *want))
-                }
-                _ => panic!(rt; "one input alone gives a line of {text}"),
-            }
-        }
+        let one = line_and_byte(text, *limit, false, false);
+        let len = match one {
+            Ok((len, _, _)) => Ok(len),
+            Err(stop) => Err(stop),
+        };
+        assert_eq!(rt; len, *want, "{text}");
+        let ahead = line_and_byte(text, *limit, true, false);
+        let long = line_and_byte(text, *limit, true, true);
+        assert_eq!(rt; (ahead, long), (one, one), "{text}");
     }
 }
 
