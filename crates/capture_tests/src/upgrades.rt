@@ -16,15 +16,12 @@ static TRAFFIC: &str =
 static LIVES: &str =
     "haboob-traffic 1 0\ntier 3 1\npiece 5 3 2\nhi\nend 5 3\npiece 5 3 1\nx\nend 5 3\nend 5 3\ntier 3 0\nstop 7\n";
 
-/// What an upgrade between devices in memory came to, how often the reader and the writer failed, and how much of the
-/// text stands that is wanted, where nothing else does.
-fn run(
-    alloc: Global,
-    text: &str,
-    to: Version,
-    calls: (usize, usize),
-    want: &str,
-) -> (Result<(), UpgradeFault>, (u64, u64), Option<usize>) {
+/// What an upgrade came to, how often the reader and the writer failed, and how much of the text stands that is wanted,
+/// where nothing else does.
+type Came = (Result<(), UpgradeFault>, (u64, u64), Option<usize>);
+
+/// An upgrade between devices in memory, which fail after so many reads and writes.
+fn run(alloc: Global, text: &str, to: Version, calls: (usize, usize), want: &str) -> Came {
     let mut taken = Vec::new(alloc);
     let mut reader = Input::new(Flaky::new(text.as_bytes(), 5, calls.0));
     let mut writer = Output::new(Slow::new(&mut taken, 7, calls.1));
@@ -35,11 +32,16 @@ fn run(
     (result, failures, stands)
 }
 
+/// Whether all of the text was written, and no device failed.
+fn is_whole(came: &Came, want: &str) -> bool {
+    *came == (Ok(()), (0, 0), Some(want.len()))
+}
+
 #[test]
 fn to_version_one(rt: HostRuntime) {
     for text in [OLDER, NEWER, TRAFFIC, LIVES] {
         let came = run(rt.alloc(), text, Version::One, (ALL, ALL), text);
-        assert_eq!(rt; came, (Ok(()), (0, 0), Some(text.len())), "{text}");
+        assert!(rt; is_whole(&came, text), "{text}");
     }
 }
 
@@ -56,17 +58,21 @@ fn whole_before(fault: UpgradeFault) -> usize {
     }
 }
 
+/// Whether a read failed, and so much stands.
+fn is_cut(came: &Came) -> bool {
+    match came {
+        (Err(fault), (1, 0), Some(stands)) => *stands == whole_before(*fault),
+        _ => false,
+    }
+}
+
 fn check_reads(rt: &(impl Abort + AllocGlobal), text: &str, to: Version, want: &str) {
     for good in 0..1000usize {
-        match run(rt.alloc(), text, to, (good, ALL), want) {
-            (Ok(()), failures, stands) => {
-                assert_eq!(rt; (failures, stands), ((0, 0), Some(want.len())));
-                return;
-            }
-            (Err(fault), failures, stands) => {
-                assert_eq!(rt; (failures, stands), ((1, 0), Some(whole_before(fault))));
-            }
+        let came = run(rt.alloc(), text, to, (good, ALL), want);
+        if is_whole(&came, want) {
+            return;
         }
+        assert!(rt; is_cut(&came), "{good}");
     }
     assert!(rt; false, "no run met all its reads");
 }
@@ -78,21 +84,25 @@ fn reads_failing(rt: HostRuntime) {
     check_reads(&rt, NEWER, Version::Traffic, TRAFFIC);
 }
 
+/// How much stands where a write failed.
+fn written_before(came: &Came) -> Option<usize> {
+    match came {
+        (Err(UpgradeFault::Write), (0, 1), stands) => *stands,
+        _ => None,
+    }
+}
+
 /// At last more than so many bytes stand.
 fn check_writes(rt: &(impl Abort + AllocGlobal), text: &str, to: Version, want: &str, most: usize) {
     let mut last = 0;
     for good in 0..1000usize {
-        match run(rt.alloc(), text, to, (ALL, good), want) {
-            (Ok(()), failures, stands) => {
-                assert_eq!(rt; (failures, stands), ((0, 0), Some(want.len())));
-                assert!(rt; last > most);
-                return;
-            }
-            (Err(fault), failures, stands) => {
-                assert_eq!(rt; (fault, failures), (UpgradeFault::Write, (0, 1)));
-                assert!(rt; stands.is_some());
-                last = stands.unwrap_or(0);
-            }
+        let came = run(rt.alloc(), text, to, (ALL, good), want);
+        if last > most && is_whole(&came, want) {
+            return;
+        }
+        match written_before(&came) {
+            Some(stands) => last = stands,
+            None => assert!(rt; false, "{good}"),
         }
     }
     assert!(rt; false, "no run met all its writes");
@@ -105,20 +115,24 @@ fn writes_failing(rt: HostRuntime) {
     check_writes(&rt, LIVES, Version::Traffic, LIVES, 81);
 }
 
+/// Whether the text stands, or else a prefix of it.
+fn stands(taken: &[u8], whole: bool) -> bool {
+    for (found, want) in taken.iter().zip(NEWER.as_bytes()) {
+        if *found != *want && (whole || *found != 0) {
+            return false;
+        }
+    }
+    true
+}
+
 /// `checks/refuse_growths.py` refuses each growth in turn: a prefix stands then, else the whole text.
 #[test]
 fn growths_of_upgrades_refused(rt: HostRuntime) {
     let mut taken = [0u8; 200];
     let mut reader = Input::new(OLDER.as_bytes());
     let mut writer = Output::new(taken.as_mut_slice());
-    let whole = match upgrade(rt.alloc(), &mut reader, &mut writer, Version::Two) {
-        Ok(()) => true,
-        Err(fault) => {
-            assert_eq!(rt; fault, UpgradeFault::Memory);
-            false
-        }
-    };
-    for (found, want) in taken.iter().zip(NEWER.as_bytes()) {
-        assert!(rt; *found == *want || (!whole && *found == 0));
-    }
+    let result = upgrade(rt.alloc(), &mut reader, &mut writer, Version::Two);
+    drop(writer);
+    let is_whole = result == Ok(());
+    assert!(rt; (is_whole || result == Err(UpgradeFault::Memory)) && stands(&taken, is_whole));
 }
