@@ -34,20 +34,27 @@ fn snapshot_of_one_file(rt: HostRuntime) -> Result<(), Fail> {
     Ok(())
 }
 
-/// What is shown of a snapshot is its files, and nothing of how they are looked up.
+/// Texts, and what is shown of their snapshots: their files, and nothing of how they are looked up.
+static SHOWN: [(&str, &str); 2] = [
+    ("haboob-snapshot 1\nend 0\n", "Snapshot { files: [] }"),
+    (
+        "haboob-snapshot 1\nfile 7 1 1\na\nb\nend 1\n",
+        "Snapshot { files: [File { name: Bytes { bytes: [97] }, mtime: 7, bytes: Bytes { bytes: [98] } }] }",
+    ),
+];
+
+/// What is shown of the snapshot of a text.
+fn shown(alloc: Global, text: &str) -> Result<String, Fail> {
+    let files = snapshot(alloc, text.as_bytes())?;
+    Ok(format!(in alloc; "{files:?}")?)
+}
+
 #[test]
 fn shown_as_its_files(rt: HostRuntime) -> Result<(), Fail> {
-    let none = snapshot(rt.alloc(), EMPTY.as_bytes())?;
-    assert_eq!(rt;
-        format!(in rt.alloc(); "{none:?}")?.as_str(),
-        "Snapshot { files: [] }"
-    );
-    let one = snapshot(rt.alloc(), b"haboob-snapshot 1\nfile 7 1 1\na\nb\nend 1\n")?;
-    let shown = format!(in rt.alloc(); "{one:?}")?;
-    assert_eq!(rt;
-        shown.as_str(),
-        "Snapshot { files: [File { name: Bytes { bytes: [97] }, mtime: 7, bytes: Bytes { bytes: [98] } }] }"
-    );
+    for (text, want) in &SHOWN {
+        let shown = shown(rt.alloc(), text)?;
+        assert_eq!(rt; shown.as_str(), *want);
+    }
     Ok(())
 }
 
@@ -99,21 +106,26 @@ fn each_read_failing(rt: HostRuntime) {
     assert!(rt; false, "no run met all its reads");
 }
 
-/// The longest name, of 1,024 bytes, and the largest file, of 16,777,216.
-#[test]
-fn longest_name_and_largest_file(rt: HostRuntime) -> Result<(), Fail> {
-    let mut text = Vec::new(rt.alloc());
-    text.extend_from_slice("haboob-snapshot 1\nfile 253402300799 1024 16777216\n".as_bytes())?;
+/// The text of a file with the longest name, of 1,024 bytes, that is the largest, of 16,777,216.
+fn largest(alloc: Global) -> Result<Vec<u8>, AllocError> {
+    let mut text = Vec::new(alloc);
+    text.extend_from_slice(b"haboob-snapshot 1\nfile 253402300799 1024 16777216\n")?;
     text.resize(50 + 1024, b'n')?;
     text.push(b'\n')?;
     text.resize(1075 + 16_777_216, b'b')?;
     text.extend_from_slice(b"\nend 1\n")?;
+    Ok(text)
+}
+
+#[test]
+fn longest_name_and_largest_file(rt: HostRuntime) -> Result<(), Fail> {
+    let text = largest(rt.alloc())?;
     let files = snapshot(rt.alloc(), &text)?;
     assert!(rt; files.len() == 1);
-    assert_eq!(rt;
-        (files.mtime(0), files.name(0), files.bytes(0)),
-        (253_402_300_799, &text[50..1074], &text[1075..16_778_291])
-    );
+    let is_as_written = files.mtime(0) == 253_402_300_799
+        && text.get(50..1074) == Some(files.name(0))
+        && text.get(1075..16_778_291) == Some(files.bytes(0));
+    assert!(rt; is_as_written);
     Ok(())
 }
 
