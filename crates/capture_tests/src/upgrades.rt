@@ -59,10 +59,11 @@ fn whole_before(fault: UpgradeFault) -> usize {
 }
 
 /// Whether a read failed, and so much stands.
-fn is_cut(came: &Came) -> bool {
-    match came {
-        (Err(fault), (1, 0), Some(stands)) => *stands == whole_before(*fault),
-        _ => false,
+fn is_cut(came: Came) -> bool {
+    let (result, failures, stands) = came;
+    match result {
+        Err(fault) => failures == (1, 0) && stands == Some(whole_before(fault)),
+        Ok(()) => false,
     }
 }
 
@@ -72,7 +73,7 @@ fn check_reads(rt: &(impl Abort + AllocGlobal), text: &str, to: Version, want: &
         if is_whole(&came, want) {
             return;
         }
-        assert!(rt; is_cut(&came), "{good}");
+        assert!(rt; is_cut(came), "{good}");
     }
     assert!(rt; false, "no run met all its reads");
 }

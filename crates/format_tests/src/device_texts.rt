@@ -84,10 +84,10 @@ fn lines_of_either_input(rt: HostRuntime) {
             Ok((len, _, _)) => Ok(len),
             Err(stop) => Err(stop),
         };
-        assert_eq!(rt; len, *want, "{text}");
+        assert!(rt; len == *want, "{text}");
         let ahead = line_and_byte(text, *limit, true, false);
         let long = line_and_byte(text, *limit, true, true);
-        assert_eq!(rt; (ahead, long), (one, one), "{text}");
+        assert!(rt; (ahead, long) == (one, one), "{text}");
     }
 }
 
@@ -103,7 +103,7 @@ fn lent_reader_stands_after_the_line(rt: HostRuntime) {
         let mut input = Input::new(&mut reader);
         let read = read_long_line(&mut input, &mut 100, 6, b"piece ", 12).is_ok();
         drop(input);
-        assert_eq!(rt; (read, reader), (true, b"rest".as_slice()));
+        assert!(rt; (read, reader) == (true, b"rest".as_slice()));
     }
 }
 
@@ -115,10 +115,10 @@ fn what_was_read_ahead_comes_next(rt: HostRuntime) {
     let long = read_long_line(&mut input, &mut left, 6, b"piece ", 12).is_ok();
     let byte = read_byte_of(&mut input, &mut left);
     let line = read_line(&mut input, &mut left).is_ok();
-    assert_eq!(rt; (long, byte, line, left), (true, Ok(b'a'), true, 91));
+    assert!(rt; (long, byte, line, left) == (true, Ok(b'a'), true, 91));
     let mut room = [0; 8];
     let came = input.read_some(&mut room).unwrap_or(0);
-    assert_eq!(rt; &room[..came], b"rest".as_slice());
+    assert!(rt; &room[..came] == b"rest".as_slice());
 }
 
 /// A text, how many bytes of it may be taken, the length of a run, and how many bytes may be taken then.
@@ -141,7 +141,7 @@ fn runs(rt: HostRuntime) {
             Ok(_) => Ok(left),
             Err(stop) => Err(stop),
         };
-        assert_eq!(rt; got, *want);
+        assert!(rt; got == *want);
     }
 }
 
@@ -150,10 +150,10 @@ fn a_byte_further(rt: HostRuntime) {
     let mut input = Input::new(b"ab".as_slice());
     let mut left = 1;
     let first = (read_byte_of(&mut input, &mut left), left);
-    assert_eq!(rt; first, (Ok(b'a'), 0));
+    assert!(rt; first == (Ok(b'a'), 0));
     let second = read_byte_of(&mut input, &mut left);
     let third = read_byte_of(&mut input, &mut left);
-    assert_eq!(rt; (second, third), (Err(Stop::TooLarge), Err(Stop::Cut)));
+    assert!(rt; (second, third) == (Err(Stop::TooLarge), Err(Stop::Cut)));
 }
 
 static DECIMALS: [(&str, Option<u64>); 11] = [
@@ -176,6 +176,6 @@ static DECIMALS: [(&str, Option<u64>); 11] = [
 #[test]
 fn decimals(rt: HostRuntime) {
     for (field, want) in &DECIMALS {
-        assert_eq!(rt; number(field.as_bytes()), *want, "{field}");
+        assert!(rt; number(field.as_bytes()) == *want, "{field}");
     }
 }

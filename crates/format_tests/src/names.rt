@@ -31,7 +31,7 @@ fn check_name(
     want: Option<usize>,
 ) -> Result<(), AllocError> {
     let is = found(rt.alloc(), files, name)?;
-    assert_eq!(rt; is, want, "{name}");
+    assert!(rt; is == want, "{name}");
     Ok(())
 }
 

@@ -22,7 +22,7 @@ fn parts(asked: &Asked) -> usize {
 fn halves(rt: HostRuntime) -> Result<(), Fail> {
     let files = snapshot(rt.alloc(), TWO.as_bytes())?;
     let asked = inspect(rt.alloc(), b"GET", b"/a//c.txt")?;
-    assert_eq!(rt; parts(&asked), 2);
+    assert!(rt; parts(&asked) == 2);
     let outcome = locate(rt.alloc(), &files, &asked)?;
     assert!(rt; matches!(outcome, Outcome::File(0)));
     Ok(())
@@ -59,7 +59,7 @@ fn plain_targets(rt: HostRuntime) -> Result<(), Fail> {
     let files = snapshot(rt.alloc(), TWO.as_bytes())?;
     for (method, target, want) in &PLAIN {
         let found = find_plain(&files, method.as_bytes(), target.as_bytes());
-        assert_eq!(rt; found, *want, "{method} {target}");
+        assert!(rt; found == *want, "{method} {target}");
     }
     Ok(())
 }

@@ -26,11 +26,11 @@ pub fn fault(entry: usize, kind: Kind) -> Option<SnapshotFault> {
 fn snapshot_of_one_file(rt: HostRuntime) -> Result<(), Fail> {
     let files = snapshot(rt.alloc(), SNAPSHOT.as_bytes())?;
     assert!(rt; files.len() == 1);
-    assert_eq!(rt;
-        (files.mtime(0), files.name(0), files.bytes(0)),
-        (784_111_777, b"a.txt".as_slice(), b"hi\n".as_slice())
+    assert!(rt;
+        (files.mtime(0), files.name(0), files.bytes(0))
+            == (784_111_777, b"a.txt".as_slice(), b"hi\n".as_slice())
     );
-    assert_eq!(rt; fault_of(rt.alloc(), EMPTY.as_bytes()), None);
+    assert!(rt; fault_of(rt.alloc(), EMPTY.as_bytes()) == None);
     Ok(())
 }
 
@@ -53,7 +53,7 @@ fn shown(alloc: Global, text: &str) -> Result<String, Fail> {
 fn shown_as_its_files(rt: HostRuntime) -> Result<(), Fail> {
     for (text, want) in &SHOWN {
         let shown = shown(rt.alloc(), text)?;
-        assert_eq!(rt; shown.as_str(), *want);
+        assert!(rt; shown.as_str() == *want);
     }
     Ok(())
 }
@@ -65,7 +65,7 @@ fn front_leaves_the_rest(rt: HostRuntime) -> Result<(), Fail> {
     let files = Snapshot::read_front(rt.alloc(), &mut input)?;
     let mut rest = [0; 6];
     let count = input.read_some(&mut rest)?;
-    assert_eq!(rt; (files.len(), count, rest), (0, 5, *b" rest\0"));
+    assert!(rt; (files.len(), count, rest) == (0, 5, *b" rest\0"));
     Ok(())
 }
 
@@ -83,24 +83,28 @@ fn outcome(alloc: Global, good: usize) -> (Result<usize, SnapshotFault>, (u64, u
     (came, (failures, device.calls))
 }
 
+/// The entry that is named where the read failed that comes after so many.
+fn entry_of(came: Result<usize, SnapshotFault>, calls: (u64, usize), good: usize) -> Option<usize> {
+    match came {
+        Err(found) if found.kind == Kind::Read && calls == (1, good.wrapping_add(1)) => {
+            Some(found.entry)
+        }
+        _ => None,
+    }
+}
+
 /// Whatever read fails, the fault names the entry that was being read, the count is one, and nothing more is read.
 #[test]
 fn each_read_failing(rt: HostRuntime) {
     let mut last = 0;
     for good in 0..1000usize {
-        match outcome(rt.alloc(), good) {
-            (Ok(files), (failures, _)) => {
-                assert_eq!(rt; (files, failures, last), (1, 0, 2));
-                return;
-            }
-            (Err(found), calls) => {
-                assert_eq!(rt;
-                    (found.kind, calls),
-                    (Kind::Read, (1, good.wrapping_add(1)))
-                );
-                assert!(rt; found.entry == last || found.entry == last.wrapping_add(1));
-                last = found.entry;
-            }
+        let (came, calls) = outcome(rt.alloc(), good);
+        if came == Ok(1) && calls.0 == 0 && last == 2 {
+            return;
+        }
+        match entry_of(came, calls, good) {
+            Some(entry) if entry == last || entry == last.wrapping_add(1) => last = entry,
+            _ => assert!(rt; false, "{good}"),
         }
     }
     assert!(rt; false, "no run met all its reads");
@@ -145,6 +149,6 @@ fn fault_after_most(alloc: Global, rest: &str) -> Result<Option<SnapshotFault>, 
 fn most_files(rt: HostRuntime) -> Result<(), Fail> {
     let whole = fault_after_most(rt.alloc(), "end 65536\n")?;
     let longer = fault_after_most(rt.alloc(), "file 0 0 0\n")?;
-    assert_eq!(rt; (whole, longer), (None, fault(65_537, Kind::TooLarge)));
+    assert!(rt; (whole, longer) == (None, fault(65_537, Kind::TooLarge)));
     Ok(())
 }
