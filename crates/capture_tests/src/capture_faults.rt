@@ -28,7 +28,7 @@ static LIVES: &str =
 
 /// How many records a text has, or its fault, where a read fails after so many; how often the input failed, and how
 /// many reads were made.
-fn outcome(alloc: Global, text: &str, good: usize) -> (Result<usize, CaptureFault>, u64, usize) {
+fn outcome(alloc: Global, text: &str, good: usize) -> (Result<usize, CaptureFault>, (u64, usize)) {
     let mut device = Flaky::new(text.as_bytes(), 3, good);
     let mut input = Input::new(&mut device);
     let came = match collect(alloc, &mut input) {
@@ -37,29 +37,30 @@ fn outcome(alloc: Global, text: &str, good: usize) -> (Result<usize, CaptureFaul
     };
     let failures = input.failures();
     drop(input);
-    (came, failures, device.calls)
+    (came, (failures, device.calls))
+}
+
+/// The record that is named where the read failed that comes after so many.
+fn record_of(came: Result<usize, CaptureFault>, calls: (u64, usize), good: usize) -> Option<usize> {
+    match came {
+        Err(found) if found.kind == Kind::Read && calls == (1, good.wrapping_add(1)) => {
+            Some(found.at)
+        }
+        _ => None,
+    }
 }
 
 /// Whatever read fails, the fault names the record that was being read, the count is one, and nothing more is read.
 fn check(rt: &(impl Abort + AllocGlobal), text: &str, records: usize) {
     let mut last = 0;
     for good in 0..1000usize {
-        match outcome(rt.alloc(), text, good) {
-            (Ok(count), failures, _) => {
-                assert_eq!(rt;
-                    (count, failures, last),
-                    (records, 0, records.saturating_add(1))
-                );
-                return;
-            }
-            (Err(found), failures, calls) => {
-                assert_eq!(rt;
-                    (found.kind, failures, calls),
-                    (Kind::Read, 1, good.wrapping_add(1))
-                );
-                assert!(rt; found.at == last || found.at == last.wrapping_add(1));
-                last = found.at;
-            }
+        let (came, calls) = outcome(rt.alloc(), text, good);
+        if came == Ok(records) && calls.0 == 0 && last == records.wrapping_add(1) {
+            return;
+        }
+        match record_of(came, calls, good) {
+            Some(record) if record == last || record == last.wrapping_add(1) => last = record,
+            _ => assert!(rt; false, "{good}"),
         }
     }
     assert!(rt; false, "no run met all its reads");
