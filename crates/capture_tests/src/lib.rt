@@ -1,4 +1,5 @@
-//! Tests of the crate `captures`.
+//! Tests of the crate `captures`: devices that fail, refused growths, and what no command shows. What captures and
+//! traffic texts hold, and their faults, are rows (`tests`).
 #![tactic(auto)]
 
 #[cfg(test)]
@@ -6,18 +7,6 @@ mod capture_faults;
 #[cfg(test)]
 mod capture_growths;
 #[cfg(test)]
-mod capture_inputs;
-#[cfg(test)]
 mod collecting;
-#[cfg(test)]
-mod later_upgrades;
-#[cfg(test)]
-mod records;
-#[cfg(test)]
-mod tiers;
-#[cfg(test)]
-mod traffic;
-#[cfg(test)]
-mod traffic_faults;
 #[cfg(test)]
 mod upgrades;

@@ -1,169 +1,129 @@
-//! Captures upgraded to version 2.
-use crate::capture_inputs::fault;
-use captures::{CaptureFaultKind as Kind, UpgradeFault, Version, upgrade};
+//! Upgrades between devices that fail, or without memory, and to the version that no command asks for.
+use captures::{CaptureFault, CaptureFaultKind as Kind, UpgradeFault, Version, upgrade};
 use devices::{Input, Output};
-use std::alloc::Global;
+use std::alloc::{AllocGlobal, Global};
+use std::process::Abort;
 use test_support::{Flaky, NEWER, OLDER, Slow};
 
 /// More calls than any of these runs makes.
-pub const ALL: usize = 1_000_000;
+const ALL: usize = 1_000_000;
 
-static TIERS: &str =
-    "haboob-capture 2 4102444800\nend 7 0\ntier 65535 3\npiece 1000000000000000 65535 7\nstop 0\n\nstop 3\n";
+/// The records of `OLDER` and `NEWER` as traffic.
+static TRAFFIC: &str =
+    "haboob-traffic 1 784111777\npiece 0 0 32\nGET /a.txt HTTP/1.1\r\nHost: a\r\n\r\n\nend 5 0\nstop 2\n";
 
-/// What an upgrade between devices in memory came to, how often the reader and the writer failed, and what was written.
-pub fn run(
-    alloc: Global,
-    text: &[u8],
-    to: Version,
-    reads: usize,
-    writes: usize,
-) -> (Result<(), UpgradeFault>, (u64, u64), Vec<u8>) {
+/// Lives of one number, which no capture can hold.
+static LIVES: &str =
+    "haboob-traffic 1 0\ntier 3 1\npiece 5 3 2\nhi\nend 5 3\npiece 5 3 1\nx\nend 5 3\nend 5 3\ntier 3 0\nstop 7\n";
+
+/// What an upgrade came to, how often the reader and the writer failed, and how much of the text stands that is wanted,
+/// where nothing else does.
+type Came = (Result<(), UpgradeFault>, (u64, u64), Option<usize>);
+
+/// An upgrade between devices in memory, which fail after so many reads and writes.
+fn run(alloc: Global, text: &str, to: Version, calls: (usize, usize), want: &str) -> Came {
     let mut taken = Vec::new(alloc);
-    let mut reader = Input::new(Flaky::new(text, 5, reads));
-    let mut writer = Output::new(Slow::new(&mut taken, 7, writes));
+    let mut reader = Input::new(Flaky::new(text.as_bytes(), 5, calls.0));
+    let mut writer = Output::new(Slow::new(&mut taken, 7, calls.1));
     let result = upgrade(alloc, &mut reader, &mut writer, to);
     let failures = (reader.failures(), writer.failures());
-    (result, failures, taken)
+    drop(writer);
+    let stands = want.as_bytes().starts_with(&taken).then_some(taken.len());
+    (result, failures, stands)
+}
+
+/// Whether all of the text was written, and no device failed.
+fn is_whole(came: &Came, want: &str) -> bool {
+    *came == (Ok(()), (0, 0), Some(want.len()))
 }
 
 #[test]
-fn version_one_becomes_two(rt: HostRuntime) {
-    let (result, failures, taken) = run(rt.alloc(), OLDER.as_bytes(), Version::Two, ALL, ALL);
-    assert_eq!(rt; result, Ok(()));
-    assert_eq!(rt; failures, (0, 0));
-    assert_eq!(rt; taken.as_slice(), NEWER.as_bytes());
-}
-
-/// A text of version 2 comes out unchanged.
-#[test]
-fn version_two_stays(rt: HostRuntime) {
-    for text in [NEWER, TIERS, "haboob-capture 2 0\nstop 0\n"] {
-        let (result, _, taken) = run(rt.alloc(), text.as_bytes(), Version::Two, ALL, ALL);
-        assert_eq!(rt; result, Ok(()));
-        assert_eq!(rt; taken.as_slice(), text.as_bytes());
+fn to_version_one(rt: HostRuntime) {
+    for text in [OLDER, NEWER, TRAFFIC, LIVES] {
+        let came = run(rt.alloc(), text, Version::One, (ALL, ALL), text);
+        assert!(rt; is_whole(&came, text), "{text}");
     }
 }
 
-/// Faults, and what is written before them.
-#[test]
-fn faults_of_upgrades(rt: HostRuntime) {
-    let table: [(&[u8], usize, Kind, &[u8]); 7] = [
-        (b"", 0, Kind::Cut, b""),
-        (b"haboob-capture 3 0\nstop 0\n", 0, Kind::Header, b""),
-        (
-            b"haboob-capture 1 7\npiece 0 4096 1\nx\nstop 1\n",
-            1,
-            Kind::Connection,
-            b"haboob-capture 2 7\n",
-        ),
-        (
-            b"haboob-capture 1 7\ntier 0 1\nstop 1\n",
-            1,
-            Kind::Kind,
-            b"haboob-capture 2 7\n",
-        ),
-        (
-            b"haboob-capture 1 7\nend 3 9\nend 3 9\nstop 2\n",
-            2,
-            Kind::Ended,
-            b"haboob-capture 2 7\nend 3 9\n",
-        ),
-        (
-            b"haboob-capture 1 7\nend 3 9\nstop 2\n",
-            2,
-            Kind::Count,
-            b"haboob-capture 2 7\nend 3 9\n",
-        ),
-        (
-            b"haboob-capture 1 7\nend 3 9\nstop 1\n\n",
-            2,
-            Kind::Trailing,
-            b"haboob-capture 2 7\nend 3 9\n",
-        ),
-    ];
-    for (text, at, kind, want) in table {
-        let (result, failures, taken) = run(rt.alloc(), text, Version::Two, ALL, ALL);
-        match result {
-            Err(UpgradeFault::Capture(found)) => assert_eq!(rt; Some(found), fault(at, kind)),
-            _ => assert!(rt; false, "another answer"),
-        }
-        assert_eq!(rt; failures, (0, 0));
-        assert_eq!(rt; taken.as_slice(), want);
+/// How much stands after a read that failed: the first line and the whole records before the one that was being read.
+fn whole_before(fault: UpgradeFault) -> usize {
+    match fault {
+        UpgradeFault::Capture(
+            CaptureFault {
+                at,
+                kind: Kind::Read,
+            },
+        ) => [0, 27, 73, 81][at.min(3)],
+        _ => usize::MAX,
     }
 }
 
-/// How many bytes of the new text stand where the old text ends after n: those of the whole records.
-fn whole_before(end: usize) -> (usize, usize) {
-    if end < 27 {
-        (0, 0)
-    } else if end < 73 {
-        (1, 27)
-    } else if end < 81 {
-        (2, 73)
-    } else {
-        (3, 81)
+/// Whether a read failed, and so much stands.
+fn is_cut(came: Came) -> bool {
+    let (result, failures, stands) = came;
+    match result {
+        Err(fault) => failures == (1, 0) && stands == Some(whole_before(fault)),
+        Ok(()) => false,
     }
 }
 
-/// Cut after each of its bytes, a capture leaves its whole records.
-#[test]
-fn upgrades_cut_anywhere(rt: HostRuntime) {
-    let text = OLDER.as_bytes();
-    assert_eq!(rt; text.len(), 88);
-    for end in 0..text.len() {
-        let (at, len) = whole_before(end);
-        let (result, _, taken) = run(rt.alloc(), &text[..end], Version::Two, ALL, ALL);
-        match result {
-            Err(UpgradeFault::Capture(found)) => assert_eq!(rt; Some(found), fault(at, Kind::Cut)),
-            _ => assert!(rt; false, "another answer"),
-        }
-        assert_eq!(rt; taken.len(), len);
-        assert!(rt; NEWER.as_bytes().starts_with(&taken));
-    }
-}
-
-/// Each read fails in turn: what stands are the first line and the whole records before the one that was being read.
-#[test]
-fn reads_failing(rt: HostRuntime) {
-    for good in 0..1000 {
-        let (result, failures, taken) = run(rt.alloc(), OLDER.as_bytes(), Version::Two, good, ALL);
-        if result == Ok(()) {
-            assert_eq!(rt; failures, (0, 0));
-            assert_eq!(rt; taken.as_slice(), NEWER.as_bytes());
+fn check_reads(rt: &(impl Abort + AllocGlobal), text: &str, to: Version, want: &str) {
+    for good in 0..1000usize {
+        let came = run(rt.alloc(), text, to, (good, ALL), want);
+        if is_whole(&came, want) {
             return;
         }
-        assert_eq!(rt; failures, (1, 0));
-        match result {
-            Err(UpgradeFault::Capture(found)) => {
-                assert_eq!(rt; found.kind, Kind::Read);
-                let len = [0, 27, 73, 81][found.at.min(3)];
-                assert_eq!(rt; taken.len(), len);
-                assert!(rt; NEWER.as_bytes().starts_with(&taken));
-            }
-            _ => assert!(rt; false, "another answer"),
-        }
+        assert!(rt; is_cut(came), "{good}");
     }
     assert!(rt; false, "no run met all its reads");
+}
+
+/// Each read fails in turn.
+#[test]
+fn reads_failing(rt: HostRuntime) {
+    check_reads(&rt, OLDER, Version::Two, NEWER);
+    check_reads(&rt, NEWER, Version::Traffic, TRAFFIC);
+}
+
+/// How much stands where a write failed.
+fn written_before(came: &Came) -> Option<usize> {
+    match came {
+        (Err(UpgradeFault::Write), (0, 1), stands) => *stands,
+        _ => None,
+    }
+}
+
+/// At last more than so many bytes stand.
+fn check_writes(rt: &(impl Abort + AllocGlobal), text: &str, to: Version, want: &str, most: usize) {
+    let mut last = 0;
+    for good in 0..1000usize {
+        let came = run(rt.alloc(), text, to, (ALL, good), want);
+        if last > most && is_whole(&came, want) {
+            return;
+        }
+        match written_before(&came) {
+            Some(stands) => last = stands,
+            None => assert!(rt; false, "{good}"),
+        }
+    }
+    assert!(rt; false, "no run met all its writes");
 }
 
 /// Each write fails in turn: a prefix stands.
 #[test]
 fn writes_failing(rt: HostRuntime) {
-    let mut last = 0;
-    for good in 0..1000 {
-        let (result, failures, taken) = run(rt.alloc(), OLDER.as_bytes(), Version::Two, ALL, good);
-        if result == Ok(()) {
-            assert_eq!(rt; failures, (0, 0));
-            assert!(rt; last > 73);
-            return;
+    check_writes(&rt, OLDER, Version::Two, NEWER, 73);
+    check_writes(&rt, LIVES, Version::Traffic, LIVES, 81);
+}
+
+/// Whether the text stands, or else a prefix of it.
+fn stands(taken: &[u8], whole: bool) -> bool {
+    for (found, want) in taken.iter().zip(NEWER.as_bytes()) {
+        if *found != *want && (whole || *found != 0) {
+            return false;
         }
-        assert_eq!(rt; result, Err(UpgradeFault::Write));
-        assert_eq!(rt; failures, (0, 1));
-        assert!(rt; NEWER.as_bytes().starts_with(&taken));
-        last = taken.len();
     }
-    assert!(rt; false, "no run met all its writes");
+    true
 }
 
 /// `checks/refuse_growths.py` refuses each growth in turn: a prefix stands then, else the whole text.
@@ -172,14 +132,8 @@ fn growths_of_upgrades_refused(rt: HostRuntime) {
     let mut taken = [0u8; 200];
     let mut reader = Input::new(OLDER.as_bytes());
     let mut writer = Output::new(taken.as_mut_slice());
-    let whole = match upgrade(rt.alloc(), &mut reader, &mut writer, Version::Two) {
-        Ok(()) => true,
-        Err(fault) => {
-            assert_eq!(rt; fault, UpgradeFault::Memory);
-            false
-        }
-    };
-    for (found, want) in taken.iter().zip(NEWER.as_bytes()) {
-        assert!(rt; *found == *want || (!whole && *found == 0));
-    }
+    let result = upgrade(rt.alloc(), &mut reader, &mut writer, Version::Two);
+    drop(writer);
+    let is_whole = result == Ok(());
+    assert!(rt; (is_whole || result == Err(UpgradeFault::Memory)) && stands(&taken, is_whole));
 }

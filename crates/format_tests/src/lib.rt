@@ -1,4 +1,5 @@
-//! Tests of devices and of snapshots: the crates `devices`, `paths` and `snapshots`.
+//! Tests of devices and of snapshots: the crates `devices`, `paths` and `snapshots`. Faults of snapshots, and what
+//! targets are answered with, are rows (`tests`).
 #![tactic(auto)]
 
 #[cfg(test)]

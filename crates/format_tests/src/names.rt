@@ -1,5 +1,5 @@
 //! Names that are looked up among many, or among those that an index by a hash can't tell apart.
-use paths::{Outcome, Snapshot, find_plain, resolve};
+use paths::{Snapshot, find_plain};
 use std::alloc::{AllocError, Global};
 use std::process::Abort;
 use std::test::Fail;
@@ -31,7 +31,7 @@ fn check_name(
     want: Option<usize>,
 ) -> Result<(), AllocError> {
     let is = found(rt.alloc(), files, name)?;
-    assert_eq!(rt; is, want, "{name}");
+    assert!(rt; is == want, "{name}");
     Ok(())
 }
 
@@ -63,15 +63,24 @@ static ALIKE: [&str; 24] = [
     "zpjju69aLlt)s:+a",
 ];
 
+/// A snapshot of empty files with these names, which rise.
+fn named(alloc: Global, names: &[&str]) -> Result<Snapshot, Fail> {
+    let text = text_of(alloc, names)?;
+    Ok(snapshot(alloc, text.as_bytes())?)
+}
+
+/// Each of all names but the last is found at its number, and the last is of no file.
+fn check_alike(rt: &(impl Abort + AllocGlobal), files: &Snapshot) -> Result<(), AllocError> {
+    for (number, name) in ALIKE.iter().enumerate() {
+        check_name(rt, files, name, (number < 23).then_some(number))?;
+    }
+    Ok(())
+}
+
 #[test]
 fn names_of_one_hash(rt: HostRuntime) -> Result<(), Fail> {
-    let alloc = rt.alloc();
-    let text = text_of(alloc, &ALIKE[..23])?;
-    let files = snapshot(alloc, text.as_bytes())?;
-    for (number, name) in ALIKE[..23].iter().enumerate() {
-        assert_eq!(rt; found(alloc, &files, name)?, Some(number), "{name}");
-    }
-    assert_eq!(rt; found(alloc, &files, ALIKE[23])?, None);
+    let files = named(rt.alloc(), &ALIKE[..23])?;
+    check_alike(&rt, &files)?;
     Ok(())
 }
 
@@ -116,21 +125,6 @@ fn each_name_of_many(rt: HostRuntime) -> Result<(), Fail> {
         check_many(&rt, count)?;
     }
     check_many(&rt, 65_536)
-}
-
-/// The longest name that a file may have is found, and none that is a byte shorter, or longer than any file's.
-#[test]
-fn longest_names(rt: HostRuntime) -> Result<(), Fail> {
-    let alloc = rt.alloc();
-    let longest = "n".repeat(alloc, 1024)?;
-    let text = text_of(alloc, &["a", &longest, "z"])?;
-    let files = snapshot(alloc, text.as_bytes())?;
-    assert_eq!(rt; found(alloc, &files, &longest)?, Some(1));
-    for count in [1023, 1025, 8000] {
-        let name = "n".repeat(alloc, count)?;
-        assert_eq!(rt; found(alloc, &files, &name)?, None, "{count}");
-    }
-    Ok(())
 }
 
 /// How many bytes the longest name has in `check_longest`.
@@ -184,62 +178,41 @@ fn names_beside_the_longest(rt: HostRuntime) -> Result<(), Fail> {
     Ok(())
 }
 
-/// A name of each length from 5 to 1,024 bytes in one folder is found at its number, and none that is longer.
-#[test]
-fn each_length_of_a_name(rt: HostRuntime) -> Result<(), Fail> {
-    let alloc = rt.alloc();
+/// A snapshot with a name of each length from 5 to 1,024 bytes, in one folder.
+fn of_each_length(alloc: Global) -> Result<Snapshot, Fail> {
     let mut text = String::from_str(alloc, "haboob-snapshot 1\n")?;
     for bytes in 3..1_023usize {
         let name = "n".repeat(alloc, bytes)?;
         write!(text, "file 0 {} 0\nd/{name}\n\n", bytes.saturating_add(2))?;
     }
     text.push_str("end 1020\n")?;
-    let files = snapshot(alloc, text.as_bytes())?;
-    for bytes in 3..1_023usize {
-        let name = "n".repeat(alloc, bytes)?;
-        let target = format!(in alloc; "d/{name}")?;
-        let number = bytes.saturating_sub(3);
-        assert_eq!(rt; found(alloc, &files, &target)?, Some(number), "{bytes}");
-    }
-    for bytes in [0, 1, 2, 1_023, 1_024] {
-        let name = "n".repeat(alloc, bytes)?;
-        let target = format!(in alloc; "d/{name}")?;
-        assert_eq!(rt; found(alloc, &files, &target)?, None, "{bytes}");
-    }
-    Ok(())
+    Ok(snapshot(alloc, text.as_bytes())?)
 }
 
-/// Names beyond ASCII, of two, three and four bytes a character, as they stand and percent-encoded.
+/// The name with so many bytes behind its folder is that of this file, or of none.
+fn check_behind(
+    rt: &(impl Abort + AllocGlobal),
+    files: &Snapshot,
+    bytes: usize,
+    want: Option<usize>,
+) -> Result<(), AllocError> {
+    let name = "n".repeat(rt.alloc(), bytes)?;
+    let target = format!(in rt.alloc(); "d/{name}")?;
+    check_name(rt, files, &target, want)
+}
+
+/// Each such name is found at its number, and none that is shorter or longer.
 #[test]
-fn names_beyond_ascii(rt: HostRuntime) -> Result<(), Fail> {
-    let alloc = rt.alloc();
-    let names = [
-        "a",
-        "\u{e9}",
-        "\u{e9}t\u{e9}.txt",
-        "\u{65e5}\u{672c}",
-        "\u{1f300}",
-    ];
-    let text = text_of(alloc, &names)?;
-    let files = snapshot(alloc, text.as_bytes())?;
-    let encoded = [
-        "a",
-        "%C3%A9",
-        "%c3%a9t%C3%a9.txt",
-        "%E6%97%A5%E6%9C%AC",
-        "%F0%9F%8C%80",
-    ];
-    for (number, (name, other)) in names.iter().zip(&encoded).enumerate() {
-        for written in [name, other] {
-            let target = format!(in alloc; "/{written}")?;
-            let outcome = resolve(alloc, &files, b"GET", target.as_bytes())?;
-            assert!(rt;
-                matches!(outcome, Outcome::File(file) if file == number),
-                "{written}"
-            );
-        }
-        assert!(rt; number < files.len());
-        assert_eq!(rt; files.name(number), name.as_bytes());
+fn each_length_of_a_name(rt: HostRuntime) -> Result<(), Fail> {
+    let files = of_each_length(rt.alloc())?;
+    for bytes in 0..1_025usize {
+        let is_there = 3 <= bytes && bytes < 1_023;
+        check_behind(
+            &rt,
+            &files,
+            bytes,
+            is_there.then_some(bytes.saturating_sub(3)),
+        )?;
     }
     Ok(())
 }

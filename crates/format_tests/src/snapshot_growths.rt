@@ -3,7 +3,9 @@ use crate::names::{found, text_of};
 use crate::snapshot_texts::{fault, fault_of};
 use devices::Input;
 use paths::{Outcome, Snapshot, SnapshotFault, SnapshotFaultKind as Kind, resolve};
-use test_support::Flaky;
+use std::alloc::{AllocGlobal, Global};
+use std::process::Abort;
+use test_support::{Flaky, snapshot};
 
 static ONE: &str = "haboob-snapshot 1\nfile 784111777 7 3\na/b.txt\nhi\n\nend 1\n";
 
@@ -14,11 +16,11 @@ fn each_growth_refused(rt: HostRuntime) {
     let files = match Snapshot::read(rt.alloc(), &mut input) {
         Ok(files) => files,
         Err(found) => {
-            assert_eq!(rt; Some(found), fault(1, Kind::Memory));
+            assert!(rt; Some(found) == fault(1, Kind::Memory));
             return;
         }
     };
-    assert_eq!(rt; files.len(), 1);
+    assert!(rt; files.len() == 1);
     if let Ok(outcome) = resolve(rt.alloc(), &files, b"GET", b"/a/./b%2etxt") {
         assert!(rt; matches!(&outcome, Outcome::File(0)));
     }
@@ -34,30 +36,37 @@ fn each_growth_refused(rt: HostRuntime) {
 /// The names of so many files that they are found by a hash.
 static MANY: [&str; 12] = ["a", "b", "c", "d", "e", "f", "g", "h", "i", "j", "k/l", "m"];
 
+/// The snapshot of those files, or its fault; none where there is no memory for its text.
+fn many(alloc: Global) -> Option<Result<Snapshot, SnapshotFault>> {
+    let text = text_of(alloc, &MANY).ok()?;
+    Some(snapshot(alloc, text.as_bytes()))
+}
+
+/// Whether a name is that of this file, or of none, where there is memory to look.
+fn finds(alloc: Global, files: &Snapshot, name: &str, want: Option<usize>) -> bool {
+    match found(alloc, files, name) {
+        Ok(is) => is == want,
+        Err(_) => true,
+    }
+}
+
+/// Each name is found, and no other.
+fn check_found(rt: &(impl Abort + AllocGlobal), files: &Snapshot) {
+    for (number, name) in MANY.iter().enumerate() {
+        assert!(rt; finds(rt.alloc(), files, name, Some(number)), "{name}");
+    }
+    for name in ["", "k", "k/", "k/l/", "no file has so long a name"] {
+        assert!(rt; finds(rt.alloc(), files, name, None), "{name}");
+    }
+}
+
 /// A snapshot that found no memory for its index has the same files.
 #[test]
 fn each_growth_refused_of_many_files(rt: HostRuntime) {
-    let alloc = rt.alloc();
-    let Ok(text) = text_of(alloc, &MANY) else {
-        return;
-    };
-    let mut input = Input::new(text.as_bytes());
-    let files = match Snapshot::read(alloc, &mut input) {
-        Ok(files) => files,
-        Err(found) => {
-            assert_eq!(rt; found.kind, Kind::Memory);
-            return;
-        }
-    };
-    for (number, name) in MANY.iter().enumerate() {
-        if let Ok(is) = found(alloc, &files, name) {
-            assert_eq!(rt; is, Some(number), "{name}");
-        }
-    }
-    for name in ["", "k", "k/", "k/l/", "no file has so long a name"] {
-        if let Ok(is) = found(alloc, &files, name) {
-            assert_eq!(rt; is, None, "{name}");
-        }
+    match many(rt.alloc()) {
+        Some(Ok(files)) => check_found(&rt, &files),
+        Some(Err(found)) => assert!(rt; found.kind == Kind::Memory),
+        None => (),
     }
 }
 
@@ -120,7 +129,7 @@ fn each_growth_refused_before_a_failed_read(rt: HostRuntime) {
         let mut device = Flaky::new(ONE.as_bytes(), 3, good);
         let mut input = Input::new(&mut device);
         match Snapshot::read(rt.alloc(), &mut input) {
-            Ok(files) => assert_eq!(rt; (files.len(), input.failures()), (1, 0)),
+            Ok(files) => assert!(rt; (files.len(), input.failures()) == (1, 0)),
             Err(found) => {
                 let failed = input.failures();
                 let read = found.kind == Kind::Read && found.entry <= 2 && failed == 1;

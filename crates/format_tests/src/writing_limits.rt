@@ -4,8 +4,9 @@ ghost use Rattle.devices.specs.Devices.{CanFail};
 
 use devices::Output;
 use snapshots::{SnapshotWriter, WriteFault};
-use std::alloc::{AllocError, Global};
+use std::alloc::{AllocError, AllocGlobal, Global};
 use std::io::Write;
+use std::process::Abort;
 use std::test::Fail;
 use test_support::Counted;
 
@@ -44,64 +45,78 @@ fn written(
     Ok((result, device.bytes))
 }
 
-/// What the writing of one file comes to.
-fn answer(alloc: Global, name: &[u8]) -> Result<(), WriteFault> {
+/// What the writing of one file comes to, with a name of these bytes, so many times.
+fn answer(alloc: Global, name: &[u8], times: usize) -> Result<(), WriteFault> {
+    let name = name.repeat(alloc, times)?;
     let mut output = Output::new(Counted { bytes: 0 });
     let mut writer = SnapshotWriter::begin(alloc, &mut output)?;
-    writer.add(&mut output, name, 0, b"")
+    writer.add(&mut output, &name, 0, b"")
 }
 
-/// The same of a file with a name of n bytes.
-fn answer_of(alloc: Global, len: usize) -> Result<(), WriteFault> {
-    let name = vec![in alloc; b'a'; len]?;
-    answer(alloc, &name)
-}
+static NAMES: [(&[u8], usize, Result<(), WriteFault>); 3] = [
+    (b"a", 1_024, Ok(())),
+    (b"a", 1_025, Err(WriteFault::Name)),
+    (b"\xc3(", 1, Err(WriteFault::Name)),
+];
 
 #[test]
 fn names(rt: HostRuntime) {
-    assert_eq!(rt; answer_of(rt.alloc(), 1_024), Ok(()));
-    assert_eq!(rt; answer_of(rt.alloc(), 1_025), Err(WriteFault::Name));
-    assert_eq!(rt; answer(rt.alloc(), b"\xc3("), Err(WriteFault::Name));
+    for (name, times, want) in &NAMES {
+        assert!(rt; answer(rt.alloc(), name, *times) == *want, "{times}");
+    }
 }
 
-/// A file of 16,777,216 bytes, and one with a byte more.
+/// How many files, of which size, how many bytes the last one after them has, and what the writing of all comes to,
+/// with the bytes that are written.
+type Row = (u32, usize, usize, Result<(), WriteFault>, usize);
+
+fn check(rt: &(impl Abort + AllocGlobal), rows: &[Row]) -> Result<(), Fail> {
+    for (count, size, last, result, bytes) in rows {
+        let came = written(rt.alloc(), *count, *size, *last)?;
+        assert!(rt;
+            came == (*result, *bytes),
+            "{count} files and one of {last}"
+        );
+    }
+    Ok(())
+}
+
+/// A file of 16,777,216 bytes, and one with a byte more: 18 bytes, the file's 24 beside its own, and the last line's 6.
+static SIZES: [Row; 2] = [
+    (0, 0, 16_777_216, Ok(()), 16_777_264),
+    (0, 0, 16_777_217, Err(WriteFault::Size), 18),
+];
+
 #[test]
 fn sizes(rt: HostRuntime) -> Result<(), Fail> {
-    // 18 bytes, the file's 24 beside its own, and the last line's 6.
-    assert_eq!(rt;
-        written(rt.alloc(), 0, 0, 16_777_216)?,
-        (Ok(()), 16_777_264)
-    );
-    assert_eq!(rt;
-        written(rt.alloc(), 0, 0, 16_777_217)?,
-        (Err(WriteFault::Size), 18)
-    );
-    Ok(())
+    check(&rt, &SIZES)
 }
 
-/// 65,536 files, and one more.
+/// 65,536 files, and one more: 18 bytes, 65,535 files of 19, one of 17 and the last line's 10.
+static COUNTS: [Row; 2] = [
+    (65_535, 0, 0, Ok(()), 1_245_210),
+    (65_536, 0, 0, Err(WriteFault::Count), 1_245_202),
+];
+
 #[test]
 fn counts(rt: HostRuntime) -> Result<(), Fail> {
-    // 18 bytes, 65,535 files of 19, one of 17 and the last line's 10.
-    assert_eq!(rt; written(rt.alloc(), 65_535, 0, 0)?, (Ok(()), 1_245_210));
-    assert_eq!(rt;
-        written(rt.alloc(), 65_536, 0, 0)?,
-        (Err(WriteFault::Count), 1_245_202)
-    );
-    Ok(())
+    check(&rt, &COUNTS)
 }
 
-/// A text of 1,073,741,824 bytes, and one with a byte more.
+/// A text of 1,073,741,824 bytes, and one with a byte more: 18 bytes, 63 files with 26 bytes beside their own, the last
+/// with 24, and the last line's 7.
+static TEXTS: [Row; 2] = [
+    (63, 16_777_216, 16_775_529, Ok(()), 1_073_741_824),
+    (
+        63,
+        16_777_216,
+        16_775_530,
+        Err(WriteFault::Text),
+        1_056_966_264,
+    ),
+];
+
 #[test]
 fn texts(rt: HostRuntime) -> Result<(), Fail> {
-    // 18 bytes, 63 files with 26 bytes beside their own, the last with 24, and the last line's 7.
-    let size = 16_777_216;
-    let left = 16_775_529;
-    assert_eq!(rt;
-        written(rt.alloc(), 63, size, left)?,
-        (Ok(()), 1_073_741_824)
-    );
-    let (result, count) = written(rt.alloc(), 63, size, left + 1)?;
-    assert_eq!(rt; (result, count), (Err(WriteFault::Text), 1_056_966_264));
-    Ok(())
+    check(&rt, &TEXTS)
 }
