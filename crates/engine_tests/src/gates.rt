@@ -1,7 +1,7 @@
 //! What a gate sees of a replay, and when replies are written.
-use crate::policies::{default_costs, default_policy};
 use crate::replaying::{
-    DEFAULT_SHAPE, Engine, Ran, Shape, is_same, outline, run_devices, run_engine, shaped,
+    DEFAULT_SHAPE, Engine, Ran, Shape, default_settings, is_same, outline, run_devices, run_engine,
+    run_one,
 };
 use devices::{Input, Output};
 use replay::Settings;
@@ -17,15 +17,13 @@ use std::thread::{Threads, available_parallelism};
 use std::time::{Clock, Duration};
 use test_support::{A, SNAPSHOT, capture_of};
 
-/// Settings of the default stages with batches of n pieces.
+/// The default settings with batches of n pieces.
 fn in_batches(rt: &(impl Abort + AllocGlobal), batch: usize) -> Box<Settings> {
-    let costs = default_costs().expect(rt, "costs");
-    let policy = default_policy().expect(rt, "a policy");
     let shape = Shape {
         batch,
         ..DEFAULT_SHAPE
     };
-    shaped(rt.alloc(), shape, costs, policy).expect(rt, "settings")
+    default_settings(rt.alloc(), shape).expect(rt, "settings")
 }
 
 /// The unit in which a message at a stage is counted: 6 bits for each of the five stages of message 0, and then of
@@ -262,36 +260,13 @@ fn two_threads_overlap_on_both_floors(rt: HostRuntime) -> Result<(), Fail> {
 /// Without a gate 160 of them, which have more than a MiB of targets, go through the front floor too, after 256 that
 /// tell that it pays.
 #[test]
-fn long_targets_without_a_gate(rt: HostRuntime) -> Result<(), Fail> {
-    let alloc = rt.alloc();
-    let capture = long_requests(alloc, 416)?;
+fn long_targets_without_a_gate(rt: HostRuntime) {
+    let capture = long_requests(rt.alloc(), 416).expect(&rt, "memory");
     let settings = in_batches(&rt, 160);
-    let bytes = capture.as_bytes();
-    let plain = run_engine(
-        &rt,
-        alloc,
-        Engine::Plain,
-        SNAPSHOT,
-        &settings,
-        &NoGate,
-        bytes,
-    );
-    let staged = run_engine(
-        &rt,
-        alloc,
-        Engine::Staged,
-        SNAPSHOT,
-        &settings,
-        &NoGate,
-        bytes,
-    );
-    let (plain, staged) = (
-        plain.expect(&rt, "a snapshot"),
-        staged.expect(&rt, "a snapshot"),
-    );
+    let plain = run_one(&rt, Engine::Plain, SNAPSHOT, &settings, capture.as_bytes());
+    let staged = run_one(&rt, Engine::Staged, SNAPSHOT, &settings, capture.as_bytes());
     assert!(rt; is_same(&staged, &plain));
     assert!(rt; staged.text.ends_with(b"\n\nstop 416\n".as_slice()));
-    Ok(())
 }
 
 /// A gate that notes how many messages enter the back floor together: until one of them leaves its first stage.

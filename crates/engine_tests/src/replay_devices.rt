@@ -1,6 +1,5 @@
 //! Devices that fail.
-use crate::policies::{default_costs, default_policy};
-use crate::replaying::{ENGINES, Engine, run_devices, settings};
+use crate::replaying::{DEFAULT_SHAPE, ENGINES, Engine, default_settings, run_devices};
 use captures::CaptureFaultKind;
 use devices::{Input, Output};
 use replay::{ReplayFault, Settings};
@@ -8,7 +7,6 @@ use stage_graph::NoGate;
 use std::alloc::AllocGlobal;
 use std::process::Abort;
 use std::sync::Wait;
-use std::test::Fail;
 use std::thread::Threads;
 use test_support::{A, Flaky, ONE_REPLY, SNAPSHOT, Slow, capture_of};
 
@@ -75,17 +73,12 @@ fn calls_to_the_end<T: Abort + AllocGlobal + Threads + Wait + Sync>(
 }
 
 #[test]
-fn each_read_and_write_failing(rt: HostRuntime) -> Result<(), Fail> {
-    let alloc = rt.alloc();
-    let costs = default_costs().expect(&rt, "costs");
-    let policy = default_policy().expect(&rt, "a policy");
-    let settings = settings(alloc, costs, policy).expect(&rt, "settings");
-    let capture = capture_of(alloc, &[(0, 0, A)])?;
+fn each_read_and_write_failing(rt: HostRuntime) {
+    let settings = default_settings(rt.alloc(), DEFAULT_SHAPE).expect(&rt, "settings");
+    let capture = capture_of(rt.alloc(), &[(0, 0, A)]).expect(&rt, "memory");
     for engine in ENGINES {
         let reads = calls_to_the_end(&rt, engine, &settings, &capture, true);
-        assert!(rt; 10 < reads && reads < 200);
         let writes = calls_to_the_end(&rt, engine, &settings, &capture, false);
-        assert!(rt; 10 < writes && writes < 200);
+        assert!(rt; 10 < reads && reads < 200 && 10 < writes && writes < 200);
     }
-    Ok(())
 }

@@ -1,12 +1,11 @@
 //! Devices that fail.
-use crate::explaining::{explain_devices, settings};
-use crate::policies::{default_costs, default_policy};
+use crate::explaining::explain_devices;
+use crate::replaying::{DEFAULT_SHAPE, default_settings};
 use captures::CaptureFaultKind;
 use devices::{Input, Output};
 use replay::{ReplayFault, Settings};
 use std::alloc::AllocGlobal;
 use std::process::Abort;
-use std::test::Fail;
 use test_support::{A, Flaky, SNAPSHOT, Slow, capture_of};
 
 static WANT: &str =
@@ -65,15 +64,10 @@ fn calls_to_the_end(
 }
 
 #[test]
-fn each_read_and_write_failing(rt: HostRuntime) -> Result<(), Fail> {
-    let alloc = rt.alloc();
-    let costs = default_costs().expect(&rt, "costs");
-    let policy = default_policy().expect(&rt, "a policy");
-    let settings = settings(alloc, costs, [policy; 4]).expect(&rt, "settings");
-    let capture = capture_of(alloc, &[(0, 0, A)])?;
+fn each_read_and_write_failing(rt: HostRuntime) {
+    let settings = default_settings(rt.alloc(), DEFAULT_SHAPE).expect(&rt, "settings");
+    let capture = capture_of(rt.alloc(), &[(0, 0, A)]).expect(&rt, "memory");
     let reads = calls_to_the_end(&rt, &settings, &capture, true);
-    assert!(rt; 5 < reads && reads < 200);
     let writes = calls_to_the_end(&rt, &settings, &capture, false);
-    assert!(rt; 30 < writes && writes < 200);
-    Ok(())
+    assert!(rt; 5 < reads && reads < 200 && 30 < writes && writes < 200);
 }
