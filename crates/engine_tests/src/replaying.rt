@@ -230,7 +230,7 @@ fn is_same_tally(one: &Tally, other: &Tally) -> bool {
 }
 
 /// Whether two calls answered the same.
-pub fn is_same_answer(one: &Ran, other: &Ran) -> bool {
+fn is_same_answer(one: &Ran, other: &Ran) -> bool {
     match (&*one.answer, &*other.answer) {
         (Ok(one), Ok(other)) => {
             one.rejected.as_slice() == other.rejected.as_slice()
@@ -266,17 +266,4 @@ pub fn run_all<T: Abort + AllocGlobal + Threads + Wait + Sync>(
         assert!(rt; is_same(&plain, &staged), "the engines differ");
     }
     plain
-}
-
-/// The lines of a replies text that tell a reply's number, connection, length and status, and its last line.
-pub fn outline(alloc: Global, text: &[u8]) -> Result<String, AllocError> {
-    let mut lines = String::new(alloc);
-    for line in String::from_utf8_lossy(alloc, text)?.lines() {
-        if line.starts_with("reply ") || line.starts_with("stop ") {
-            write!(lines, "{line};")?;
-        } else if let Some(status) = line.strip_prefix("HTTP/1.1 ") {
-            write!(lines, " {status};")?;
-        }
-    }
-    Ok(lines)
 }
