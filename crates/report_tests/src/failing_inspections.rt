@@ -47,25 +47,23 @@ fn reads_failing(rt: HostRuntime) {
     assert!(rt; false, "no run met all its reads");
 }
 
-/// The text of what a request in two pieces is inspected to.
-fn text_of_two_pieces(alloc: Global) -> Result<String, InspectFault> {
+/// The text of what a request in two pieces is inspected to: none without memory, and an empty one at another fault.
+fn text_of_two_pieces(alloc: Global) -> Option<String> {
     let capture =
         "haboob-capture 1 0\npiece 0 3 20\nGET / HTTP/1.1\r\nHost\npiece 0 3 7\n: a\r\n\r\n\nstop 2\n";
-    let inspection = inspect(alloc, &mut Input::new(capture.as_bytes()))?;
-    inspection_text(alloc, &inspection).map_err(|_| InspectFault::Memory)
+    match inspect(alloc, &mut Input::new(capture.as_bytes())) {
+        Ok(inspection) => inspection_text(alloc, &inspection).ok(),
+        Err(InspectFault::Memory) => None,
+        Err(_) => Some(String::new(alloc)),
+    }
 }
 
 /// `checks/refuse_growths.py` refuses each growth in turn: that is answered so; else the answers are right.
 #[test]
 fn each_growth_refused(rt: HostRuntime) {
-    match text_of_two_pieces(rt.alloc()) {
-        Ok(text) => {
-            assert!(rt; text.as_str().contains("\nmethod GET 1\n"));
-            assert!(rt;
-                text.as_str()
-                    .ends_with("unfinished 0 0\nbusiest 0 1\nend\n")
-            );
-        }
-        Err(fault) => assert_eq!(rt; fault, InspectFault::Memory),
+    if let Some(text) = text_of_two_pieces(rt.alloc()) {
+        let is_right = text.contains("\nmethod GET 1\n")
+            && text.ends_with("unfinished 0 0\nbusiest 0 1\nend\n");
+        assert!(rt; is_right, "{text}");
     }
 }

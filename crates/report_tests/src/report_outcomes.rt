@@ -62,18 +62,28 @@ pub fn each_status(alloc: Global) -> Result<Outcome, AllocError> {
     Ok(outcome([1, 2, 3, 4, 5, 6, 7, 8, 9], 40, samples, tiers, rejected))
 }
 
-/// In tier 1 every request was rejected, in tier 3 none, and in tiers 0 and 2 none was offered. One was answered with
-/// 301, two with 503.
+/// In tier 1 every request was rejected, in tier 3 none, and in tiers 0 and 2 none was offered.
+fn four_tiers(alloc: Global) -> Result<[Tally; 4], AllocError> {
+    let none = Vec::from_slice(alloc, &[SECOND])?;
+    let both = Vec::from_slice(alloc, &[FIRST, SECOND])?;
+    let unused = Vec::from_slice(alloc, &[FIRST])?;
+    let one = Vec::from_slice(alloc, &[FIRST])?;
+    Ok([
+        tally(0, 0, none),
+        tally(0, 2, both),
+        tally(0, 0, unused),
+        tally(1, 0, one),
+    ])
+}
+
+/// The outcome of these. One request was answered with 301, two with 503.
 pub fn each_tier(alloc: Global) -> Result<Outcome, AllocError> {
     let samples = Vec::from_slice(alloc, &[50])?;
     let rejected = Vec::from_slice(alloc, &[0, 2])?;
-    let tiers = [
-        tally(0, 0, Vec::from_slice(alloc, &[SECOND])?),
-        tally(0, 2, Vec::from_slice(alloc, &[FIRST, SECOND])?),
-        tally(0, 0, Vec::from_slice(alloc, &[FIRST])?),
-        tally(1, 0, Vec::from_slice(alloc, &[FIRST])?),
-    ];
-    Ok(outcome([0, 1, 0, 0, 0, 0, 0, 0, 2], 0, samples, tiers, rejected))
+    match four_tiers(alloc) {
+        Ok(tiers) => Ok(outcome([0, 1, 0, 0, 0, 0, 0, 0, 2], 0, samples, tiers, rejected)),
+        Err(fault) => Err(fault),
+    }
 }
 
 /// The numbers from 0 on below 100,000.

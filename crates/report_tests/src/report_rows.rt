@@ -105,11 +105,10 @@ fn check_many(rt: &(impl Abort + AllocGlobal), version: Version, parts: &[&str; 
     let text = report(rt.alloc(), outcome).expect(rt, "memory");
     let text = text.as_str();
     let front = "haboob-report 1\nmessages 200000\nbypassed 0\nadmitted 100000\nrejected 100000\n";
-    assert!(rt; text.starts_with(front), "{version:?}");
-    for part in parts {
-        assert!(rt; text.contains(*part), "{version:?}");
-    }
-    assert!(rt; text.ends_with("\nreject 99999\nend\n"), "{version:?}");
+    let is_right = text.starts_with(front)
+        && text.ends_with("\nreject 99999\nend\n")
+        && parts.iter().all(|part| text.contains(*part));
+    assert!(rt; is_right, "{version:?}");
 }
 
 /// A capture's report lists all controls of each tier, that of a text of traffic the last 1,000, with their numbers.
