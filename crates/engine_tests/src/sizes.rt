@@ -1,7 +1,5 @@
 //! Sizes at which a body might give up: each engine answers there as anywhere, with memory enough.
 use crate::replaying::{DEFAULT_SHAPE, Shape, default_settings, outcome_of, run_all};
-use captures::{CaptureFault, CaptureFaultKind};
-use inspection::InspectFault;
 use std::alloc::{AllocError, AllocGlobal, Global};
 use std::process::Abort;
 use std::sync::Wait;
@@ -54,20 +52,4 @@ fn many_pieces(alloc: Global) -> Result<String, AllocError> {
 fn ten_thousand_pieces_of_a_batch(rt: HostRuntime) {
     let capture = many_pieces(rt.alloc()).expect(&rt, "memory");
     check_size(&rt, 10_000, &capture, "\n\nstop 10001\n", 9_901);
-}
-
-/// What the faults of an inspection say of themselves.
-#[test]
-fn faults_of_inspections(rt: HostRuntime) {
-    let fault = CaptureFault {
-        at: 0,
-        kind: CaptureFaultKind::Header,
-    };
-    for (fault, want) in [
-        (InspectFault::FirstLine(fault), "capture: record 0: Header"),
-        (InspectFault::Memory, "no memory"),
-    ] {
-        let text = format!(in rt.alloc(); "{fault}").expect(&rt, "memory");
-        assert_eq!(rt; text.as_str(), want);
-    }
 }

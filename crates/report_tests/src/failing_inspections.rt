@@ -1,7 +1,7 @@
 //! Inspections whose reads fail, or whose requests for memory do.
 ghost use Rattle.std.specs.Prelude.{◌≤◌};
 
-use captures::CaptureFaultKind as Kind;
+use captures::{CaptureFault, CaptureFaultKind as Kind};
 use devices::Input;
 use inspection::{InspectFault, Inspection, inspect, inspection_text};
 use std::alloc::Global;
@@ -65,5 +65,21 @@ fn each_growth_refused(rt: HostRuntime) {
         let is_right = text.contains("\nmethod GET 1\n")
             && text.ends_with("unfinished 0 0\nbusiest 0 1\nend\n");
         assert!(rt; is_right, "{text}");
+    }
+}
+
+/// What the faults of an inspection say of themselves.
+#[test]
+fn faults_of_inspections(rt: HostRuntime) {
+    let fault = CaptureFault {
+        at: 0,
+        kind: Kind::Header,
+    };
+    for (fault, want) in [
+        (InspectFault::FirstLine(fault), "capture: record 0: Header"),
+        (InspectFault::Memory, "no memory"),
+    ] {
+        let text = format!(in rt.alloc(); "{fault}").expect(&rt, "memory");
+        assert_eq!(rt; text.as_str(), want);
     }
 }
