@@ -129,11 +129,16 @@ pub static TEXTS: [(&str, bool); 16] = [
     ("haboob-capture 3 784111777\nstop 0\n", false),
 ];
 
+/// A block with a field of so many letters.
+fn block_of(alloc: Global, letters: usize, end: &str) -> Result<String, AllocError> {
+    let field = "a".repeat(alloc, letters)?;
+    format!(in alloc; "GET /a.txt HTTP/1.1\r\nHost: a\r\nX: {field}{end}")
+}
+
 /// A capture of the longest block, of 8,192 bytes, and of one that is too long by a byte.
 pub fn longest_blocks(alloc: Global) -> Result<String, AllocError> {
-    let letters = "a".repeat(alloc, 8155)?;
-    let longest = format!(in alloc; "GET /a.txt HTTP/1.1\r\nHost: a\r\nX: {letters}\r\n\r\n")?;
-    let longer = format!(in alloc; "GET /a.txt HTTP/1.1\r\nHost: a\r\nX: {letters}a\r\n\r")?;
+    let longest = block_of(alloc, 8155, "\r\n\r\n")?;
+    let longer = block_of(alloc, 8156, "\r\n\r")?;
     capture_of(
         alloc,
         &[(0, 0, &longest), (0, 0, &longer), (1_000_000, 0, "\n")],

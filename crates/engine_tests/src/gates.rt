@@ -198,10 +198,15 @@ fn has_two_processors<R: Threads>(rt: &R) -> bool {
     }
 }
 
-/// The capture of n requests for `a`, with queries of 7,000 bytes: 96 are more than two threads' worth of targets.
-fn long_requests(alloc: Global, count: usize) -> Result<String, AllocError> {
+/// A request for `a` with a query of 7,000 bytes.
+fn long_request(alloc: Global) -> Result<String, AllocError> {
     let query = "x".repeat(alloc, 7_000)?;
-    let request = format!(in alloc; "GET /a?{query} HTTP/1.1\r\nHost: a\r\n\r\n")?;
+    format!(in alloc; "GET /a?{query} HTTP/1.1\r\nHost: a\r\n\r\n")
+}
+
+/// The capture of n such requests: 96 are more than two threads' worth of targets.
+fn long_requests(alloc: Global, count: usize) -> Result<String, AllocError> {
+    let request = long_request(alloc)?;
     let mut capture = String::from_str(alloc, "haboob-capture 1 784111777\n")?;
     for conn in 0..count {
         write!(capture, "piece 0 {conn} {}\n{request}\n", request.len())?;
@@ -492,20 +497,24 @@ fn written_before_the_next_batch(rt: HostRuntime) {
     }
 }
 
-/// The capture of 300 requests of one connection with this after their target, and the bytes of its lines and records.
-fn requests_with(alloc: Global, query: &str) -> Result<(String, Vec<usize>), AllocError> {
-    let request = format!(in alloc; "GET /a.txt{query} HTTP/1.1\r\nHost: a\r\n\r\n")?;
-    let record = format!(in alloc; "piece 0 0 {}\n{request}\n", request.len())?;
-    let mut capture = String::from_str(alloc, "haboob-capture 1 784111777\n")?;
-    let mut sizes = Vec::new(alloc);
-    sizes.push(27)?;
-    for _ in 0..300usize {
-        capture.push_str(&record)?;
-        sizes.push(record.len())?;
-    }
-    capture.push_str("stop 300\n")?;
-    sizes.push(9)?;
-    Ok((capture, sizes))
+/// The record of a request with this after its target.
+fn record_with(alloc: Global, query: &str) -> Result<String, AllocError> {
+    let bytes = query.len().saturating_add(32);
+    format!(in alloc; "piece 0 0 {bytes}\nGET /a.txt{query} HTTP/1.1\r\nHost: a\r\n\r\n\n")
+}
+
+/// The capture of 300 such records.
+fn three_hundred(alloc: Global, record: &str) -> Result<String, AllocError> {
+    let records = record.repeat(alloc, 300)?;
+    format!(in alloc; "haboob-capture 1 784111777\n{records}stop 300\n")
+}
+
+/// How many bytes its lines and its records have, of n bytes each.
+fn sizes_of(alloc: Global, record: usize) -> Result<Vec<usize>, AllocError> {
+    let mut sizes = vec![in alloc; record; 302]?;
+    sizes[0] = 27;
+    sizes[301] = 9;
+    Ok(sizes)
 }
 
 /// 300 replies with their lines: up to number 9 one has 165 bytes, up to 99 166; the bucket holds 100 tokens, and what
@@ -519,7 +528,9 @@ fn check_pieces<R: Abort + AllocGlobal + Threads + Wait + Sync>(
     without: u64,
     with: u64,
 ) {
-    let (capture, sizes) = requests_with(rt.alloc(), query).expect(rt, "memory");
+    let record = record_with(rt.alloc(), query).expect(rt, "memory");
+    let capture = three_hundred(rt.alloc(), &record).expect(rt, "memory");
+    let sizes = sizes_of(rt.alloc(), record.len()).expect(rt, "memory");
     for (engine, before) in [(Engine::Staged, without), (Engine::Floors, with)] {
         let written = written_by(rt, engine, 1024, &capture, &sizes);
         assert_eq!(rt; written, (before, 17 + REPLIES + 9));

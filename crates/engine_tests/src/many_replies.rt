@@ -14,10 +14,7 @@ use test_support::{A, Counted, SNAPSHOT};
 /// A text that begins so, of pieces of 2,048 requests each.
 fn pipelined(alloc: Global, first: &str, pieces: usize) -> Result<String, AllocError> {
     let mut capture = format!(in alloc; "haboob-{first} 784111777\n")?;
-    let mut block = String::new(alloc);
-    for _ in 0..2048usize {
-        block.push_str(A)?;
-    }
+    let block = A.repeat(alloc, 2048)?;
     for _ in 0..pieces {
         write!(capture, "piece 0 0 65536\n{block}\n")?;
     }
