@@ -173,6 +173,15 @@ def run(program, words, files, given):
     return ran.returncode, ran.stderr.decode("latin-1"), ran.stdout.decode("latin-1"), after
 
 
+def spread(values):
+    """The rows of a row with its name: where one of its texts is given in several ways, one for each of them."""
+    told = [(values["name"], {})]
+    for text, ways in values.pop("each_text", {}).items():
+        told = [("%s-%d" % (name, number), dict(texts, **{text: way}))
+                for name, texts in told for number, way in enumerate(ways, 1)]
+    return [merged(values, {"name": name, "texts": texts}) for name, texts in told]
+
+
 def read_table(path):
     """The rows of a table, in order; each has a name of its own."""
     table, rows = read(path), []
@@ -180,7 +189,7 @@ def read_table(path):
         cases = values.pop("cases", [{}])
         for number, case in enumerate(cases, 1):
             name = values["name"] if cases == [{}] else "%s-%s" % (values["name"], case.get("name", number))
-            rows.append(Row(table, dict(merged(values, case), name=name)))
+            rows += [Row(table, row) for row in spread(dict(merged(values, case), name=name))]
     if len({row.name for row in rows}) != len(rows):
         raise ValueError("%s: two rows have one name" % path)
     return rows

@@ -1,7 +1,6 @@
 //! What a gate sees of a replay, and when replies are written.
-use crate::policies::{default_costs, default_policy};
 use crate::replaying::{
-    DEFAULT_SHAPE, Engine, Ran, Shape, is_same, outline, run_devices, run_engine, shaped,
+    DEFAULT_SHAPE, Engine, Ran, Shape, default_settings, is_same, run_devices, run_engine, run_one,
 };
 use devices::{Input, Output};
 use replay::Settings;
@@ -12,20 +11,17 @@ use std::io::{Read, Write};
 use std::process::Abort;
 use std::sync::atomic::{AtomicBool, AtomicU64, Ordering};
 use std::sync::{Mutex, Wait};
-use std::test::Fail;
 use std::thread::{Threads, available_parallelism};
 use std::time::{Clock, Duration};
 use test_support::{A, SNAPSHOT, capture_of};
 
-/// Settings of the default stages with batches of n pieces.
+/// The default settings with batches of n pieces.
 fn in_batches(rt: &(impl Abort + AllocGlobal), batch: usize) -> Box<Settings> {
-    let costs = default_costs().expect(rt, "costs");
-    let policy = default_policy().expect(rt, "a policy");
     let shape = Shape {
         batch,
         ..DEFAULT_SHAPE
     };
-    shaped(rt.alloc(), shape, costs, policy).expect(rt, "settings")
+    default_settings(rt.alloc(), shape).expect(rt, "settings")
 }
 
 /// The unit in which a message at a stage is counted: 6 bits for each of the five stages of message 0, and then of
@@ -80,18 +76,29 @@ impl<R: Clock + Drop> Gate for Hold<R> {
     }
 }
 
-/// Replays two requests in batches of n pieces behind a gate; the lines that tell of the replies.
-fn two_requests<G: Gate + Sync, R: Abort + AllocGlobal + Threads + Wait + Sync>(
+/// Replays two requests in batches of n pieces behind a gate, which changes nothing. There are two replies of 165 bytes
+/// with their lines.
+fn check_two_requests<G: Gate + Sync, R: Abort + AllocGlobal + Threads + Wait + Sync>(
     rt: &R,
     gate: &G,
     batch: usize,
-) -> Result<String, Fail> {
-    let alloc = rt.alloc();
-    let capture = capture_of(alloc, &[(0, 0, A), (0, 1, A)])?;
+) {
+    let capture = capture_of(rt.alloc(), &[(0, 0, A), (0, 1, A)]).expect(rt, "memory");
     let settings = in_batches(rt, batch);
     let bytes = capture.as_bytes();
-    let ran = run_engine(rt, alloc, Engine::Staged, SNAPSHOT, &settings, gate, bytes);
-    Ok(outline(alloc, &ran.expect(rt, "a snapshot").text)?)
+    let plain = run_one(rt, Engine::Plain, SNAPSHOT, &settings, bytes);
+    let ran = run_engine(
+        rt,
+        rt.alloc(),
+        Engine::Staged,
+        SNAPSHOT,
+        &settings,
+        gate,
+        bytes,
+    );
+    let ran = ran.expect(rt, "a snapshot");
+    assert!(rt; is_same(&ran, &plain));
+    assert_eq!(rt; ran.text.len(), 17 + 2 * 165 + 7);
 }
 
 /// Replays two requests in batches of n pieces, with a gate that holds the first of them or doesn't.
@@ -100,7 +107,7 @@ fn check<R: Abort + AllocGlobal + Threads + Wait + Sync + Clock + Drop>(
     clock: R,
     holds: bool,
     batch: usize,
-) -> Result<(), Fail> {
+) {
     let gate = Hold {
         rt: clock,
         holds,
@@ -109,25 +116,23 @@ fn check<R: Abort + AllocGlobal + Threads + Wait + Sync + Clock + Drop>(
         gone: AtomicU64::new(0),
         over: AtomicU64::new(0),
     };
-    let want = "reply 0 0 150; 200 OK;reply 1 1 150; 200 OK;stop 2;";
-    assert_eq!(rt; two_requests(rt, &gate, batch)?.as_str(), want);
+    check_two_requests(rt, &gate, batch);
     let entered = gate.entered.load(Ordering::SeqCst);
     let left = gate.left.load(Ordering::SeqCst);
     let over = gate.over.load(Ordering::SeqCst);
     assert_eq!(rt; (entered, left, over), (EACH_ONCE, EACH_ONCE, 0));
-    Ok(())
 }
 
 /// Two workers are inside their handlers at once: message 1 leaves the first stage while message 0 is held there.
 #[test]
-fn two_workers_overlap(rt: HostRuntime) -> Result<(), Fail> {
-    check(&rt, rt.clone()?, true, 2)
+fn two_workers_overlap(rt: HostRuntime) {
+    check(&rt, rt.clone().expect(&rt, "memory"), true, 2);
 }
 
 /// In batches of one message each, both floors number it 0: the gate sees its number among all messages.
 #[test]
-fn numbers_in_batches(rt: HostRuntime) -> Result<(), Fail> {
-    check(&rt, rt.clone()?, false, 1)
+fn numbers_in_batches(rt: HostRuntime) {
+    check(&rt, rt.clone().expect(&rt, "memory"), false, 1);
 }
 
 /// Whether two threads are at work on a floor at once. The first item that enters waits for another, which only another
@@ -193,10 +198,15 @@ fn has_two_processors<R: Threads>(rt: &R) -> bool {
     }
 }
 
-/// The capture of n requests for `a`, with queries of 7,000 bytes: 96 are more than two threads' worth of targets.
-fn long_requests(alloc: Global, count: usize) -> Result<String, AllocError> {
+/// A request for `a` with a query of 7,000 bytes.
+fn long_request(alloc: Global) -> Result<String, AllocError> {
     let query = "x".repeat(alloc, 7_000)?;
-    let request = format!(in alloc; "GET /a?{query} HTTP/1.1\r\nHost: a\r\n\r\n")?;
+    format!(in alloc; "GET /a?{query} HTTP/1.1\r\nHost: a\r\n\r\n")
+}
+
+/// The capture of n such requests: 96 are more than two threads' worth of targets.
+fn long_requests(alloc: Global, count: usize) -> Result<String, AllocError> {
+    let request = long_request(alloc)?;
     let mut capture = String::from_str(alloc, "haboob-capture 1 784111777\n")?;
     for conn in 0..count {
         write!(capture, "piece 0 {conn} {}\n{request}\n", request.len())?;
@@ -216,27 +226,24 @@ fn run_long<G: Gate + Sync, R: Abort + AllocGlobal + Threads + Wait + Sync>(
     rt: &R,
     engine: Engine,
     gate: &G,
-) -> Result<Ran, Fail> {
-    let files = long_file(rt.alloc())?;
-    let capture = long_requests(rt.alloc(), 96)?;
+) -> Ran {
+    let files = long_file(rt.alloc()).expect(rt, "memory");
+    let capture = long_requests(rt.alloc(), 96).expect(rt, "memory");
     let settings = in_batches(rt, 96);
     let bytes = capture.as_bytes();
     let ran = run_engine(rt, rt.alloc(), engine, &files, &settings, gate, bytes);
-    Ok(ran.expect(rt, "a snapshot"))
+    ran.expect(rt, "a snapshot")
 }
 
 /// Replays these requests with a meeting on each floor. The engines are to write and answer the same.
-fn check_meetings<R: Abort + AllocGlobal + Threads + Wait + Sync + Clock + Drop>(
-    rt: &R,
-    clock: R,
-) -> Result<(), Fail> {
+fn check_meetings<R: Abort + AllocGlobal + Threads + Wait + Sync + Clock + Drop>(rt: &R, clock: R) {
     let gate = Meetings {
         rt: clock,
         front: Meeting::new(),
         back: Meeting::new(),
     };
-    let plain = run_long(rt, Engine::Plain, &NoGate)?;
-    let staged = run_long(rt, Engine::Staged, &gate)?;
+    let plain = run_long(rt, Engine::Plain, &NoGate);
+    let staged = run_long(rt, Engine::Staged, &gate);
     assert!(rt; is_same(&staged, &plain));
     // Each reply gives the file.
     assert!(rt; staged.text.len() > 96 * 65_536);
@@ -249,49 +256,25 @@ fn check_meetings<R: Abort + AllocGlobal + Threads + Wait + Sync + Clock + Drop>
             "the front floor and the back floor"
         );
     }
-    Ok(())
 }
 
 /// Two threads work side by side on the front floor, and on the back floor, where the gate is open and there is work
 /// for two.
 #[test]
-fn two_threads_overlap_on_both_floors(rt: HostRuntime) -> Result<(), Fail> {
-    check_meetings(&rt, rt.clone()?)
+fn two_threads_overlap_on_both_floors(rt: HostRuntime) {
+    check_meetings(&rt, rt.clone().expect(&rt, "memory"));
 }
 
 /// Without a gate 160 of them, which have more than a MiB of targets, go through the front floor too, after 256 that
 /// tell that it pays.
 #[test]
-fn long_targets_without_a_gate(rt: HostRuntime) -> Result<(), Fail> {
-    let alloc = rt.alloc();
-    let capture = long_requests(alloc, 416)?;
+fn long_targets_without_a_gate(rt: HostRuntime) {
+    let capture = long_requests(rt.alloc(), 416).expect(&rt, "memory");
     let settings = in_batches(&rt, 160);
-    let bytes = capture.as_bytes();
-    let plain = run_engine(
-        &rt,
-        alloc,
-        Engine::Plain,
-        SNAPSHOT,
-        &settings,
-        &NoGate,
-        bytes,
-    );
-    let staged = run_engine(
-        &rt,
-        alloc,
-        Engine::Staged,
-        SNAPSHOT,
-        &settings,
-        &NoGate,
-        bytes,
-    );
-    let (plain, staged) = (
-        plain.expect(&rt, "a snapshot"),
-        staged.expect(&rt, "a snapshot"),
-    );
+    let plain = run_one(&rt, Engine::Plain, SNAPSHOT, &settings, capture.as_bytes());
+    let staged = run_one(&rt, Engine::Staged, SNAPSHOT, &settings, capture.as_bytes());
     assert!(rt; is_same(&staged, &plain));
     assert!(rt; staged.text.ends_with(b"\n\nstop 416\n".as_slice()));
-    Ok(())
 }
 
 /// A gate that notes how many messages enter the back floor together: until one of them leaves its first stage.
@@ -340,55 +323,61 @@ fn two_targets(alloc: Global) -> Result<String, AllocError> {
     Ok(capture)
 }
 
-/// Replays these behind a gate, where `a` is small and `b` has these bytes; how many bytes were written.
+/// The snapshot of a small file `a`, and of `b` with these bytes.
+fn two_files(alloc: Global, file: &str) -> Result<String, AllocError> {
+    let bytes = file.len();
+    format!(in alloc; "haboob-snapshot 1\nfile 0 1 1\na\nb\nfile 0 1 {bytes}\nb\n{file}\nend 2\n")
+}
+
+/// Replays these behind a gate, where `b` has these bytes; how many bytes were written.
 fn run_targets<G: Gate + Sync, R: Abort + AllocGlobal + Threads + Wait + Sync>(
     rt: &R,
     gate: &G,
     file: &str,
-) -> Result<usize, Fail> {
-    let alloc = rt.alloc();
-    let bytes = file.len();
-    let files = format!(in alloc;
-        "haboob-snapshot 1\nfile 0 1 1\na\nb\nfile 0 1 {bytes}\nb\n{file}\nend 2\n"
-    )?;
-    let capture = two_targets(alloc)?;
+) -> usize {
+    let files = two_files(rt.alloc(), file).expect(rt, "memory");
+    let capture = two_targets(rt.alloc()).expect(rt, "memory");
     let settings = in_batches(rt, 64);
-    let read = capture.as_bytes();
-    let ran = run_engine(rt, alloc, Engine::Staged, &files, &settings, gate, read);
-    Ok(ran.expect(rt, "a snapshot").text.len())
+    let bytes = capture.as_bytes();
+    let ran = run_engine(
+        rt,
+        rt.alloc(),
+        Engine::Staged,
+        &files,
+        &settings,
+        gate,
+        bytes,
+    );
+    ran.expect(rt, "a snapshot").text.len()
 }
 
-/// How many messages travel together over the back floor, of these 64 by one thread.
+/// How many messages travel together over the back floor, of these 64 by one thread, where `b` has n bytes.
 fn travelling<R: Abort + AllocGlobal + Threads + Wait + Sync + Drop>(
     rt: &R,
     waiting: R,
-    file: &str,
-) -> Result<Vec<usize>, Fail> {
+    size: usize,
+) -> Vec<usize> {
     let gate = Together {
         rt: waiting,
         counts: Mutex::new(Vec::new(rt.alloc())),
         entered: AtomicU64::new(0),
     };
-    let written = run_targets(rt, &gate, file)?;
-    assert!(rt; written > file.len().saturating_mul(2));
-    Ok(gate.counts.into_inner())
+    let file = "b".repeat(rt.alloc(), size).expect(rt, "memory");
+    let written = run_targets(rt, &gate, &file);
+    assert!(rt; written > size.saturating_mul(2));
+    gate.counts.into_inner()
 }
 
 /// Two messages travel together, since there are 32 lots of 64; but a page of more than 16,384 bytes is the last of its
 /// lot.
 #[test]
-fn large_pages_travel_alone(rt: HostRuntime) -> Result<(), Fail> {
-    let alloc = rt.alloc();
-    let small = travelling(&rt, rt.clone()?, "b".repeat(alloc, 16_384)?.as_str())?;
+fn large_pages_travel_alone(rt: HostRuntime) {
+    let small = travelling(&rt, rt.clone().expect(&rt, "memory"), 16_384);
     assert_eq!(rt; small.as_slice(), [2usize; 32].as_slice());
-    let large = travelling(&rt, rt.clone()?, "b".repeat(alloc, 16_385)?.as_str())?;
+    let large = travelling(&rt, rt.clone().expect(&rt, "memory"), 16_385);
     let pairs = large.iter().filter(|count| **count == 2).count();
-    assert_eq!(rt; (large.len(), pairs), (33, 31));
-    assert_eq!(rt;
-        (large.get(5).copied(), large.get(32).copied()),
-        (Some(1), Some(1))
-    );
-    Ok(())
+    let alone = (large.get(5).copied(), large.get(32).copied());
+    assert_eq!(rt; (large.len(), pairs, alone), (33, 31, (Some(1), Some(1))));
 }
 
 /// Gives one record a read, and notes how much was written when the last line is asked for.
@@ -508,52 +497,62 @@ fn written_before_the_next_batch(rt: HostRuntime) {
     }
 }
 
-/// The capture of 300 requests of one connection with this after their target, and the bytes of its lines and records.
-fn requests_with(alloc: Global, query: &str) -> Result<(String, Vec<usize>), AllocError> {
-    let request = format!(in alloc; "GET /a.txt{query} HTTP/1.1\r\nHost: a\r\n\r\n")?;
-    let record = format!(in alloc; "piece 0 0 {}\n{request}\n", request.len())?;
-    let mut capture = String::from_str(alloc, "haboob-capture 1 784111777\n")?;
-    let mut sizes = Vec::new(alloc);
-    sizes.push(27)?;
-    for _ in 0..300usize {
-        capture.push_str(&record)?;
-        sizes.push(record.len())?;
-    }
-    capture.push_str("stop 300\n")?;
-    sizes.push(9)?;
-    Ok((capture, sizes))
+/// The record of a request with this after its target.
+fn record_with(alloc: Global, query: &str) -> Result<String, AllocError> {
+    let bytes = query.len().saturating_add(32);
+    format!(in alloc; "piece 0 0 {bytes}\nGET /a.txt{query} HTTP/1.1\r\nHost: a\r\n\r\n\n")
+}
+
+/// The capture of 300 such records.
+fn three_hundred(alloc: Global, record: &str) -> Result<String, AllocError> {
+    let records = record.repeat(alloc, 300)?;
+    format!(in alloc; "haboob-capture 1 784111777\n{records}stop 300\n")
+}
+
+/// How many bytes its lines and its records have, of n bytes each.
+fn sizes_of(alloc: Global, record: usize) -> Result<Vec<usize>, AllocError> {
+    let mut sizes = vec![in alloc; record; 302]?;
+    sizes[0] = 27;
+    sizes[301] = 9;
+    Ok(sizes)
 }
 
 /// 300 replies with their lines: up to number 9 one has 165 bytes, up to 99 166; the bucket holds 100 tokens, and what
 /// is turned away has 176.
 const REPLIES: u64 = 10 * 165 + 90 * 166 + 200 * 176;
 
-/// Of 300 light pieces each is answered before the next is read, where no gate sees them; else all are read first.
-#[test]
-fn light_pieces_are_answered_as_they_come(rt: HostRuntime) -> Result<(), Fail> {
-    let (capture, sizes) = requests_with(rt.alloc(), "")?;
-    for (engine, before) in [(Engine::Staged, 17 + REPLIES), (Engine::Floors, 17)] {
-        let written = written_by(&rt, engine, 1024, &capture, &sizes);
+/// How many bytes stand before the last line of the capture is read, where no gate sees the pieces and where one does.
+fn check_pieces<R: Abort + AllocGlobal + Threads + Wait + Sync>(
+    rt: &R,
+    query: &str,
+    without: u64,
+    with: u64,
+) {
+    let record = record_with(rt.alloc(), query).expect(rt, "memory");
+    let capture = three_hundred(rt.alloc(), &record).expect(rt, "memory");
+    let sizes = sizes_of(rt.alloc(), record.len()).expect(rt, "memory");
+    for (engine, before) in [(Engine::Staged, without), (Engine::Floors, with)] {
+        let written = written_by(rt, engine, 1024, &capture, &sizes);
         assert_eq!(rt; written, (before, 17 + REPLIES + 9));
     }
-    Ok(())
+}
+
+/// Of 300 light pieces each is answered before the next is read, where no gate sees them; else all are read first.
+#[test]
+fn light_pieces_are_answered_as_they_come(rt: HostRuntime) {
+    check_pieces(&rt, "", 17 + REPLIES, 17);
 }
 
 /// Of 300 pieces with long targets 256 are answered so, and the others are read as a batch, where a second thread may
 /// look them up.
 #[test]
-fn long_targets_are_read_in_batches(rt: HostRuntime) -> Result<(), Fail> {
-    let alloc = rt.alloc();
-    let query = format!(in alloc; "?{}", "x".repeat(alloc, 7_000)?)?;
-    let (capture, sizes) = requests_with(alloc, &query)?;
+fn long_targets_are_read_in_batches(rt: HostRuntime) {
+    let letters = "x".repeat(rt.alloc(), 7_000).expect(&rt, "memory");
+    let query = format!(in rt.alloc(); "?{letters}").expect(&rt, "memory");
     let before = if has_two_processors(&rt) {
         17 + REPLIES - 44 * 176
     } else {
         17 + REPLIES
     };
-    for (engine, before) in [(Engine::Staged, before), (Engine::Floors, 17)] {
-        let written = written_by(&rt, engine, 1024, &capture, &sizes);
-        assert_eq!(rt; written, (before, 17 + REPLIES + 9));
-    }
-    Ok(())
+    check_pieces(&rt, &query, before, 17);
 }

@@ -1,6 +1,8 @@
-//! Tests of the engines: the crates `arrivals` and `replay`.
+//! Tests of the engines: the crates `arrivals` and `replay`. What a text shows stands in the rows of `tests/`.
 #![tactic(auto)]
 
+#[cfg(test)]
+mod batch_texts;
 #[cfg(test)]
 mod batches;
 #[cfg(test)]
@@ -8,9 +10,7 @@ mod explaining;
 #[cfg(test)]
 mod gates;
 #[cfg(test)]
-mod lives;
-#[cfg(test)]
-mod lives_apart;
+mod large_pieces;
 #[cfg(test)]
 mod many_replies;
 #[cfg(test)]
@@ -18,34 +18,14 @@ mod many_rows;
 #[cfg(test)]
 mod policies;
 #[cfg(test)]
-mod rejections;
-#[cfg(test)]
 mod replay_devices;
-#[cfg(test)]
-mod replay_faults;
 #[cfg(test)]
 mod replay_growths;
 #[cfg(test)]
 mod replaying;
 #[cfg(test)]
-mod replies;
-#[cfg(test)]
-mod routes;
-#[cfg(test)]
-mod settings_faults;
-#[cfg(test)]
 mod sizes;
-#[cfg(test)]
-mod table_controls;
 #[cfg(test)]
 mod table_devices;
 #[cfg(test)]
-mod table_faults;
-#[cfg(test)]
 mod table_growths;
-#[cfg(test)]
-mod table_outcomes;
-#[cfg(test)]
-mod table_rows;
-#[cfg(test)]
-mod tiers;

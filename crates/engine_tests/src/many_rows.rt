@@ -1,12 +1,11 @@
 //! More messages than a capture may have.
-use crate::explaining::{explain_devices, settings};
+use crate::explaining::explain_devices;
 use crate::many_replies::one_too_many;
-use crate::policies::{default_costs, default_policy};
+use crate::replaying::{DEFAULT_SHAPE, default_settings};
 use devices::{Input, Output};
 use replay::ReplayFault;
 use std::io;
 use std::io::Write;
-use std::test::Fail;
 use test_support::SNAPSHOT;
 
 /// Counts the line feeds that it is given, and keeps nothing.
@@ -29,18 +28,16 @@ impl Write for Lines {
 
 /// The rows of the 1,048,576 messages within the limit stand after the heading.
 #[test]
-fn too_many_messages(rt: HostRuntime) -> Result<(), Fail> {
-    let alloc = rt.alloc();
-    let costs = default_costs().expect(&rt, "costs");
-    let policy = default_policy().expect(&rt, "a policy");
-    let settings = settings(alloc, costs, [policy; 4]).expect(&rt, "settings");
-    let capture = one_too_many(alloc, "capture 1")?;
+fn too_many_messages(rt: HostRuntime) {
+    let settings = default_settings(rt.alloc(), DEFAULT_SHAPE).expect(&rt, "settings");
+    let capture = one_too_many(rt.alloc(), "capture 1").expect(&rt, "memory");
     let mut lines = Lines { count: 0 };
     let mut reader = Input::new(capture.as_bytes());
     let mut writer = Output::new(&mut lines);
-    let answer = explain_devices(alloc, SNAPSHOT, &settings, &mut reader, &mut writer);
+    let answer = explain_devices(rt.alloc(), SNAPSHOT, &settings, &mut reader, &mut writer);
     let fault = answer.expect(&rt, "a snapshot").err();
-    assert_eq!(rt; fault, Some(ReplayFault::TooMany(1_048_576)));
-    assert_eq!(rt; lines.count, 1_048_577);
-    Ok(())
+    assert_eq!(rt;
+        (fault, lines.count),
+        (Some(ReplayFault::TooMany(1_048_576)), 1_048_577)
+    );
 }

@@ -1,13 +1,20 @@
-//! Service times and policies.
+//! Service times, policies and routes.
 use admission::Policy;
-use cost_model::Costs;
+use cost_model::{Costs, Prefix, Route, Routes};
+use replay::Settings;
+use std::alloc::Global;
 
 /// The service times that a document without settings gives.
 pub fn default_costs() -> Option<Costs> {
     Costs::new(200, 10, 50).ok()
 }
 
-/// The policy that it gives.
+/// Service times by which what isn't there takes 5,000 ticks, and a file 100.
+pub fn long_misses() -> Option<Costs> {
+    Costs::new(100, 0, 5000).ok()
+}
+
+/// The policy that a document without settings gives.
 pub fn default_policy() -> Option<Policy> {
     Policy::new(
         100, 100, 700, 1_000_000, 50_000, 5_000_000, 2_000, 120, 100_000, 90, 100,
@@ -23,10 +30,19 @@ pub fn tight(depth: u64) -> Option<Policy> {
     .ok()
 }
 
-/// A control at each request, of this least rate and this depth.
-pub fn nimble(least: u64, depth: u64) -> Option<Policy> {
-    Policy::new(1, 1, 700, 1000, least, 2000, 10, 120, 1000, 90, depth).ok()
+/// A control at each request, of this depth.
+pub fn nimble(depth: u64) -> Option<Policy> {
+    Policy::new(1, 1, 700, 1000, 500, 2000, 10, 120, 1000, 90, depth).ok()
 }
 
-/// A request for a file that isn't there, which takes 5,000 ticks where the controls of `nimble` are tried.
-pub static NONE: &str = "GET /none HTTP/1.1\r\nHost: a\r\n\r\n";
+/// These settings with a route in front of the file: 2,000 ticks, 100 for each 1,024 bytes, and a delay of 3.
+pub fn routed(alloc: Global, settings: Box<Settings>) -> Option<Box<Settings>> {
+    let prefix = Prefix::read(alloc, b"/a.txt").ok()??;
+    let mut routes = Vec::new(alloc);
+    routes.push(Route::in_range(prefix, 2000, 100, 3)).ok()?;
+    Box::new(
+        alloc,
+        Box::into_inner(settings).with_routes(Routes::new(routes)),
+    )
+    .ok()
+}

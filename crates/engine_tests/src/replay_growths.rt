@@ -1,16 +1,19 @@
 //! Out of memory: `checks/refuse_growths.py` refuses each growth of these tests in turn.
 use crate::batches::{NARROW, WIDE};
-use crate::policies::{NONE, default_costs, default_policy, nimble, tight};
-use crate::replaying::{DEFAULT_SHAPE, ENGINES, Engine, Shape, fault_of, run_engine, shaped};
-use admission::Policy;
-use cost_model::Costs;
-use replay::ReplayFault;
+use crate::policies::{default_costs, long_misses, nimble, routed, tight};
+use crate::replaying::{
+    DEFAULT_SHAPE, ENGINES, Engine, Shape, default_settings, fault_of, run_engine, shaped,
+};
+use replay::{ReplayFault, Settings};
 use stage_graph::NoGate;
-use std::alloc::AllocGlobal;
+use std::alloc::{AllocGlobal, Global};
 use std::process::Abort;
 use std::sync::Wait;
 use std::thread::Threads;
 use test_support::{A, ONE_REPLY, SNAPSHOT, TIGHT_REPLIES, capture_of, in_bytes};
+
+/// A request for a file that isn't there.
+static NONE: &str = "GET /none HTTP/1.1\r\nHost: a\r\n\r\n";
 
 /// A request for the file, and one for a folder without an index.
 pub static CAPTURE: &str = "haboob-capture 1 784111777\n\
@@ -78,94 +81,98 @@ static NIMBLE_REPLIES: &str = "haboob-replies 1\n\
 
 /// A replay whose growth is refused says so, and has written a prefix of what it would have written: the text in memory
 /// has its room beforehand, so no write fails.
-fn check<T: Abort + AllocGlobal + Threads + Wait + Sync>(
+fn check_engine<T: Abort + AllocGlobal + Threads + Wait + Sync>(
     rt: &T,
     engine: Engine,
-    shape: Shape,
-    costs: Option<Costs>,
-    policy: Option<Policy>,
+    settings: &Settings,
+    capture: &[u8],
+    want: &[u8],
+) {
+    match run_engine(rt, rt.alloc(), engine, SNAPSHOT, settings, &NoGate, capture) {
+        None => {}
+        Some(ran) => match fault_of(&ran) {
+            None => assert_eq!(rt; ran.text.as_slice(), want),
+            Some(fault) => {
+                assert_eq!(rt; fault, ReplayFault::Memory);
+                assert!(rt; want.starts_with(&ran.text));
+            }
+        },
+    }
+}
+
+/// So it is on each engine.
+fn check<T: Abort + AllocGlobal + Threads + Wait + Sync>(
+    rt: &T,
+    settings: Option<Box<Settings>>,
     capture: &str,
     want: &str,
 ) {
-    let alloc = rt.alloc();
-    let (Some(costs), Some(policy)) = (costs, policy) else {
+    let Some(settings) = settings else {
         return;
     };
-    let Some(settings) = shaped(alloc, shape, costs, policy) else {
-        return;
-    };
-    let capture = capture.as_bytes();
-    let Some(ran) = run_engine(rt, alloc, engine, SNAPSHOT, &settings, &NoGate, capture) else {
-        return;
-    };
-    match fault_of(&ran) {
-        None => assert_eq!(rt; ran.text.as_slice(), want.as_bytes()),
-        Some(fault) => {
-            assert_eq!(rt; fault, ReplayFault::Memory);
-            assert!(rt; want.as_bytes().starts_with(&ran.text));
-        }
+    for engine in ENGINES {
+        check_engine(rt, engine, &settings, capture.as_bytes(), want.as_bytes());
     }
 }
 
 #[test]
 fn each_growth_refused(rt: HostRuntime) {
-    for engine in ENGINES {
-        let (costs, policy) = (default_costs(), default_policy());
-        check(&rt, engine, DEFAULT_SHAPE, costs, policy, CAPTURE, WANT);
-    }
+    let settings = default_settings(rt.alloc(), DEFAULT_SHAPE);
+    check(&rt, settings, CAPTURE, WANT);
 }
 
 #[test]
 fn each_growth_refused_in_byte_pieces(rt: HostRuntime) {
-    let Ok(capture) = in_bytes(rt.alloc(), A) else {
-        return;
-    };
-    for engine in ENGINES {
-        let (costs, policy) = (default_costs(), default_policy());
-        check(
-            &rt,
-            engine,
-            DEFAULT_SHAPE,
-            costs,
-            policy,
-            &capture,
-            ONE_REPLY,
-        );
+    if let Ok(capture) = in_bytes(rt.alloc(), A) {
+        let settings = default_settings(rt.alloc(), DEFAULT_SHAPE);
+        check(&rt, settings, &capture, ONE_REPLY);
     }
+}
+
+/// A bucket of one token, by stages of this shape.
+fn tight_settings(alloc: Global, shape: Shape) -> Option<Box<Settings>> {
+    shaped(alloc, shape, default_costs()?, tight(1)?)
 }
 
 /// The narrowest stages, and the widest.
 #[test]
 fn each_growth_refused_on_any_floor(rt: HostRuntime) {
     let pieces = [(0, 0, A), (0, 0, A), (999_999, 0, A), (1_000_000, 0, A)];
-    let Ok(capture) = capture_of(rt.alloc(), &pieces) else {
-        return;
-    };
-    for shape in [NARROW, WIDE] {
-        for engine in [Engine::Staged, Engine::Floors] {
-            let (costs, policy) = (default_costs(), tight(1));
-            check(&rt, engine, shape, costs, policy, &capture, TIGHT_REPLIES);
-        }
+    if let Ok(capture) = capture_of(rt.alloc(), &pieces) {
+        check(
+            &rt,
+            tight_settings(rt.alloc(), NARROW),
+            &capture,
+            TIGHT_REPLIES,
+        );
+        check(
+            &rt,
+            tight_settings(rt.alloc(), WIDE),
+            &capture,
+            TIGHT_REPLIES,
+        );
     }
 }
 
 /// A control at each admitted request.
+fn nimble_settings(alloc: Global) -> Option<Box<Settings>> {
+    shaped(alloc, DEFAULT_SHAPE, long_misses()?, nimble(1)?)
+}
+
 #[test]
 fn each_growth_refused_with_controls(rt: HostRuntime) {
     let pieces = [(0, 0, NONE), (1_199_477, 0, A), (1_199_478, 0, A)];
-    let Ok(capture) = capture_of(rt.alloc(), &pieces) else {
-        return;
-    };
-    for engine in ENGINES {
-        let (costs, policy) = (Costs::new(100, 0, 5000).ok(), nimble(500, 1));
-        check(
-            &rt,
-            engine,
-            DEFAULT_SHAPE,
-            costs,
-            policy,
-            &capture,
-            NIMBLE_REPLIES,
-        );
+    if let Ok(capture) = capture_of(rt.alloc(), &pieces) {
+        check(&rt, nimble_settings(rt.alloc()), &capture, NIMBLE_REPLIES);
     }
+}
+
+/// A route changes no reply.
+fn routed_settings(alloc: Global) -> Option<Box<Settings>> {
+    routed(alloc, default_settings(alloc, DEFAULT_SHAPE)?)
+}
+
+#[test]
+fn each_growth_refused_on_a_route(rt: HostRuntime) {
+    check(&rt, routed_settings(rt.alloc()), CAPTURE, WANT);
 }

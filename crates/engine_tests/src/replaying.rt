@@ -125,9 +125,9 @@ pub fn tiered(
     Box::new(alloc, settings).ok()
 }
 
-/// Settings of the default shape with these service times and this policy.
-pub fn settings(alloc: Global, costs: Costs, policy: Policy) -> Option<Box<Settings>> {
-    shaped(alloc, DEFAULT_SHAPE, costs, policy)
+/// Those that a document without settings gives, but for the shape.
+pub fn default_settings(alloc: Global, shape: Shape) -> Option<Box<Settings>> {
+    shaped(alloc, shape, default_costs()?, default_policy()?)
 }
 
 fn run_named<F: Tree + Send + Sync, G: Gate + Sync, T: Threads + Wait + Sync, R: Read, W: Write>(
@@ -210,6 +210,18 @@ pub fn run_engine<G: Gate + Sync, T: Threads + Wait + Sync>(
     ran_to(alloc, answer, text)
 }
 
+/// Replays a capture on an engine without a gate.
+pub fn run_one<T: Abort + AllocGlobal + Threads + Wait + Sync>(
+    rt: &T,
+    engine: Engine,
+    snapshot: &str,
+    settings: &Settings,
+    capture: &[u8],
+) -> Ran {
+    let ran = run_engine(rt, rt.alloc(), engine, snapshot, settings, &NoGate, capture);
+    ran.expect(rt, "a snapshot")
+}
+
 /// Whether the same became of the requests of a tier.
 fn is_same_tally(one: &Tally, other: &Tally) -> bool {
     one.admitted == other.admitted
@@ -218,7 +230,7 @@ fn is_same_tally(one: &Tally, other: &Tally) -> bool {
 }
 
 /// Whether two calls answered the same.
-pub fn is_same_answer(one: &Ran, other: &Ran) -> bool {
+fn is_same_answer(one: &Ran, other: &Ran) -> bool {
     match (&*one.answer, &*other.answer) {
         (Ok(one), Ok(other)) => {
             one.rejected.as_slice() == other.rejected.as_slice()
@@ -240,88 +252,18 @@ pub fn is_same(one: &Ran, other: &Ran) -> bool {
     is_same_answer(one, other) && one.text.as_slice() == other.text.as_slice()
 }
 
-/// Replays a capture on an engine, and the staged one by its floors too, which is to do the same.
-pub fn run_by_floors_too<T: Abort + AllocGlobal + Threads + Wait + Sync>(
+/// Replays a capture on each engine, which are to write and answer the same; what they do.
+pub fn run_all<T: Abort + AllocGlobal + Threads + Wait + Sync>(
     rt: &T,
-    engine: Engine,
     snapshot: &str,
     settings: &Settings,
     capture: &str,
-) -> Option<Ran> {
-    let (alloc, bytes) = (rt.alloc(), capture.as_bytes());
-    let ran = run_engine(rt, alloc, engine, snapshot, settings, &NoGate, bytes)?;
-    if let Engine::Staged = engine {
-        let floors = run_engine(
-            rt,
-            alloc,
-            Engine::Floors,
-            snapshot,
-            settings,
-            &NoGate,
-            bytes,
-        )?;
-        assert!(rt; is_same(&ran, &floors));
-    }
-    Some(ran)
-}
-
-/// Replays it on each engine, which are to write and answer the same; what they do.
-pub fn run_settings<T: Abort + Threads + Wait + Sync>(
-    rt: &T,
-    alloc: Global,
-    snapshot: &str,
-    settings: &Settings,
-    capture: &[u8],
-) -> Option<Ran> {
-    let plain = run_engine(
-        rt,
-        alloc,
-        Engine::Plain,
-        snapshot,
-        settings,
-        &NoGate,
-        capture,
-    )?;
+) -> Ran {
+    let capture = capture.as_bytes();
+    let plain = run_one(rt, Engine::Plain, snapshot, settings, capture);
     for engine in [Engine::Staged, Engine::Floors] {
-        let staged = run_engine(rt, alloc, engine, snapshot, settings, &NoGate, capture)?;
+        let staged = run_one(rt, engine, snapshot, settings, capture);
         assert!(rt; is_same(&plain, &staged), "the engines differ");
     }
-    Some(plain)
-}
-
-/// Replays it on each with the default settings.
-pub fn run<T: Abort + Threads + Wait + Sync>(
-    rt: &T,
-    alloc: Global,
-    snapshot: &str,
-    capture: &str,
-) -> Option<Ran> {
-    let settings = settings(alloc, default_costs()?, default_policy()?)?;
-    run_settings(rt, alloc, snapshot, &settings, capture.as_bytes())
-}
-
-/// The lines of a replies text that tell a reply's number, connection, length and status, and its last line.
-pub fn outline(alloc: Global, text: &[u8]) -> Result<String, AllocError> {
-    let mut lines = String::new(alloc);
-    for line in String::from_utf8_lossy(alloc, text)?.lines() {
-        if line.starts_with("reply ") || line.starts_with("stop ") {
-            write!(lines, "{line};")?;
-        } else if let Some(status) = line.strip_prefix("HTTP/1.1 ") {
-            write!(lines, " {status};")?;
-        }
-    }
-    Ok(lines)
-}
-
-/// What a replay wrote contains each of these parts.
-pub fn check_parts(
-    rt: &(impl Abort + AllocGlobal),
-    ran: &Ran,
-    parts: &[&str],
-) -> Result<(), AllocError> {
-    let text = String::from_utf8_lossy(rt.alloc(), &ran.text)?;
-    for part in parts {
-        assert!(rt; text.contains(*part), "{part}");
-    }
-    Ok(())
+    plain
 }

@@ -1,17 +1,9 @@
-//! Tests of what is told of a message, of a replay and of a capture: the crates `cost_model`, `decision_table`,
-//! `report` and `inspection`.
+//! Tests of what is told of a message, of a replay and of a capture: the crates `decision_table`, `report` and
+//! `inspection`. What a text shows stands in the rows of `tests/`.
 #![tactic(auto)]
 
 #[cfg(test)]
-mod charges;
-#[cfg(test)]
-mod inspected_in_part;
-#[cfg(test)]
-mod inspected_pieces;
-#[cfg(test)]
-mod inspected_texts;
-#[cfg(test)]
-mod inspection_limits;
+mod failing_inspections;
 #[cfg(test)]
 mod report_outcomes;
 #[cfg(test)]

@@ -4,69 +4,110 @@ use arrivals::Series;
 use captures::Version;
 use reference::{Counts, Outcome, Summary, Tally};
 use std::alloc::{AllocError, Global};
-use test_support::A;
-
-/// No message was answered.
-pub static NONE: Counts = Counts { by_status: [0; 9] };
 
 /// What became of a tier's requests.
-pub fn tally(
-    alloc: Global,
-    admitted: u64,
-    rejected: u64,
-    controls: &[Control],
-) -> Result<Tally, AllocError> {
-    Ok(Tally {
+fn tally(admitted: u64, rejected: u64, controls: Vec<Control>) -> Tally {
+    Tally {
         admitted,
         rejected,
-        controls: Series::from_vec(Vec::from_slice(alloc, controls)?),
-    })
-}
-
-/// Tiers of which the first alone has this one, and no request was offered in the others.
-pub fn tier_0(alloc: Global, tally: Tally) -> [Tally; 4] {
-    [tally, idle(alloc), idle(alloc), idle(alloc)]
-}
-
-/// A tier in which no request was offered.
-pub fn idle(alloc: Global) -> Tally {
-    Tally {
-        admitted: 0,
-        rejected: 0,
-        controls: Series::new(alloc),
+        controls: Series::from_vec(controls),
     }
 }
 
-/// The outcome of a capture of version 1, of these parts.
-pub fn outcome(
-    alloc: Global,
-    counts: Counts,
-    bypassed: u64,
-    samples: &[u64],
-    tiers: [Tally; 4],
-    rejected: &[usize],
-) -> Result<Outcome, AllocError> {
-    Ok(Outcome {
-        version: Version::One,
-        rejected: Series::from_vec(Vec::from_slice(alloc, rejected)?),
-        summary: Summary {
-            counts,
-            bypassed,
-            samples: Series::from_vec(Vec::from_slice(alloc, samples)?),
-            tiers,
-        },
-    })
+/// A tier in which no request was offered.
+fn idle(alloc: Global) -> Tally {
+    tally(0, 0, Vec::new(alloc))
 }
 
-/// An outcome in this format: 100,000 requests that took 100,000 ticks down to 1, 100,000 that were turned away, and
-/// two tiers that have 100,000 controls each, at the ticks from 0 on.
-pub fn many(alloc: Global, version: Version) -> Result<Outcome, AllocError> {
+/// The outcome of a capture of version 1, of these parts.
+fn outcome(
+    by_status: [u64; 9],
+    bypassed: u64,
+    samples: Vec<u64>,
+    tiers: [Tally; 4],
+    rejected: Vec<usize>,
+) -> Outcome {
+    Outcome {
+        version: Version::One,
+        rejected: Series::from_vec(rejected),
+        summary: Summary {
+            counts: Counts { by_status },
+            bypassed,
+            samples: Series::from_vec(samples),
+            tiers,
+        },
+    }
+}
+
+static FIRST: Control = Control {
+    instant: 5000,
+    percentile: 5000,
+    smoothed: 1500,
+    rate: 833,
+};
+
+static SECOND: Control = Control {
+    instant: 5100,
+    percentile: 100,
+    smoothed: 1080,
+    rate: 694,
+};
+
+/// Each status has another count; with two controls.
+pub fn each_status(alloc: Global) -> Result<Outcome, AllocError> {
+    let samples = Vec::from_slice(alloc, &[7, 9, 8])?;
+    let rejected = Vec::from_slice(alloc, &[3, 44])?;
+    let controls = Vec::from_slice(alloc, &[FIRST, SECOND])?;
+    let tiers = [tally(3, 2, controls), idle(alloc), idle(alloc), idle(alloc)];
+    Ok(outcome([1, 2, 3, 4, 5, 6, 7, 8, 9], 40, samples, tiers, rejected))
+}
+
+/// In tier 1 every request was rejected, in tier 3 none, and in tiers 0 and 2 none was offered.
+fn four_tiers(alloc: Global) -> Result<[Tally; 4], AllocError> {
+    let none = Vec::from_slice(alloc, &[SECOND])?;
+    let both = Vec::from_slice(alloc, &[FIRST, SECOND])?;
+    let unused = Vec::from_slice(alloc, &[FIRST])?;
+    let one = Vec::from_slice(alloc, &[FIRST])?;
+    Ok([
+        tally(0, 0, none),
+        tally(0, 2, both),
+        tally(0, 0, unused),
+        tally(1, 0, one),
+    ])
+}
+
+/// The outcome of these. One request was answered with 301, two with 503.
+pub fn each_tier(alloc: Global) -> Result<Outcome, AllocError> {
+    let samples = Vec::from_slice(alloc, &[50])?;
+    let rejected = Vec::from_slice(alloc, &[0, 2])?;
+    match four_tiers(alloc) {
+        Ok(tiers) => Ok(outcome([0, 1, 0, 0, 0, 0, 0, 0, 2], 0, samples, tiers, rejected)),
+        Err(fault) => Err(fault),
+    }
+}
+
+/// The numbers from 0 on below 100,000.
+fn many_numbers(alloc: Global) -> Result<Vec<usize>, AllocError> {
+    let mut numbers = Vec::new(alloc);
+    for number in 0..100_000usize {
+        numbers.push(number)?;
+    }
+    Ok(numbers)
+}
+
+/// Those from 100,000 down to 1.
+fn many_samples(alloc: Global) -> Result<Vec<u64>, AllocError> {
     let mut samples = Vec::new(alloc);
-    let mut rejected = Vec::new(alloc);
+    for number in 0..100_000u64 {
+        samples.push(100_000 - number)?;
+    }
+    Ok(samples)
+}
+
+/// A control at each of the ticks from 0 on below 100,000.
+fn many_controls(alloc: Global) -> Result<Vec<Control>, AllocError> {
     let mut controls = Vec::new(alloc);
     for instant in 0..100_000u64 {
-        samples.push(100_000 - instant)?;
-        rejected.push(instant as usize)?;
         controls.push(Control {
             instant,
             percentile: 3,
@@ -74,97 +115,24 @@ pub fn many(alloc: Global, version: Version) -> Result<Outcome, AllocError> {
             rate: 1,
         })?;
     }
+    Ok(controls)
+}
+
+/// An outcome in this format: 100,000 requests that took 100,000 ticks down to 1, 100,000 that were turned away, and
+/// two tiers that have 100,000 controls each.
+pub fn many(alloc: Global, version: Version) -> Result<Outcome, AllocError> {
+    let samples = many_samples(alloc)?;
+    let rejected = many_numbers(alloc)?;
+    let first = many_controls(alloc)?;
+    let second = many_controls(alloc)?;
     let tiers = [
-        tally(alloc, 50_000, 50_000, &controls)?,
-        tally(alloc, 50_000, 50_000, &controls)?,
+        tally(50_000, 50_000, first),
+        tally(50_000, 50_000, second),
         idle(alloc),
         idle(alloc),
     ];
-    let mut outcome = outcome(alloc, NONE, 0, &samples, tiers, &rejected)?;
-    outcome.version = version;
-    Ok(outcome)
+    Ok(Outcome {
+        version,
+        ..outcome([0; 9], 0, samples, tiers, rejected)
+    })
 }
-
-/// A request at once, two that find no token, and one when a token is there again, each with a service of 201 ticks.
-pub fn tight_bucket(alloc: Global) -> Result<Outcome, AllocError> {
-    // two with 200, two with 503
-    let counts = Counts {
-        by_status: [2, 0, 0, 0, 0, 0, 0, 0, 2],
-    };
-    let tiers = tier_0(alloc, tally(alloc, 2, 2, &[])?);
-    outcome(alloc, counts, 0, &[201, 201], tiers, &[1, 2])
-}
-
-/// Five requests at one tick, each with a service of 201 ticks: those of tier 0 find one token, those of tier 1 two.
-pub fn two_buckets(alloc: Global) -> Result<Outcome, AllocError> {
-    // three with 200, two with 503
-    let counts = Counts {
-        by_status: [3, 0, 0, 0, 0, 0, 0, 0, 2],
-    };
-    let tiers = [
-        tally(alloc, 1, 1, &[])?,
-        tally(alloc, 2, 1, &[])?,
-        idle(alloc),
-        idle(alloc),
-    ];
-    outcome(alloc, counts, 0, &[201, 402, 603], tiers, &[2, 4])
-}
-
-pub static FIRST: Control = Control {
-    instant: 5000,
-    percentile: 5000,
-    smoothed: 1500,
-    rate: 833,
-};
-
-pub static SECOND: Control = Control {
-    instant: 5100,
-    percentile: 100,
-    smoothed: 1080,
-    rate: 694,
-};
-
-/// In tier 1 every request was rejected, in tier 3 none, and in tiers 0 and 2 none was offered.
-pub fn each_tier(alloc: Global) -> Result<Outcome, AllocError> {
-    let tiers = [
-        tally(alloc, 0, 0, &[SECOND])?,
-        tally(alloc, 0, 2, &[FIRST, SECOND])?,
-        tally(alloc, 0, 0, &[FIRST])?,
-        tally(alloc, 1, 0, &[FIRST])?,
-    ];
-    // one with 301, two with 503
-    let counts = Counts {
-        by_status: [0, 1, 0, 0, 0, 0, 0, 0, 2],
-    };
-    outcome(alloc, counts, 0, &[50], tiers, &[0, 2])
-}
-
-/// The report of `each_tier`. Each tier's controls are numbered from 1.
-pub static EACH_TIER: &str = "haboob-report 1
-messages 3
-bypassed 0
-admitted 1
-rejected 2
-status 200 0
-status 301 1
-status 304 0
-status 400 0
-status 404 0
-status 405 0
-status 413 0
-status 501 0
-status 503 2
-p50 50
-p90 50
-p99 50
-controls 1
-control 1 5100 100 1080 694
-tier 1 0 2 2
-control 1 5000 5000 1500 833
-control 2 5100 100 1080 694
-tier 3 1 0 1
-control 1 5000 5000 1500 833
-reject 0
-reject 2
-end
-";
