@@ -15,13 +15,14 @@ static TEXT: &str = "GET /a HTTP/1.1\r\n\
      Connection: close\r\n\
      \r\n";
 
-/// A message of the text, apart from its version, which is 1.1.
-struct Want {
-    end: u64,
-    method: &'static str,
-    target: &'static str,
-    closes: bool,
-    modified_since: Option<u64>,
+/// A request, apart from its version, which is 1.1.
+#[derive(Clone, Copy)]
+pub struct Want {
+    pub end: u64,
+    pub method: &'static str,
+    pub target: &'static str,
+    pub closes: bool,
+    pub modified_since: Option<u64>,
 }
 
 static MESSAGES: [Want; 3] = [
@@ -49,7 +50,7 @@ static MESSAGES: [Want; 3] = [
 ];
 
 /// Whether this is such a message.
-fn is_like(message: &Message, want: &Want) -> bool {
+pub fn is_like(message: &Message, want: &Want) -> bool {
     match &message.what {
         Meaning::Request {
             method,

@@ -1,5 +1,4 @@
 //! A writer that takes a byte at a time, and one that fails at one of its writes.
-use crate::reply_records::page;
 use devices::Output;
 use responses::{Given, Persistence, Slip, Status, Write, render, write_reply};
 use std::marker::Brand;
@@ -29,16 +28,14 @@ fn each_write_failing(rt: HostRuntime) -> Result<(), Fail> {
         },
     };
     let reply = render(rt.alloc(), slip)?;
-    assert_eq!(rt; reply.number(), 3);
-    assert_eq!(rt; reply.conn(), 12);
+    assert_eq!(rt; (reply.number(), reply.conn()), (3, 12));
     for good in 0..WANT.len() + 1 {
         let mut taken = Vec::new(rt.alloc());
         let mut output = Output::new(Slow::new(&mut taken, 1, good));
         let answer = write_reply(&mut output, &reply);
         let failures = output.failures();
         let whole = good == WANT.len();
-        assert_eq!(rt; answer.is_ok(), whole);
-        assert_eq!(rt; failures == 0, whole);
+        assert_eq!(rt; (answer.is_ok(), failures == 0), (whole, whole));
         assert!(rt; failures <= 1);
         assert_eq!(rt; taken.as_slice(), &WANT[..good]);
     }
