@@ -226,6 +226,7 @@ fn keep_all<F: Tree, R: Abort>(
 fn check_thousand<F: Tree, R: Abort>(rt: &R, alloc: Global, files: &Snapshot) -> Result<(), Fail>
     requires { files.now ≡ F.files }
 {
+    assert!(rt; files.len() == 1_000);
     let mut cache = PageCache::<F>::new(alloc, 59_000, 1_000)?;
     keep_all(rt, alloc, files, &mut cache)?;
     assert_eq!(rt; (cache.len(), cache.bytes()), (1_000, 59_000));

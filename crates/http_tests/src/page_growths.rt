@@ -51,6 +51,7 @@ fn check_looks<F: Tree, R: Abort>(rt: &R, cache: &mut PageCache<F>, kept: [bool;
 fn check_growths<F: Tree, R: Abort>(rt: &R, alloc: Global, files: &Snapshot, limit: usize)
     requires { files.now ≡ F.files }
 {
+    assert!(rt; files.len() == 2);
     let Ok(mut cache) = PageCache::<F>::new(alloc, limit, 2) else {
         return;
     };

@@ -18,7 +18,7 @@ use test_support::{Flaky, NEWER, OLDER, ONE_REPLY, SNAPSHOT, TIGHT_REPLIES, TIGH
 
 /// Whether an upgrade told what became of its devices: how often the reader failed, whether the writer did, and whether
 /// the whole text stands. The reader is blamed where it failed, and the writer where it failed; that is told first.
-fn is_told(ran: &Result<(), Fault>, failed: (usize, bool), whole: bool) -> bool {
+fn is_told(ran: &Result<(), Fault>, failed: (u64, bool), whole: bool) -> bool {
     match ran {
         Ok(()) => whole && failed == (0, false),
         Err(Fault::Write(Place::Output)) => failed.1,
