@@ -80,8 +80,11 @@ fn replay_lines(rt: HostRuntime) {
     }
 }
 
+/// A report that can't be written, and out of memory.
 #[test]
-fn lines_of_memory(rt: HostRuntime) {
+fn lines_of_files(rt: HostRuntime) {
+    let report = Fault::Write(Place::Report);
+    check(&rt, report, 6, "haboob: write: report\n");
     let settings = ConfigFault {
         kind: ConfigFaultKind::Memory,
         key: None,
@@ -89,16 +92,6 @@ fn lines_of_memory(rt: HostRuntime) {
     check(&rt, Fault::Settings(settings), 7, "haboob: memory\n");
     check(&rt, Fault::Words(WordFault::Memory), 7, "haboob: memory\n");
     check(&rt, Fault::Memory, 7, "haboob: memory\n");
-}
-
-#[test]
-fn lines_of_files(rt: HostRuntime) {
-    check(
-        &rt,
-        Fault::Write(Place::Report),
-        6,
-        "haboob: write: report\n",
-    );
 }
 
 /// A line that can't be written is answered so, with its front there; nothing is tried again.

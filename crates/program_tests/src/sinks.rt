@@ -5,16 +5,14 @@ use captures::{CaptureFaultKind, PassFault, Version};
 use command_line::Engine;
 use devices::Input;
 use program::{
-    Devices, Fault, Place, Sink, Wanted, buffered_input, bundle_into, inspect_into, replay_into,
-    settings_into, slim_into, upgrade_into,
+    Devices, Fault, Place, Sink, Wanted, bundle_into, replay_into, settings_into, upgrade_into,
 };
 use settings::read_settings;
-use slim::Queries;
 use std::alloc::AllocGlobal;
 use std::process::Abort;
 use std::sync::Wait;
 use std::thread::Threads;
-use test_support::{Flaky, NEWER, OLDER, ONE_REPLY, SNAPSHOT, TIGHT_REPLIES, TIGHT_REPORT};
+use test_support::{Flaky, NEWER, OLDER, SNAPSHOT, TIGHT_REPLIES, TIGHT_REPORT};
 
 /// Whether an upgrade told what became of its devices: how often the reader failed, whether the writer did, and whether
 /// the whole text stands. The reader is blamed where it failed, and the writer where it failed; that is told first.
@@ -55,40 +53,6 @@ fn each_read_and_write_failing(rt: HostRuntime) {
         ends(&rt, good, good);
     }
     assert!(rt; false, "the run comes to no end");
-}
-
-fn check_bundle(rt: &(impl Abort + AllocGlobal)) {
-    let input = buffered_input(rt.alloc(), FIRST_RUN.as_bytes()).expect(rt, "memory");
-    let (ran, _, output) = bundle_into(rt.alloc(), input, Sink::new(Narrow::ample()));
-    assert!(rt; ran.is_ok());
-    assert_eq!(rt; output.into_writer().text(), ONE_REPLY.as_bytes());
-}
-
-static SLIM: &str =
-    "haboob-capture 2 784111777\npiece 0 0 27\nGET /a.txt HTTP/1.1\nHost:\n\n\nend 5 0\nstop 2\n";
-
-fn check_slim(rt: &(impl Abort + AllocGlobal)) {
-    let input = buffered_input(rt.alloc(), OLDER.as_bytes()).expect(rt, "memory");
-    let sink = Sink::new(Narrow::ample());
-    let (ran, _, output) = slim_into(rt.alloc(), input, sink, Version::Two, Queries::Kept);
-    assert!(rt; ran.is_ok());
-    assert_eq!(rt; output.into_writer().text(), SLIM.as_bytes());
-}
-
-fn check_inspection(rt: &(impl Abort + AllocGlobal)) {
-    let input = buffered_input(rt.alloc(), OLDER.as_bytes()).expect(rt, "memory");
-    let (ran, _, output) = inspect_into(rt.alloc(), input, Sink::new(Narrow::ample()));
-    assert!(rt; ran.is_ok());
-    let output = output.into_writer();
-    assert!(rt; output.text().starts_with(b"haboob-inspection 1\n"));
-}
-
-/// Each run once, with devices that don't fail.
-#[test]
-fn answers(rt: HostRuntime) {
-    check_bundle(&rt);
-    check_slim(&rt);
-    check_inspection(&rt);
 }
 
 /// Where a writer fails, so does its run, and tells it.
