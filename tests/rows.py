@@ -18,8 +18,8 @@ COMMANDS = {
     "snapshot": (["folder", "output"], []),
     "settings": ([], ["settings"]),
 }
-KEYS = {"name", "command", "words", "engines", "texts", "files", "pieces", "bytes", "stdin", "each_cut", "status",
-        "error", "prints", "lines", "columns", "writes", "outline", "parts", "absent"}
+KEYS = {"name", "command", "words", "engines", "texts", "files", "pieces", "bytes", "cut", "sizes", "stdin", "each_cut",
+        "status", "error", "prints", "lines", "columns", "writes", "messages", "outline", "parts", "absent"}
 MARK = re.compile(r"\$\{(?:'([^']*)'|(\w+))(?: \* (\d+))?\}")
 
 
@@ -37,11 +37,26 @@ def merged(below, above):
     return both
 
 
-def capture_text(pieces):
+def capture_text(pieces, first="haboob-capture 1"):
     """The capture of these pieces, each with its tick, its connection and its bytes."""
-    parts = ["haboob-capture 1 784111777\n"]
+    parts = [first + " 784111777\n"]
     parts += ["piece %d %d %d\n%s\n" % (tick, conn, len(text), text) for tick, conn, text in pieces]
     return "".join(parts) + "stop %d\n" % len(pieces)
+
+
+def cut_text(text, sizes):
+    """The pieces of a text that comes on a connection of its own in each of these sizes, each at a tick of its own."""
+    cuts = [(conn, text[at : at + size]) for conn, size in enumerate(sizes) for at in range(0, len(text), size)]
+    return [(tick, conn, piece) for tick, (conn, piece) in enumerate(cuts)]
+
+
+def slim_text(messages, length, sizes):
+    """The slim text of such pieces of a text of this length with these messages, each with the place after it."""
+    pieces, tick = [], 0
+    for conn, size in enumerate(sizes):
+        pieces += [(tick + (end - 1) // size, conn, block) for end, block in messages]
+        tick += -(-length // size)
+    return capture_text(pieces, "haboob-traffic 1")
 
 
 def outline(replies):
@@ -91,16 +106,18 @@ class Row:
         if "bytes" in self.values:
             text = self.text(self.values["bytes"])
             files["capture"] = capture_text([(tick, 0, byte) for tick, byte in enumerate(text)])
+        if "cut" in self.values:
+            files["capture"] = capture_text(cut_text(self.text(self.values["cut"]), self.values["sizes"]))
         return files
 
     def words(self, files):
         """The words of a run, without its engine."""
         command = self.values.get("command")
+        given = [self.text(word) for word in self.values.get("words", [])]
         if command is None:
-            return self.values.get("words", [])
+            return given
         always, optional = COMMANDS[command]
         options = always + [name for name in optional if name in files]
-        given = self.values.get("words", [])
         named = [word for name in options if "--" + name not in given for word in ("--" + name, name)]
         return [command] + named + given
 
@@ -146,6 +163,9 @@ class Row:
             see(name, column(files["messages"], name), values)
         for name, text in wanted.get("writes", {}).items():
             see(name, files.get(name), self.text(text))
+        if "messages" in wanted:
+            messages = [(end, self.text(block)) for end, block in wanted["messages"]]
+            see("output", files.get("output"), slim_text(messages, len(self.text(wanted["cut"])), wanted["sizes"]))
         replies = files.get("replies", printed)
         if "outline" in wanted:
             see("outline", outline(replies), self.text(wanted["outline"]))

@@ -6,6 +6,7 @@ use paths::{Snapshot, Tree};
 use std::alloc::Global;
 use std::marker::Brand;
 use std::process::Abort;
+use std::sync::Arc;
 use std::test::Fail;
 use test_support::snapshot;
 
@@ -14,7 +15,7 @@ static THREE: &str =
     "haboob-snapshot 1\nfile 0 5 3\na.txt\nhi\n\nfile 0 5 3\nb.txt\nhi\n\nfile 0 5 3\nc.txt\nhi\n\nend 3\n";
 
 /// What is done to a cache, and what it must answer.
-#[derive(Clone, Copy)]
+#[derive(Clone, Copy, Debug, PartialEq)]
 enum Step {
     /// The page of this file is built and kept.
     Keep(usize, Keeping),
@@ -106,24 +107,26 @@ fn check_keep<F: Tree, R: Abort>(
     Ok(())
 }
 
-fn check_step<F: Tree, R: Abort>(
+/// The step with the answer that there is.
+fn answered<F: Tree, R: Abort>(
     rt: &R,
     alloc: Global,
     files: &Snapshot,
     cache: &mut PageCache<F>,
-    step: &Step,
-) -> Result<(), Fail>
+    step: Step,
+) -> Result<Step, Fail>
     requires { files.now ≡ F.files }
 {
     match step {
-        Step::Keep(file, want) => check_keep(rt, alloc, files, cache, *file, *want)?,
-        Step::Look(file, want) => assert_eq!(rt; cache.look(*file)?.is_some(), *want),
-        Step::There(file, want) => assert_eq!(rt; cache.holds(*file), *want),
-        Step::Holds(bytes, pages) => {
-            assert_eq!(rt; (cache.bytes(), cache.len()), (*bytes, *pages));
+        Step::Keep(file, _) => {
+            assert!(rt; file < files.len());
+            let page = Page::build(alloc, files, file)?;
+            Ok(Step::Keep(file, cache.keep(page)))
         }
+        Step::Look(file, _) => Ok(Step::Look(file, cache.look(file)?.is_some())),
+        Step::There(file, _) => Ok(Step::There(file, cache.holds(file))),
+        Step::Holds(..) => Ok(Step::Holds(cache.bytes(), cache.len())),
     }
-    Ok(())
 }
 
 fn check_steps<F: Tree, R: Abort>(
@@ -137,7 +140,8 @@ fn check_steps<F: Tree, R: Abort>(
 {
     let mut cache = PageCache::<F>::new(alloc, limit, files.len())?;
     for step in steps {
-        check_step(rt, alloc, files, &mut cache, step)?;
+        let answer = answered(rt, alloc, files, &mut cache, *step)?;
+        assert_eq!(rt; answer, *step);
     }
     Ok(())
 }
@@ -151,16 +155,29 @@ fn cache_eviction(rt: HostRuntime) -> Result<(), Fail> {
     Ok(())
 }
 
+/// The page of the first file, by a look; the second has its place then.
+fn looked_at<F: Tree, R: Abort>(
+    rt: &R,
+    alloc: Global,
+    files: &Snapshot,
+    cache: &mut PageCache<F>,
+) -> Result<Arc<Page<F>>, Fail>
+    requires { files.now ≡ F.files }
+{
+    check_keep(rt, alloc, files, cache, 0, Keeping::Kept)?;
+    let Some(page) = cache.look(0)? else {
+        panic!(rt; "no page");
+    };
+    check_keep(rt, alloc, files, cache, 1, Keeping::Kept)?;
+    Ok(page)
+}
+
 /// A page that a look gave outlives its place in the cache, and the cache.
 fn check_outlives<F: Tree, R: Abort>(rt: &R, alloc: Global, files: &Snapshot) -> Result<(), Fail>
     requires { files.now ≡ F.files }
 {
     let mut cache = PageCache::<F>::new(alloc, 48, files.len())?;
-    check_keep(rt, alloc, files, &mut cache, 0, Keeping::Kept)?;
-    let Some(page) = cache.look(0)? else {
-        panic!(rt; "no page");
-    };
-    check_keep(rt, alloc, files, &mut cache, 1, Keeping::Kept)?;
+    let page = looked_at(rt, alloc, files, &mut cache)?;
     drop(cache);
     assert_eq!(rt; page.body(), b"hi\n".as_slice());
     Ok(())
@@ -191,14 +208,27 @@ fn thousand(alloc: Global) -> Result<Snapshot, Fail> {
     Ok(snapshot(alloc, text.as_bytes())?)
 }
 
+/// Keeps a thousand pages.
+fn keep_all<F: Tree, R: Abort>(
+    rt: &R,
+    alloc: Global,
+    files: &Snapshot,
+    cache: &mut PageCache<F>,
+) -> Result<(), Fail>
+    requires { files.now ≡ F.files }
+{
+    for file in 0..1_000usize {
+        check_keep(rt, alloc, files, cache, file, Keeping::Kept)?;
+    }
+    Ok(())
+}
+
 fn check_thousand<F: Tree, R: Abort>(rt: &R, alloc: Global, files: &Snapshot) -> Result<(), Fail>
     requires { files.now ≡ F.files }
 {
     assert!(rt; files.len() == 1_000);
     let mut cache = PageCache::<F>::new(alloc, 59_000, 1_000)?;
-    for file in 0..1_000usize {
-        check_keep(rt, alloc, files, &mut cache, file, Keeping::Kept)?;
-    }
+    keep_all(rt, alloc, files, &mut cache)?;
     assert_eq!(rt; (cache.len(), cache.bytes()), (1_000, 59_000));
     for file in 0..1_000usize {
         assert!(rt; cache.look(file)?.is_some());

@@ -6,24 +6,14 @@ mod cache_sequence;
 #[cfg(test)]
 mod caches;
 #[cfg(test)]
-mod cutting;
-#[cfg(test)]
 mod framing;
-#[cfg(test)]
-mod media;
 #[cfg(test)]
 mod page_growths;
 #[cfg(test)]
 mod pages;
 #[cfg(test)]
-mod replies;
-#[cfg(test)]
 mod reply_growths;
 #[cfg(test)]
-mod reply_records;
-#[cfg(test)]
 mod request_growths;
-#[cfg(test)]
-mod verdicts;
 #[cfg(test)]
 mod writers;

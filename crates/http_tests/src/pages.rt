@@ -12,26 +12,41 @@ use test_support::snapshot;
 static TWO: &str =
     "haboob-snapshot 1\nfile 784111777 5 3\na.txt\nhi\n\nfile 0 9 0\nb/c.html5\n\nend 2\n";
 
+/// The fields, the body and the size of the page of each of them.
+static PAGES: [(&str, &str, usize); 2] = [
+    (
+        "Content-Type: text/plain\r\nContent-Length: 3\r\n",
+        "hi\n",
+        48,
+    ),
+    (
+        "Content-Type: application/octet-stream\r\nContent-Length: 0\r\n",
+        "",
+        59,
+    ),
+];
+
+fn check_page<F: Tree, R: Abort>(
+    rt: &R,
+    page: &Page<F>,
+    file: usize,
+    (fields, body, size): (&str, &str, usize),
+) {
+    assert_eq!(rt; (page.file(), page.size()), (file, size));
+    assert_eq!(rt;
+        (page.fields(), page.body()),
+        (fields.as_bytes(), body.as_bytes())
+    );
+}
+
 fn check_pages<F: Tree, R: Abort>(rt: &R, alloc: Global, files: &Snapshot) -> Result<(), Fail>
     requires { files.now ≡ F.files }
 {
     assert!(rt; files.len() == 2);
-    let page = Page::<F>::build(alloc, files, 0)?;
-    assert_eq!(rt; page.file(), 0);
-    assert_eq!(rt;
-        page.fields(),
-        b"Content-Type: text/plain\r\nContent-Length: 3\r\n".as_slice()
-    );
-    assert_eq!(rt; page.body(), b"hi\n".as_slice());
-    assert_eq!(rt; page.size(), 48);
-    let page = Page::<F>::build(alloc, files, 1)?;
-    assert_eq!(rt; page.file(), 1);
-    assert_eq!(rt;
-        page.fields(),
-        b"Content-Type: application/octet-stream\r\nContent-Length: 0\r\n".as_slice()
-    );
-    assert_eq!(rt; page.body(), b"".as_slice());
-    assert_eq!(rt; page.size(), 59);
+    for file in 0..2usize {
+        let page = Page::<F>::build(alloc, files, file)?;
+        check_page(rt, &page, file, PAGES[file]);
+    }
     Ok(())
 }
 

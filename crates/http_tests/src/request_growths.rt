@@ -1,6 +1,9 @@
 //! Out of memory: `checks/refuse_growths.py` refuses each growth in turn.
+ghost use Rattle.std.specs.Prelude.{◌<◌, ◌≤◌, length};
+
 use http_requests::{Cutter, HttpVersion, Meaning, Message};
-use std::test::Fail;
+use std::alloc::Global;
+use std::process::Abort;
 
 static TEXT: &str = "GET /a HTTP/1.1\r\n\
      Host: a\r\n\
@@ -15,13 +18,14 @@ static TEXT: &str = "GET /a HTTP/1.1\r\n\
      Connection: close\r\n\
      \r\n";
 
-/// A message of the text, apart from its version, which is 1.1.
-struct Want {
-    end: u64,
-    method: &'static str,
-    target: &'static str,
-    closes: bool,
-    modified_since: Option<u64>,
+/// A request, apart from its version, which is 1.1.
+#[derive(Clone, Copy)]
+pub struct Want {
+    pub end: u64,
+    pub method: &'static str,
+    pub target: &'static str,
+    pub closes: bool,
+    pub modified_since: Option<u64>,
 }
 
 static MESSAGES: [Want; 3] = [
@@ -49,7 +53,7 @@ static MESSAGES: [Want; 3] = [
 ];
 
 /// Whether this is such a message.
-fn is_like(message: &Message, want: &Want) -> bool {
+pub fn is_like(message: &Message, want: &Want) -> bool {
     match &message.what {
         Meaning::Request {
             method,
@@ -69,32 +73,45 @@ fn is_like(message: &Message, want: &Want) -> bool {
     }
 }
 
-/// A growth that is refused leaves the first of the right messages, and each later piece is refused
-/// and adds nothing. Where none is refused, all are there.
+/// Feeds a text in pieces of this size: whether a growth was refused, and whether each piece after it was refused too and
+/// added nothing.
+fn feed(alloc: Global, text: &[u8], size: usize, out: &mut Vec<Message>) -> (bool, bool)
+    requires some { 0 < size }
+    requires room { length text.now ≤ 1_073_741_824 }
+{
+    let mut cutter = Cutter::new(alloc);
+    let mut failed = false;
+    let mut stays = true;
+    let mut at: usize = 0;
+    while at < text.len() {
+        let end = at + size.min(text.len() - at);
+        let had = out.len();
+        let refused = cutter.feed(&text[at..end], out).is_err();
+        stays = stays && (!failed || (refused && out.len() == had));
+        failed = refused;
+        at = end;
+    }
+    (failed, stays)
+}
+
+/// They are the first of the right messages, or all.
+fn check_messages(rt: &impl Abort, messages: &[Message], all: bool) {
+    assert!(rt; !all || messages.len() == MESSAGES.len());
+    for (message, want) in messages.iter().zip(&MESSAGES) {
+        assert!(rt; is_like(message, want), "{message:?}");
+    }
+}
+
+/// A growth that is refused leaves the first of the right messages, and each later piece is refused and adds nothing.
+/// Where none is refused, all are there.
 #[test]
-fn each_growth_refused(rt: HostRuntime) -> Result<(), Fail> {
+fn each_growth_refused(rt: HostRuntime) {
     let text = TEXT.as_bytes();
     assert!(rt; text.len() <= 1000);
     for size in [5, 1000] {
-        let mut cutter = Cutter::new(rt.alloc());
         let mut out = Vec::new(rt.alloc());
-        let mut failed = false;
-        let mut at: usize = 0;
-        while at < text.len() {
-            let end = text.len().min(at + size);
-            let had = out.len();
-            let answer = cutter.feed(&text[at..end], &mut out);
-            if failed {
-                assert!(rt; answer.is_err());
-                assert_eq!(rt; out.len(), had);
-            }
-            failed = answer.is_err();
-            at = end;
-        }
-        assert!(rt; failed || out.len() == MESSAGES.len());
-        for (message, want) in out.iter().zip(&MESSAGES) {
-            assert!(rt; is_like(message, want), "{message:?}");
-        }
+        let (failed, stays) = feed(rt.alloc(), text, size, &mut out);
+        assert!(rt; stays);
+        check_messages(&rt, &out, !failed);
     }
-    Ok(())
 }

@@ -1,8 +1,10 @@
 //! A writer that takes a byte at a time, and one that fails at one of its writes.
-use crate::reply_records::page;
 use devices::Output;
-use responses::{Given, Persistence, Slip, Status, Write, render, write_reply};
+use paths::Tree;
+use responses::{Given, Persistence, Reply, Slip, Status, render, write_reply};
+use std::alloc::AllocGlobal;
 use std::marker::Brand;
+use std::process::Abort;
 use std::test::Fail;
 use test_support::Slow;
 
@@ -14,6 +16,20 @@ static WANT: &[u8; 139] = b"reply 3 12 123\n\
       \r\n\
       404 Not Found\n\
       \n";
+
+/// The writer that fails at this write has taken as many bytes, and has failed once.
+fn check_write<F: Tree, R: Abort + AllocGlobal>(rt: &R, reply: &Reply<F>, good: usize) {
+    let mut taken = Vec::new(rt.alloc());
+    let mut output = Output::new(Slow::new(&mut taken, 1, good));
+    let answer = write_reply(&mut output, reply);
+    let failures = output.failures();
+    let whole = good == WANT.len();
+    assert_eq!(rt;
+        (answer.is_ok(), failures),
+        (whole, if whole { 0 } else { 1 })
+    );
+    assert!(rt; WANT.starts_with(&taken) && taken.len() == good);
+}
 
 /// For each k, the writer that fails at its write k has taken the first k bytes, and has failed once.
 #[test]
@@ -29,18 +45,9 @@ fn each_write_failing(rt: HostRuntime) -> Result<(), Fail> {
         },
     };
     let reply = render(rt.alloc(), slip)?;
-    assert_eq!(rt; reply.number(), 3);
-    assert_eq!(rt; reply.conn(), 12);
+    assert_eq!(rt; (reply.number(), reply.conn()), (3, 12));
     for good in 0..WANT.len() + 1 {
-        let mut taken = Vec::new(rt.alloc());
-        let mut output = Output::new(Slow::new(&mut taken, 1, good));
-        let answer = write_reply(&mut output, &reply);
-        let failures = output.failures();
-        let whole = good == WANT.len();
-        assert_eq!(rt; answer.is_ok(), whole);
-        assert_eq!(rt; failures == 0, whole);
-        assert!(rt; failures <= 1);
-        assert_eq!(rt; taken.as_slice(), &WANT[..good]);
+        check_write(&rt, &reply, good);
     }
     Ok(())
 }

@@ -55,6 +55,17 @@ fn found_of(alloc: Global, rows: &[Row]) -> Result<Vec<Found>, AllocError> {
     Ok(found)
 }
 
+/// Whether so many were left out, or this one couldn't be taken.
+fn is_told(ran: &Result<usize, Fault>, want: Result<usize, (&str, FileFault)>) -> bool {
+    match (ran, want) {
+        (Ok(skipped), Ok(wanted)) => *skipped == wanted,
+        (Err(Fault::Folder(fault)), Err((name, why))) => {
+            fault.name.as_slice() == name.as_bytes() && fault.fault == why
+        }
+        _ => false,
+    }
+}
+
 /// Writes the snapshot of these, and compares what it answers and what it wrote.
 fn check(
     rt: &(impl Abort + AllocGlobal),
@@ -76,32 +87,18 @@ fn check(
         skip,
         &mut Output::new(&mut device),
     );
-    match (ran, want) {
-        (Ok(skipped), Ok(wanted)) => assert_eq!(rt; skipped, wanted),
-        (Err(Fault::Folder(fault)), Err((name, why))) => {
-            assert_eq!(rt; fault.name.as_slice(), name.as_bytes());
-            assert_eq!(rt; fault.fault, why);
-        }
-        _ => assert!(rt; false, "another answer"),
-    }
+    assert!(rt; is_told(&ran, want));
     assert_eq!(rt; device.text(), text.as_bytes());
     Ok(())
 }
 
-static ROWS: [Row; 3] = [("a.b", None), ("a/b", None), ("b", None)];
+const ROWS: [Row; 3] = [("a.b", None), ("a/b", None), ("b", None)];
 
-static TEXT: &str =
+const TEXT: &str =
     "haboob-snapshot 1\nfile 784111777 3 3\na.b\nhi\n\nfile 0 3 0\na/b\n\nfile 5 1 1\nb\nx\nend 3\n";
 
-#[test]
-fn taken(rt: HostRuntime) -> Result<(), Fail> {
-    check(&rt, &ROWS, false, Ok(0), TEXT)?;
-    check(&rt, &ROWS, true, Ok(0), TEXT)?;
-    check(&rt, &[], false, Ok(0), "haboob-snapshot 1\nend 0\n")
-}
-
 /// A link, a file that is too late, and one that can't be read, among others.
-static MIXED: [Row; 6] = [
+const MIXED: [Row; 6] = [
     ("a.b", None),
     ("a\nb", Some(FileFault::Link)),
     ("a/b", None),
@@ -110,40 +107,39 @@ static MIXED: [Row; 6] = [
     ("b", None),
 ];
 
+const ONE: &str = "haboob-snapshot 1\nfile 784111777 3 3\na.b\nhi\n\n";
+
+const TWO: &str = "haboob-snapshot 1\nfile 784111777 3 3\na.b\nhi\n\nfile 0 3 0\na/b\n\n";
+
 #[test]
-fn left_out(rt: HostRuntime) -> Result<(), Fail> {
-    check(&rt, &MIXED, true, Ok(3), TEXT)
+fn taken(rt: HostRuntime) -> Result<(), Fail> {
+    let none: [Row; 0] = [];
+    for (rows, skip, skipped, text) in [
+        (ROWS.as_slice(), false, 0, TEXT),
+        (ROWS.as_slice(), true, 0, TEXT),
+        (none.as_slice(), false, 0, "haboob-snapshot 1\nend 0\n"),
+        (MIXED.as_slice(), true, 3, TEXT),
+    ] {
+        check(&rt, rows, skip, Ok(skipped), text)?;
+    }
+    Ok(())
 }
-
-static ONE: &str = "haboob-snapshot 1\nfile 784111777 3 3\na.b\nhi\n\n";
-
-static TWO: &str = "haboob-snapshot 1\nfile 784111777 3 3\na.b\nhi\n\nfile 0 3 0\na/b\n\n";
 
 /// What stands before the first that can't be taken stands.
 #[test]
 fn refused(rt: HostRuntime) -> Result<(), Fail> {
-    check(&rt, &MIXED, false, Err(("a?b", FileFault::Link)), ONE)?;
-    check(
-        &rt,
-        &[("a.b", None), ("a/b", None), ("a0", None)],
-        false,
-        Err(("a0", FileFault::Time)),
-        TWO,
-    )?;
-    check(
-        &rt,
-        &[("a.b", None), ("none", None)],
-        false,
-        Err(("none", FileFault::Read)),
-        ONE,
-    )?;
-    check(
-        &rt,
-        &[("a.b", None), ("a.b", None)],
-        false,
-        Err(("a.b", FileFault::Order)),
-        ONE,
-    )
+    let late: [Row; 3] = [("a.b", None), ("a/b", None), ("a0", None)];
+    let unread: [Row; 2] = [("a.b", None), ("none", None)];
+    let twice: [Row; 2] = [("a.b", None), ("a.b", None)];
+    for (rows, name, fault, text) in [
+        (MIXED.as_slice(), "a?b", FileFault::Link, ONE),
+        (late.as_slice(), "a0", FileFault::Time, TWO),
+        (unread.as_slice(), "none", FileFault::Read, ONE),
+        (twice.as_slice(), "a.b", FileFault::Order, ONE),
+    ] {
+        check(&rt, rows, false, Err((name, fault)), text)?;
+    }
+    Ok(())
 }
 
 /// Where too many files are open, none is left out for it: what came before stands, without a last line.

@@ -2,8 +2,6 @@
 #![tactic(auto)]
 
 #[cfg(test)]
-mod faults;
-#[cfg(test)]
 mod folders;
 #[cfg(test)]
 mod inspections;
@@ -21,8 +19,6 @@ mod running;
 mod sinks;
 #[cfg(test)]
 mod slim_texts;
-#[cfg(test)]
-mod traffic;
 #[cfg(test)]
 mod upgrades;
 #[cfg(test)]

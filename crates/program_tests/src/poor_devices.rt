@@ -2,7 +2,7 @@
 ghost use Rattle.std.specs.Prelude.{[], None, Some, IfOk};
 ghost use Rattle.program.specs.Bundles.{AfterSnapshot, WritesAnswer};
 
-use crate::running::{FIRST_RUN, Narrow};
+use crate::running::{FIRST_RUN, Narrow, outcome};
 use captures::CaptureFaultKind;
 use devices::{Input, Output};
 use paths::SnapshotFaultKind;
@@ -90,28 +90,33 @@ fn each_write_failing(rt: HostRuntime) {
     assert!(rt; false, "the run comes to no end");
 }
 
+/// Runs with a buffer before a writer that takes so many bytes a write and fails after so many writes.
+fn check_buffered(
+    rt: &(impl Abort + AllocGlobal),
+    input: &str,
+    size: usize,
+    good: usize,
+    came: &str,
+    stands: &str,
+) {
+    let mut replies = Narrow::new(size, good);
+    let (ran, _) = run_program(rt.alloc(), input.as_bytes(), &mut replies);
+    assert_eq!(rt; (outcome(&ran), replies.text()), (came, stands.as_bytes()));
+}
+
 /// What the buffer holds at the end is written, after a fault of the capture as well; and where it can't be written,
 /// that is the fault.
 #[test]
 fn buffered_replies(rt: HostRuntime) {
-    let mut replies = Narrow::new(8, usize::MAX);
-    let (ran, _) = run_program(rt.alloc(), FIRST_RUN.as_bytes(), &mut replies);
-    assert_eq!(rt; ran, Ok(()));
-    assert_eq!(rt; replies.text(), ONE_REPLY.as_bytes());
-
-    let mut replies = Narrow::ample();
-    let (ran, _) = run_program(rt.alloc(), SNAPSHOT.as_bytes(), &mut replies);
-    assert!(rt; matches!(ran, Err(Fault::Replay(ReplayFault::Capture(_)))));
-    assert_eq!(rt; replies.text(), b"haboob-replies 1\n".as_slice());
-
-    let mut replies = Narrow::new(8, 3);
-    let (ran, _) = run_program(rt.alloc(), FIRST_RUN.as_bytes(), &mut replies);
-    assert_eq!(rt; ran, Err(Fault::Write(Place::Replies)));
-    assert_eq!(rt; replies.text(), b"haboob-replies 1\nreply 0".as_slice());
-
-    let mut replies = Narrow::new(8, 0);
-    let (ran, _) = run_program(rt.alloc(), SNAPSHOT.as_bytes(), &mut replies);
-    assert_eq!(rt; ran, Err(Fault::Write(Place::Replies)));
+    let table = [
+        (FIRST_RUN, 8, usize::MAX, "ok", ONE_REPLY),
+        (SNAPSHOT, 1024, usize::MAX, "capture", "haboob-replies 1\n"),
+        (FIRST_RUN, 8, 3, "replies", "haboob-replies 1\nreply 0"),
+        (SNAPSHOT, 8, 0, "replies", ""),
+    ];
+    for (input, size, good, came, stands) in table {
+        check_buffered(&rt, input, size, good, came, stands);
+    }
 }
 
 /// A writer that takes n bytes a write, and is interrupted once.

@@ -1,17 +1,16 @@
-//! Runs over texts in memory, of which two are compared whole.
+//! What the runs over texts in memory share: texts, a writer, and settings.
 ghost use Rattle.std.specs.Prelude.{◌≤◌};
 
 use command_line::Engine;
 use devices::{Input, Output};
-use program::{Fault, Wanted, run_bundle, run_replay};
+use program::{Fault, Place, Wanted, run_replay};
+use replay::ReplayFault;
 use settings::read_settings;
 use std::alloc::Global;
 use std::io;
 use std::io::Write;
 use std::sync::Wait;
-use std::test::Fail;
 use std::thread::Threads;
-use test_support::{ONE_REPLY, SNAPSHOT};
 
 /// That snapshot, and after it a capture of one request for the file.
 pub static FIRST_RUN: &str = "haboob-snapshot 1\n\
@@ -27,6 +26,17 @@ pub static FIRST_RUN: &str = "haboob-snapshot 1\n\
      \r\n\
      \n\
      stop 1\n";
+
+/// What a run came to: `ok`, or what is blamed.
+pub fn outcome(ran: &Result<(), Fault>) -> &'static str {
+    match ran {
+        Ok(()) => "ok",
+        Err(Fault::Write(Place::Replies)) => "replies",
+        Err(Fault::Write(Place::Report)) => "report",
+        Err(Fault::Replay(ReplayFault::Capture(_))) => "capture",
+        Err(_) => "another",
+    }
+}
 
 /// Whether memory was refused: the status of that fault alone.
 pub fn is_out_of_memory(fault: &Fault) -> bool {
@@ -84,15 +94,6 @@ impl Write for Narrow {
     }
 }
 
-/// Runs over an input in memory.
-pub fn run(alloc: Global, input: &str, replies: &mut Narrow) -> Result<(), Fault> {
-    run_bundle(
-        alloc,
-        &mut Input::new(input.as_bytes()),
-        &mut Output::new(replies),
-    )
-}
-
 /// Settings with one token, and one more each second; tier 1 has two.
 pub static TIGHT: &str =
     "[policy]\ndepth = 1\nrate = 1000\nrate_min = 1000\nrate_max = 1000\n[tier1]\ndepth = 2\n";
@@ -118,23 +119,4 @@ pub fn run_tight<T: Threads + Wait + Sync>(
         &mut Output::new(replies),
         &mut Output::new(report),
     )
-}
-
-#[test]
-fn first_run(rt: HostRuntime) -> Result<(), Fail> {
-    let mut replies = Narrow::ample();
-    let ran = run(rt.alloc(), FIRST_RUN, &mut replies);
-    assert_eq!(rt; ran, Ok(()));
-    assert_eq!(rt; replies.text(), ONE_REPLY.as_bytes());
-    Ok(())
-}
-
-#[test]
-fn empty_capture(rt: HostRuntime) -> Result<(), Fail> {
-    let input = format!(in rt.alloc(); "{SNAPSHOT}haboob-capture 1 784111777\nstop 0\n")?;
-    let mut replies = Narrow::ample();
-    let ran = run(rt.alloc(), &input, &mut replies);
-    assert_eq!(rt; ran, Ok(()));
-    assert_eq!(rt; replies.text(), b"haboob-replies 1\nstop 0\n".as_slice());
-    Ok(())
 }

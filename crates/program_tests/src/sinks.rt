@@ -1,29 +1,34 @@
 //! Runs that are given their devices and give them back: what is told of a device is what became of it.
 use crate::reports::CAPTURE;
-use crate::running::{FIRST_RUN, Narrow, TIGHT};
+use crate::running::{FIRST_RUN, Narrow, TIGHT, outcome};
 use captures::{CaptureFaultKind, PassFault, Version};
 use command_line::Engine;
 use devices::Input;
 use program::{
-    Devices, Fault, Place, Sink, Wanted, buffered_input, bundle_into, inspect_into, replay_into,
-    settings_into, slim_into, upgrade_into,
+    Devices, Fault, Place, Sink, Wanted, bundle_into, replay_into, settings_into, upgrade_into,
 };
 use settings::read_settings;
-use slim::Queries;
 use std::alloc::AllocGlobal;
 use std::process::Abort;
 use std::sync::Wait;
-use std::test::Fail;
 use std::thread::Threads;
-use test_support::{Flaky, NEWER, OLDER, ONE_REPLY, SNAPSHOT, TIGHT_REPLIES, TIGHT_REPORT};
+use test_support::{Flaky, NEWER, OLDER, SNAPSHOT, TIGHT_REPLIES, TIGHT_REPORT};
 
-/// Whether a capture's reader is blamed.
-fn is_unread(fault: &PassFault) -> bool {
-    matches!(fault, PassFault::Capture(fault) if fault.kind == CaptureFaultKind::Read)
+/// Whether an upgrade told what became of its devices: how often the reader failed, whether the writer did, and whether
+/// the whole text stands. The reader is blamed where it failed, and the writer where it failed; that is told first.
+fn is_told(ran: &Result<(), Fault>, failed: (u64, bool), whole: bool) -> bool {
+    match ran {
+        Ok(()) => whole && failed == (0, false),
+        Err(Fault::Write(Place::Output)) => failed.1,
+        Err(Fault::Upgrade(PassFault::Capture(fault))) => {
+            fault.kind == CaptureFaultKind::Read && failed == (1, false)
+        }
+        Err(_) => false,
+    }
 }
 
 /// Upgrades with a reader that fails after some reads and a writer that fails after some writes; whether it came to its
-/// end. The reader is blamed where it failed, and the writer where it failed; that is told first.
+/// end.
 fn ends(rt: &(impl Abort + AllocGlobal), reads: usize, writes: usize) -> bool {
     let input = Input::new(Flaky::new(OLDER.as_bytes(), 8, reads));
     let output = Sink::new(Narrow::new(8, writes));
@@ -31,27 +36,8 @@ fn ends(rt: &(impl Abort + AllocGlobal), reads: usize, writes: usize) -> bool {
     let failed = (input.failures(), output.has_failed());
     let text = output.into_writer();
     assert!(rt; NEWER.as_bytes().starts_with(text.text()));
-    match ran {
-        Ok(()) => {
-            assert_eq!(rt; text.text(), NEWER.as_bytes());
-            assert_eq!(rt; failed, (0, false));
-            true
-        }
-        Err(Fault::Write(place)) => {
-            assert_eq!(rt; place, Place::Output);
-            assert!(rt; failed.1);
-            false
-        }
-        Err(Fault::Upgrade(fault)) => {
-            assert!(rt; is_unread(&fault));
-            assert_eq!(rt; failed, (1, false));
-            false
-        }
-        Err(_) => {
-            assert!(rt; false, "another fault");
-            false
-        }
-    }
+    assert!(rt; is_told(&ran, failed, text.text() == NEWER.as_bytes()));
+    ran.is_ok()
 }
 
 #[test]
@@ -67,35 +53,6 @@ fn each_read_and_write_failing(rt: HostRuntime) {
         ends(&rt, good, good);
     }
     assert!(rt; false, "the run comes to no end");
-}
-
-/// Each run once, with devices that don't fail.
-#[test]
-fn answers(rt: HostRuntime) -> Result<(), Fail> {
-    let alloc = rt.alloc();
-    let input = buffered_input(alloc, FIRST_RUN.as_bytes()).expect(&rt, "memory");
-    let (ran, _, output) = bundle_into(alloc, input, Sink::new(Narrow::ample()));
-    assert_eq!(rt; ran, Ok(()));
-    assert_eq!(rt; output.into_writer().text(), ONE_REPLY.as_bytes());
-
-    let input = buffered_input(alloc, OLDER.as_bytes()).expect(&rt, "memory");
-    let sink = Sink::new(Narrow::ample());
-    let (ran, _, output) = slim_into(alloc, input, sink, Version::Two, Queries::Kept);
-    assert_eq!(rt; ran, Ok(()));
-    let slim =
-        "haboob-capture 2 784111777\npiece 0 0 27\nGET /a.txt HTTP/1.1\nHost:\n\n\nend 5 0\nstop 2\n";
-    assert_eq!(rt; output.into_writer().text(), slim.as_bytes());
-
-    let input = buffered_input(alloc, OLDER.as_bytes()).expect(&rt, "memory");
-    let (ran, _, output) = inspect_into(alloc, input, Sink::new(Narrow::ample()));
-    assert_eq!(rt; ran, Ok(()));
-    assert!(rt;
-        output
-            .into_writer()
-            .text()
-            .starts_with(b"haboob-inspection 1\n")
-    );
-    Ok(())
 }
 
 /// Where a writer fails, so does its run, and tells it.
@@ -133,17 +90,32 @@ fn replay<T: Abort + AllocGlobal + Threads + Wait + Sync>(
     (ran, devices.written, devices.report)
 }
 
+/// What a replay came to, which writers failed, and what stands at them.
+fn check_replay<T: Abort + AllocGlobal + Threads + Wait + Sync>(
+    rt: &T,
+    (writes, report_writes): (usize, usize),
+    came: &str,
+    failed: (bool, bool),
+    stand: (&str, &str),
+) {
+    let (ran, written, report) = replay(rt, writes, report_writes);
+    assert_eq!(rt; outcome(&ran), came);
+    assert_eq!(rt; (written.has_failed(), report.has_failed()), failed);
+    let (written, report) = (written.into_writer(), report.into_writer());
+    assert_eq!(rt;
+        (written.text(), report.text()),
+        (stand.0.as_bytes(), stand.1.as_bytes())
+    );
+}
+
 #[test]
 fn replays(rt: HostRuntime) {
-    let (ran, written, report) = replay(&rt, 9, 9);
-    assert_eq!(rt; ran, Ok(()));
-    assert_eq!(rt; written.into_writer().text(), TIGHT_REPLIES.as_bytes());
-    assert_eq!(rt; report.into_writer().text(), TIGHT_REPORT.as_bytes());
-    let (ran, written, report) = replay(&rt, 0, 9);
-    assert_eq!(rt; ran, Err(Fault::Write(Place::Replies)));
-    assert!(rt; written.has_failed() && !report.has_failed());
-    assert!(rt; report.into_writer().text().is_empty());
-    let (ran, written, report) = replay(&rt, 9, 0);
-    assert_eq!(rt; ran, Err(Fault::Write(Place::Report)));
-    assert!(rt; !written.has_failed() && report.has_failed());
+    let table = [
+        ((9, 9), "ok", (false, false), (TIGHT_REPLIES, TIGHT_REPORT)),
+        ((0, 9), "replies", (true, false), ("", "")),
+        ((9, 0), "report", (false, true), (TIGHT_REPLIES, "")),
+    ];
+    for (writes, came, failed, stand) in table {
+        check_replay(&rt, writes, came, failed, stand);
+    }
 }

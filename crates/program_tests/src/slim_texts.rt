@@ -1,6 +1,6 @@
-//! Captures that become slim texts.
+//! Captures that become slim texts, by devices that fail.
 use crate::running::{Narrow, is_out_of_memory};
-use captures::{CaptureFault, CaptureFaultKind, PassFault, Version};
+use captures::{CaptureFaultKind, PassFault, Version};
 use devices::{Input, Output};
 use program::{Fault, Place, run_slim, slim_files};
 use slim::Queries;
@@ -15,69 +15,6 @@ static CAPTURE: &str =
 
 static SLIM: &str =
     "haboob-traffic 1 784111777\ntier 0 1\npiece 6 0 22\nGET / HTTP/1.1\nHost:\n\n\nend 1000000 0\nstop 3\n";
-
-static SLIM_OF_TWO: &str =
-    "haboob-capture 2 784111777\ntier 0 1\npiece 6 0 22\nGET / HTTP/1.1\nHost:\n\n\nend 1000000 0\nstop 3\n";
-
-/// The slim text of a text, with buffers.
-fn check(
-    rt: &(impl Abort + AllocGlobal),
-    text: &str,
-    to: Version,
-    want: Result<(), Fault>,
-    stands: &str,
-) {
-    let mut output = Narrow::ample();
-    let (ran, _) = slim_files(rt.alloc(), text.as_bytes(), &mut output, to, Queries::Kept);
-    assert_eq!(rt; ran, want);
-    assert_eq!(rt; output.text(), stands.as_bytes());
-}
-
-fn capture_fault(at: usize, kind: CaptureFaultKind) -> Result<(), Fault> {
-    Err(Fault::Slim(PassFault::Capture(CaptureFault { at, kind })))
-}
-
-#[test]
-fn slimmed(rt: HostRuntime) {
-    check(&rt, CAPTURE, Version::Traffic, Ok(()), SLIM);
-    check(&rt, CAPTURE, Version::Two, Ok(()), SLIM_OF_TWO);
-    check(&rt, SLIM_OF_TWO, Version::Traffic, Ok(()), SLIM);
-    check(&rt, SLIM, Version::Two, Ok(()), SLIM);
-}
-
-/// With its query and without.
-#[test]
-fn queries(rt: HostRuntime) {
-    let capture = "haboob-traffic 1 0\npiece 3 0 20\nGET /?q HTTP/1.0\r\n\r\n\nstop 1\n";
-    let kept = "haboob-traffic 1 0\npiece 3 0 18\nGET /?q HTTP/1.0\n\n\nstop 1\n";
-    let dropped = "haboob-traffic 1 0\npiece 3 0 16\nGET / HTTP/1.0\n\n\nstop 1\n";
-    for (queries, want) in [(Queries::Kept, kept), (Queries::Dropped, dropped)] {
-        let mut output = Narrow::ample();
-        let (ran, _) = slim_files(
-            rt.alloc(),
-            capture.as_bytes(),
-            &mut output,
-            Version::Traffic,
-            queries,
-        );
-        assert!(rt; ran.is_ok());
-        assert_eq!(rt; output.text(), want.as_bytes());
-    }
-}
-
-#[test]
-fn faults(rt: HostRuntime) {
-    use CaptureFaultKind::{Count, Cut, Header, Trailing};
-    let to = Version::Traffic;
-    check(&rt, "", to, capture_fault(0, Cut), "");
-    let third = "haboob-capture 3 0\nstop 0\n";
-    check(&rt, third, to, capture_fault(0, Header), "");
-    let whole = "haboob-traffic 1 0\nend 7 5\n";
-    let count = "haboob-capture 1 0\nend 7 5\nstop 2\n";
-    check(&rt, count, to, capture_fault(2, Count), whole);
-    let trailing = "haboob-capture 1 0\nend 7 5\nstop 1\n.";
-    check(&rt, trailing, to, capture_fault(2, Trailing), whole);
-}
 
 /// Whether the capture couldn't be read.
 fn is_unread(fault: &Fault) -> bool {
@@ -136,13 +73,13 @@ fn ends_writing(rt: &(impl Abort + AllocGlobal), good: usize) -> bool {
         Version::Traffic,
         Queries::Dropped,
     );
-    assert!(rt; SLIM.as_bytes().starts_with(output.text()));
-    assert!(rt; SLIM.as_bytes().starts_with(buffered.text()));
+    let want = SLIM.as_bytes();
+    assert!(rt; want.starts_with(output.text()) && want.starts_with(buffered.text()));
     assert!(rt; matches!(ran, Ok(()) | Err(Fault::Slim(PassFault::Write))));
     assert!(rt; matches!(with_buffer, Ok(()) | Err(Fault::Write(Place::Output))));
-    assert_eq!(rt; ran.is_ok(), output.text().len() == SLIM.len());
-    assert_eq!(rt; with_buffer.is_ok(), buffered.text().len() == SLIM.len());
-    ran.is_ok() && with_buffer.is_ok()
+    let ended = (ran.is_ok(), with_buffer.is_ok());
+    assert_eq!(rt; ended, (output.text() == want, buffered.text() == want));
+    ended == (true, true)
 }
 
 #[test]

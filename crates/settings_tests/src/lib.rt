@@ -7,5 +7,3 @@ mod command_words;
 mod settings_documents;
 #[cfg(test)]
 mod words_of_faults;
-#[cfg(test)]
-mod written_settings;
