@@ -6,7 +6,7 @@ import tempfile
 import tomllib
 
 HERE = os.path.dirname(os.path.abspath(__file__))
-SECONDS = 60
+SECONDS = 240
 # The options of each command: those that are always there, with the file of the row that each names (where it isn't
 # named otherwise), and those that are there where the row has such a file.
 COMMANDS = {
