@@ -1,7 +1,7 @@
 //! Whatever the batch, the stages and the cache, the replies are the same.
 use crate::batch_texts::{FILES, TEXTS, longest_blocks};
-use crate::policies::{default_costs, long_misses, nimble, routed, tight};
-use crate::replaying::{DEFAULT_SHAPE, Shape, run_all, shaped, tiered};
+use crate::policies::{long_misses, nimble, routed, tight};
+use crate::replaying::{DEFAULT_SHAPE, Shape, run_all, tiered, tight_settings};
 use replay::Settings;
 use std::alloc::{AllocGlobal, Global};
 use std::process::Abort;
@@ -85,31 +85,29 @@ static CUTS: [(&[usize], &[usize]); 8] = [
 ];
 
 /// The engines of this shape reply to four requests as the bucket lets them, which holds one token.
-fn check_shape<T: Abort + AllocGlobal + Threads + Wait + Sync>(rt: &T, shape: Shape) {
-    let pieces = [(0, 0, A), (0, 0, A), (999_999, 0, A), (1_000_000, 0, A)];
-    let capture = capture_of(rt.alloc(), &pieces).expect(rt, "memory");
-    let (costs, policy) = (
-        default_costs().expect(rt, "costs"),
-        tight(1).expect(rt, "a policy"),
-    );
-    let settings = shaped(rt.alloc(), shape, costs, policy).expect(rt, "settings");
-    let ran = run_all(rt, SNAPSHOT, &settings, &capture);
+fn check_shape<T: Abort + AllocGlobal + Threads + Wait + Sync>(
+    rt: &T,
+    shape: Shape,
+    capture: &str,
+) {
+    let settings = tight_settings(rt.alloc(), shape).expect(rt, "settings");
+    let ran = run_all(rt, SNAPSHOT, &settings, capture);
     assert_eq!(rt; ran.text.as_slice(), TIGHT_REPLIES.as_bytes());
 }
 
 /// Each of them, and the narrowest and the widest stages.
 #[test]
 fn any_floor_same_bytes(rt: HostRuntime) {
+    let pieces = [(0, 0, A), (0, 0, A), (999_999, 0, A), (1_000_000, 0, A)];
+    let capture = capture_of(rt.alloc(), &pieces).expect(&rt, "memory");
     for (front, back) in &CUTS {
-        check_shape(
-            &rt,
-            Shape {
-                front,
-                back,
-                ..DEFAULT_SHAPE
-            },
-        );
+        let shape = Shape {
+            front,
+            back,
+            ..DEFAULT_SHAPE
+        };
+        check_shape(&rt, shape, &capture);
     }
-    check_shape(&rt, NARROW);
-    check_shape(&rt, WIDE);
+    check_shape(&rt, NARROW, &capture);
+    check_shape(&rt, WIDE, &capture);
 }

@@ -26,23 +26,30 @@ fn in_turn(alloc: Global, conns: usize, kinds: [&str; 3]) -> Result<String, Allo
     Ok(capture)
 }
 
-/// One with few large messages, and one with many small ones too, on one connection and on several. The bucket holds 100
-/// tokens. Of the second there are 16 pieces of the first kind, 12 of the second and 12 of the third.
+/// Pieces of these kinds on one connection and on several: the replies end so, and so many requests are rejected.
+fn check_kinds<T: Abort + AllocGlobal + Threads + Wait + Sync>(
+    rt: &T,
+    kinds: [&str; 3],
+    end: &str,
+    rejected: usize,
+) {
+    for conns in [1, 3, 20usize] {
+        let capture = in_turn(rt.alloc(), conns, kinds).expect(rt, "memory");
+        check_size(rt, 1024, &capture, end, rejected);
+    }
+}
+
+/// One with few large messages, and one with many small ones too. The bucket holds 100 tokens. Of the second there are
+/// 16 pieces of the first kind, 12 of the second and 12 of the third.
 #[test]
 fn cut_by_threads(rt: HostRuntime) {
-    let alloc = rt.alloc();
-    let found = large_piece(alloc, "a.txt", 65_481).expect(&rt, "memory");
-    let missing = large_piece(alloc, "b.txt", 65_481).expect(&rt, "memory");
-    let many = A.repeat(alloc, 2048).expect(&rt, "memory");
-    let none = "GET /n.txt HTTP/1.1\r\nHost: a\r\n\r\n"
-        .repeat(alloc, 2048)
-        .expect(&rt, "memory");
-    for conns in [1, 3, 20usize] {
-        let few = in_turn(alloc, conns, [&found, &missing, &found]).expect(&rt, "memory");
-        check_size(&rt, 1024, &few, "\n\nstop 40\n", 0);
-        let lots = in_turn(alloc, conns, [&many, &none, &found]).expect(&rt, "memory");
-        check_size(&rt, 1024, &lots, "\n\nstop 57356\n", 57_256);
-    }
+    let found = large_piece(rt.alloc(), "a.txt", 65_481).expect(&rt, "memory");
+    let missing = large_piece(rt.alloc(), "b.txt", 65_481).expect(&rt, "memory");
+    check_kinds(&rt, [&found, &missing, &found], "\n\nstop 40\n", 0);
+    let many = A.repeat(rt.alloc(), 2048).expect(&rt, "memory");
+    let none = "GET /n.txt HTTP/1.1\r\nHost: a\r\n\r\n";
+    let none = none.repeat(rt.alloc(), 2048).expect(&rt, "memory");
+    check_kinds(&rt, [&many, &none, &found], "\n\nstop 57356\n", 57_256);
 }
 
 /// A text of 40 lives of such a piece, each on the next of so many numbers: the first, the third and so on of a whole

@@ -1,7 +1,6 @@
 //! More messages than one pair of floors takes at a time, and more than a replay may have.
-use crate::replaying::{
-    DEFAULT_SHAPE, Engine, Shape, default_settings, outcome_of, run_all, run_devices,
-};
+use crate::replaying::{DEFAULT_SHAPE, Engine, Shape, default_settings, run_devices};
+use crate::sizes::check_size;
 use devices::{Input, Output};
 use replay::{ReplayFault, Settings};
 use stage_graph::NoGate;
@@ -28,27 +27,38 @@ pub fn one_too_many(alloc: Global, first: &str) -> Result<String, AllocError> {
     Ok(capture)
 }
 
+/// Three such pieces.
+fn three_pieces(alloc: Global) -> Result<String, AllocError> {
+    let mut capture = pipelined(alloc, "capture 1", 3)?;
+    capture.push_str("stop 3\n")?;
+    Ok(capture)
+}
+
+/// How replies of theirs begin.
+static HEADS: [&str; 5] = [
+    "\nreply 99 0 150\nHTTP/1.1 200 OK\r\n",
+    "\nreply 100 0 159\nHTTP/1.1 503 Service Unavailable\r\n",
+    "\nreply 4095 0 159\nHTTP/1.1 503 Service Unavailable\r\n",
+    "\nreply 4096 0 159\nHTTP/1.1 503 Service Unavailable\r\n",
+    "\nreply 6143 0 159\nHTTP/1.1 503 Service Unavailable\r\n",
+];
+
+/// They stand in these replies.
+fn check_heads(rt: &(impl Abort + AllocGlobal), replies: &[u8]) {
+    let text = String::from_utf8_lossy(rt.alloc(), replies).expect(rt, "memory");
+    for head in HEADS {
+        assert!(rt; text.contains(head), "{head}");
+    }
+}
+
 /// The messages of one batch, in two parts. The bucket holds 100 tokens, so the replies are 100 of 150 bytes, and then
 /// 6,044 of 159.
 #[test]
 fn several_parts(rt: HostRuntime) {
-    let mut capture = pipelined(rt.alloc(), "capture 1", 3).expect(&rt, "memory");
-    capture.push_str("stop 3\n").expect(&rt, "memory");
-    let settings = default_settings(rt.alloc(), DEFAULT_SHAPE).expect(&rt, "settings");
-    let ran = run_all(&rt, SNAPSHOT, &settings, &capture);
-    let text = String::from_utf8_lossy(rt.alloc(), &ran.text).expect(&rt, "memory");
-    for head in [
-        "\nreply 99 0 150\nHTTP/1.1 200 OK\r\n",
-        "\nreply 100 0 159\nHTTP/1.1 503 Service Unavailable\r\n",
-        "\nreply 4095 0 159\nHTTP/1.1 503 Service Unavailable\r\n",
-        "\nreply 4096 0 159\nHTTP/1.1 503 Service Unavailable\r\n",
-        "\nreply 6143 0 159\nHTTP/1.1 503 Service Unavailable\r\n",
-    ] {
-        assert!(rt; text.contains(head), "{head}");
-    }
-    assert!(rt; text.ends_with("\n\nstop 6144\n"));
-    let rejected = outcome_of(&rt, &ran).rejected.as_slice().len();
-    assert_eq!(rt; (ran.text.len(), rejected), (1_085_505, 6044));
+    let capture = three_pieces(rt.alloc()).expect(&rt, "memory");
+    let ran = check_size(&rt, 1024, &capture, "\n\nstop 6144\n", 6044);
+    assert_eq!(rt; ran.text.len(), 1_085_505);
+    check_heads(&rt, &ran.text);
 }
 
 /// Runs a text of 1,048,577 requests on an engine, and returns what it answered and how many bytes it wrote.

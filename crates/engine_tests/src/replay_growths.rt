@@ -1,8 +1,8 @@
 //! Out of memory: `checks/refuse_growths.py` refuses each growth of these tests in turn.
 use crate::batches::{NARROW, WIDE};
-use crate::policies::{default_costs, long_misses, nimble, routed, tight};
+use crate::policies::{long_misses, nimble, routed};
 use crate::replaying::{
-    DEFAULT_SHAPE, ENGINES, Engine, Shape, default_settings, fault_of, run_engine, shaped,
+    DEFAULT_SHAPE, ENGINES, Engine, default_settings, fault_of, run_engine, shaped, tight_settings,
 };
 use replay::{ReplayFault, Settings};
 use stage_graph::NoGate;
@@ -127,11 +127,6 @@ fn each_growth_refused_in_byte_pieces(rt: HostRuntime) {
         let settings = default_settings(rt.alloc(), DEFAULT_SHAPE);
         check(&rt, settings, &capture, ONE_REPLY);
     }
-}
-
-/// A bucket of one token, by stages of this shape.
-fn tight_settings(alloc: Global, shape: Shape) -> Option<Box<Settings>> {
-    shaped(alloc, shape, default_costs()?, tight(1)?)
 }
 
 /// The narrowest stages, and the widest.

@@ -2,7 +2,7 @@
 ghost use Rattle.std.specs.Prelude.{◌≡◌, ◌<◌, ◌-◌, ◌^◌};
 ghost use Rattle.devices.specs.Devices.{CanFail};
 
-use crate::policies::{default_costs, default_policy};
+use crate::policies::{default_costs, default_policy, tight};
 use admission::Policy;
 use cost_model::Costs;
 use devices::{Input, Output};
@@ -130,6 +130,27 @@ pub fn default_settings(alloc: Global, shape: Shape) -> Option<Box<Settings>> {
     shaped(alloc, shape, default_costs()?, default_policy()?)
 }
 
+/// Those with a bucket of one token, and one more each second.
+pub fn tight_settings(alloc: Global, shape: Shape) -> Option<Box<Settings>> {
+    shaped(alloc, shape, default_costs()?, tight(1)?)
+}
+
+/// Replays by the floors, whatever the messages are.
+fn run_floors<F: Tree + Send + Sync, T: Threads + Wait + Sync, R: Read, W: Write>(
+    rt: &T,
+    alloc: Global,
+    files: &Snapshot,
+    settings: &Settings,
+    reader: &mut Input<R>,
+    writer: &mut Output<W>,
+) -> Result<Outcome, ReplayFault>
+    requires files { files.now ≡ F.files }
+    requires reading { CanFail reader.old }
+    requires writing { CanFail writer.old }
+{
+    staged_replay::<F, Open, T, R, W>(rt, alloc, files, settings, &Open, reader, writer)
+}
+
 fn run_named<F: Tree + Send + Sync, G: Gate + Sync, T: Threads + Wait + Sync, R: Read, W: Write>(
     rt: &T,
     alloc: Global,
@@ -149,9 +170,7 @@ fn run_named<F: Tree + Send + Sync, G: Gate + Sync, T: Threads + Wait + Sync, R:
         Engine::Staged => {
             staged_replay::<F, G, T, R, W>(rt, alloc, files, settings, gate, reader, writer)
         }
-        Engine::Floors => {
-            staged_replay::<F, Open, T, R, W>(rt, alloc, files, settings, &Open, reader, writer)
-        }
+        Engine::Floors => { run_floors::<F, T, R, W>(rt, alloc, files, settings, reader, writer) }
     }
 }
 

@@ -1,5 +1,5 @@
 //! Sizes at which a body might give up: each engine answers there as anywhere, with memory enough.
-use crate::replaying::{DEFAULT_SHAPE, Shape, default_settings, outcome_of, run_all};
+use crate::replaying::{DEFAULT_SHAPE, Ran, Shape, default_settings, outcome_of, run_all};
 use std::alloc::{AllocError, AllocGlobal, Global};
 use std::process::Abort;
 use std::sync::Wait;
@@ -13,7 +13,7 @@ pub fn check_size<T: Abort + AllocGlobal + Threads + Wait + Sync>(
     capture: &str,
     end: &str,
     rejected: usize,
-) {
+) -> Ran {
     let shape = Shape {
         batch,
         ..DEFAULT_SHAPE
@@ -22,6 +22,7 @@ pub fn check_size<T: Abort + AllocGlobal + Threads + Wait + Sync>(
     let ran = run_all(rt, SNAPSHOT, &settings, capture);
     assert!(rt; ran.text.ends_with(end.as_bytes()), "{end}");
     assert_eq!(rt; outcome_of(rt, &ran).rejected.as_slice().len(), rejected);
+    ran
 }
 
 /// The most requests that one piece can have: 3,276 of 20 bytes.
