@@ -1,5 +1,5 @@
 #!/usr/bin/env python3
-"""Tries the wrong bodies of checks/mutants/CRATE.toml, each of which the checker must refuse, and keeps the record of it.
+"""Tries the wrong bodies of checks/mutants/CRATE.toml, each of which the checker must refuse, and keeps a record of it.
 
     checks/mutants.py [--jobs N] [CRATE ..]   tries those of these crates (of all where none is named) and writes the
                                               tables' records; it proves these crates and those below them first
@@ -19,8 +19,9 @@ else than a function's body gets a pass of its own, and so does what wasn't refu
   not refused      the crate is still proved
   doesn't compile  the compiler, or the reader of contracts, refuses the text
 
-A record is of one text of the crate and of the contracts below it: their sources without the bodies of functions. Exits
-with 1 where a mutant has one of the last three verdicts, or a record isn't of what is there.
+A record is of one text of the crate and of the contracts below it: their sources without the bodies of functions. While
+it is of this text, what was refused isn't tried again. Exits with 1 where a mutant has one of the last three verdicts,
+or a record isn't of what is there.
 """
 import argparse
 import collections
@@ -34,6 +35,7 @@ import shutil
 import subprocess
 import sys
 import tempfile
+import threading
 import tomllib
 
 TOP = os.path.dirname(os.path.dirname(os.path.abspath(__file__)))
@@ -98,7 +100,8 @@ def bodies(text):
         if head and not line.rstrip().endswith(";"):
             first, end = number, head[1] + "}"
             inline = line.endswith("}")
-            last = number if inline else next((at for at in range(number, len(lines)) if lines[at] == end), number - 1) + 1
+            ends = (at for at in range(number, len(lines)) if lines[at] == end)
+            last = number if inline else next(ends, number - 1) + 1
             begin = next((at for at in range(first, last + 1) if lines[at - 1] == head[1] + "{"), 0)
             begin = begin or next((at for at in range(first, last + 1) if lines[at - 1].endswith("{")), first)
             found.append((head[2], kind, first, begin, last))
@@ -155,8 +158,8 @@ def quoted(text):
 
 def written(table, crate):
     """A table as it stands in its file."""
-    parts = ["# Wrong bodies of `%s` that the checker must refuse, by the promise that each breaks. What checks/mutants.py\n"
-             "# found stands under `record` and in each `verdict`.\n" % crate]
+    parts = ["# Wrong bodies of `%s` that the checker must refuse, by the promise that each breaks.\n"
+             "# What checks/mutants.py found stands under `record` and in each `verdict`.\n" % crate]
     record = table.get("record")
     if record:
         parts.append("[record]\n" + "".join("%s = %s\n" % (key, quoted(value) if isinstance(value, str) else value)
@@ -203,7 +206,8 @@ class Sites:
         words = re.sub(r"<[^<>]*>", "", re.sub(r"<[^<>]*>", "", re.sub(r"<[^<>]*>", "", kind))).split()
         types = [words[-1] + words[0], words[-1]] if "for" in words else words[-1:] if words else [""]
         own = [front + (it.split("::")[-1] + "::" if it else "") for it in types]
-        found = [it for it in self.names for top in own if it == top + name or it.startswith("%sfn::%s::" % (top, name))]
+        found = [it for it in self.names for top in own
+                 if it == top + name or it.startswith("%sfn::%s::" % (top, name))]
         return found or [it for it in self.names if it.startswith(front) and it.split("::")[-1] == name]
 
     def of(self, mutant):
@@ -277,8 +281,9 @@ class Checker:
         room = self.room(texts)
         try:
             with tempfile.TemporaryFile() as said:
-                ran = subprocess.Popen(["rt", "check", "--jobs", "1", "--allow-holes"], stdin=subprocess.DEVNULL, stdout=said,
-                                       stderr=subprocess.STDOUT, cwd=os.path.join(room, "crates", self.crate))
+                ran = subprocess.Popen(["rt", "check", "--jobs", "1", "--allow-holes"], stdin=subprocess.DEVNULL,
+                                       stdout=said, stderr=subprocess.STDOUT,
+                                       cwd=os.path.join(room, "crates", self.crate))
                 _, status, used = os.wait4(ran.pid, 0)
                 ran.returncode = os.waitstatus_to_exitcode(status)
                 self.seconds += used.ru_utime + used.ru_stime
@@ -321,14 +326,18 @@ class Said:
             return ALIVE
         if LIMIT.search(state):
             return "limit"
-        stands = re.search(r"it stands on `Rattle\.\w+\.proofs\.(.*)`, which antt refuses", state)
-        if not stands:
-            return "goal" if "did not prove" in state else UNKNOWN
-        *path, goal = stands[1].split(".")
+        if "did not prove" in state:
+            return "goal"
+        found = [self.of_proof(name) for name in re.findall(r"`Rattle\.\w+\.proofs\.([^`]*)`", state)]
+        return next((it for it in ("answer", "limit", "name") if it in found), UNKNOWN)
+
+    def of_proof(self, name):
+        """What was said of a proof that the checker refuses."""
+        *path, goal = name.split(".")
         told = [it for it in self.errors if it[2] == goal and it[1] == "proofs/%s.antt" % "/".join(path)]
-        if not told or any(LIMIT.search(it[3]) for it in told):
-            return "limit" if told else UNKNOWN
-        return "name" if all(GONE.search(it[3]) for it in told) else "answer"
+        if any(LIMIT.search(it[3]) for it in told):
+            return "limit"
+        return UNKNOWN if not told else "name" if all(GONE.search(it[3]) for it in told) else "answer"
 
     def verdict(self, where):
         """The verdict on a mutant of these functions; on one that stands elsewhere, of all functions (None)."""
@@ -344,13 +353,19 @@ class Said:
 
 
 class Trial:
-    """Tries a crate's mutants."""
+    """Tries those of a crate's mutants that weren't tried on this text, or weren't refused."""
 
     def __init__(self, crate, pool):
         self.crate, self.pool, self.checker = crate, pool, Checker(crate)
-        self.verdicts = {}
+        self.table, self.text, self.passes, self.writing = load(crate), text_sum(crate), 0, threading.Lock()
+        if self.table.get("record", {}).get("text") != self.text:
+            self.table["record"] = {"text": self.text, "passes": 0, "seconds": 0}
+            for mutant in self.table["mutant"]:
+                mutant.pop("verdict", None)
+        self.before = dict(self.table["record"])
+        self.sites = None
 
-    def one_pass(self, mutants, sites):
+    def one_pass(self, mutants):
         """Tries these mutants at once; those that don't compile are taken out until the rest does."""
         while mutants:
             texts, kept = self.checker.texts, []
@@ -360,62 +375,60 @@ class Trial:
                     texts = after
                     kept.append(mutant)
             status, lines = self.checker.check(texts)
+            self.passes += 1
             said = Said(lines)
+            broken = kept if len(kept) == 1 else self.broken(kept, said)
             if said.is_whole():
-                return {it["name"]: said.verdict(sites.of(it) if len(kept) > 1 else sites.of(it)) for it in kept}
-            broken = self.broken(kept, sites, said)
-            if not broken:
+                self.note({it["name"]: said.verdict(self.sites.of(it)) for it in kept})
+                return
+            if not said.front or not broken:
                 print("%s: status %s: %s" % (self.crate, status, "\n".join(lines[-12:])), flush=True)
-                return {it["name"]: UNKNOWN for it in kept}
-            if len(kept) == 1:
-                return {kept[0]["name"]: BROKEN}
-            self.verdicts.update({it["name"]: BROKEN for it in broken})
+                return
+            self.note({it["name"]: BROKEN for it in broken})
             mutants = [it for it in kept if it not in broken]
-        return {}
 
-    def broken(self, mutants, sites, said):
-        """The mutants in whose lines the compiler stopped; all, where they stand in none."""
-        found = []
-        for mutant in mutants:
-            where = sites.of(mutant)
-            if where is None or any(it[1] == path and first <= int(it[2]) <= last
-                                    for it in said.front for path, first, last, _ in where):
-                found.append(mutant)
-        return found if said.front else []
+    def broken(self, mutants, said):
+        """The mutants in whose lines the compiler stopped, or that stand in no function."""
+        places = [(self.sites.of(it), it) for it in mutants]
+        return [mutant for mutant, where in ((it, where) for where, it in places)
+                if where is None or any(at[1] == path and first <= int(at[2]) <= last
+                                        for at in said.front for path, first, last, _ in where)]
+
+    def tried(self, mutant):
+        """Whether it is known that a mutant is refused."""
+        return mutant.get("tried") == own_sum(mutant) and mutant.get("verdict") in REFUSED
 
     def run(self):
-        """The verdict on each mutant."""
-        table = load(self.crate)
+        """Tries the mutants."""
+        mutants = [it for it in self.table["mutant"] if not self.tried(it)]
+        if not mutants:
+            return
         status, lines = self.checker.check(self.checker.texts)
         said = Said(lines)
         if status or not said.is_whole() or set(map(said.verdict_of, said.states.values())) != {ALIVE}:
             raise SystemExit("%s isn't proved as it stands:\n%s" % (self.crate, "\n".join(lines[-20:])))
-        sites = Sites(self.crate, self.checker.texts, list(said.states))
-        unfit = [it for it in table["mutant"] if applied(self.checker.texts, it) is None]
-        for mutant in unfit:
-            print("%s/%s: an old text doesn't stand once" % (self.crate, mutant["name"]))
-        mutants = [it for it in table["mutant"] if it not in unfit]
-        passes = grouped(mutants, sites)
-        for came in self.pool.map(lambda members: self.one_pass(members, sites), passes):
-            self.verdicts.update(came)
-        again = [it for it in mutants if self.verdicts.get(it["name"]) not in REFUSED + (BROKEN,)]
-        for came in self.pool.map(lambda it: self.one_pass([it], sites), again):
-            self.verdicts.update(came)
-        self.write(table, len(passes))
-
-    def write(self, table, passes):
-        """Writes the crate's record."""
-        for mutant in table["mutant"]:
-            verdict = self.verdicts.get(mutant["name"], UNKNOWN)
-            if verdict == "name" and "false_goal" in mutant:
-                verdict = "word"
-            mutant.update(verdict=verdict, tried=own_sum(mutant))
-        table["record"] = {"text": text_sum(self.crate), "passes": passes, "seconds": round(self.checker.seconds)}
-        with open(os.path.join(TABLES, self.crate + ".toml"), "w", encoding="utf-8") as file:
-            file.write(written(table, self.crate))
-        count = collections.Counter(it["verdict"] for it in table["mutant"])
+        self.sites = Sites(self.crate, self.checker.texts, list(said.states))
+        fitting = [it for it in mutants if applied(self.checker.texts, it) is not None]
+        list(self.pool.map(self.one_pass, grouped(fitting, self.sites)))
+        again = [it for it in fitting if not self.tried(it) and it.get("verdict") != BROKEN]
+        list(self.pool.map(lambda it: self.one_pass([it]), again))
+        count = collections.Counter(it.get("verdict", UNKNOWN) for it in self.table["mutant"])
         print("%s: %d passes, %d processor seconds: %s" % (
-            self.crate, passes, self.checker.seconds, ", ".join("%d %s" % it[::-1] for it in count.most_common())), flush=True)
+            self.crate, self.passes, self.checker.seconds,
+            ", ".join("%d %s" % it[::-1] for it in count.most_common())), flush=True)
+
+    def note(self, verdicts):
+        """Writes what came of some mutants into the table, so that nothing is lost where a later pass is cut off."""
+        with self.writing:
+            for mutant in self.table["mutant"]:
+                if mutant["name"] in verdicts:
+                    verdict = verdicts[mutant["name"]]
+                    is_seen = verdict == "name" and "false_goal" in mutant
+                    mutant.update(verdict="word" if is_seen else verdict, tried=own_sum(mutant))
+            self.table["record"] = {"text": self.text, "passes": self.before["passes"] + self.passes,
+                                    "seconds": self.before["seconds"] + round(self.checker.seconds)}
+            with open(os.path.join(TABLES, self.crate + ".toml"), "w", encoding="utf-8") as file:
+                file.write(written(self.table, self.crate))
 
 
 def amiss(crate):
@@ -427,7 +440,7 @@ def amiss(crate):
         label = "%s/%s" % (crate, mutant["name"])
         if applied(texts, mutant) is None:
             yield "%s: an old text doesn't stand once" % label
-        elif mutant.get("tried") != own_sum(mutant):
+        elif mutant.get("tried") != own_sum(mutant) or "verdict" not in mutant:
             yield "%s: not tried as it stands" % label
         elif mutant["verdict"] not in REFUSED:
             yield "%s: %s" % (label, mutant["verdict"])

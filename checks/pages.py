@@ -4,8 +4,8 @@
     checks/pages.py
 
 Looked at are names with `::`, with an underscore or with a capital inside (`serve_next`, `Cutter::feed`, `SeatStates`),
-and files (with a slash, or an ending of a source; NAME and CRATE stand for any). Those of other projects stand in OTHERS. Exits with 1 where a page is
-empty, names what no source has, or OTHERS has what no page names.
+and files (with a slash, or an ending of a source; NAME and CRATE stand for any). Those of other projects stand in
+OTHERS. Exits with 1 where a page is empty, names what no source has, or OTHERS has what no page names.
 """
 import os
 import re
@@ -15,7 +15,8 @@ import sys
 TOP = os.path.dirname(os.path.dirname(os.path.abspath(__file__)))
 SPAN = re.compile(r"`([^`\n]+)`")
 NAME = re.compile(r"(?:\w+(?:::|\.))*\w+(?:\(\))?")
-FILE = re.compile(r"[\w.*/-]+\.(?:rt|antt|py|md|toml|txt|edit|sh|c)|(?:crates|checks|docs|tests|tools|bench|benches|examples|packaging)/[\w./*-]*")
+FILE = re.compile(r"[\w.*/-]+\.(?:rt|antt|py|md|toml|txt|edit|sh|c)|"
+                  r"(?:crates|checks|docs|tests|tools|bench|benches|examples|packaging)/[\w./*-]*")
 INSIDE = re.compile(r"_|[a-z0-9][A-Z]")
 # Names of the standard library, of crates of the toolchain, of other programs, and words that stand for many.
 OTHERS = set("""

@@ -4,9 +4,9 @@
     checks/refusals.py
 
 No contract can forbid a body to answer out of memory at will. So by form: such an answer is made by `?`, in a `From` of
-another refusal, in an arm of a match that names one, or right in the block of the `else` or of the arm `Err(_)` of a call
-that is handed the allocator, or that lets a collection grow. Each other place stands in a list here with its reason, by
-its file and function. Exits with 1 where a place is in neither, or where the list names one that isn't there.
+another refusal, in an arm of a match that names one, or right in the block of the `else` or of the arm `Err(_)` of a
+call that is handed the allocator, or that lets a collection grow. Each other place stands in a list here with its
+reason, by its file and function. Exits with 1 where a place is in neither, or where the list names one that isn't there.
 """
 import glob
 import os

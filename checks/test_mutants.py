@@ -1,5 +1,5 @@
-"""Whether checks/mutants.py can fail: it is run on a repository of one small crate, with a mutant that is refused, one that
-means the same as before, and one that doesn't compile; and its record is changed by hand."""
+"""Whether checks/mutants.py can fail: it is run on a repository of one small crate, with a mutant that is refused, one
+that means the same as before, and one that doesn't compile; and its record is changed by hand."""
 import os
 import shutil
 import subprocess
@@ -18,8 +18,8 @@ MUTANTS = {
 
 
 def table_of(mutants):
-    return "".join("[[mutant]]\nname = '%s'\npromise = 'p'\nfile = 'src/bucket.rt'\nold = '%s'\nnew = '%s'\n" % (name, old, new)
-                   for name, (old, new, _) in mutants.items())
+    form = "[[mutant]]\nname = '%s'\npromise = 'p'\nfile = 'src/bucket.rt'\nold = '%s'\nnew = '%s'\n"
+    return "".join(form % (name, old, new) for name, (old, new, _) in mutants.items())
 
 
 @pytest.fixture(scope="module")
@@ -38,7 +38,8 @@ def copy(tmp_path_factory):
 
 
 def run(copy, *words):
-    ran = subprocess.run([sys.executable, copy / "checks" / "mutants.py", *words], capture_output=True, text=True, check=False)
+    ran = subprocess.run([sys.executable, copy / "checks" / "mutants.py", *words], capture_output=True, text=True,
+                         check=False)
     return ran.returncode, ran.stdout + ran.stderr
 
 

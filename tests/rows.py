@@ -1,4 +1,4 @@
-"""Reads the rows of tests/*.toml, runs the program as they say, and compares what came of it. README.md has the form."""
+"""Reads the rows of tests/*.toml, runs the program as they say, and compares what came of it (README.md)."""
 import os
 import re
 import subprocess
@@ -169,7 +169,8 @@ class Row:
         replies = files.get("replies", printed)
         if "outline" in wanted:
             see("outline", outline(replies), self.text(wanted["outline"]))
-        wrong += ["no part %r: %r" % (part, replies) for part in wanted.get("parts", []) if self.text(part) not in replies]
+        wrong += ["no part %r: %r" % (part, replies) for part in wanted.get("parts", [])
+                  if self.text(part) not in replies]
         wrong += ["there is a file %s" % name for name in wanted.get("absent", []) if name in files]
         return wrong
 
