@@ -205,10 +205,12 @@ class Sites:
         front = self.crate + "::" + ("" if module in ("lib", "main") else module + "::")
         words = re.sub(r"<[^<>]*>", "", re.sub(r"<[^<>]*>", "", re.sub(r"<[^<>]*>", "", kind))).split()
         types = [words[-1] + words[0], words[-1]] if "for" in words else words[-1:] if words else [""]
-        own = [front + (it.split("::")[-1] + "::" if it else "") for it in types]
+        types = [it.split("::")[-1] for it in types]
+        own = [front + (it + "::" if it else "") for it in types]
         found = [it for it in self.names for top in own
                  if it == top + name or it.startswith("%sfn::%s::" % (top, name))]
-        return found or [it for it in self.names if it.startswith(front) and it.split("::")[-1] == name]
+        # (an `impl` may stand in another module than its type, by whose module its functions are named)
+        return found or [it for it in self.names if any(it.endswith("::%s::%s" % (top, name)) for top in types if top)]
 
     def of(self, mutant):
         """The functions whose bodies a mutant changes, as (file, first line, last line, names); None where it changes
@@ -329,7 +331,7 @@ class Said:
         if "did not prove" in state:
             return "goal"
         found = [self.of_proof(name) for name in re.findall(r"`Rattle\.\w+\.proofs\.([^`]*)`", state)]
-        return next((it for it in ("answer", "limit", "name") if it in found), UNKNOWN)
+        return next((it for it in ("values", "answer", "limit", "name") if it in found), UNKNOWN)
 
     def of_proof(self, name):
         """What was said of a proof that the checker refuses."""
@@ -337,6 +339,8 @@ class Said:
         told = [it for it in self.errors if it[2] == goal and it[1] == "proofs/%s.antt" % "/".join(path)]
         if any(LIMIT.search(it[3]) for it in told):
             return "limit"
+        if any("and the goal fails, at" in it[3] for it in told):
+            return "values"
         return UNKNOWN if not told else "name" if all(GONE.search(it[3]) for it in told) else "answer"
 
     def verdict(self, where):
@@ -348,7 +352,7 @@ class Said:
         states = [state for name, state in self.states.items()
                   if where is None or any(name in names for *_, names in where)]
         found = [self.verdict_of(state) for state in states]
-        order = ("goal", "answer", "limit", "name", UNKNOWN, ALIVE)
+        order = ("values", "goal", "answer", "limit", "name", UNKNOWN, ALIVE)
         return next((it for it in order if it in found), UNKNOWN)
 
 
