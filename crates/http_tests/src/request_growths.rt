@@ -73,8 +73,8 @@ pub fn is_like(message: &Message, want: &Want) -> bool {
     }
 }
 
-/// Feeds a text in pieces of this size: whether a growth was refused, and whether each piece after it was refused too and
-/// added nothing.
+/// Feeds a text in pieces of this size: whether a growth was refused, and whether each piece after it was refused too
+/// and added nothing.
 fn feed(alloc: Global, text: &[u8], size: usize, out: &mut Vec<Message>) -> (bool, bool)
     requires some { 0 < size }
     requires room { length text.now ≤ 1_073_741_824 }
