@@ -43,8 +43,8 @@ TABLES = os.path.join(TOP, "checks", "mutants")
 PARTS = ("src", "specs", "proofs")
 # Crates whose mutants weren't all tried on the text that is there: their records aren't compared yet.
 UNTRIED = {
-    "admission", "arrivals", "command_line", "devices", "http_requests", "inspection", "paths", "program", "reference",
-    "replay", "report", "settings", "slim", "snapshots", "stage_graph", "test_support",
+    "admission", "arrivals", "command_line", "inspection", "paths", "program", "replay", "settings", "slim", "stage_graph",
+    "test_support",
 }
 REFUSED = ("values", "goal", "answer", "limit", "word")
 UNKNOWN, ALIVE, BROKEN = "no verdict", "not refused", "doesn't compile"
