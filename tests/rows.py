@@ -18,6 +18,16 @@ COMMANDS = {
     "snapshot": (["folder", "output"], []),
     "settings": ([], ["settings"]),
 }
+# What a command that comes to its end has always written: the end of a file, or of standard output (None).
+ENDS = {
+    "replay": [("replies", r"(^|\n)stop \d+\n"), (None, r"\nend\n")],
+    "explain": [("messages", r"\n"), (None, r"\nend\n")],
+    "inspect": [(None, r"\nend\n")],
+    "upgrade": [("output", r"\nstop \d+\n")],
+    "slim": [("output", r"\nstop \d+\n")],
+    "snapshot": [("output", r"\nend \d+\n")],
+    "settings": [(None, r"\n.*\n")],
+}
 KEYS = {"name", "command", "words", "engines", "texts", "files", "pieces", "bytes", "cut", "sizes", "stdin", "each_cut",
         "status", "error", "prints", "lines", "columns", "writes", "messages", "outline", "parts", "absent"}
 MARK = re.compile(r"\$\{(?:'([^']*)'|(\w+))(?: \* (\d+))?\}")
@@ -153,6 +163,11 @@ class Row:
 
         see("status", status, wanted.get("status", 0))
         see("standard error", error, self.text(wanted["error"]) + "\n" if wanted.get("error") else "")
+        if status == 0:
+            ends = [(name, files.get(name, "") if name else printed, form)
+                    for name, form in ENDS.get(self.values.get("command"), [])]
+            wrong += ["%s has no end: %r" % (name or "standard output", text) for name, text, form in ends
+                      if not re.search(r"(?:%s)\Z" % form, text)]
         if "prints" in wanted:
             see("standard output", printed, self.text(wanted["prints"]))
         lines = printed.split("\n")
