@@ -16,6 +16,7 @@ import textwrap
 import command_line
 import output_file
 import pages
+import settings_documents
 import standard_output
 from tool_run import Fault
 
@@ -38,10 +39,12 @@ The input is either of
 Either may be compressed, or - for standard input.
 
 A request's time is from its last byte to its answer's last byte. Answers 503 and 499 are left out:
-these were turned away, or nobody waited for them. SETTINGS gets a document with [costs] for a server
-that works on one request after another without delay, which are the defaults. PAGE gets what
-was found besides: the number of servers (1, 2, 4, 8, 16) and the delay of each answer that fit best,
-and how well either predicts what was measured.
+these were turned away, or nobody waited for them. So are connections that aren't HTTP, or no longer
+are (TLS, WebSocket). SETTINGS gets a document with the [costs] that fit best, and with the number of
+servers (1, 2, 4, 8, 16) and the delay of each answer where these aren't the defaults. Where a server
+works longer than a second on an answer, it gets a route for all paths in the place of the costs, with
+one cost for any answer. PAGE shows how well this predicts what was measured, and how well one server
+without a delay does.
 
 How: costs are first estimated by the requests that found nobody inside; the pace at which answers
 leave while somebody is always inside tells how many servers there are; then for each number of
@@ -63,6 +66,7 @@ NAMES = ("p50", "p90", "p99", "greatest")
 FULL = 0.9  # of the time busy: overloaded all along
 MET = 0.05  # of the requests found somebody inside: less is hardly any
 GOOD, POOR = 10, 25  # percent by which a predicted percentile may be off
+HEADINGS = {"costs.": "[costs]\n", "route.": '[[route]]\nprefix = "/"\n'}  # of tables, by how their keys begin
 DEARER = 1.08  # costs so many times higher show how much rests on them
 PIECES = 40  # pieces of the time, or of the sizes, in a picture
 TICKS_IN_MILLISECOND = 1000
@@ -146,9 +150,14 @@ def dearer(requests, fit):
 
 def in_words(fit):
     """A fit in words."""
-    costs = ", ".join("%s %d" % pair for pair in zip(cost_fit.PARTS, fit.costs))
     return "%d server%s, %s: %s microseconds" % (
-        fit.servers, "s" * (fit.servers > 1), "delay %d" % fit.delay if fit.delay else "no delay", costs)
+        fit.servers, "s" * (fit.servers > 1), "delay %d" % fit.delay if fit.delay else "no delay",
+        costs_in_words(fit.costs))
+
+
+def costs_in_words(costs):
+    """Costs by their names."""
+    return ", ".join("%s %.0f" % (key.partition(".")[2], cost) for key, cost in zip(cost_fit.keys_of(costs), costs))
 
 
 def missed_in_words(errors):
@@ -175,6 +184,9 @@ def remarks(requests, best, single):
                      "describe; perhaps others work on its machine, or its clients do")
     elif worst > GOOD:
         lines.append("NOTE: the held-out check misses by more than %d%%" % GOOD)
+    if cost_fit.keys_of(best.fit.costs) == cost_fit.ROUTE_KEYS:
+        lines.append("a server works longer on an answer than costs.file and costs.error can tell: the settings have a "
+                     "route for all paths, with one cost for any answer")
     lines.append(written(best, single))
     return lines
 
@@ -191,17 +203,31 @@ def written(best, single):
 
 def without_use(requests):
     """The costs that nothing of the recording needs, whose defaults stay."""
-    return [name for part, name in enumerate(cost_fit.PARTS) if not requests.work[:, part].any()]
+    used = requests.work.any(0)
+    return [key for key, is_used in zip(cost_fit.keys_of(used), used) if not is_used]
+
+
+def settings_of(requests, fit):
+    """The values of the settings by their keys: what is as the defaults have it is left out. Raises Fault where the
+    program takes no such value."""
+    unused = without_use(requests)
+    values = {key: cost for key, cost in zip(cost_fit.keys_of(fit.costs), fit.costs) if key not in unused}
+    values.update({"costs.servers": fit.servers} if fit.servers > 1 else {})
+    values.update({"costs.delay": fit.delay} if fit.delay > 0 else {})
+    for key, value in values.items():
+        settings_documents.refuse_outside(key, value)
+    return values
 
 
 def document_of(requests, best, lines):
-    """The settings: what is as the defaults have it is left out."""
-    unused, fit = without_use(requests), best.fit
-    costs = ["%s = %d\n" % (name, cost) for name, cost in zip(cost_fit.PARTS, fit.costs) if name not in unused]
-    costs += ["servers = %d\n" % fit.servers] * (fit.servers > 1) + ["delay = %d\n" % fit.delay] * (fit.delay > 0)
+    """The settings as a document."""
+    values, tables = settings_of(requests, best.fit), []
+    for begin, heading in HEADINGS.items():
+        entries = ["%s = %d\n" % (key.removeprefix(begin), values[key]) for key in values if key.startswith(begin)]
+        tables += [heading + "".join(entries)] if entries else []
     comments = "".join("# %s\n" % line for line in lines)
-    absent = "".join("# costs.%s: nothing in the recording needs it\n" % name for name in unused)
-    return "%s%s[costs]\n%s" % (comments, absent, "".join(costs))
+    absent = "".join("# %s: nothing in the recording needs it\n" % key for key in without_use(requests))
+    return comments + absent + "\n".join(tables)
 
 
 def summary_of(best, single):
@@ -276,6 +302,12 @@ def page_of(options, requests, best, single, lines):
     return pages.html_page("Costs by %s" % options.input, "\n".join(parts))
 
 
+def is_beyond_costs(fit):
+    """Whether a server works longer on an answer than the costs of the settings can tell."""
+    return any(fit.costs[part] > settings_documents.RANGES[cost_fit.KEYS[part]][1]
+               for part in (cost_fit.FILE, cost_fit.ERROR))
+
+
 def fits_of(requests):
     """The best fit of all, and the best with one server and no delay, which is the same where that is the best."""
     alone, count = cost_fit.costs_alone(requests)
@@ -285,10 +317,10 @@ def fits_of(requests):
         fits = cost_fit.all_fits(early, alone, bar.update)
     best = judged(requests, cost_fit.simplest(fits))
     single = best if best.fit[1:3] == (1, 0) else judged(requests, fits[0])
-    first = ", ".join("%s %.0f" % pair for pair in zip(cost_fit.PARTS, alone))
     paced = "answers leave %.1f times as fast while somebody is always inside" % pace if pace else (
         "the server was seldom busy for long")
-    return best, single, "first estimate, by %d requests that found nobody inside: %s; %s" % (count, first, paced)
+    return best, single, "first estimate, by %d requests that found nobody inside: %s; %s" % (
+        count, costs_in_words(alone), paced)
 
 
 def work(options):
@@ -302,13 +334,20 @@ def work(options):
         counts = ", ".join("%d %s" % (count, name) for name, count in left_out.items() if count)
         raise Fault("%s: %s%s" % (options.input, fault, "; left out: " + counts if counts else "")) from None
     best, single, first = fits_of(requests)
+    if is_beyond_costs(best.fit):
+        requests = cost_fit.on_route(requests)
+        best, single, first = fits_of(requests)
     answered = len(requests.arrivals)
     counts = ["%d answered 503 or 499" % (len(measured) - answered)] if len(measured) > answered else []
     counts += ["%d %s" % (count, name) for name, count in left_out.items() if count]
     lines = ["%d requests in %.1f seconds%s" % (
         answered, requests.arrivals[-1] / 1e6, "; left out: " + ", ".join(counts) if counts else ""), first,
         *summary_of(best, single), *remarks(requests, best, single)]
-    outputs = [(options.output, lambda file: file.write(document_of(requests, best, lines))),
+    try:
+        document = document_of(requests, best, lines)
+    except Fault as fault:
+        raise Fault("%s: %s; look for wrong times in it" % (options.input, fault)) from None
+    outputs = [(options.output, lambda file: file.write(document)),
                (options.page, lambda file: file.write(page_of(options, requests, best, single, lines)))]
     output_file.replace_all([(path, write) for path, write in outputs if path])
     standard_output.write("\n".join(lines) + "\n")

@@ -141,7 +141,6 @@ class Totals:
 
     def __init__(self):
         self.lines = 0
-        self.longest = 0  # the longest duration that isn't taken off yet, in microseconds
         self.left_out = collections.Counter()
         self.firsts = {}  # the first line of each kind that is left out: file and number
         self.remarks = collections.Counter()
@@ -149,7 +148,6 @@ class Totals:
     def add(self, part):
         """Takes what was counted over a block."""
         self.lines += part.lines
-        self.longest = max(self.longest, part.longest)
         self.left_out += part.left_out
         self.remarks += part.remarks
         self.firsts = {**part.firsts, **self.firsts}
@@ -214,13 +212,13 @@ class Conversion:
         self.writer.stop()
 
 
-def ordered(store, reader, totals):
+def ordered(store, reader):
     """The requests that are kept, in the order in which they came."""
     requests = store.requests()
     if reader.time.exact:
         return requests
     requests = log_blocks.spread(requests)
-    return log_blocks.by_arrival(requests, totals.longest) if reader.duration_name else requests
+    return log_blocks.by_arrival(requests) if reader.duration_name else requests
 
 
 def arguments():
@@ -262,7 +260,7 @@ def convert():
         reader = read_logs(options, store, totals)
         conversion = Conversion(options, totals)
         with output_file.replacing(options.output) as file, tool_run.progress(TOOL, store.count, " requests") as bar:
-            for number, (time, _, tier, head) in enumerate(ordered(store, reader, totals), 1):
+            for number, (time, _, tier, head) in enumerate(ordered(store, reader), 1):
                 conversion.take(file, time, tier, head)
                 if number % TOLD_REQUESTS == 0:
                     bar.update(TOLD_REQUESTS)

@@ -37,7 +37,8 @@ Zstandard where Python reads it); - is standard input.
 
 Left out, and counted: connections whose first bytes are those of TLS (record them where TLS is
 already taken off, or take a log: docs/WALK.md); those with bytes before --from; of connections whose
-begin isn't there what comes before a packet that begins with a request line; fragments of IP packets.
+begin isn't there what comes before a packet that begins with a request line; fragments of IP packets;
+packets of a pcapng that have no time (Simple Packet Blocks). Where nothing is left, it is a fault.
 
 It is a fault, and --lenient writes the capture of what is there, where packets were cut when they
 were recorded (each connection ends at its first cut packet: record whole ones, tcpdump -s 0); where
@@ -66,6 +67,7 @@ MIDDLE = "connections whose begin isn't in the file, taken from a packet that be
 NO_BEGIN = "connections whose begin isn't in the file, and of which no packet begins with a request line"
 LOST = "connections ended by lost bytes"
 CUT = "connections ended by packets that were cut when they were recorded"
+WHOLE_PACKETS = "; record whole packets: tcpdump -s 0"
 NO_TARGET = "connections whose first bytes hold no whole request line, for --tier"
 REQUEST_LINE = re.compile(rb"[!#$%&'*+\-.^_`|~0-9A-Za-z]+ [^ \r\n]+ HTTP/[0-9]\.[0-9]\r?\n")
 
@@ -258,16 +260,25 @@ class Conversion:
     def finish(self):
         """Ends the connections that still wait for lost bytes, and writes the last line."""
         if self.writer is None:
-            raise Fault("%s: no packet to a given port in the given time" % ", ".join(self.options.inputs))
+            raise Fault(self.nothing("no packet to a given port in the given time"))
         for key in [key for key, stream in self.streams.items() if stream.has_hole()]:
             self.close(self.last, key)
         for stream in self.streams.values():
             self.count_begin(stream)
+        if not self.writer.bytes:
+            raise Fault(self.nothing("no request is to be taken"))
         self.writer.stop()
+
+    def nothing(self, words):
+        """What is said where there is nothing to write."""
+        counts = self.left_out + self.remarks
+        return "%s: %s%s%s" % (", ".join(self.options.inputs), words,
+                               " (%s)" % capture_writer.listed(counts) if counts else "",
+                               WHOLE_PACKETS if self.remarks[CUT] else "")
 
     def faults(self):
         """What makes the capture less than the packets that were sent, in words; a list of texts."""
-        cut = ["%d %s; record whole packets: tcpdump -s 0" % (self.remarks[CUT], CUT)] if self.remarks[CUT] else []
+        cut = ["%d %s%s" % (self.remarks[CUT], CUT, WHOLE_PACKETS)] if self.remarks[CUT] else []
         return cut + self.writer.faults()
 
 
@@ -331,10 +342,10 @@ def segment_of(packet, left_out):
         return None
 
 
-def packets_of(one, faults):
+def packets_of(one, left_out, faults):
     """The packets of an input up to where it is cut or broken; that is added to the faults."""
     try:
-        yield from packet_files.packets(one, check_link)
+        yield from packet_files.packets(one, check_link, left_out)
     except Fault as fault:
         kind = input_files.kind_of(one.first)
         known = kind and str(fault).startswith("no pcap")
@@ -344,13 +355,14 @@ def packets_of(one, faults):
 def convert_all(conversion, inputs):
     """Takes all packets before --to, and ends the capture; returns the faults, in words."""
     faults, end = [], conversion.options.end
-    for packet in heapq.merge(*(packets_of(one, faults) for one in inputs), key=operator.attrgetter("time")):
+    packets = (packets_of(one, conversion.left_out, faults) for one in inputs)
+    for packet in heapq.merge(*packets, key=operator.attrgetter("time")):
         if end is not None and packet.time >= end:
             break
         segment = segment_of(packet, conversion.left_out)
         if segment is not None:
             conversion.segment(packet.time, segment)
-    if conversion.writer is None and faults:
+    if faults and not (conversion.writer and conversion.writer.bytes):
         raise Fault("; ".join(faults))
     conversion.finish()
     return faults + conversion.faults()

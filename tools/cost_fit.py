@@ -1,18 +1,21 @@
 """Fits costs, servers and a delay to measured times, by simulating first come, first served.
 
 Times are in microseconds, as numpy's arrays of floats. A request's work has three parts, whose costs are looked for:
-one for a file, one for each KiB of it, and one for any other answer (docs/RULES.md, Service times and admission).
+one for a file, one for each KiB of it, and one for any other answer; or on a route two, one for any answer and one for
+each KiB of a file (docs/RULES.md, Service times and admission).
 """
 import collections
 import heapq
 
+import settings_documents
 import tool_run
 
 numpy = tool_run.library("numpy")
 optimize = tool_run.library("scipy.optimize")
 sparse = tool_run.library("scipy.sparse")
 
-PARTS = ("file", "kib", "error")
+KEYS = ("costs.file", "costs.kib", "costs.error")  # of the settings, for the parts of the work
+ROUTE_KEYS = ("route.cost", "route.kib")
 FILE, KIB, ERROR = range(3)
 BYTES_IN_KIB = 1024
 FILES = (200, 206)  # statuses of answers that carry a file; 304 costs one, too
@@ -38,12 +41,23 @@ Fit = collections.namedtuple("Fit", "costs servers delay error")
 
 def work_of(methods, statuses, sizes):
     """The work of answers: 1 for a file and its KiB (a GET's), or 1 for any other answer."""
-    work = numpy.zeros((len(statuses), len(PARTS)))
+    work = numpy.zeros((len(statuses), len(KEYS)))
     is_file = numpy.isin(statuses, FILES)
     work[:, FILE] = is_file | (numpy.asarray(statuses) == NOT_MODIFIED)
     work[:, KIB] = numpy.where(is_file & (numpy.asarray(methods) == "GET"), numpy.asarray(sizes) / BYTES_IN_KIB, 0)
     work[:, ERROR] = 1 - work[:, FILE]
     return work
+
+
+def on_route(requests):
+    """The same requests on a route, where any answer costs as much as a file."""
+    work = requests.work
+    return requests._replace(work=numpy.column_stack((work[:, FILE] + work[:, ERROR], work[:, KIB])))
+
+
+def keys_of(costs):
+    """The keys of the settings for these costs."""
+    return KEYS if len(costs) == len(KEYS) else ROUTE_KEYS
 
 
 def times(requests):
@@ -99,7 +113,7 @@ def found_inside(requests):
 def median_regression(work, measured):
     """The costs, none below 0, of which the works differ least from the measured times (least absolute deviations)."""
     used = work.any(0)
-    costs = numpy.zeros(len(PARTS))
+    costs = numpy.zeros(len(used))
     if len(measured) > MOST_IN_REGRESSION:
         chosen = numpy.random.default_rng(SEED).choice(len(measured), MOST_IN_REGRESSION, replace=False)
         work, measured = work[chosen], measured[chosen]
@@ -147,12 +161,11 @@ def servers_by_pace(requests, alone):
 
 def fitted(requests, servers, has_delay, starts, tries=TRIES, kib=None):
     """The fit of so many servers, from the best of several starts (costs, delay). `kib` holds the cost of a KiB."""
-    measured = times(requests)
-    free = [part for part in range(len(PARTS)) if requests.work[:, part].any()
-            and not (part == KIB and kib is not None)]
+    measured, used = times(requests), requests.work.any(0)
+    free = [part for part in numpy.flatnonzero(used) if part != KIB or kib is None]
 
     def fit_of(values):
-        costs = numpy.zeros(len(PARTS))
+        costs = numpy.zeros(len(used))
         costs[free] = numpy.exp(values[:len(free)])
         costs[KIB] = costs[KIB] if kib is None else kib
         fit = Fit(costs, servers, float(numpy.exp(values[-1])) if has_delay else 0.0, 0.0)
@@ -198,5 +211,5 @@ def whole(requests, fit):
     """The same in whole microseconds, as settings have them: the others are fitted again for a whole cost of a KiB."""
     kib = round(fit.costs[KIB])
     again = refined(requests, fit, kib=float(kib))
-    costs = numpy.maximum(numpy.round(again.costs), [1, 0, 1])
+    costs = numpy.maximum(numpy.round(again.costs), [settings_documents.RANGES[key][0] for key in keys_of(fit.costs)])
     return again._replace(costs=costs, delay=float(round(again.delay)))

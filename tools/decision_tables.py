@@ -119,7 +119,7 @@ class TierTally:
     def __init__(self):
         self.samples = array.array("q")  # the response times of the admitted requests
         self.rejected = 0
-        self.idle = 0  # requests that were turned away while the virtual server was idle
+        self.idle = 0  # requests that were turned away while a virtual server was idle
 
     def figures(self):
         """The figures by their names."""
@@ -136,7 +136,7 @@ class Tally:
         self.tiers = collections.defaultdict(TierTally)
         self.queue = Queue()
         self.inside = 0  # the most requests that were admitted and not yet answered
-        self.busy = 0  # for how long the virtual server worked
+        self.busy = 0  # for how long the virtual servers worked, all added up
         self.first = None  # the tick of the first request
         self.last = 0  # when the last service ended
 

@@ -17,15 +17,58 @@ except ImportError:
 
 FIRST_BYTES = 65_536  # bytes that are looked at before a file is read
 STANDARD_INPUT = "-"
-ZSTANDARD = b"\x28\xb5\x2f\xfd"
-OPENERS = {b"\x1f\x8b": gzip.open, b"BZh": bz2.open, b"\xfd7zXZ\x00": lzma.open}
+ZSTANDARD, XZ = b"\x28\xb5\x2f\xfd", b"\xfd7zXZ\x00"
+XZ_MIB = 128  # of memory that reading an xz file may take; one of `xz -9` takes 65
+XZ_PIECE = 8_192  # bytes of one that are read at a time
+XZ_TAKES_MORE = "Memory usage limit exceeded"  # the library's words
 DAMAGES = (EOFError, zlib.error, lzma.LZMAError, gzip.BadGzipFile)
 if zstd:
-    OPENERS[ZSTANDARD] = zstd.open
     DAMAGES += (zstd.ZstdError,)
 PACKETS = (b"\xd4\xc3\xb2\xa1", b"\xa1\xb2\xc3\xd4", b"\x4d\x3c\xb2\xa1", b"\xa1\xb2\x3c\x4d", b"\x0a\x0d\x0d\x0a")
 CAPTURE, TRAFFIC = b"haboob-capture ", b"haboob-traffic "
 RECORDINGS = (CAPTURE, TRAFFIC)
+
+
+class XzFile:
+    """The bytes that an xz file stands for: what lzma.open gives, which has no limit of memory.
+
+    What follows a stream and is no other one is read over.
+    """
+
+    def __init__(self, raw):
+        self.raw = raw
+        self.stream = self._next_stream()
+
+    @staticmethod
+    def _next_stream():
+        return lzma.LZMADecompressor(lzma.FORMAT_XZ, XZ_MIB << 20)
+
+    def read1(self, count):
+        """Some of the next bytes, at most so many; none at the end."""
+        data = b""
+        while self.stream and not data:
+            packed = b""
+            if self.stream.eof:
+                packed = self._after_stream()
+                self.stream = self._next_stream() if packed.startswith(XZ) else None
+            elif self.stream.needs_input:
+                packed = self.raw.read(XZ_PIECE)
+                if not packed:
+                    raise EOFError("Compressed file ended before the end-of-stream marker was reached")
+            data = self.stream.decompress(packed, count) if self.stream else b""
+        return data
+
+    def _after_stream(self):
+        """What follows a stream and its padding of zeros, or the begin of it."""
+        packed = self.stream.unused_data.lstrip(b"\0")
+        while len(packed) < len(XZ) and (more := self.raw.read(XZ_PIECE)):
+            packed = (packed + more).lstrip(b"\0")
+        return packed
+
+
+OPENERS = {b"\x1f\x8b": gzip.open, b"BZh": bz2.open, XZ: XzFile}
+if zstd:
+    OPENERS[ZSTANDARD] = zstd.open
 
 
 class Input:
@@ -58,6 +101,9 @@ class Input:
         try:
             data = self.file.read1(count)
         except DAMAGES as error:
+            if str(error) == XZ_TAKES_MORE:
+                raise Fault("%s: takes more than %d MiB of memory to be read; give `-` as the input, and pipe from "
+                            "xz -dc" % (self.name, XZ_MIB)) from None
             raise Fault("%s: the compressed file is cut or damaged: %s" % (self.name, error)) from None
         except OSError as error:
             raise Fault("%s: %s" % (self.name, error.strerror or error)) from None

@@ -10,12 +10,13 @@ import pickle
 import signal
 import tempfile
 
-from log_requests import LINE_LIMIT, NEAR, SECOND, Block
+from log_requests import LINE_LIMIT, NEAR, SECOND, Block, runs_of
 from tool_run import Fault
 
 BLOCK_BYTES = 4_194_304
 SIGNALS = (signal.SIGINT, signal.SIGTERM, signal.SIGHUP)
 HELD_BYTES = 67_108_864  # of requests; more are kept in a file without a name until all are there
+HELD_REQUESTS = 50_000  # that are put in order at a time
 
 
 def texts_of(one):
@@ -169,14 +170,10 @@ def spread(requests):
             yield (second + place * SECOND // len(group), *rest)
 
 
-def by_arrival(requests, longest):
-    """Requests by when they came: their times, which rise, less their durations, of which none is above `longest`."""
-    waiting = []
-    for number, (time, duration, *rest) in enumerate(requests):
-        heapq.heappush(waiting, (max(0, time - duration), number, *rest))
-        while waiting and waiting[0][0] <= time - longest:
-            arrival, _, *rest = heapq.heappop(waiting)
-            yield (arrival, 0, *rest)
-    while waiting:
-        arrival, _, *rest = heapq.heappop(waiting)
-        yield (arrival, 0, *rest)
+def by_arrival(requests):
+    """Requests by when they came: their times less their durations. Those of the same arrival stay in their order."""
+    came = ((max(0, time - duration), 0, *rest) for time, duration, *rest in requests)
+    with RequestStore() as store:
+        while part := list(itertools.islice(came, HELD_REQUESTS)):
+            store.add(runs_of(part), len(part))
+        yield from store.requests()

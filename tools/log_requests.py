@@ -57,7 +57,6 @@ class Part:
         self.left_out = collections.Counter()  # by kind
         self.firsts = {}  # the first line of each kind that is left out: file and number
         self.remarks = collections.Counter()
-        self.longest = 0  # the longest duration that isn't taken off yet, in microseconds
         self.requests = []  # time, duration, tier, head
         self.runs = []  # the same by rising time, each run pickled
         self.count = 0  # of the requests
@@ -69,9 +68,14 @@ class Part:
 
     def pack(self):
         """Packs the requests, so that they are quickly sent to another process."""
-        requests, self.requests = sorted(self.requests, key=operator.itemgetter(0)), []
-        self.count = len(requests)
-        self.runs = [pickle.dumps(requests[at:at + RUN_LENGTH]) for at in range(0, len(requests), RUN_LENGTH)]
+        self.count = len(self.requests)
+        self.runs, self.requests = runs_of(self.requests), []
+
+
+def runs_of(requests):
+    """Requests by rising time, those of the same time in their order, in runs that are pickled each."""
+    ordered = sorted(requests, key=operator.itemgetter(0))
+    return [pickle.dumps(ordered[at:at + RUN_LENGTH]) for at in range(0, len(ordered), RUN_LENGTH)]
 
 
 def escaped_byte(found):
@@ -206,7 +210,6 @@ class RequestReader:
         head = self.head_of(values, part)
         if head is None:
             return NO_REQUEST
-        part.longest = max(part.longest, duration)
         client = client_of(values.get("remote_addr") or b"") if self.wants_client else None
         tier = self.tiers and capture_writer.tier_of(self.tiers, client, capture_writer.target_of(head))
         part.requests.append((time, duration, tier or 0, head))

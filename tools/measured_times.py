@@ -18,13 +18,20 @@ LINE_ROOM = 65_536  # bytes; a longer line doesn't fit
 SECOND = 1_000_000  # microseconds
 DIGITS = 15  # of a number of bytes
 SEQUENCES = 2**32
-HEAD_LIMIT = 65_536  # bytes of a head that are waited for
+HEAD_LIMIT = 131_072  # bytes of a head, or of a line among chunks, that are waited for
 HEAD_END = re.compile(rb"\r?\n\r?\n")
+LINE_END = re.compile(rb"\n")
+END_BEGUN = 3  # bytes of such an end that may be there without its last one
+LINE_ENDS = re.compile(rb"[\r\n]*")
+EMPTY_LINES = (b"\n", b"\r\n")
 LENGTH = re.compile(rb"^content-length:[ \t]*([0-9]{1,15})[ \t]*\r?$", re.IGNORECASE | re.MULTILINE)
 CHUNKED = re.compile(rb"^transfer-encoding:.*chunked", re.IGNORECASE | re.MULTILINE)
 CHUNK = re.compile(rb"([0-9A-Fa-f]{1,8})[^\n]*\n")
+ANSWER_BEGIN = b"HTTP/1."
 STATUS = re.compile(rb"HTTP/1\.[01] ([0-9]{3})")
+SWITCHED = 101  # the status after which a connection has another protocol (RFC 9110, 15.2.2)
 LOST = "connections from a lost, cut or odd piece on"
+NO_HTTP = "connections that aren't HTTP, or no longer are (TLS, WebSocket)"
 MIDDLE = "connections whose begin isn't there"
 UNANSWERED = "requests without a whole answer"
 UNFIT = "lines of another format"
@@ -33,12 +40,21 @@ UNFIT = "lines of another format"
 Measured = collections.namedtuple("Measured", "arrival answer method status size")
 
 
+class GivenUp(Exception):
+    """Why a connection is read no further: LOST or NO_HTTP."""
+
+
 class Side:
-    """What one side of a connection sends, in order."""
+    """What one side of a connection sends, in order.
+
+    Nothing is looked at twice: what is waited for is searched from where the last search ended.
+    """
 
     def __init__(self, sequence):
         self.next = sequence % SEQUENCES
-        self.text = b""
+        self.text = bytearray()
+        self.at = 0  # the place in the text up to which it was read
+        self.searched = 0  # the place in it before which nothing ends that is waited for
 
     def take(self, sequence, data):
         """Takes a segment's bytes; tells whether there is no hole before them."""
@@ -52,28 +68,52 @@ class Side:
         self.next = (self.next + len(fresh)) % SEQUENCES
         return True
 
-    def head(self):
-        """The next head, taken away; None where it isn't whole."""
-        found = HEAD_END.search(self.text)
-        if not found:
-            return None
-        head, self.text = self.text[:found.end()], self.text[found.end():]
-        return head
+    def forget(self):
+        """Drops what was read."""
+        del self.text[:self.at]
+        self.at, self.searched = 0, max(0, self.searched - self.at)
+
+    def comes(self, begin):
+        """Whether what comes next begins so, as far as it is there."""
+        return self.text.startswith(begin[:len(self.text) - self.at], self.at)
+
+    def up_to(self, end):
+        """What comes next, up to an end (a pattern) and with it; None where it isn't whole yet."""
+        found = end.search(self.text, max(self.at, self.searched))
+        if found:
+            begin, self.at = self.at, found.end()
+            return self.text[begin:self.at]
+        if len(self.text) - self.at > HEAD_LIMIT:
+            raise GivenUp(NO_HTTP)
+        self.searched = max(0, len(self.text) - END_BEGUN)
+        return None
+
+    def skip(self, count):
+        """Reads over so many bytes, or all where it is None, as far as they are there; tells how many these are."""
+        there = len(self.text) - self.at
+        skipped = there if count is None else min(count, there)
+        self.at += skipped
+        return skipped
+
+    def skip_line_ends(self):
+        """Reads over the ends of lines that come next."""
+        self.at = LINE_ENDS.match(self.text, self.at).end()
 
 
 class Body:
     """What is still to come of a body."""
 
     def __init__(self, length, is_chunked=False):
-        self.left = length  # bytes; None: up to the connection's end
+        self.left = length  # bytes, of a chunk in a body of chunks; None: up to the connection's end
         self.is_chunked = is_chunked
+        self.is_trailer = False  # whether the last chunk's line was read
         self.size = 0  # bytes that came
 
     def take(self, side):
-        """Takes away what has come; tells whether that was all."""
+        """Reads over what has come; tells whether that was all."""
         while True:
-            count = len(side.text) if self.left is None else min(self.left, len(side.text))
-            side.text, self.size = side.text[count:], self.size + count
+            count = side.skip(self.left)
+            self.size += count
             self.left = None if self.left is None else self.left - count
             if self.left or self.left is None:
                 return False
@@ -83,19 +123,23 @@ class Body:
                 return False
 
     def next_chunk(self, side):
-        """Reads the line of the next chunk; tells whether there is something to go on with."""
-        begin = side.text.lstrip(b"\r\n")
-        found = CHUNK.match(begin)
-        if not found:
-            return False
-        size = int(found[1], 16)
-        if size == 0:
-            end = HEAD_END.search(begin, found.end() - 2)
-            if not end:
+        """Reads the line of the next chunk, and after the last one the trailer; tells whether there is something to go
+        on with."""
+        if not self.is_trailer:
+            side.skip_line_ends()
+            line = side.up_to(LINE_END)
+            if line is None:
                 return False
-            side.text, self.is_chunked = begin[end.end():], False
-            return True
-        side.text, self.left = begin[found.end():], size
+            found = CHUNK.match(line)
+            if not found:
+                raise GivenUp(NO_HTTP)
+            self.left = int(found[1], 16)
+            self.is_trailer = self.left == 0
+        while self.is_trailer and self.is_chunked:
+            line = side.up_to(LINE_END)
+            if line is None:
+                return False
+            self.is_chunked = line not in EMPTY_LINES
         return True
 
 
@@ -113,8 +157,10 @@ class Exchange:
         while True:
             if self.request_body and not self.end_request(time):
                 return
-            self.client.text = self.client.text.lstrip(b"\r\n")
-            head = self.client.head()
+            self.client.skip_line_ends()
+            if self.client.text.startswith(capture_from_pcap.TLS_BEGIN, self.client.at):
+                raise GivenUp(NO_HTTP)
+            head = self.client.up_to(HEAD_END)
             if head is None:
                 return
             length = LENGTH.search(head)
@@ -145,13 +191,17 @@ class Exchange:
     def begin_answer(self):
         """Reads the next answer's head; tells whether it is there. Interim answers are read over."""
         while True:
-            head = self.server.head()
+            if not self.server.comes(ANSWER_BEGIN):
+                raise GivenUp(NO_HTTP)
+            head = self.server.up_to(HEAD_END)
             if head is None:
                 return False
             found = STATUS.match(head)
             if not found or not self.waiting:
-                raise ValueError
+                raise GivenUp(LOST)
             self.status = int(found[1])
+            if self.status == SWITCHED:
+                raise GivenUp(NO_HTTP)
             if self.status >= 200:
                 break
         length = LENGTH.search(head)
@@ -188,10 +238,14 @@ class Connections:
         self.left_out[MIDDLE] += key not in self.open and bool(segment.data)
         if exchange is None:
             self.open.setdefault(key, None)
-        elif not self.is_whole(exchange.client, segment) or len(exchange.client.text) > 2 * HEAD_LIMIT:
-            self.lose(key)
+        elif not self.is_whole(exchange.client, segment):
+            self.lose(key, LOST)
         else:
-            exchange.from_client(time)
+            try:
+                exchange.from_client(time)
+                exchange.client.forget()
+            except GivenUp as reason:
+                self.lose(key, str(reason))
 
     def take_answer(self, time, key, segment):
         """Takes a server's segment."""
@@ -202,20 +256,21 @@ class Connections:
             exchange.server = Side(segment.sequence + 1)
             return
         if exchange.server is None or not self.is_whole(exchange.server, segment):
-            self.lose(key)
+            self.lose(key, LOST)
             return
         try:
             yield from exchange.from_server(time, bool(segment.flags & (dpkt.tcp.TH_FIN | dpkt.tcp.TH_RST)))
-        except ValueError:
-            self.lose(key)
+            exchange.server.forget()
+        except GivenUp as reason:
+            self.lose(key, str(reason))
 
     def is_whole(self, side, segment):
         """Takes a segment's bytes; tells whether none are missing before or in it."""
         return not segment.cut and side.take(segment.sequence, segment.data)
 
-    def lose(self, key):
-        """Gives a connection up."""
-        self.left_out[LOST] += 1
+    def lose(self, key, reason):
+        """Gives a connection up; counts it by a reason."""
+        self.left_out[reason] += 1
         self.open[key] = None
 
     def count_unanswered(self):
@@ -226,7 +281,7 @@ class Connections:
 def of_packets(one, ports):
     """What was measured in an input of packets, and counts of what was left out."""
     connections, measured = Connections(ports), []
-    for packet in packet_files.packets(one, capture_from_pcap.check_link):
+    for packet in packet_files.packets(one, capture_from_pcap.check_link, connections.left_out):
         segment = capture_from_pcap.segment_of(packet, connections.left_out)
         if segment is not None:
             measured += connections.take(packet.time, segment)

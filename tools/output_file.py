@@ -80,10 +80,10 @@ def replacing(path):
         return
     target = os.path.realpath(path)
     part = os.path.join(os.path.dirname(target), ".haboob-%s.part" % secrets.token_hex(8))
-    with _named(path):
-        older = _status_of(target)
-        raw = _Named(part, "x", path)
     try:
+        with _named(path):
+            older = _status_of(target)
+            raw = _Named(part, "x", path)
         with io.BufferedWriter(raw) as file:
             yield file
             with _named(path):

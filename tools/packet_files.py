@@ -23,6 +23,8 @@ BLOCKS = {  # those of a pcapng that are read, by kind and order of bytes
     (6, "<"): dpkt.pcapng.EnhancedPacketBlockLE, (6, ">"): dpkt.pcapng.EnhancedPacketBlock,
 }
 INTERFACE = 1
+SIMPLE = 3  # a packet without a time and an interface
+TIMELESS = "packets without a time in Simple Packet Blocks"
 LITTLE = (dpkt.pcap.PMUDPCT_MAGIC, dpkt.pcap.PMUDPCT_MAGIC_NANO, dpkt.pcap.PACPDOM_MAGIC)
 NANOSECONDS = (dpkt.pcap.TCPDUMP_MAGIC_NANO, dpkt.pcap.PMUDPCT_MAGIC_NANO)
 BROKEN = (dpkt.Error, struct.error, ValueError, IndexError, OverflowError)
@@ -48,7 +50,7 @@ class PacketFile:
         return data
 
 
-def pcap_packets(file, check_link):
+def pcap_packets(file, check_link, _left_out):
     """The packets of a pcap."""
     text = file.read(dpkt.pcap.FileHdr.__hdr_len__)
     head = dpkt.pcap.FileHdr(text)
@@ -74,7 +76,7 @@ def interface_of(block, order):
     return Interface(block.linktype, ticks, offset)
 
 
-def pcapng_packets(file, check_link):
+def pcapng_packets(file, check_link, left_out):
     """The packets of a pcapng: those of all its interfaces, each by its own clock and kind of link."""
     interfaces, order = [], None
     while head := file.read(8):
@@ -84,6 +86,7 @@ def pcapng_packets(file, check_link):
         kind, length = struct.unpack(order + "II", head[:8])
         text = head + file.read(length - len(head))
         block = BLOCKS[kind, order](text) if (kind, order) in BLOCKS else None
+        left_out[TIMELESS] += kind == SIMPLE
         if kind == INTERFACE:
             interfaces.append(interface_of(block, order))
         elif block is not None:
@@ -93,15 +96,16 @@ def pcapng_packets(file, check_link):
             yield Packet(since + offset * capture_writer.TICKS_IN_SECOND, link, block.pkt_data, block.pkt_len)
 
 
-def packets(one, check_link):
+def packets(one, check_link, left_out):
     """The packets of an input; raises Fault where it is neither pcap nor pcapng, cut, or broken.
 
-    `check_link` is given the number of each kind of link, and raises Fault where it isn't known.
+    `check_link` is given the number of each kind of link, and raises Fault where it isn't known. Packets without a time
+    are counted in `left_out`.
     """
     file = PacketFile(one)
     read = pcapng_packets if one.first.startswith(PCAPNG_BEGIN) else pcap_packets
     try:
-        yield from read(file, check_link)
+        yield from read(file, check_link, left_out)
     except KeyError:
         raise Fault("no pcap and no pcapng") from None
     except BROKEN:

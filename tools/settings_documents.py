@@ -13,7 +13,14 @@ RATES = ("rate", "rate_min", "rate_max", "up")  # in thousandths a second
 FIXED_RATE = "fixed_rate"  # this project's tools' own word: rate, rate_min and rate_max alike
 RATES_OF_FIXED = ("rate_min", "rate", "rate_max")
 ROUTE = "route"  # the name of the list of routes
+SERVERS = "costs.servers"  # the key that says how many work side by side
 NAME = re.compile(r"[A-Za-z0-9_-]+")
+# The least and the greatest value of the keys for which a tool finds values (docs/FORMATS.md, Settings).
+RANGES = {
+    "costs.file": (1, 1_000_000), "costs.kib": (0, 1_000_000), "costs.error": (1, 1_000_000),
+    "costs.servers": (1, 1_024), "costs.delay": (0, 1_000_000_000),
+    "route.cost": (1, 1_000_000_000), "route.kib": (0, 1_000_000),
+}
 
 Policy = collections.namedtuple("Policy", "rate rate_min rate_max depth")
 
@@ -91,6 +98,13 @@ def refuse_unknown(key, known, where=""):
         raise Fault("%s%s: no such key%s" % (where, key, "; the nearest is %s" % near[0] if near else ""))
 
 
+def refuse_outside(key, value):
+    """Refuses a value that the program doesn't take for a key."""
+    least, greatest = RANGES[key]
+    if not least <= value <= greatest:
+        raise Fault("%s would be %.0f, and the program takes %d to %d" % (key, value, least, greatest))
+
+
 def is_rate(key):
     """Whether a key's values are thousandths a second."""
     return key.partition(".")[2] in (*RATES, FIXED_RATE)
@@ -104,6 +118,12 @@ def shown(key, value):
 def titled(key):
     """A key with the unit in which `shown` shows its values."""
     return key + ", requests a second" if is_rate(key) else key
+
+
+def servers_of(tables):
+    """How many servers there are by a document's tables; one where they don't say."""
+    table, _, name = SERVERS.partition(".")
+    return tables.get(table, {}).get(name, 1)
 
 
 def policy_of(tier, tables, defaults):

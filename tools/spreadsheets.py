@@ -3,7 +3,8 @@ import csv
 
 import standard_output
 
-FORMULA_BEGINS = ("=", "+", "-", "@", "\t", "\r")  # by which a spreadsheet tells a formula, or leaves the cell
+# By which a spreadsheet tells a formula, also by the full-width forms of the four signs, or leaves the cell.
+FORMULA_BEGINS = ("=", "+", "-", "@", "\uff1d", "\uff0b", "\uff0d", "\uff20", "\t", "\r")
 OTHER_SEPARATORS = frozenset(";\t")  # at which spreadsheets of some countries begin a cell, where no quotes stand
 
 

@@ -390,11 +390,12 @@ def as_they_end(futures, bar):
 class Sweep:
     """Runs combinations, and keeps their results in a folder."""
 
-    def __init__(self, options, runner, base):
+    def __init__(self, options, runner, base, servers):
         self.options = options
         self.runner = runner
         self.base = base
         self.keys = [one.key for one in options.grid]
+        self.servers = servers  # those of all combinations, where no key says how many
         self.folder = pathlib.Path(options.output)
         self.results = Results(self.folder / "results", runner)
         self.begin = None  # the function that begins a run; None before the first
@@ -413,9 +414,10 @@ class Sweep:
         if missing:
             self.begin = self.begin or resources.enter_context(self.runner.beginner())
             self.run(missing)
+        servers = [dict(zip(self.keys, point)).get(settings_documents.SERVERS, self.servers) for point in points]
         return [Combination(0, tuple(point), str(path.relative_to(self.folder)),
-                            [self.results.read(text, place) for place in places])
-                for point, path, text in zip(points, paths, texts)]
+                            [sweep_figures.of_servers(self.results.read(text, place), count) for place in places])
+                for point, path, text, count in zip(points, paths, texts, servers)]
 
     def run(self, runs):
         """Runs settings, each given by file, text and capture, and keeps each result once it is there."""
@@ -481,8 +483,7 @@ def print_chosen(options, chosen, defaults):
     values = ", ".join("%s %s" % (settings_documents.titled(one.key), settings_documents.shown(one.key, value))
                        for one, value in zip(options.grid, chosen.values))
     lines = [
-        "# row %d: %s: %.2f%% turned away, p99 %s" % (
-            chosen.row, values, chosen.figures["turned_away"], sweep_figures.milliseconds(chosen.figures["p99"])),
+        "# row %d: %s: %s" % (chosen.row, values, sweep_figures.choice_in_words(chosen.figures, options.limits)),
         "# the settings, which stand in %s:" % path, text, *server_lines.lines_of(policies)]
     standard_output.write("\n".join(lines) + "\n")
 
@@ -497,9 +498,11 @@ def sweep(options):
         for name in ("settings", "results"):
             (folder / name).mkdir(parents=True, exist_ok=True)
         output_file.refuse_same([folder / "sweep.csv", folder / "sweep.html"], inputs_of(options))
-        sweep_of = Sweep(options, runner, base)
+        sweep_of = Sweep(options, runner, base, settings_documents.servers_of(base))
         combinations = tried(options, sweep_of, resources)
     tool_run.say("%s: %d combinations, %d of them taken from before" % (TOOL, len(combinations), sweep_of.taken))
+    if all("fault" in one.figures for one in combinations):
+        raise Fault("every combination is refused (the first: %s)" % combinations[0].figures["fault"])
     rows, unbeaten, chosen = write_outputs(options, combinations)
     faults = [row.figures["fault"] for row in rows if "fault" in row.figures]
     refused = ", %d refused (the first: %s)" % (len(faults), faults[0]) if faults else ""

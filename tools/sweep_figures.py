@@ -9,6 +9,7 @@ OF_TIER = ("turned_away", "rejected", "rejected_while_idle", "p50", "p90", "p99"
 LIMITED = (*OF_TIER, "most_inside", "busy_share")
 COLUMNS_OF_TIER = ("admitted", *OF_TIER)
 IN_RESULT = (*COUNTED, "most_inside", "busy", "span")
+TIMES = ("p50", "p90", "p99", "greatest")
 TICKS_IN_MILLISECOND = 1000
 FAR = 1_000_000.0  # the cost of what the program refuses
 MOST_COUNTED = 10**18  # beyond what a table of decisions can tell
@@ -17,10 +18,10 @@ DEFINITIONS = (
     ("turned away", "the rejected requests, in percent of those that were offered (all but the bypassed ones)"),
     ("p50, p90, p99", "percentiles of the response times of the admitted requests, as in the report"),
     ("greatest", "the longest response time of an admitted request"),
-    ("while idle", "the requests that were turned away while the virtual server was idle"),
+    ("while idle", "the requests that were turned away while a virtual server was idle"),
     ("most inside", "the most requests that were admitted and not yet answered"),
-    ("busy", "for how long the virtual server worked, as a part of the time from the first request to the end of "
-             "the last service"),
+    ("busy", "the part of their time for which the virtual servers worked, from the first request to the end of the "
+             "last service"),
     ("unbeaten", "no other combination turns no more away and has no greater p99, with one of both less"),
 )
 
@@ -61,10 +62,15 @@ def share_of(result):
     return 100 * result["rejected"] / offered if offered else 0.0
 
 
+def of_servers(result, servers):
+    """A result with the number of servers by its settings, which its work is shared among; a fault has none."""
+    return result if "fault" in result else {**result, "servers": servers}
+
+
 def with_shares(result):
     """The figures of a result, with its shares."""
     tiers = {number: {**tier, "turned_away": share_of(tier)} for number, tier in result["tiers"].items()}
-    busy = result["busy"] / result["span"] if result["span"] else None
+    busy = result["busy"] / (result["span"] * result["servers"]) if result["span"] else None
     return {**result, "turned_away": share_of(result), "busy_share": busy, "tiers": tiers}
 
 
@@ -202,3 +208,19 @@ def table_of(keys, captures, combinations, unbeaten, chosen):
 def milliseconds(ticks):
     """A time for people."""
     return "-" if ticks is None else "%.3f ms" % (ticks / TICKS_IN_MILLISECOND)
+
+
+def in_words(name, value):
+    """A figure for people, by its name without the tier."""
+    if name in TIMES:
+        return milliseconds(value)
+    return ("%.2f%%" if name == "turned_away" else "%.3f" if name == "busy_share" else "%d") % value
+
+
+def choice_in_words(figures, limits):
+    """What a combination was chosen by: requests turned away, each figure that has a limit, and p99 where none of these
+    is a time."""
+    told = {one.name: in_words(one.figure, limited(figures, one)) for one in limits if one.name != "turned_away"}
+    if not any(one.figure in TIMES for one in limits):
+        told["p99"] = milliseconds(figures["p99"])
+    return ", ".join(["%.2f%% turned away" % figures["turned_away"], *("%s %s" % pair for pair in told.items())])

@@ -6,12 +6,11 @@ import statistics
 import pages
 import settings_documents
 from pages import pyplot, ticker
-from sweep_figures import ANY, DEFINITIONS, TICKS_IN_MILLISECOND, comparable, several_tiers, worst
+from sweep_figures import ANY, DEFINITIONS, TICKS_IN_MILLISECOND, TIMES, comparable, several_tiers, worst
 
 MOST_LABELS = 3  # rows that are named beside one mark
 MOST_FAULTS = 10  # that the page lists
 WIDE = 24  # characters of values beside one another under a picture
-TIMES = ("p50", "p90", "p99", "greatest")
 FACTOR = 1.7  # by which an axis of times goes beyond the least and the greatest at least
 
 

@@ -16,6 +16,7 @@ import pathlib
 import random
 import re
 import socket
+import subprocess
 import sys
 import tempfile
 import tomllib
@@ -29,6 +30,7 @@ import cost_fit
 import dpkt
 import measured_times
 import numpy
+import settings_documents
 import tool_run
 
 MUTATIONS = int(os.environ.get("MUTATIONS", 60))
@@ -37,7 +39,11 @@ START = 1_700_000_000  # seconds since 1970
 SECOND = 1_000_000
 COUNT = 2_400
 PIECE = 30_000  # bytes of a packet
+SEGMENT = 1_448  # bytes of a packet as Ethernet mostly has it
+MIB = 1_048_576
 ANSWERS = {"head": ("HEAD", 200), "same": ("GET", 304), "missing": ("GET", 404)}  # of others a GET's 200
+PROGRAM = TOOLS.parent / "crates" / "haboob" / "out" / "haboob"
+FORMATS = TOOLS.parent / "docs" / "FORMATS.md"
 
 Answer = collections.namedtuple("Answer", "arrival end method status size")
 
@@ -121,6 +127,34 @@ def pcap_of(packets):
     return file.getvalue()
 
 
+def values_of(text):
+    """The values of a document of settings, of its costs and its routes, by their keys."""
+    tables = tomllib.loads(text)
+    parts = [("costs", tables.get("costs", {})), *(("route", route) for route in tables.get("route", []))]
+    return {"%s.%s" % (table, key): value for table, entries in parts for key, value in entries.items()}
+
+
+class Counted:
+    """A pattern that counts the bytes that it is given to look at, and fails where they are more than so many."""
+
+    def __init__(self, pattern, most):
+        self.pattern, self.left = pattern, most
+
+    def search(self, text, place=0):
+        found = self.pattern.search(text, place)
+        self.count((found.end() if found else len(text)) - place)
+        return found
+
+    def match(self, text):
+        self.count(len(text))
+        return self.pattern.match(text)
+
+    def count(self, looked_at):
+        self.left -= looked_at
+        if self.left < 0:
+            raise AssertionError("bytes are looked at again and again")
+
+
 class Base(unittest.TestCase):
     def setUp(self):
         folder = tempfile.TemporaryDirectory()
@@ -147,7 +181,12 @@ class Base(unittest.TestCase):
         """What a run prints, and the costs that it writes."""
         status, output, errors = self.run_on(data, *words)
         self.assertEqual((status, errors), (0, ""))
-        return output, tomllib.loads(self.output.read_text())["costs"]
+        values = values_of(self.output.read_text())
+        if PROGRAM.exists():
+            ran = subprocess.run([PROGRAM, "settings", "--settings", self.output], capture_output=True, timeout=60)
+            self.assertEqual((ran.returncode, ran.stderr), (0, b""))
+            self.assertLessEqual(values.items(), values_of(ran.stdout.decode()).items())
+        return output, {key.partition(".")[2]: value for key, value in values.items()}
 
     def best(self, output):
         """The best fit by what was printed: servers, delay, costs."""
@@ -245,6 +284,50 @@ class Fits(Base):
         self.assertEqual(self.calibrated(data)[0], self.calibrated(data)[0])
 
 
+class Limits(Base):
+    """What is written is what the program takes."""
+
+    def test_ranges(self):
+        """As docs/FORMATS.md has them."""
+        rows = re.findall(r"^\| ([a-z.]+) \|[^|]*\| ([0-9,]+) to ([0-9,]+) \|", FORMATS.read_text(), re.MULTILINE)
+        ranges = {(key if "." in key else "route." + key): tuple(int(end.replace(",", "")) for end in ends)
+                  for key, *ends in rows}
+        for key, ends in settings_documents.RANGES.items():
+            self.assertEqual(ends, ranges[key], key)
+
+    def test_longer_than_a_second(self):
+        """A server that works for two seconds on each answer, and for a hundredth on each KiB of a file."""
+        simulation = simulated(11, 1, (2_000_000, 10_000, 2_000_000), 0, 5_000_000, 600)
+        output, costs = self.calibrated(log_of(simulation), "--page", str(self.page))
+        self.assertEqual(list(costs), ["prefix", "cost", "kib"])
+        self.assertEqual(costs["prefix"], "/")
+        self.check_near([costs["cost"], costs["kib"]], [2_000_000, 10_000], 5)
+        self.assertLessEqual(max(map(abs, self.held_out(output))), 5)
+        self.assertIn("best: 1 server, no delay: cost %d, kib %d microseconds" % (costs["cost"], costs["kib"]), output)
+        self.assertIn("the settings have a route for all paths, with one cost for any answer\n", output)
+        self.assertIn("cost %d" % costs["cost"], self.page.read_text())
+
+    def test_longer_than_a_second_and_servers(self):
+        """What isn't of the route stands beside it."""
+        simulation = simulated(12, 4, (3_000_000, 0, 3_000_000), 700_000, 1_300_000, 600)
+        output, costs = self.calibrated(log_of([one._replace(method="HEAD") for one in simulation]))
+        self.assertEqual(list(costs), ["servers", "delay", "prefix", "cost"])
+        self.assertEqual(costs["servers"], 4)
+        self.check_near([costs["cost"], costs["delay"]], [3_000_000, 700_000], 10)
+
+    def test_beyond_all_ranges(self):
+        """Durations that are too long by 10,000,000,000 seconds, and a server that works for 2,000 seconds."""
+        sound = [one._replace(method="HEAD", status=200) for one in simulated(1, 1, (3000, 0, 3000), 0, 8_000, 400)]
+        late = [one._replace(end=one.end + 10**16) for one in sound]
+        slow = [one._replace(arrival=10**6 * one.arrival, end=10**6 * one.end) for one in sound]
+        for answers, key, greatest in ((late, "costs.delay", 10**9), (slow, "route.cost", 10**9)):
+            status, output, errors = self.run_on(log_of(answers), "--page", str(self.page))
+            self.assertEqual((status, output), (1, ""))
+            self.assertRegex(errors, r"^calibrate: input: %s would be [0-9]+, and the program takes [01] to %d; "
+                             r"look for wrong times in it\n$" % (key, greatest))
+            self.assertEqual(os.listdir(self.folder), ["input"])
+
+
 class Warnings(Base):
     def test_overloaded(self):
         """Twice as many come as the server can answer."""
@@ -333,6 +416,59 @@ class Readers(unittest.TestCase):
                 self.data(60, False, 1 + cut, answer[cut:]))
             self.assertEqual(self.times(measured), [(10, 60, "GET", 200, 13)], cut)
 
+    def test_trailer(self):
+        """The bytes come one by one: chunks with a trailer, whose last byte counts, and then an answer without a body.
+        """
+        answers = (b"HTTP/1.1 200 OK\r\nTransfer-Encoding: chunked\r\n\r\n3\r\nabc\r\n0\r\nA: b\r\nC: d\r\n\r\n"
+                   b"HTTP/1.1 404 No\r\nContent-Length: 0\r\n\r\n")
+        request = b"GET / HTTP/1.1\r\n\r\n"
+        measured, left_out = self.measured(
+            *self.opened(), self.data(10, True, 1, 2 * request),
+            *(self.data(100 + place, False, 1 + place, answers[place:place + 1]) for place in range(len(answers))))
+        first, last = answers.index(b"HTTP/1.1 404") - 1, len(answers) - 1
+        self.assertEqual(self.times(measured), [(10, 100 + first, "GET", 200, 3), (10, 100 + last, "GET", 404, 0)])
+        self.assertEqual(+left_out, {})
+
+    def exchanged(self, client, server, size=SEGMENT):
+        """What was measured, and counts of what was left out, where a client sends bytes and a server others, in
+        segments of a size; fails where more than five times as many are looked at."""
+        packets = [self.data(10 if from_client else 20, from_client, 1 + place, data[place:place + size])
+                   for from_client, data in ((True, client), (False, server)) for place in range(0, len(data), size)]
+        with contextlib.ExitStack() as patches:
+            for name in ("HEAD_END", "CHUNK"):
+                counted = Counted(getattr(measured_times, name), 5 * (len(client) + len(server)))
+                patches.enter_context(unittest.mock.patch.object(measured_times, name, counted))
+            measured, left_out = self.measured(*self.opened(), *packets)
+        return self.times(measured), +left_out
+
+    def test_no_http(self):
+        """What is no HTTP, or none from a place on, is given up, however much comes."""
+        get, ok, more = b"GET / HTTP/1.1\r\n\r\n", b"HTTP/1.1 200 OK\r\n", bytes(range(14, 256)) * 2_000
+        most = more * (8 * MIB // len(more) + 1)
+        chunks = ok + b"Transfer-Encoding: chunked\r\n\r\n"
+        hello = b"\x16\x03\x01\x02\x00\x01\x00\x01\xfc\x03\x03"
+        switched = b"HTTP/1.1 101 Switching Protocols\r\nUpgrade: websocket\r\nConnection: Upgrade\r\n\r\n"
+        for name, client, server in (
+                ("a server's bytes", get, most), ("a head without an end", get, ok + b"A: " + more),
+                ("a line of a chunk without an end", get, chunks + b"5;" + more), ("no chunk", get, chunks + b"x\r\n"),
+                ("a line of a trailer without an end", get, chunks + b"0\r\nA: " + more),
+                ("a client's bytes", more, b""), ("WebSocket", get, switched + most),
+                ("WebSocket with an empty line", get, switched + b"\x82\x04\r\n\r\n"),
+                ("a TLS hello", hello + more[:300], b""), ("a TLS hello, and an answer", hello, hello + more),
+                ("an answer to a TLS hello with an empty line", hello + b"\n\n", hello + more)):
+            with self.subTest(name):
+                self.assertEqual(self.exchanged(client, server), ([], {measured_times.NO_HTTP: 1}))
+        both = self.exchanged(2 * get, ok + b"Content-Length: 2\r\n\r\nhi" + switched + more)
+        self.assertEqual(both, ([(10, 20, "GET", 200, 2)], {measured_times.NO_HTTP: 1}))
+
+    def test_work_grows_with_the_bytes(self):
+        """A head that comes byte by byte, and a body in chunks of one byte, are looked at once."""
+        get, ok = b"GET / HTTP/1.1\r\n\r\n", b"HTTP/1.1 200 OK\r\n"
+        answer = ok + b"A: %b\r\nContent-Length: 0\r\n\r\n" % (5000 * b"x")
+        self.assertEqual(self.exchanged(get, answer, 1), ([(10, 20, "GET", 200, 0)], {}))
+        chunks = ok + b"Transfer-Encoding: chunked\r\n\r\n" + 20_000 * b"1\r\nx\r\n" + b"0\r\n\r\n"
+        self.assertEqual(self.exchanged(get, chunks, 60_000), ([(10, 20, "GET", 200, 20_000)], {}))
+
     def test_until_end(self):
         """An answer without a length ends with the connection."""
         measured, _ = self.measured(
@@ -399,6 +535,9 @@ class Faults(Base):
         packets = pcap_of(packets_of(simulated(4, 1, (3000, 40, 800), 0, 8_000, 20)))
         self.check(packets, 2, "input: these are packets: --port says which is the server's")
         self.check(packets[:-5], 1, "input: cut at byte %d" % (len(packets) - 5), "--port", "80")
+        hello = pcap_of([packet(0, True, 9, 0, dpkt.tcp.TH_SYN), packet(1, True, 9, 1, 0, b"\x16\x03\x01")])
+        self.check(hello, 1, "input: 0 %s; left out: 1 connections that aren't HTTP, or no longer are (TLS, WebSocket)"
+                   % few, "--port", "80")
         self.check(log, 2, "input: --log-format: needs $request_time (Apache: %D)", "--log-format",
                    '"$request" $status $body_bytes_sent $msec')
         self.check(log, 2, "input: --log-format: needs $msec (Apache: %{end:usec}t), $body_bytes_sent",

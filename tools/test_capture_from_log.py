@@ -14,18 +14,23 @@ import gzip
 import json
 import lzma
 import os
+import random
 import re
 import signal
+import struct
 import subprocess
 import time
+import tracemalloc
 import unittest
 import unittest.mock
+import zlib
 
 import test_support
 from test_support import DATA, GET, SERVED, START, TOOLS, capture, read_capture, requests_in, sent_requests, traffic
 
 import capture_from_log
 import capture_writer
+import input_files
 import log_blocks
 import log_requests
 
@@ -149,6 +154,25 @@ class Logs(test_support.ToolTest):
         ticks = [0, 4_500_000, 5_000_000, 5_750_000]
         self.assertEqual(text, capture(*((tick, number, GET) for number, tick in enumerate(ticks)), start=START + 4))
         self.assertIn("whole seconds", said)
+
+    def test_arrivals_are_put_in_order(self):
+        """Those of the same microsecond stay in the order of the log."""
+        drawn = random.Random(1)
+        requests = [(time, drawn.choice((0, 1, 2, drawn.randrange(400))), 0, b"%d" % time) for time in range(300)]
+        arrivals = [max(0, time - duration) for time, duration, _, _ in requests]
+        expected = [(arrivals[place], 0, 0, b"%d" % place) for place in sorted(range(300), key=lambda it: arrivals[it])]
+        for held in (1, 7, 299, 300, 1000):
+            with unittest.mock.patch.object(log_blocks, "HELD_REQUESTS", held):
+                self.assertEqual(list(log_blocks.by_arrival(iter(requests))), expected)
+
+    def test_memory_of_a_long_duration(self):
+        """One request that takes nearly a day doesn't keep the others of the day in memory."""
+        day = ((second * 10**6, 80_000 * 10**6 * (second == 79_999), 0, b"%0200d" % second) for second in range(80_000))
+        with unittest.mock.patch.multiple(log_blocks, HELD_REQUESTS=8000, HELD_BYTES=10**6):
+            tracemalloc.start()
+            self.addCleanup(tracemalloc.stop)
+            self.assertEqual(sum(1 for _ in log_blocks.by_arrival(day)), 80_000)
+        self.assertLess(tracemalloc.get_traced_memory()[1], 80_000 * 200 // 2)
 
     def test_a_begin_is_no_answer(self):
         # Apache's times are those of the requests: nothing is taken off.
@@ -463,6 +487,46 @@ class Served(test_support.ToolTest):
                 self.assertRegex(said, "^capture_from_log: .*input: .*\n$")
         _, said = self.run_tool(capture_from_log, [], b"\x28\xb5\x2f\xfd" + bytes(20), 1)
         self.assertIn("zstd -dc", said)
+
+    @staticmethod
+    def with_dictionary(packed, code):
+        """An xz file of one stream with another size of its dictionary: 2^(code / 2 + 12) bytes, for an even code (The
+        .xz File Format, 3.1 and 5.3.1)."""
+        header = bytearray(packed[12:24])
+        assert header[:4] == b"\x02\x00\x21\x01", header
+        header[4] = code
+        header[8:] = struct.pack("<I", zlib.crc32(header[:8]))
+        return packed[:12] + bytes(header) + packed[24:]
+
+    def test_memory_of_xz(self):
+        with open(os.path.join(SERVED, "nginx_timed.log"), "rb") as file:
+            text = file.read()
+        one, two = (lzma.compress(part) for part in (text[:5000], text[5000:]))
+        self.assertEqual(self.convert(self.with_dictionary(one, 28) + two), self.convert(text))  # 64 MiB, as xz -9
+        for packed in (self.with_dictionary(one, 36), one + self.with_dictionary(two, 36)):  # 1 GiB
+            _, said = self.run_tool(capture_from_log, [], packed, 1)
+            self.assertEqual(said, "capture_from_log: %s: takes more than 128 MiB of memory to be read; give `-` as "
+                             "the input, and pipe from xz -dc\n" % self.input)
+
+    def test_streams_of_xz(self):
+        """Padding is zeros (The .xz File Format, 2.2); what is no stream is read over, as Python does."""
+        with open(os.path.join(SERVED, "nginx_timed.log"), "rb") as file:
+            text = file.read()
+        expected = self.convert(text)
+        one, two = (lzma.compress(part) for part in (text[:5000], text[5000:]))
+        for packed in (one + two, one + bytes(8) + two + bytes(20_000), one + two + b"rest"):
+            self.assertEqual(self.convert(packed), expected)
+
+    def test_memory_of_what_expands(self):
+        """It is read in pieces, however much it becomes."""
+        size = 16 << 20
+        for compress in (gzip.compress, bz2.compress, lzma.compress):
+            path = self.stored(compress(bytes(size)))
+            with input_files.opened([path], lambda count: None) as (one,):
+                tracemalloc.start()
+                self.assertEqual(sum(len(data) for data in iter(lambda: one.read(65_536), b"")), size)
+                self.assertLess(tracemalloc.get_traced_memory()[1], 1 << 20)
+                tracemalloc.stop()
 
     def test_blocks_side_by_side(self):
         names = ("nginx_timed", "nginx_combined", "nginx_json")

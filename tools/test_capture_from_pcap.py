@@ -28,6 +28,7 @@ import capture_writer
 
 SYN, FIN, RST, ACK = 2, 1, 4, 16
 CLIENT, SERVER = (bytes([10, 0, 0, 1]), 4000), (bytes([10, 0, 0, 2]), 80)
+NOTHING = "no request is to be taken"
 CLIENT6, SERVER6 = (bytes(15) + b"\x01", 4000), (bytes(15) + b"\x02", 80)
 
 
@@ -398,6 +399,42 @@ class Packets(test_support.ToolTest):
                 _, line = self.convert(data, *words, status=1)
                 self.assertTrue(line.endswith(said), line)
                 self.assertEqual(line.count("\n"), 1)
+
+    def test_nothing_to_take(self):
+        """The older capture stands (run_tool sees to that)."""
+        hello = b"\x16\x03\x01\x02\x00\x01"
+        other = (CLIENT[0], 4001)
+        cut = "1 connections ended by packets that were cut when they were recorded"
+        begun = "2 connections whose begin isn't in the file, and of which no packet begins with a request line"
+        tls = [(0, packet(99, b"", SYN)), (1, packet(100, hello)), (2, packet(99, b"", SYN, other)),
+               (3, packet(100, hello, ACK, other))]
+        earlier = [(0, packet(100, b"x")), (1, packet(100, b"y", ACK, other)), (2, packet(101, b"", FIN))]
+        lost = [(0, packet(99, b"", SYN)), (1, packet(100, GET))]
+        for data, words, said in [
+                (pcap(tls), [], NOTHING + " (2 connections of TLS)"),
+                (pcap([(0, packet(99, b"", SYN)), (1, packet(99, b"", SYN, other)), (2, packet(100, b"", FIN))]), [],
+                 NOTHING),
+                (pcap(earlier), [], NOTHING + " (%s)" % begun),
+                (pcap([(0, packet(100, GET)), (10**6, packet(127, GET))]), ["--from", str(START + 1)],
+                 NOTHING + " (1 connections begun before --from)"),
+                (pcap(lost, size=54), [], NOTHING + " (%s); record whole packets: tcpdump -s 0" % cut),
+                (pcap(lost)[:-3], [], "cut at byte %d" % (len(pcap(lost)) - 3))]:
+            for lenient in ([], ["--lenient"]):
+                _, line = self.convert(data, *words, *lenient, status=1)
+                self.assertEqual(line, "capture_from_pcap: %s: %s\n" % (self.input, said))
+
+    def test_packets_without_a_time(self):
+        """Simple Packet Blocks of a pcapng (PCAP Next Generation Capture File Format, 4.4)."""
+        frames = [frame(packet(1, GET)), frame(packet(28, GET))]
+        simple = [block(3, struct.pack("<I", len(data)) + data) for data in frames]
+        timed = pcapng([(0, packet(0, GET, SYN, (CLIENT[0], 4001)))])
+        text, said = self.convert(timed + b"".join(simple))
+        self.assertEqual(text, capture((0, 0, GET)))
+        self.assertEqual(said, "capture_from_pcap: 1 records, 1 connections, 27 bytes; left out: 2 packets without a "
+                         "time in Simple Packet Blocks\n")
+        _, said = self.convert(pcapng([]) + b"".join(simple), status=1)
+        self.assertEqual(said, "capture_from_pcap: %s: no packet to a given port in the given time (2 packets without "
+                         "a time in Simple Packet Blocks)\n" % self.input)
 
     def test_a_syn_again_after_the_end(self):
         first = [(0, packet(99, b"", SYN)), (1, packet(100, GET)), (2, packet(127, b"", FIN))]

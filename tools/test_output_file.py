@@ -12,6 +12,7 @@ import stat
 import subprocess
 import sys
 import tempfile
+import time
 import unittest
 
 TOOLS = os.path.dirname(os.path.abspath(__file__))
@@ -34,6 +35,38 @@ def work():
 sys.exit(tool_run.run("tool", work))
 """ % TOOLS
 
+# Tools that are asked to end while they write, and the Nth of them once more before the Nth line that it runs from then
+# on, up to one that runs no such line. Of each it says the status, and what is in the folder then.
+ASKED_TWICE = """
+import itertools, mmap, os, sys
+sys.path.insert(0, %r)
+import output_file, tool_run
+path, asked, again = sys.argv[1], *map(int, sys.argv[2:])
+is_twice = mmap.mmap(-1, 1)
+def before_line(frame, event, value):
+    global left
+    left -= event == "line"
+    if left == 0:
+        is_twice[0] = 1
+        os.kill(os.getpid(), again)
+    return before_line
+def work():
+    with output_file.replacing(path) as file:
+        file.write(b"new" * 33333)
+        sys.settrace(before_line)
+        os.kill(os.getpid(), asked)
+        sys.stdin.read()
+for left in itertools.count(1):
+    is_twice[0] = 0
+    child = os.fork()
+    if not child:
+        sys.exit(tool_run.run("tool", work))
+    status = os.waitstatus_to_exitcode(os.waitpid(child, 0)[1])
+    print(status, *sorted(os.listdir(os.path.dirname(path))), flush=True)
+    if not is_twice[0]:
+        break
+""" % TOOLS
+
 # A tool that writes to the descriptors of the standard devices while its output is open.
 NOISY_TOOL = """
 import contextlib, os, sys
@@ -51,6 +84,20 @@ sys.exit(tool_run.run("tool", work))
 # The tools, each with a module of Python's library that it reads after some others, and one with a module of Debian's.
 READ_LATE = [("capture_from_log", "ipaddress"), ("capture_from_pcap", "ipaddress"), ("timeline", "tomllib"),
              ("timeline", "matplotlib.pyplot"), ("sweep", "tomllib"), ("calibrate", "ipaddress")]
+# Modules that give Ctrl-C to who reads them, and once more where Python then ends in its own time.
+STUB = """
+import atexit, os, signal, time
+atexit.register(os.kill, os.getpid(), signal.SIGINT)
+os.kill(os.getpid(), signal.SIGINT)
+time.sleep(9)
+"""
+STUB_OF_CLASS = """
+class Part:
+    def __set_name__(self, *_):
+        %s
+class Whole:
+    part = Part()
+""" % STUB.strip().replace("\n", "; ")
 # The tools with words that are right.
 RIGHT_WORDS = {
     "calibrate": ["--output", "a", "b"], "capture_from_log": ["--output", "a", "b"],
@@ -296,6 +343,31 @@ class Ends(OutputTest):
                 self.assertEqual(self.ended(tool), (status, ""))
                 self.expect(b"old")
 
+    def test_two_signals(self):
+        """Who asks a tool to end once more while it ends, before whichever line, changes nothing."""
+        for asked, again in [(signal.SIGINT, signal.SIGINT), (signal.SIGTERM, signal.SIGINT)]:
+            words = [sys.executable, "-c", ASKED_TWICE, self.output, str(int(asked)), str(int(again))]
+            ran = subprocess.run(words, stdin=subprocess.DEVNULL, capture_output=True, timeout=60)
+            self.assertEqual((ran.returncode, ran.stderr), (0, b""))
+            ends = ran.stdout.decode().splitlines()
+            self.assertLessEqual(set(ends), {"%d out" % (128 + asked), "%d out" % (128 + again)})
+            self.assertGreater(len(ends), 20)
+            self.expect(b"old")
+
+    def test_two_signals_at_any_time(self):
+        for place in range(60):
+            asked, again = ((signal.SIGINT, signal.SIGINT), (signal.SIGINT, signal.SIGTERM))[place % 2]
+            tool = self.start()
+            tool.stdout.readline()
+            os.kill(tool.pid, asked)
+            time.sleep(place * 1e-5)
+            os.kill(tool.pid, again)
+            status, said = self.ended(tool)
+            # The last where the second comes when Python itself is as good as gone; a shell tells it as the others.
+            self.assertIn(status, (128 + asked, 128 + again, -again))
+            self.assertEqual(said, "")
+            self.expect(b"old")
+
     def test_a_kill(self):
         tool = self.start()
         tool.stdout.readline()
@@ -343,16 +415,17 @@ class Ends(OutputTest):
         self.expect(b"old")
 
     def test_ctrl_c_while_libraries_are_read(self):
-        """Each tool ends with 130 and without a word where Ctrl-C comes while a module is read."""
-        for tool, module in READ_LATE:
+        """Each tool ends with 130 and without a word where Ctrl-C comes while a module is read, or a class of it made.
+        """
+        for (tool, module), stub in [*((one, STUB) for one in READ_LATE), (READ_LATE[0], STUB_OF_CLASS)]:
             with self.subTest(tool=tool, module=module), tempfile.TemporaryDirectory() as folder:
-                self.put_stub(folder, module)
+                self.put_stub(folder, module, stub)
                 ran = subprocess.run([sys.executable, os.path.join(TOOLS, tool + ".py")], capture_output=True,
                                      env={**os.environ, "PYTHONPATH": folder}, timeout=60)
                 self.assertEqual((ran.returncode, ran.stdout, ran.stderr), (130, b"", b""))
 
     @staticmethod
-    def put_stub(folder, module):
+    def put_stub(folder, module, stub):
         """Puts a module into a folder that gives Ctrl-C to who reads it; one around it has nothing."""
         *around, name = module.split(".")
         for part in around:
@@ -361,7 +434,7 @@ class Ends(OutputTest):
             with open(os.path.join(folder, "__init__.py"), "w", encoding="ascii") as file:
                 file.write("rcParams = {}\ndef use(name): pass\n")
         with open(os.path.join(folder, name + ".py"), "w", encoding="ascii") as file:
-            file.write("import os, signal, time\nos.kill(os.getpid(), signal.SIGINT)\ntime.sleep(9)\n")
+            file.write(stub)
 
     def test_a_fault_is_one_line(self):
         words = [sys.executable, "-c", TOOL, self.path("a\nb\x1b\u202e/c")]

@@ -24,6 +24,7 @@ import time
 import tomllib
 import unittest
 import unittest.mock
+import warnings
 
 TOOLS = pathlib.Path(__file__).resolve().parent
 TOP = TOOLS.parent
@@ -88,6 +89,7 @@ front_cuts = [1, 2, 3]
 
 [costs]
 kib = 10
+servers = 1
 
 [policy]
 every = 100
@@ -229,7 +231,7 @@ class Base(unittest.TestCase):
 def result_of(admitted, rejected, p99, **others):
     """A result of a run, as the tool keeps it."""
     return {"admitted": admitted, "rejected": rejected, "rejected_while_idle": 0, "p50": p99, "p90": p99, "p99": p99,
-            "greatest": p99, "most_inside": 1, "busy": 1, "span": 2, "tiers": {}, **others}
+            "greatest": p99, "most_inside": 1, "busy": 1, "span": 2, "servers": 1, "tiers": {}, **others}
 
 
 class Figures(unittest.TestCase):
@@ -345,9 +347,31 @@ class Sweep(Base):
         self.assertIn("<td>haboob: settings: Range policy.rate</td>", self.folder.page())
 
     def test_all_refused(self):
+        """Nothing can be shown: the first fault, and older outputs stay; so where something is to be chosen, too."""
+        swept(self.folder.words())
         self.draw()
-        status, _ = swept(self.folder.words(grid=("--set", "policy.depth=1", "--set", "policy.rate=98,99")))
-        self.assertEqual((status, self.folder.table().count("Range")), (0, 1))  # the same fault, so one row
+        grid = ("--set", "policy.rate=98,99", "--set", "policy.depth=1")
+        ranges = ("--search", "10", "--set", "policy.rate=98..99", "--set", "policy.depth=1..9")
+        with warnings.catch_warnings():
+            warnings.simplefilter("error")
+            for words in (grid, (*grid, "--at-most", "p99=400"), (*ranges, "--at-most", "p99=400")):
+                self.check(self.folder.words(grid=words), 1, "sweep: every combination is refused (the first: "
+                           "haboob: settings: Range policy.rate)")
+        self.assertEqual(self.folder.table(), TABLE)
+
+    def test_servers(self):
+        """The servers work for 700 of the 4,200 ticks, together: a sixth of one's time, a twelfth of two's, and so on.
+        The settings say how many there are, and a key of the grid in their place."""
+        grid, rest = ("--set", "policy.rate=20", "--set", "policy.depth=3"), ",2,300,400,900,400,"
+        self.folder.settings.write_text("[costs]\nservers = 3\n")
+        for words, shares in (((), ["0.166667"]), (("--settings", str(self.folder.settings)), ["0.055556"]),
+                              (("--set", "costs.servers=1,2,4"), ["0.166667", "0.083333", "0.041667"]),
+                              (("--settings", str(self.folder.settings), "--set", "costs.servers=1,2,4"),
+                               ["0.166667", "0.083333", "0.041667"])):
+            status, errors = swept(self.folder.words(*words, grid=grid))
+            self.assertEqual(status, 0, errors)
+            rows = self.folder.table().splitlines()[1:]
+            self.assertEqual([row.partition(rest)[2][:8] for row in rows], shares, words)
 
     def test_no_request(self):
         self.draw()
@@ -407,6 +431,25 @@ class Choice(Base):
             with self.subTest(words):
                 limits = [word for limit in words for word in ("--at-most", limit)]
                 self.assertEqual(self.chosen(*limits)[1], [row])
+
+    def test_of_servers(self):
+        """The least number of servers that are busy for no more than a tenth of their time."""
+        grid = ("--set", "policy.rate=20", "--set", "policy.depth=3", "--set", "costs.servers=1,2,4")
+        output, rows = self.chosen("--at-most", "busy_share=0.1", grid=grid)
+        self.assertEqual(rows, ["2"])
+        self.assertIn("policy.depth 3, costs.servers 2: 20.00% turned away, busy_share 0.083, p99 0.900 ms\n", output)
+
+    def test_heading(self):
+        """It tells the figures by which the row was chosen: those of a tier, where these have a limit."""
+        for words, line in ((("p99=900",), "20.00% turned away, p99 0.900 ms"),
+                            (("tier0.p99=400",), "20.00% turned away, tier0.p99 0.400 ms"),
+                            (("tier0.p99=400", "p99=400"), "40.00% turned away, tier0.p99 0.400 ms, p99 0.400 ms"),
+                            (("turned_away=25",), "20.00% turned away, p99 0.900 ms"),
+                            (("tier1.turned_away=100",), "20.00% turned away, tier1.turned_away 100.00%, p99 0.900 ms"),
+                            (("most_inside=2",), "20.00% turned away, most_inside 2, p99 0.900 ms")):
+            with self.subTest(words):
+                output, _ = self.chosen(*(word for limit in words for word in ("--at-most", limit)))
+                self.assertIn(": %s\n" % line, output)
 
     def test_none_within(self):
         self.check(self.folder.words("--at-most", "p99=399"), 1,
@@ -634,6 +677,11 @@ class Cells(unittest.TestCase):
         self.assertEqual([spreadsheets.cell(text)
                           for text in ("=1+1", "+a", "-a", "@a", "\ta", "\ra", "a=", "", -1, None)],
                          ["'=1+1", "'+a", "'-a", "'@a", "'\ta", "'\ra", "a=", "", -1, None])
+        # The same signs as full-width ones, which spreadsheets in East Asia take for them too.
+        for sign in ("\N{FULLWIDTH EQUALS SIGN}", "\N{FULLWIDTH PLUS SIGN}", "\N{FULLWIDTH HYPHEN-MINUS}",
+                     "\N{FULLWIDTH COMMERCIAL AT}"):
+            self.assertEqual([spreadsheets.cell(sign + "1"), spreadsheets.cell("1" + sign)],
+                             ["'%s1" % sign, "1" + sign])
 
 
 class Damaged(Base):

@@ -144,6 +144,17 @@ class Figures(Base):
         self.assertEqual(self.rows(HEADING + "".join(texts))[0]["most_inside"], "3")
         self.assertEqual(self.rows(HEADING + "".join(texts[:2]))[0]["most_inside"], "2")
 
+    def test_servers(self):
+        """Two work for 1 and 0.5 of a second: of two servers' time 0.75, of four's 0.375. The settings say how many
+        there are, or the table where they don't, or say fewer."""
+        table = HEADING + admitted(0, 0, 10**6) + admitted(1, 0, 500_000) + admitted(2, 500_000, 1000, 10**6)
+        for text, shares in ((None, ["0.75", "0.0005"]), ("servers = 2", ["0.75", "0.0005"]), ("", ["0.75", "0.0005"]),
+                             ("servers = 4", ["0.375", "0.00025"]), ("servers = 1", ["0.75", "0.0005"])):
+            self.settings.write_text("[costs]\n%s\n" % text)
+            words = () if text is None else ("--settings", str(self.settings))
+            rows = self.rows(table, "--step", "1", *words)
+            self.assertEqual([row["busy_share"] for row in rows], shares, text)
+
     def test_no_message(self):
         status, _, texts = self.run_on(HEADING)
         self.assertEqual((status, texts["seconds"].count("\n")), (0, 1))
@@ -196,8 +207,9 @@ class Page(Base):
         _, _, texts = self.run_on(TABLE)
         page = texts["page"]
         self.assertEqual(page.count("<svg"), 8)
-        self.assertIn("4 offered, 2 admitted, 2 turned away, 1 bypassed, 1 turned away while idle; "
+        self.assertIn("4 offered, 2 admitted, 2 turned away, 1 bypassed, 1 turned away while a server was idle; "
                       "turned away of tier 0 1, tier 1 1.", page)
+        self.assertIn("How busy the server was, percent of the time<", page)
         self.assertIn("<tr><td>1</td><td>1</td><td>100.0</td><td>0</td><td>1</td><td>/&lt;c&gt;</td></tr>", page)
         self.assertNotIn("src=", page)
         self.assertIsNone(re.search('(href|url)="?[(]?https?:', page))
@@ -209,6 +221,13 @@ class Page(Base):
         _, _, texts = self.run_on(HEADING + admitted(0, 0, 100))
         self.assertNotIn("by tier", texts["page"])
         self.assertEqual(texts["page"].count("<svg"), 7)
+
+    def test_servers(self):
+        """Nothing is said of "the server" where there are several."""
+        self.settings.write_text("[costs]\nservers = 4\n")
+        _, _, texts = self.run_on(TABLE, "--settings", str(self.settings))
+        self.assertIn("How busy the servers were, percent of the time of 4<", texts["page"])
+        self.assertNotIn("the server ", texts["page"])
 
     def test_titles(self):
         self.settings.write_text("[policy]\ntarget = 250000\n[tier1]\ntarget = 700000\n")
@@ -239,8 +258,9 @@ class Page(Base):
 
     def test_formulas(self):
         """A target that a spreadsheet would take for a formula has an apostrophe before it; the table escapes it."""
-        sent = ["=cmd|' /C calc'!A0", "+1", "-1", "@SUM(A1)"]
-        told = ["%3Dcmd|'%20/C%20calc'!A0", "%2B1", "%2D1", "%40SUM(A1)"]
+        sent = ["=cmd|' /C calc'!A0", "+1", "-1", "@SUM(A1)", "\uff1d1", "\uff0b1", "\uff0d1", "\uff201"]
+        told = ["%3Dcmd|'%20/C%20calc'!A0", "%2B1", "%2D1", "%40SUM(A1)",
+                "%EF%BC%9D1", "%EF%BC%8B1", "%EF%BC%8D1", "%EF%BC%A01"]
         texts = [rejected(number, 0, target) for number, target in enumerate(told)]
         _, _, texts = self.run_on(HEADING + "".join(texts), "--targets", str(self.targets))
         cells = [row[0] for row in csv.reader(io.StringIO(texts["targets"]))][1:]
@@ -316,6 +336,9 @@ class Faults(Base):
         self.settings.write_text("[policy]\ntarget = 0\n")
         self.check(TABLE, "site.toml: target: not from 1 to 1000000000000 microseconds",
                    "--settings", str(self.settings))
+        for servers in ("0", "1025", "[2]"):
+            self.settings.write_text("[costs]\nservers = %s\n" % servers)
+            self.check(TABLE, "site.toml: costs.servers: not from 1 to 1024 servers", "--settings", str(self.settings))
         self.settings.write_text("a = " + "[" * 5000)
         status, error, texts = self.run_on(TABLE, "--settings", str(self.settings))
         self.assertEqual((status, error.count("\n"), texts), (1, 1, {}))

@@ -43,15 +43,17 @@ ticks at which messages came):
                     depth by
   rate and credit   the last rate in force, with a mark where a control changed it, and the least
                     credit that a request found, of each tier
-  the server        which part of the step it was busy, and how many requests were turned away while
-                    it was idle
+  the servers       what part of their time they worked, and how many requests were turned away while
+                    one of them was idle. They are as many as --settings says (without it one), or as
+                    the table shows at work at once where these are more
 
 and then the targets that were most turned away. They stand as they were sent; where that has escapes,
 what they say stands beside it. A step is the least of 1, 2, 10, 20, 100 milliseconds and so on, up to
 days and more, of which no more than 300 reach over all messages; or what --step says.
 
 --csv writes the same figures as a table, and --targets how often each target was asked for. In tables
-for spreadsheets a text that begins as a formula does (= + - @) has an apostrophe before it.
+for spreadsheets a text that begins as a formula does (= + - @, full-width ones too) has an apostrophe
+before it.
 
 Times are those from the capture's start; with --capture, which is read up to its first line, they are
 times of day (UTC). --from and --to take 90, 1:30 (as above, from the start or of the day), or
@@ -70,6 +72,7 @@ MOST_KEPT = 200_000  # targets that are counted; those beyond are counted as one
 TARGETS_ROOM = 64_000_000  # characters that these have together
 OTHERS = "(all others)"
 DEFAULT_TARGET = 100_000  # microseconds: policy.target where the settings have none
+MOST_SERVERS = 1_024
 LONGEST_SHOWN = 120  # characters of a target
 FIRST_LINE = re.compile(rb"haboob-(?:capture|traffic) [0-9]+ ([0-9]{1,10})\n")
 ESCAPE = re.compile("%([0-9A-Fa-f]{2})")
@@ -109,10 +112,12 @@ class Step:
 class Gathering:
     """Takes the rows of a table, and keeps what each step and each target has."""
 
-    def __init__(self, window, width):
+    def __init__(self, window, width, servers):
         self.window = window  # the first tick, and the one after the last
+        self.servers = servers  # or as many as were at work at once, where these are more
         self.steps = steps.Steps(Step, MOST_GIVEN_STEPS if width else MOST_STEPS, width)
         self.queue = decision_tables.Queue()
+        self.at_work = decision_tables.Queue()  # the services that began and haven't ended
         self.rates = [None] * TIERS  # the last of each tier
         self.room = TARGETS_ROOM
         self.targets = collections.defaultdict(lambda: [0] * (2 * TIERS))  # asked, and turned away, of each tier
@@ -121,6 +126,7 @@ class Gathering:
         """Takes a row."""
         if row.decision == "admitted":
             inside = self.queue.admit(row.tick, row.finish)
+            self.servers = max(self.servers, self.at_work.admit(row.start, row.finish))
             self.note_service(row.start, row.finish)
         if not self.window[0] <= row.tick < self.window[1]:
             self.rates[row.tier] = self.rates[row.tier] if row.rate is None else row.rate
@@ -184,7 +190,7 @@ def columns_of(gathered):
     samples = [sorted(step.samples) for step in all_of]
     for percent in PERCENTS:
         columns["p%d" % percent] = [decision_tables.ranked(of, percent) for of in samples]
-    columns["busy_share"] = [round(step.busy / width, 9) for step in all_of]
+    columns["busy_share"] = [round(step.busy / (width * gathered.servers), 9) for step in all_of]
     columns["most_inside"] = [step.inside for step in all_of]
     for tier in tiers_of(all_of):
         columns["rejected_%d" % tier] = [step.rejected[tier] for step in all_of]
@@ -213,12 +219,13 @@ def scaled(values, divisor):
 class Pictures:
     """Draws pictures over the same steps, so that a time stands below itself."""
 
-    def __init__(self, columns, start, width, targets):
+    def __init__(self, columns, start, width, targets, servers):
         self.columns = columns
         self.places = columns["second"]
         self.start = start  # seconds since 1970; None where it isn't known
         self.width = width / TICKS_IN_SECOND
         self.targets = targets  # ticks by tier; none where the settings aren't known
+        self.servers = servers
         self.tiers = tiers_in(columns)
 
     def picture(self, title, lines, top=None, draw=None, more=0):
@@ -293,9 +300,10 @@ class Pictures:
         yield self.picture("Rate in force, tokens a second", self.of_tiers("rate", 1000), None, self.draw_controls,
                            len(self.control_points()))
         yield self.picture("Least credit found, tokens", self.of_tiers("least_credit", UNITS_IN_TOKEN))
-        yield self.picture("How busy the server was, percent of the time", [
-            ("busy", scaled(columns["busy_share"], 0.01))])
-        yield self.picture("Turned away while the server was idle, " + unit,
+        busy = ("How busy the server was, percent of the time" if self.servers == 1 else
+                "How busy the servers were, percent of the time of %d" % self.servers)
+        yield self.picture(busy, [("busy", scaled(columns["busy_share"], 0.01))])
+        yield self.picture("Turned away while a server was idle, " + unit,
                            [("rejected while idle", columns["rejected_while_idle"])])
 
 
@@ -354,9 +362,9 @@ def write_targets(file, targets):
 
 def page_of(options, gathered, columns, start, aims):
     """The page."""
-    names = (*NAMES, "rejected_while_idle")
-    counts = ", ".join("%d %s" % (sum(columns[name]), name.replace("rejected", "turned away").replace("_", " "))
-                       for name in names)
+    names = {name: name.replace("rejected", "turned away") for name in NAMES}
+    names["rejected_while_idle"] = "turned away while a server was idle"
+    counts = ", ".join("%d %s" % (sum(columns[name]), words) for name, words in names.items())
     tiers = tiers_in(columns)
     of_tiers = "; turned away of " + ", ".join(
         "tier %d %d" % (tier, sum(columns["rejected_%d" % tier])) for tier in tiers) if len(tiers) > 1 else ""
@@ -366,7 +374,7 @@ def page_of(options, gathered, columns, start, aims):
         "settings %s" % options.settings if options.settings else "settings unknown (--settings)")
     body = "<p>%s. A step is %s.</p>\n<p>%s%s.</p>\n" % (
         html.escape(inputs), steps.width_in_words(width), counts, of_tiers)
-    pictures = Pictures(columns, start, width, aims)
+    pictures = Pictures(columns, start, width, aims, gathered.servers)
     return pages.html_page(title_of(options), body + "\n".join(pictures.all()) + "\n" + table_of_targets(
         gathered.targets, tiers))
 
@@ -388,14 +396,21 @@ def start_of(path):
     return int(found[1])
 
 
-def aims_of(path):
-    """The targets of the four tiers by a document of settings, in ticks."""
-    tables = settings_documents.read(path)
+def aims_of(path, tables):
+    """The targets of the four tiers by the tables of a document of settings, in ticks."""
     of_all = tables.get("policy", {}).get("target", DEFAULT_TARGET)
     aims = [of_all, *(tables.get(name, {}).get("target", of_all) for name in settings_documents.TIERS[1:])]
     if any(type(aim) is not int or not 0 < aim <= 10**12 for aim in aims):
         raise Fault("%s: target: not from 1 to 1000000000000 microseconds" % path)
     return aims
+
+
+def servers_of(path, tables):
+    """How many servers there are by the tables of a document of settings."""
+    servers = settings_documents.servers_of(tables)
+    if type(servers) is not int or not 0 < servers <= MOST_SERVERS:
+        raise Fault("%s: %s: not from 1 to %d servers" % (path, settings_documents.SERVERS, MOST_SERVERS))
+    return servers
 
 
 def arguments(words):
@@ -406,7 +421,7 @@ def arguments(words):
     parser.add_argument("--csv", metavar="FILE", help="where the figures of each step go")
     parser.add_argument("--targets", metavar="FILE", help="where the counts of each target go")
     parser.add_argument("--capture", metavar="FILE", help="the capture, for its name and times of day")
-    parser.add_argument("--settings", metavar="FILE", help="the settings, for their name and targets")
+    parser.add_argument("--settings", metavar="FILE", help="the settings, for their name, targets and servers")
     parser.add_argument("--step", type=steps.width, metavar="TIME", help="how long a step is: 10, 0.5, 250ms, 5m, 1h")
     parser.add_argument("--from", dest="begin", type=steps.moment, metavar="TIME", help="leave out what is before")
     parser.add_argument("--to", dest="end", type=steps.moment, metavar="TIME",
@@ -423,9 +438,9 @@ def window_of(options, start):
     return begin, end
 
 
-def gather(options, window):
+def gather(options, window, servers):
     """What the rows of the table hold; its faults have the file's name."""
-    gathered = Gathering(window, options.step)
+    gathered = Gathering(window, options.step, servers)
     with open(options.table, "rb") as table:
         size = os.fstat(table.fileno()).st_size or None
         with tool_run.progress(TOOL, size, "B") as bar:
@@ -443,8 +458,9 @@ def work(options):
     inputs = [path for path in (options.table, options.capture, options.settings) if path]
     output_file.refuse_same(outputs, inputs)
     start = start_of(options.capture) if options.capture else None
-    aims = aims_of(options.settings) if options.settings else None
-    gathered = gather(options, window_of(options, start))
+    tables = settings_documents.read(options.settings)
+    aims = aims_of(options.settings, tables) if options.settings else None
+    gathered = gather(options, window_of(options, start), servers_of(options.settings, tables))
     columns = columns_of(gathered)
     page = page_of(options, gathered, columns, start, aims)
     written = [(options.output, lambda file: file.write(page)),

@@ -9,7 +9,7 @@ import sys
 
 def _end_at_interrupt(kind, fault, trace):
     """Ends a tool at Ctrl-C without a word, also while its libraries are still being read."""
-    if issubclass(kind, KeyboardInterrupt):
+    if issubclass(kind, KeyboardInterrupt) or isinstance(fault.__cause__, KeyboardInterrupt):
         os._exit(130)
     sys.__excepthook__(kind, fault, trace)
 
@@ -27,6 +27,9 @@ PACKAGES = {"dpkt": "python3-dpkt", "matplotlib": "python3-matplotlib", "numpy":
             "scipy": "python3-scipy", "tqdm": "python3-tqdm"}
 PROGRESS_STEP = 10.0  # seconds from line to line where standard error is no terminal
 WAITING_STEP = 1.0  # seconds after which who waits for others looks whether a line is due
+ENDING = (signal.SIGINT, signal.SIGTERM, signal.SIGHUP)  # signals that ask a tool to end
+ENDING_TIME = 2.0  # seconds in which a tool that was asked to end has cleaned up
+UNCHANGED = (signal.SIG_DFL, signal.default_int_handler)  # what Python does at these
 
 
 class Fault(Exception):
@@ -51,8 +54,6 @@ def library(name):
         missing = [part for part in ((error.name or "").partition(".")[0], name.partition(".")[0]) if part in PACKAGES]
         say("%s: needs %s: apt-get install %s" % (running(), missing[0], PACKAGES[missing[0]]))
         sys.exit(2)
-    except KeyboardInterrupt:
-        sys.exit(130)
 
 
 def say(line):
@@ -106,8 +107,18 @@ def progress(tool, total, unit):
     return ProgressLines(tool, tqdm.tqdm.format_meter, total, unit)
 
 
+_asked = -ENDING_TIME  # when the tool was asked to end
+
+
 def _end(number, _frame):
-    """Ends a tool that is asked to end, so that its unfinished outputs go."""
+    """Ends a tool that is asked to end, so that its unfinished outputs go; who asks again at once isn't heard."""
+    global _asked
+    now = time.monotonic()
+    if now - _asked < ENDING_TIME:
+        return
+    _asked = now
+    if number == signal.SIGINT:
+        raise KeyboardInterrupt
     sys.exit(128 + number)
 
 
@@ -124,8 +135,8 @@ def _hold_closed():
 
 def run(tool, work):
     """Runs a tool's work; says its fault, if any, in one line, and returns the status."""
-    for asked in (signal.SIGTERM, signal.SIGHUP):
-        if signal.getsignal(asked) == signal.SIG_DFL:  # else it is ignored, as below nohup
+    for asked in ENDING:
+        if signal.getsignal(asked) in UNCHANGED:  # else it is ignored, as below nohup
             signal.signal(asked, _end)
     try:
         _hold_closed()
