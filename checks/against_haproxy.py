@@ -6,7 +6,8 @@
 `haproxy -c` takes the lines of one policy and of four tiers. Then, with one policy of a fixed rate: of a burst of three
 times the depth the depth is let in, and of one more once the window has passed; and of a lasting load of three times
 the rate no more than a bucket would let in, and no less than half of the rate; and of a burst of each tier, by a
-condition on each of its lines, the depth of its own. It needs haproxy, and takes half a minute. Prints each comparison, and exits with 1 where one failed.
+condition on each of its lines, the depth of its own. It needs haproxy, and takes half a minute. Prints each comparison,
+and exits with 1 where one failed.
 """
 import collections
 import http.client

@@ -50,7 +50,9 @@ def late_faults():
     """Name, capture and settings of replays with a fault after many records, in batches of many sizes."""
     for count in (4_096, 5_000, 100_000):
         for batch in (1_000, 4_096, 65_536):
-            for name, instead in (("a wrong record", b"peice 0 0 0\n"), ("cut", b""), ("a tick before the last", b"end 0 7\n")):
+            for name, instead in (
+                ("a wrong record", b"peice 0 0 0\n"), ("cut", b""), ("a tick before the last", b"end 0 7\n"),
+            ):
                 if count < 100_000 or (batch, name) in ((1_000, "cut"), (65_536, "a wrong record")):
                     settings = OPEN + floor(batch=batch)
                     yield "%s after %d, batch %d" % (name, count, batch), with_fault(pieces(count), instead), settings

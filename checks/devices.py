@@ -7,8 +7,8 @@ Replays with both engines, a run from standard input to standard output, and upg
 byte; the replies go into a pipe that is read byte by byte, or into one whose reader goes away; replies and report go
 into a file that may have only so many bytes, and replies onto a disk with little room (where one can be mounted: a
 user's own tmpfs). With a C compiler (CC, or cc) besides: each read gives one byte, each write takes one byte; each read
-fails in turn, then each write, by an error and by an interruption; and each thread in turn can't be started, in small
-batches and in large ones. Of these one has work for threads that cut pieces and for those of the front floor, and three
+fails in turn, then each write, by an error and by an interruption; no more reads are made than buffers of the inputs'
+sizes need; and each thread in turn can't be started, in small batches and in large ones. Of these one has work for threads that cut pieces and for those of the front floor, and three
 for threads of one kind alone, those that cut, of the front floor and of the back floor: each has to start some.
 (Whatever the machine has, the program is told of PROCESSORS processors.) What stands at a device is always a prefix of
 what is right, all of it where the status is 0, and a file that is full has all that it may have.
@@ -49,6 +49,9 @@ PROCESSORS = 4
 ENGINES = (["--engine", "plain"], ["--engine", "staged"])
 # How often the settings are read: once whole, once more at their end.
 SETTINGS_READS = 2
+# The program's buffers, in bytes. An input is read once for each buffer that it fills, once for the rest, and once more
+# at its end.
+ROOM = 65_536
 # The places where a file is full: in the first line, in a reply, at the end of the program's buffer, in a later one.
 PLACES = (0, 1, 16, 17, 100, 4096, 65_535, 65_536, 65_537, 100_000)
 DISK = 64 * 1024
@@ -209,24 +212,28 @@ def check_full_disk(checks, program):
 
 
 class Task:
-    """A run with poor devices: its words, its standard input, and what it is to write, by the name of the file."""
+    """A run with poor devices: its words, its standard input, what it is to write, by the name of the file, and its
+    inputs."""
 
-    def __init__(self, name, words, given, wanted):
-        self.name, self.words, self.given, self.wanted = name, words, given, wanted
+    def __init__(self, name, words, given, wanted, inputs=()):
+        self.name, self.words, self.given, self.wanted, self.inputs = name, words, given, wanted, inputs
 
 
-def tasks():
-    replay = Replay([REQUEST] * 12)
+def tasks(requests):
+    """The tasks of a capture of so many requests."""
+    replay = Replay([REQUEST] * requests)
     lines = reference.replay(SNAPSHOT, replay.capture)[2]
     upgraded = replay.capture.replace(b"capture 1", b"capture 2")
     for engine in ENGINES:
-        wanted = {"replies": replay.replies, "out": replay.report}
-        yield replay, Task("replay, " + engine[1], words(engine), b"", wanted)
-    yield replay, Task("bundle", [], SNAPSHOT + replay.capture, {"out": lines})
+        wanted, inputs = {"replies": replay.replies, "out": replay.report}, (SNAPSHOT, replay.capture, SETTINGS)
+        yield replay, Task("replay, " + engine[1], words(engine), b"", wanted, inputs)
+    given = SNAPSHOT + replay.capture
+    yield replay, Task("bundle", [], given, {"out": lines}, [given])
     upgrade = ["upgrade", "--capture", "capture", "--output", "output"]
-    yield replay, Task("upgrade", upgrade, b"", {"output": upgraded, "out": b""})
+    yield replay, Task("upgrade", upgrade, b"", {"output": upgraded, "out": b""}, [replay.capture])
     traffic = replay.capture.replace(b"haboob-capture 1", b"haboob-traffic 1")
-    yield replay, Task("upgrade to traffic", upgrade + ["--to", "traffic"], b"", {"output": traffic, "out": b""})
+    wanted = {"output": traffic, "out": b""}
+    yield replay, Task("upgrade to traffic", upgrade + ["--to", "traffic"], b"", wanted, [replay.capture])
 
 
 def run_poorly(program, replay, task, shim, **poor):
@@ -265,6 +272,13 @@ def check_failing(checks, program, replay, task, shim, calls, error):
         good = whole if not met or number <= tried else refused
         name = "%s: %s %d fails by %s" % (task.name, calls, number, errno.errorcode[error])
         checks.see(name, good, (status, told, got))
+
+
+def check_reads(checks, program, replay, task, shim):
+    """No read after those that the inputs need: the next one would fail."""
+    most = sum(len(given) // ROOM + 2 for given in task.inputs)
+    got = run_poorly(program, replay, task, shim, READ_FAILS=most + 1, ERROR=errno.EIO)
+    checks.see("%s: at most %d reads" % (task.name, most), got == (0, b"", task.wanted, False), got)
 
 
 def check_threads(checks, program, replay, task, shim):
@@ -309,7 +323,10 @@ def check_poor(checks, program):
         shim = os.path.join(folder, "devices.so")
         source = os.path.join(TOP, "checks", "devices.c")
         subprocess.run([compiler, "-shared", "-fPIC", "-O1", "-o", shim, source, "-ldl"], check=True)
-        for replay, task in tasks():
+        for requests in (12, 5000):
+            for replay, task in tasks(requests):
+                check_reads(checks, program, replay, task, shim)
+        for replay, task in tasks(12):
             for poor in ({"READ_MOST": 1}, {"WRITE_MOST": 1}, {"READ_MOST": 1, "WRITE_MOST": 1}):
                 got = run_poorly(program, replay, task, shim, **poor)
                 checks.see("%s with %s" % (task.name, poor), got == (0, b"", task.wanted, False), got)

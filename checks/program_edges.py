@@ -5,11 +5,14 @@ after it.
 A folder is changed between the listing and the reading of it (the program waits there for the reader of its output, a
 pipe), at an opening of a file or a folder and at the first read (with a C compiler, by attack.c), and by a process that
 swaps a file or a folder for a link 1,000 times: never a byte of another file comes into the snapshot. Standard output
-is an input or another output; standard devices are closed; a file is full by its limit; no further file can be opened;
-inode numbers are equal. Staged replays of high connection numbers take no longer than those of low ones.
+is an input or another output, or another run writes the output; standard devices are closed; a file is full by its
+limit; no further file can be opened; inode numbers are equal. Staged replays of high connection numbers take no longer
+than those of low ones, and numbers of connections that have ended keep no memory.
 
 What the machine doesn't allow (a C compiler, file systems of one's own) is not tried, and counted in the last line.
 """
+import fcntl
+import json
 import mmap
 import os
 import resource
@@ -37,6 +40,7 @@ from program_parts import (
     program_of,
     snapshot_text,
 )
+from worst_memory import RUNNER
 
 HERE = os.path.dirname(os.path.abspath(__file__))
 SECRET = b"a byte of another file"
@@ -325,6 +329,55 @@ def check_clashes(report, program):
     report.see_told("replay into another file", good, (*got, texts))
 
 
+LOCKED = [
+    (["replay", *GOOD], "replies", b"haboob: open: replies\n"),
+    (EXPLAIN, "replies", b"haboob: open: messages\n"),
+    (["upgrade", "--capture", "capture", "--output", "output"], "output", b"haboob: open: output\n"),
+    (["slim", "--capture", "capture", "--output", "output"], "output", b"haboob: open: output\n"),
+    (["snapshot", "--folder", "tree", "--output", "output"], "output", b"haboob: open: output\n"),
+]
+
+
+def has_open(process, path):
+    """Whether a process has opened a file."""
+    opened = "/proc/%d/fd" % process.pid
+    return any(os.path.realpath(os.path.join(opened, number)) == path for number in os.listdir(opened))
+
+
+def second_run(program, folder):
+    """What comes of a replay into the output of one that still reads its capture, a pipe; and of that one."""
+    os.mkfifo(os.path.join(folder, "pipe"))
+    replies = os.path.join(os.path.realpath(folder), "replies")
+    words = [program, "replay", *GOOD]
+    first = subprocess.Popen([*words[:5], "pipe", *words[6:]], cwd=folder, stdin=subprocess.DEVNULL,
+                             stdout=subprocess.PIPE, stderr=subprocess.PIPE)
+    with open(os.path.join(folder, "pipe"), "wb") as pipe:
+        while first.poll() is None and not has_open(first, replies):
+            time.sleep(0.01)
+        time.sleep(0.1)  # it locks its output once it has opened it
+        second = subprocess.run(words, cwd=folder, stdin=subprocess.DEVNULL, capture_output=True, timeout=SECONDS)
+        pipe.write(FILES["capture"])
+    text, line = first.communicate(timeout=SECONDS)
+    return (second.returncode, second.stderr), (first.returncode, line, text, contents(replies))
+
+
+def check_locked(report, program):
+    """An output that another run writes keeps its bytes."""
+    for words, name, line in LOCKED:
+        with tempfile.TemporaryDirectory() as folder:
+            shell(program, folder, "cp output replies")
+            with open(os.path.join(folder, name), "rb") as held:
+                fcntl.flock(held, fcntl.LOCK_EX)
+                ran = subprocess.run([program, *words], cwd=folder, capture_output=True, timeout=SECONDS)
+            got = ran.returncode, ran.stderr, contents(os.path.join(folder, name))
+        report.see_told("an output that is locked: " + words[0], got == (6, line, OLD), got)
+    with tempfile.TemporaryDirectory() as folder:
+        shell(program, folder, "cp output replies")
+        got = second_run(program, folder)
+    wanted = (6, b"haboob: open: replies\n"), (0, b"", OPEN_REPORT, OPEN_REPLIES)
+    report.see_told("two replays into one file", got == wanted, (*got[0], got[1]))
+
+
 def shell(program, folder, command):
     """The status of a shell's command in a folder with the files of a replay and a tree; `$haboob` is the program."""
     for name, data in {**FILES, "output": OLD}.items():
@@ -463,6 +516,38 @@ def check_high_numbers(report, program):
     report.see("high connection numbers, batches of one", statuses == {0} and high <= MOST_TIMES * low, took)
 
 
+# Connections that come one after another, and how many bytes each number may cost for good.
+LIVES, MOST_LEFT = 65_535, 64
+
+
+def peak_of(program, folder, capture, engine):
+    """The status of a replay, and the most memory that it had, in bytes."""
+    words = ["replay", "--snapshot", "snapshot", "--capture", capture, "--replies", "/dev/null", "--engine", engine]
+    ran = subprocess.run([sys.executable, "-c", RUNNER, program, *words], cwd=folder, stdin=subprocess.DEVNULL,
+                         stdout=subprocess.DEVNULL, stderr=subprocess.PIPE, timeout=SECONDS * 6)
+    return tuple(json.loads(ran.stderr.splitlines()[-1]))
+
+
+def lives_of(step):
+    """A traffic text of connections one after another, each with a request, on numbers that rise by this step."""
+    lives = (b"piece 0 %d %d\n%s\nend 0 %d\n" % (number, len(REQUEST), REQUEST, number)
+             for number in (step * place for place in range(LIVES)))
+    return b"haboob-traffic 1 784111777\n%bstop %d\n" % (b"".join(lives), 2 * LIVES)
+
+
+def check_ended_numbers(report, program):
+    """A number whose connection has ended costs next to nothing: many numbers, and as often the same one."""
+    with tempfile.TemporaryDirectory() as folder:
+        for name, data in (("snapshot", FILES["snapshot"]), ("many", lives_of(1)), ("one", lives_of(0))):
+            with open(os.path.join(folder, name), "wb") as file:
+                file.write(data)
+        for engine in ("plain", "staged"):
+            got = [peak_of(program, folder, name, engine) for name in ("many", "one")]
+            (first, many), (second, one) = got
+            good = first == second == 0 and many <= one + MOST_LEFT * LIVES + 2**19
+            report.see("numbers of ended connections, " + engine, good, got, "%d and %d bytes" % (many, one))
+
+
 # Two file systems of the user's own, each with a file of the same inode number.
 TWO_DISKS = """
 mkdir one two && mount -t tmpfs none one && mount -t tmpfs none two || exit 99
@@ -522,10 +607,12 @@ def main():
     check_races(report, program)
     check_unknown_lengths(report, program)
     check_clashes(report, program)
+    check_locked(report, program)
     check_devices(report, program)
     check_limit(report, program)
     check_descriptors(report, program)
     check_high_numbers(report, program)
+    check_ended_numbers(report, program)
     words = mount_words()
     for name, check in (("equal inode numbers", check_equal_numbers), ("without /proc", check_without_proc)):
         if words:

@@ -60,7 +60,7 @@ HIDDEN = "\u0085\u061c\u200e\u200f\u2028\u2029\u202a\u202e\u2066\u2069\ufeff\x9b
 
 
 def left_out(*told, more=0):
-    """What is said of what is left out: a line for each of the first hundred, as of its fault, and how many they are."""
+    """What is said of what is left out: a line for each of the first hundred, as of its fault, and how many."""
     return b"".join(b"haboob: %s\n" % line for line in told) + b"haboob: skipped %d\n" % (len(told) + more)
 
 

@@ -8,6 +8,7 @@ import os
 import subprocess
 import sys
 import tempfile
+import unicodedata
 
 # The folder stays as it is.
 sys.dont_write_bytecode = True
@@ -22,11 +23,10 @@ ODD_WORDS = [
     [b"replay", b"--snapshot", b"snapshot", b"--capture", b"capture", b"--replies", b"new\xe9"],
 ]
 
-# Characters that end a line, act on a terminal, say in which direction others are shown, or have no width: controls
-# (C0, DEL, C1), the two ends of lines, marks of direction, and the mark of byte order. Others stand beside them.
-MARKS = [0x61C, 0x200E, 0x200F, *range(0x2028, 0x202F), *range(0x2066, 0x206A), 0xFEFF]
-HIDDEN = [chr(code) for code in (*range(1, 0x20), *range(0x7F, 0xA0), *MARKS)]
-SHOWN = "\u00a0\u061b\u061d\u200d\u2010\u2027\u202f\u2065\u206a\ufefe\u00e9\U0001f600"
+# Characters that act on a terminal, end a line, have no width or say how others are shown: by Python's Unicode data,
+# those of the categories Cc, Cf, Zl and Zp. Others stand beside them.
+HIDDEN = [c for c in map(chr, range(1, sys.maxunicode + 1)) if unicodedata.category(c) in ("Cc", "Cf", "Zl", "Zp")]
+SHOWN = "\u00a0\u061b\u061d\u200a\u2010\u2027\u202f\u2065\u2070\ufefe\u00e9\U0001f600"
 # The words of wrong command lines, each with a place for a wrong word.
 WRONG_WORDS = [
     ["%s"],

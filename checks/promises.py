@@ -2,11 +2,15 @@
 """Ties the promises of docs/PROMISES.md to the wrong bodies that must be refused.
 
     checks/promises.py            checks that each wrong body names a promise, that those of must-fail/ fit their
-                                  sources, and that each test that a row names is there
+                                  sources, and that each test, script and case of a script is there that a row or a
+                                  line "By tests alone" names
     checks/promises.py --print    prints each promise with its wrong bodies
 
 A mutant of checks/mutants/ names its promises by `promise`, an edit of must-fail/ by a line `promise: KEY`, or
-`promise: CRATE/KEY` where that is another crate's. Exits with 1 where something is amiss, with a line for each.
+`promise: CRATE/KEY` where that is another crate's. A script stands in backticks, and so do its cases: as
+"`a.py` (`CASE`)", "`one` and `two` in checks/a.py" or "`a.py: case`"; a case is a name of the script, or the text with
+which a row of it begins. Exits with 1 where something is amiss, with a line for each. checks/test_promises.py tries
+that it can fail.
 """
 import argparse
 import glob
@@ -21,7 +25,16 @@ TOP = os.path.dirname(os.path.dirname(os.path.abspath(__file__)))
 PAGE = os.path.join(TOP, "docs", "PROMISES.md")
 ROW = re.compile(r"^\| `(?P<key>\w+)` \| (?P<promise>.*) \| (?P<clause>.*) \| (?P<tests>.*) \|$")
 PROMISE = re.compile(r"^promise: (\S.*)$", re.MULTILINE)
-TEST = re.compile(r"^(?:\w+: )?((?:\w+::)*\w+)$")
+TEST = re.compile(r"^(?:\w+: )?((?:\w+::)*\w+)(?:::)?$")
+REMARK = re.compile(r" \([^()`]*\)")
+SPAN = re.compile(r"`([^`]+)`")
+SCRIPT = re.compile(r"(?:checks/)?([\w*]+\.py)")
+SPANS = r"(?P<cases>(?:`[^`]+`(?:, | and )?)+)"
+# Cases of a script: behind it, before it, and with it.
+CASES = [re.compile(r"`(?P<script>[\w/]+\.py)` \(%s\)" % SPANS),
+         re.compile(SPANS + r"[\w ]* in `?(?P<script>checks/\w+\.py)`?"),
+         re.compile(r"`(?P<script>[\w/]+\.py): (?P<cases>[^`]+)`")]
+ALONE = "By tests alone"
 FUNCTION = re.compile(r"^\s*(?:pub )?fn (\w+)|^\s*(?:pub )?mod (\w+);", re.MULTILINE)
 
 
@@ -30,10 +43,10 @@ def read(path):
         return file.read()
 
 
-def promises():
+def promises(page):
     """The rows of the page, by crate and key."""
     rows, crate = {}, None
-    for line in read(PAGE).split("\n"):
+    for line in page.split("\n"):
         crate = line[3:] if re.fullmatch(r"## \w+", line) else crate
         row = ROW.match(line)
         if row:
@@ -88,25 +101,71 @@ def fits(path, crate):
     return True
 
 
-def amiss(rows, refused, unnamed):
+def scripts_of(name):
+    """The scripts of a name, which may have a star."""
+    return glob.glob(os.path.join(TOP, "checks", SCRIPT.fullmatch(name)[1])) if SCRIPT.fullmatch(name) else []
+
+
+def has_case(name, case):
+    """Whether a script has a case: a name that it defines, or a row that begins with this text."""
+    text, form = "\n".join(map(read, scripts_of(name))), r"(?m)^(?:def |class )?%s\b|(?:\byield |\()([\"'])%s\1"
+    return bool(re.search(form % (re.escape(case), re.escape(case)), text))
+
+
+def absent_scripts(text, tests, is_named):
+    """What a text names in backticks and isn't there: scripts, cases of scripts, and tests, where `is_named` says so of
+    a name that stands at a place."""
+    for form in CASES:
+        for found in form.finditer(text):
+            cases = SPAN.findall(found["cases"]) or [found["cases"]]
+            yield from ("no case %s in %s" % (case, found["script"]) for case in cases
+                        if scripts_of(found["script"]) and not has_case(found["script"], case))
+        text = form.sub(r"`\g<script>`", text)
+    for found in SPAN.finditer(text):
+        name = found[1]
+        if SCRIPT.fullmatch(name):
+            yield from [] if scripts_of(name) else ["no script %s" % name]
+        elif name not in tests and is_named(text, found):
+            yield "no test %s" % name
+
+
+def is_test_of_line(text, found):
+    """Whether a name in a line "By tests alone" is one of a test: others have neither brackets around them nor a form
+    of their own."""
+    before = text[:found.start()]
+    return before.count("(") > before.count(")") or bool(re.search("_|::", found[1]))
+
+
+def absent(page):
+    """The tests, scripts and cases of scripts that the page names and that aren't there."""
+    tests = named()
+    for place, row in promises(page).items():
+        told = REMARK.sub("", row["tests"])
+        for test in filter(None, map(str.strip, re.split("[,;]", told))):
+            found = TEST.match(test)
+            if found and found[1] not in tests:
+                yield "%s/%s: no test %s" % (*place, test)
+        yield from ("%s/%s: %s" % (*place, what) for what in absent_scripts(told, tests, lambda *_: True))
+    for number, line in enumerate(page.split("\n"), 1):
+        if line.startswith(ALONE):
+            yield from ("line %d: %s" % (number, what) for what in absent_scripts(line, tests, is_test_of_line))
+
+
+def amiss(page, rows, refused, unnamed):
     yield from ("%s: doesn't fit" % os.path.relpath(path, TOP) for path, crate in edits() if not fits(path, crate))
     yield from ("%s: names no promise" % name for name in unnamed)
     for place, names in refused.items():
         if place not in rows:
             yield from ("%s: no promise %s/%s" % (name, *place) for name in names)
-    tests = named()
-    for place, row in rows.items():
-        for test in filter(None, map(str.strip, re.split("[,;]", row["tests"]))):
-            found = TEST.match(test)
-            if found and found[1] not in tests:
-                yield "%s/%s: no test %s" % (*place, test)
+    yield from absent(page)
 
 
 def main():
     parser = argparse.ArgumentParser(description=__doc__, formatter_class=argparse.RawDescriptionHelpFormatter)
     parser.add_argument("--print", action="store_true", dest="shown", help="print each promise with its wrong bodies")
     options = parser.parse_args()
-    rows, refused, unnamed = promises(), {}, []
+    page = read(PAGE)
+    rows, refused, unnamed = promises(page), {}, []
     for crate, name, found in wrong_bodies():
         unnamed += [] if found else ["%s/%s" % (crate, name)]
         for word in found:
@@ -116,7 +175,7 @@ def main():
         for place, row in rows.items():
             print("%s/%s: %s\n    %s" % (*place, row["promise"], ", ".join(refused.get(place, [])) or "(none)"))
         return 0
-    wrong = list(amiss(rows, refused, unnamed))
+    wrong = list(amiss(page, rows, refused, unnamed))
     bare = sum(1 for place in rows if place not in refused)
     print("\n".join(wrong + ["%d promises (%d with no wrong body), %d wrong" % (len(rows), bare, len(wrong))]))
     return int(bool(wrong))

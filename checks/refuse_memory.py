@@ -72,8 +72,8 @@ class Ending:
         return vars(self) == vars(other)
 
     def is_out_of_memory(self, ample, has_words):
-        """Whether it says that memory ran out, with a prefix of what was due: in the output, and of the lines that a run
-        without a fault writes on standard error (of the names that are left out)."""
+        """Whether it says that memory ran out, with a prefix of what was due: in the output, and of the lines that a
+        run without a fault writes on standard error (of the names that are left out)."""
         *before, last = self.line.splitlines(keepends=True) or [b""]
         told = b"".join(before)
         said = (self.status, last) == (7, b"haboob: memory\n") and (

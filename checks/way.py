@@ -66,14 +66,16 @@ def figures(way):
     for one, two in changes:
         left.add(one)
         returns += two in left
-    return "%d stops in %d files of %d crates, %d returns to a file that was left" % (len(way), len(set(files)), len(crates), returns)
+    return "%d stops in %d files of %d crates, %d returns to a file that was left" % (
+        len(way), len(set(files)), len(crates), returns)
 
 
 def main():
     page = read(PAGE)
     way = stops(page)
     if sys.argv[1:] == ["--print"]:
-        print("\n".join("%2d  %s%s: %s" % (n, "  " * depth, path, name) for n, (depth, path, name) in enumerate(way, 1)))
+        for number, (depth, path, name) in enumerate(way, 1):
+            print("%2d  %s%s: %s" % (number, "  " * depth, path, name))
     counted, wrong = figures(way), list(amiss(way))
     if counted not in page:
         wrong.append("docs/ARCHITECTURE.md: has not the line: " + counted)
