@@ -4,11 +4,14 @@
 usage: packaging/build.py [--program PROGRAM] FOLDER
 
 FOLDER gets haboob_VERSION_ARCHITECTURE.deb. Two builds of one commit are the same bytes: each time in the package is
-that of the commit (or SOURCE_DATE_EPOCH where that is set). It needs git, rt, dpkg-dev, help2man and what the tools
-import. Status 1 where something isn't there, with a line that says what.
+that of the commit (or SOURCE_DATE_EPOCH where that is set). The package says that the program was proved where ./build
+linked it behind the proof of the sources that are here. It needs git, dpkg-dev, help2man and what the tools import.
+Status 1 where something isn't there, with a line that says what.
 """
 import argparse
 import gzip
+import importlib.machinery
+import importlib.util
 import os
 import pathlib
 import re
@@ -17,6 +20,9 @@ import sys
 import tempfile
 import textwrap
 import time
+
+# The folder stays as it is.
+sys.dont_write_bytecode = True
 
 TOP = pathlib.Path(__file__).resolve().parent.parent
 TOOL = "build"
@@ -154,20 +160,35 @@ def changes_entry(number, seconds):
     return "haboob (%s) unstable; urgency=medium\n\n%s\n\n -- %s  %s\n" % (number, lines, MAINTAINER, when)
 
 
+def proving():
+    """The program ./build, whose records tell what was proved, as a module."""
+    loader = importlib.machinery.SourceFileLoader("proving", str(TOP / "build"))
+    module = importlib.util.module_from_spec(importlib.util.spec_from_loader(loader.name, loader))
+    loader.exec_module(module)
+    return module
+
+
 def proof(program):
-    """By what the program was proved: the commit and the toolchain, where it is the repository's own."""
+    """By what the program was proved: the commit and the toolchain, where ./build tells so of this very file."""
     changed = output_of("git", "status", "--porcelain", "--untracked-files=no", cwd=TOP)
     told = {
         "commit": output_of("git", "rev-parse", "HEAD", cwd=TOP),
         "changes": " with changes that are in no commit" if changed else "",
     }
-    if program != PROGRAM:
-        return GIVEN % told
+    toolchain = proving().proved_by(program, PROGRAM.name)
+    if toolchain:
+        return PROVED % {**told, "toolchain": toolchain}
+    if program == PROGRAM:
+        refuse_older(program)
+    return GIVEN % told
+
+
+def refuse_older(program):
+    """Refuses the repository's own program where a source is newer, so that it wasn't built of that."""
     sources = [it for place in SOURCES for it in (TOP / "crates").glob("*/%s/**/*" % place) if it.is_file()]
     newest = max(sources, key=lambda source: source.stat().st_mtime)
     if newest.stat().st_mtime > program.stat().st_mtime:
         raise Missing("%s is older than %s: remove it, and build it again" % (program, newest.relative_to(TOP)))
-    return PROVED % {**told, "toolchain": output_of("rt", "version")}
 
 
 def put_documents(tree, number, seconds):
@@ -262,7 +283,7 @@ def put_control(tree, number):
 def put_program(tree, program, number):
     """The program as it was built, byte for byte."""
     if not program.is_file():
-        raise Missing("needs the proved program at %s: cd crates/haboob && rt run <stdin" % program)
+        raise Missing("needs the program at %s: ./build" % program)
     put(tree / "usr" / "bin" / "haboob", program.read_bytes(), 0o755)
     try:
         told = subprocess.run([program, "--version"], capture_output=True, text=True)
@@ -303,7 +324,7 @@ def build(program, folder):
 def main() -> int:
     parser = argparse.ArgumentParser(description=__doc__, formatter_class=argparse.RawDescriptionHelpFormatter)
     parser.add_argument("--program", type=pathlib.Path, default=PROGRAM,
-                        help="the program that goes into it; without this the proved one of the repository")
+                        help="the program that goes into it; without this the one of the repository")
     parser.add_argument("folder", type=pathlib.Path, help="where the package goes")
     words = parser.parse_args()
     try:

@@ -29,7 +29,12 @@ Examples:
   haboob slim --capture day.capture --output day.traffic";
 
 /// What help says after the options of `replay`.
-const REPLAY_NOTES: &str = "Example:
+const REPLAY_NOTES: &str =
+    "Replies that nobody wants go to /dev/null: those of a day can fill a disk, and where they can't be
+written the run ends before its report. A file that is there keeps its bytes until the first byte
+is written; after a fault of the capture it holds the replies to what came before.
+
+Example:
   haboob replay --snapshot site.snapshot --capture day.capture --replies day.replies \\
     --settings tight.toml";
 
@@ -69,7 +74,9 @@ const OUTPUT_HELP: &str = "Where the new capture goes; another file that is ther
 const SNAPSHOT_NOTES: &str =
     "The files of the folder and of all folders in it are taken, and no links. What can't stand in
 a snapshot is a fault, or with --skip left out: links, pipes and devices, what can't be read,
-files above 16 MiB, names of more than 1024 bytes or that aren't UTF-8, and what is too much.
+files above 16 MiB, names of more than 1024 bytes or that aren't UTF-8, and what is too much: a
+snapshot holds at most 65536 files and 1 GiB. A site with more of them is taken in parts, or by the
+folders that were asked for.
 
 Example:
   haboob snapshot --folder site --output site.snapshot";

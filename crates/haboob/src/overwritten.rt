@@ -1,7 +1,7 @@
 //! An output that is emptied at its first byte, and is no input.
 
 use program::{Fault, Place};
-use std::fs::{File, Metadata, OpenOptions, metadata};
+use std::fs::{File, Metadata, OpenOptions, TryLockError, metadata};
 use std::io;
 use std::io::Write;
 use std::os::unix::fs::MetadataExt;
@@ -44,6 +44,15 @@ impl Node {
     }
 }
 
+/// Locks a file up to when it is closed; a fault where another run has locked it. Where its system has no locks, it is
+/// written without one.
+fn lock(file: &File, place: Place) -> Result<(), Fault> {
+    match file.try_lock() {
+        Err(TryLockError::WouldBlock) => Err(Fault::Open(place)),
+        _ => Ok(()),
+    }
+}
+
 /// A file to be written. Where it is there it keeps its bytes until the first byte is written, and is emptied then.
 /// What can't be emptied, as a pipe, is written as it is.
 #[derive(Drop)]
@@ -55,7 +64,7 @@ pub struct Overwritten {
 
 impl Overwritten {
     /// Opens a file to be written. A regular one that is among the others, the inputs and standard output, is refused
-    /// and keeps its bytes.
+    /// and keeps its bytes; so is one that another run is writing.
     pub fn open(
         rt: &HostRuntime,
         name: &str,
@@ -69,6 +78,9 @@ impl Overwritten {
         let node = Node::of(&file, place)?;
         if node.is_kept_in(others) {
             return Err(Fault::Open(place));
+        }
+        if node.is_regular {
+            lock(&file, place)?;
         }
         Ok(Overwritten {
             file,

@@ -1,7 +1,10 @@
 -- How a fault is reported: the status that the program ends with, and the line on standard error.
-use Rattle.std.specs.Prelude.{ℕ, ◌==◌, ◌||◌, ◌&&◌, Bool, List, [], ◌∷◌, ◌++◌, Option, Some}
-use Rattle.std.specs.Prelude.{codes, decimal, map, nat_lt, string_bytes}
-use Rattle.std.specs.Prelude.{None, chars, encode_utf8_all, unwrap_or, if◌then◌else◌}
+use Rattle.std.specs.Prelude.{ℕ, Bool, true, false, List, [], ◌∷◌, ◌++◌, Option, Some, None, unwrap_or, codes, decimal}
+use Rattle.std.specs.Prelude.{map, string_bytes, chars, encode_utf8_all, if◌then◌else◌}
+use Rattle.ucd_category.specs.GeneralCategory.{general_category}
+use Rattle.ucd_category.specs.declared.GeneralCategory.{GeneralCategory}
+use Rattle.ucd_category.specs.declared.GeneralCategory.TheVariants.{Control, LineSeparator, ParagraphSeparator}
+use Rattle.ucd_category.specs.declared.GeneralCategory.TheVariants as categories
 use Rattle.paths.specs.Reference.{question_mark}
 use Rattle.paths.specs.declared.snapshot_fault.SnapshotFault.{SnapshotFault}
 use Rattle.paths.specs.declared.snapshot_fault.SnapshotFaultKind.{SnapshotFaultKind}
@@ -147,11 +150,17 @@ line_of t = codes "haboob: " ++ text_of t ++ codes "\n"
 abbrev pub named_line_of : Reported → List ℕ → List ℕ
 named_line_of t name = codes "haboob: " ++ text_of t ++ codes " " ++ name ++ codes "\n"
 
--- a character that ends a line or acts on a terminal (a control, U+2028, U+2029), or that says in which direction
--- others are shown (U+061C, U+200E, U+200F, U+202A to U+202E, U+2066 to U+2069), or has no width (U+FEFF)
+-- a control, a format character, or the end of a line or a paragraph (Cc, Cf, Zl, Zp)
+abbrev pub is_hidden_in : GeneralCategory → Bool
+is_hidden_in Control = true
+is_hidden_in categories.Format = true
+is_hidden_in LineSeparator = true
+is_hidden_in ParagraphSeparator = true
+is_hidden_in other = false
+
+-- a character that acts on a terminal, ends a line, has no width, or says how others are shown (Unicode 18, 4.5)
 abbrev pub is_hidden : ℕ → Bool
-is_hidden c = nat_lt c 32 || (nat_lt 126 c && nat_lt c 160) || c == 0x61c || (nat_lt 0x200d c && nat_lt c 0x2010)
-    || (nat_lt 0x2027 c && nat_lt c 0x202f) || (nat_lt 0x2065 c && nat_lt c 0x206a) || c == 0xfeff
+is_hidden c = is_hidden_in (general_category c)
 
 abbrev pub shown_char : ℕ → ℕ
 shown_char c = if is_hidden c then question_mark else c

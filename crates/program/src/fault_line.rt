@@ -20,6 +20,7 @@ use responses::Write;
 use settings::{ConfigFault, Key, fault_words};
 use std::alloc::{AllocError, Global};
 use std::io;
+use ucd_category::GeneralCategory;
 
 /// Room for the longest line: `haboob: `, 17 bytes, a number of 64 bits, `: `, 12 bytes and a line feed.
 type Line = ArrayVec<u8, 60>;
@@ -201,18 +202,16 @@ impl Fault {
     }
 }
 
-/// Whether a character ends a line, acts on a terminal, or says in which direction others are shown.
+/// Whether a character acts on a terminal, ends a line, has no width, or says how others are shown: by its general
+/// category (Unicode 18, section 4.5).
 fn is_hidden(c: char) -> bool
     ensures { result ≡ is_hidden c }
 {
-    match c {
-        '\0'..='\x1f'
-        | '\x7f'..='\u{9f}'
-        | '\u{61c}'
-        | '\u{200e}'..='\u{200f}'
-        | '\u{2028}'..='\u{202e}'
-        | '\u{2066}'..='\u{2069}'
-        | '\u{feff}' => true,
+    match GeneralCategory::for_char(c) {
+        GeneralCategory::Control
+        | GeneralCategory::Format
+        | GeneralCategory::LineSeparator
+        | GeneralCategory::ParagraphSeparator => true,
         _ => false,
     }
 }

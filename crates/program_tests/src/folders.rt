@@ -160,19 +160,33 @@ fn too_many_open(rt: HostRuntime) -> Result<(), Fail> {
     Ok(())
 }
 
-/// Names with the first and the last of each kind of characters that a line doesn't show, and with those beside them.
-static HIDDEN: [(&str, &str); 8] = [
+/// Names with characters that a line doesn't show, and with those beside them that it shows, by the categories of
+/// UnicodeData.txt: controls, format characters, ends of lines and paragraphs.
+static HIDDEN: [(&str, &str); 12] = [
     ("\u{1}\u{1b}\u{1f} a~", "??? a~"),
     ("\u{7f}\u{80}\u{85}\u{9f}\u{a0}", "????\u{a0}"),
+    ("\u{ac}\u{ad}\u{ae}", "\u{ac}?\u{ae}"),
     ("\u{61b}\u{61c}\u{61d}", "\u{61b}?\u{61d}"),
-    ("\u{200d}\u{200e}\u{200f}\u{2010}", "\u{200d}??\u{2010}"),
+    ("\u{180d}\u{180e}\u{180f}", "\u{180d}?\u{180f}"),
+    ("\u{200a}\u{200b}\u{200f}\u{2010}", "\u{200a}??\u{2010}"),
     (
         "\u{2027}\u{2028}\u{2029}\u{202a}\u{202e}\u{202f}",
         "\u{2027}????\u{202f}",
     ),
-    ("\u{2065}\u{2066}\u{2069}\u{206a}", "\u{2065}??\u{206a}"),
+    (
+        "\u{205f}\u{2060}\u{2064}\u{2065}\u{2066}\u{206f}\u{2070}",
+        "\u{205f}??\u{2065}??\u{2070}",
+    ),
     ("\u{fefe}\u{feff}\u{ff00}", "\u{fefe}?\u{ff00}"),
-    ("\u{e9}\u{1f600}\u{10ffff}", "\u{e9}\u{1f600}\u{10ffff}"),
+    ("\u{fff8}\u{fff9}\u{fffb}\u{fffc}", "\u{fff8}??\u{fffc}"),
+    (
+        "\u{e0000}\u{e0001}\u{e0041}\u{e007f}\u{e0080}",
+        "\u{e0000}???\u{e0080}",
+    ),
+    (
+        "\u{e9}\u{301}\u{1f600}\u{10ffff}",
+        "\u{e9}\u{301}\u{1f600}\u{10ffff}",
+    ),
 ];
 
 #[test]

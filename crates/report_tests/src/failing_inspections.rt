@@ -1,10 +1,13 @@
 //! Inspections whose reads fail, or whose requests for memory do.
 ghost use Rattle.std.specs.Prelude.{◌≤◌};
 
-use captures::{CaptureFault, CaptureFaultKind as Kind};
+use captures::CaptureFaultKind as Kind;
 use devices::Input;
 use inspection::{InspectFault, Inspection, inspect, inspection_text};
-use std::alloc::Global;
+use reference::SettingsFault;
+use std::alloc::{AllocGlobal, Global};
+use std::fmt::Display;
+use std::process::Abort;
 use test_support::Flaky;
 
 /// How many whole records there were, and the record and the kind of the fault where there was one.
@@ -68,18 +71,49 @@ fn each_growth_refused(rt: HostRuntime) {
     }
 }
 
-/// What the faults of an inspection say of themselves.
+/// What a fault of an inspection, or of the settings, says of itself.
+fn check_text<T: Display>(rt: &(impl Abort + AllocGlobal), fault: &T, want: &str) {
+    let text = format!(in rt.alloc(); "{fault}").expect(rt, "memory");
+    assert_eq!(rt; text.as_str(), want);
+}
+
 #[test]
 fn faults_of_inspections(rt: HostRuntime) {
-    let fault = CaptureFault {
-        at: 0,
-        kind: Kind::Header,
-    };
-    for (fault, want) in [
-        (InspectFault::FirstLine(fault), "capture: record 0: Header"),
-        (InspectFault::Memory, "no memory"),
+    for (capture, want) in [
+        ("haboob-capture 3 0\n", "capture: record 0: Header"),
+        ("haboob-capture 1 0\nnothing\n", "capture: record 1: Kind"),
     ] {
-        let text = format!(in rt.alloc(); "{fault}").expect(&rt, "memory");
-        assert_eq!(rt; text.as_str(), want);
+        match inspect(rt.alloc(), &mut Input::new(capture.as_bytes())) {
+            Ok(_) => assert!(rt; false, "no fault"),
+            Err(fault) => check_text(&rt, &fault, want),
+        }
+    }
+    check_text(&rt, &InspectFault::Memory, "no memory");
+}
+
+static SETTINGS_FAULTS: [(SettingsFault, &str); 5] = [
+    (
+        SettingsFault::Front,
+        "the front stages do not end with step 3",
+    ),
+    (
+        SettingsFault::Back,
+        "the back stages do not end with step 2",
+    ),
+    (SettingsFault::Batch, "a batch has 1 to 65536 records"),
+    (
+        SettingsFault::Cache,
+        "the cache has at most 1073741824 bytes",
+    ),
+    (
+        SettingsFault::Retry,
+        "a rejected request may be tried again after at most 86400 seconds",
+    ),
+];
+
+#[test]
+fn faults_of_settings(rt: HostRuntime) {
+    for (fault, want) in &SETTINGS_FAULTS {
+        check_text(&rt, fault, want);
     }
 }

@@ -49,6 +49,29 @@ fn plan_faults_in_order(rt: HostRuntime) {
     }
 }
 
+static FAULT_TEXTS: [(PlanFault, &str); 5] = [
+    (PlanFault::Empty, "a plan has at least one stage"),
+    (
+        PlanFault::Order,
+        "the cuts of a plan rise strictly from at least 1",
+    ),
+    (PlanFault::Workers, "each stage has from 1 to 16 workers"),
+    (
+        PlanFault::Capacity,
+        "each queue has a capacity from 1 to 4096",
+    ),
+    (PlanFault::Memory, "out of memory"),
+];
+
+#[test]
+fn plan_faults_say_what_is_wrong(rt: HostRuntime) -> Result<(), Fail> {
+    for (fault, want) in &FAULT_TEXTS {
+        let text = format!(in rt.alloc(); "{fault}")?;
+        assert_eq!(rt; text.as_str(), *want);
+    }
+    Ok(())
+}
+
 #[test]
 fn plan_holds_its_lists(rt: HostRuntime) -> Result<(), Fail> {
     let alloc = rt.alloc();

@@ -82,30 +82,6 @@ pub static TIGHT_REPORT: &str = "haboob-report 1\n\
      reject 2\n\
      end\n";
 
-/// The report of five such requests at one tick: of those of tier 0 one is admitted, of those of tier 1 two.
-pub static TWO_TIERS_REPORT: &str = "haboob-report 1\n\
-     messages 5\n\
-     bypassed 0\n\
-     admitted 3\n\
-     rejected 2\n\
-     status 200 3\n\
-     status 301 0\n\
-     status 304 0\n\
-     status 400 0\n\
-     status 404 0\n\
-     status 405 0\n\
-     status 413 0\n\
-     status 501 0\n\
-     status 503 2\n\
-     p50 402\n\
-     p90 603\n\
-     p99 603\n\
-     controls 0\n\
-     tier 1 2 1 0\n\
-     reject 2\n\
-     reject 4\n\
-     end\n";
-
 /// A capture of one such request, and of the end of its connection, in version 1.
 pub static OLDER: &str =
     "haboob-capture 1 784111777\npiece 0 0 32\nGET /a.txt HTTP/1.1\r\nHost: a\r\n\r\n\nend 5 0\nstop 2\n";

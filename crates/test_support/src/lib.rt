@@ -6,8 +6,6 @@ mod examples;
 mod poor_devices;
 mod texts;
 
-pub use examples::{
-    A, NEWER, OLDER, ONE_REPLY, SNAPSHOT, TIGHT_REPLIES, TIGHT_REPORT, TWO_TIERS_REPORT,
-};
+pub use examples::{A, NEWER, OLDER, ONE_REPLY, SNAPSHOT, TIGHT_REPLIES, TIGHT_REPORT};
 pub use poor_devices::{Counted, Flaky, Slow};
 pub use texts::{capture_of, in_bytes, snapshot};
