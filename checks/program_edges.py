@@ -52,11 +52,13 @@ PLAIN = {b"a": b"first", b"d/b": b"second", b"z": b"last"}
 WHOLE = snapshot_text(sorted(PLAIN.items()))
 # The same while the folder is away.
 OTHERS = snapshot_text([(b"a", b"first"), (b"z", b"last")])
+# Files in folders that lie below one another and beside one another.
+BELOW = {**{b"d/e/%02d" % number: b"in e" for number in range(40)}, b"d/f/x": b"in f", b"z": b"last"}
 
 
-def made(folder):
+def made(folder, plain=PLAIN):
     """Makes the folder `tree` with files, and beside it the folder `other` with files of the same names."""
-    for name, data in PLAIN.items():
+    for name, data in plain.items():
         for top, text in ((b"tree", data), (b"other", SECRET)):
             path = os.path.join(os.fsencode(folder), top, name)
             os.makedirs(os.path.dirname(path), exist_ok=True)
@@ -173,9 +175,34 @@ AT_CALLS = [
 ]
 
 
+# The same where the program goes from a folder up to the one above it, and down to the next: the second time is that at
+# the reading. Where the openings are counted, one more than there are would end in a fault.
+ON_THE_WAY = [
+    ("a folder is opened once to be listed and once for all files in it", "/e/", 3, "rm tree/z", (0, b"")),
+    ("and so is the one above it", "/d/", 3, "rm tree/z", (0, b"")),
+    ("a folder is put beside others while it is read", "/39", 1, "mv tree/d/e other/d/kept", (0, b"")),
+    ("a folder is put elsewhere when it is left", "/../", 2, "mv tree/d/e kept", (0, b"")),
+    ("the folder above it becomes another", "/../", 2, "mv tree/d kept; mv other/d tree/d", (0, b"")),
+    ("the folder above it becomes a link to another", "/../", 2, "mv tree/d kept; ln -s ../other/d tree/d", (0, b"")),
+    (
+        "a folder is put elsewhere, and the one above it becomes another",
+        "/../",
+        2,
+        "mv tree/d/e kept; mv tree/d old; mv other/d tree/d",
+        told(b"folder: Changed d/f/x"),
+    ),
+    (
+        "a folder is put elsewhere, and the one above it goes away",
+        "/../",
+        2,
+        "mv tree/d/e kept; mv tree/d old",
+        told(b"read: folder d/f/x"),
+    ),
+]
+
+
 def attacked(program, shim, folder, name, opening, is_at_read, command):
-    """Status, line and output of a snapshot, with a command at a call."""
-    made(folder)
+    """Status, line and output of a snapshot of a folder that is made, with a command at a call."""
     world = {**os.environ, "LD_PRELOAD": shim, "NAME": name, "OPENING": str(opening), "ATTACK": command}
     if is_at_read:
         world["READING"] = "1"
@@ -196,8 +223,16 @@ def check_at_calls(report, program):
         subprocess.run([compiler, "-shared", "-fPIC", "-O1", "-o", shim, source, "-ldl"], check=True)
         for name, path, opening, is_at_read, command, wanted in AT_CALLS:
             with tempfile.TemporaryDirectory() as folder:
+                made(folder)
                 got = attacked(program, shim, folder, path, opening, is_at_read, command)
             report.see_told("at a call: " + name, got[:2] == wanted and SECRET not in got[2], got)
+        whole = snapshot_text(sorted(BELOW.items()))
+        for name, path, opening, command, wanted in ON_THE_WAY:
+            with tempfile.TemporaryDirectory() as folder:
+                made(folder, BELOW)
+                got = attacked(program, shim, folder, path, opening, False, command)
+            good = got[:2] == wanted and SECRET not in got[2] and (wanted[0] != 0 or got[2] == whole)
+            report.see_told("on the way: " + name, good, got)
     return True
 
 

@@ -172,10 +172,10 @@ class Twin:
 
 
 class Closed:
-    """A file or a folder (where `data` is None) that may not be read."""
+    """A file or a folder (where `data` is None) that may not be read, or is open as far as this mode says."""
 
-    def __init__(self, data):
-        self.data = data
+    def __init__(self, data, mode=0):
+        self.data, self.mode = data, mode
 
 
 def contents(name):
@@ -199,7 +199,7 @@ def make(path, kind):
     elif isinstance(kind, Twin):
         os.link(kind.target, path)
     elif kind == FOLDER or isinstance(kind, Closed) and kind.data is None:
-        os.mkdir(path)
+        os.makedirs(path, exist_ok=True)
     elif kind == PIPE:
         os.mkfifo(path)
     elif kind == SOCKET:
@@ -214,7 +214,7 @@ def make(path, kind):
         os.chmod(path, 0o666)  # so that nothing but the program keeps the user from writing it
         os.utime(path, (when, when))
     if isinstance(kind, Closed):
-        os.chmod(path, 0)
+        os.chmod(path, kind.mode)
 
 
 def make_tree(tree):

@@ -54,6 +54,24 @@ SKIP = TREE + ["--skip"]
 DEEP = b"/".join([b"d" * 250] * 17)
 MANY = {b"%04d/f" % number: b"" for number in range(1100)}
 CHAIN = b"d/" * 500 + b"f"
+# Names of folders that begin with one another's, and files before, in and after folders at several depths.
+BESIDE = {
+    name: name[-3:]
+    for name in (
+        b"a/b/c/d/e/1",
+        b"a/b/c/d/2",
+        b"a/b/c/d.e/3",
+        b"a/b/cc/4",
+        b"a/b/c5",
+        b"a/bc/d/6",
+        b"a/b7",
+        b"a0/b/c/8",
+        b"ab/c/d/9",
+        b"ab/c/d0",
+        b"b/c/d/e/f",
+        b"c",
+    )
+}
 CASES = {b"B": b"1", b"a": b"2", b"C/x": b"3", b"b/x": b"4", b"A/x": b"5"}
 LINKS = {b"%03d" % number: Link(b"none") for number in range(150)}
 HIDDEN = "\u0085\u061c\u200e\u200f\u2028\u2029\u202a\u202e\u2066\u2069\ufeff\x9b\x7f\x1b".encode()
@@ -216,6 +234,14 @@ SNAPSHOTS = [
         left_out(b"read: folder b", b"read: folder d/e/"),
         snapshot_text([(b"a", b"1"), (b"z", b"3")]),
     ),
+    (
+        "a folder that may be listed, and nothing in it looked at, skipped",
+        {b"b/c/x": (b"1", 0), b"b/c": Closed(None, 0o444), b"b/d/x": b"2", b"b/e": b"3", b"z": b"4"},
+        SKIP,
+        0,
+        left_out(b"read: folder b/c/x"),
+        snapshot_text([(b"b/d/x", b"2"), (b"b/e", b"3"), (b"z", b"4")]),
+    ),
     ("no such folder", {}, ["--folder", "none", "--output", "output"], 6, b"haboob: open: folder\n", OLDEST),
     ("no name of a folder", {}, ["--folder", "", "--output", "output"], 6, b"haboob: open: folder\n", OLDEST),
     ("a file as folder", {}, ["--folder", "output", "--output", "output"], 6, b"haboob: open: folder\n", OLDEST),
@@ -253,6 +279,7 @@ SNAPSHOTS = [
     ),
     ("over a thousand folders", MANY, TREE, 0, b"", snapshot_text(sorted(MANY.items()))),
     ("five hundred folders in one another", {CHAIN: b"1"}, TREE, 0, b"", snapshot_text([(CHAIN, b"1")])),
+    ("folders beside one another, at several depths", BESIDE, TREE, 0, b"", snapshot_text(sorted(BESIDE.items()))),
     ("a file in a folder .git", {b".git/x": b"1"}, TREE, 0, b"", snapshot_text([(b".git/x", b"1")])),
     (
         "two names of one file",

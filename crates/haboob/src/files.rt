@@ -139,7 +139,7 @@ pub(crate) fn snapshot_named(
     skip: bool,
 ) -> Result<(), Fault> {
     let root = open_root(rt, folder)?;
-    let listing = list_folder(rt.alloc(), &root)?;
+    let listing = list_folder(rt, &root)?;
     let output = Overwritten::open(rt, output, Place::Output, &listing.nodes)?;
     let skipped = run_snapshot(
         rt.alloc(),

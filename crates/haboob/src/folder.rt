@@ -1,5 +1,6 @@
 //! The walk through a folder, and the reading of its files.
 
+use crate::cursor::Cursor;
 use crate::open_folder::{OpenFolder, Unread};
 use crate::overwritten::Node;
 use devices::Output;
@@ -21,8 +22,8 @@ pub struct Listing {
 
 /// A walk through a folder and all folders in it.
 #[derive(Drop)]
-struct Walk {
-    alloc: Global,
+struct Walk<'a> {
+    rt: &'a HostRuntime,
     found: Vec<(Found, Option<Node>)>,
     /// The folders that are still to be read: the names of what is in them begin so.
     ahead: Vec<String>,
@@ -46,7 +47,7 @@ fn kind_fault(known: &Metadata) -> Option<FileFault> {
     }
 }
 
-impl Walk {
+impl Walk<'_> {
     /// Adds what was found.
     fn add(
         &mut self,
@@ -64,7 +65,7 @@ impl Walk {
             Unread::Fault(fault) => fault,
             Unread::Unanswered(why) => return Err(why),
         };
-        let name = String::from_str(self.alloc, if name.is_empty() { "./" } else { name })?;
+        let name = String::from_str(self.rt.alloc(), if name.is_empty() { "./" } else { name })?;
         Ok(self.add(name, Some(fault), None)?)
     }
 
@@ -91,7 +92,7 @@ impl Walk {
             Ok(entry) => entry,
             Err(error) => return self.take_unread(folder, Unread::from(error)),
         };
-        let name = joined(self.alloc, folder, entry.file_name())?;
+        let name = joined(self.rt.alloc(), folder, entry.file_name())?;
         match entry.metadata() {
             Ok(known) => self.take_known(name, &known),
             Err(error) => self.take_unread(&name, Unread::from(error)),
@@ -107,12 +108,16 @@ impl Walk {
     }
 
     /// Takes all that the folder of this name has, which stays open meanwhile.
-    fn take_below(&mut self, root: &OpenFolder, name: &str) -> Result<(), Unanswered> {
-        let folder = match root.descend(name) {
-            Ok(folder) => folder,
-            Err(why) => return self.take_unread(name, why),
-        };
-        match folder.entries() {
+    fn take_below(
+        &mut self,
+        root: &OpenFolder,
+        cursor: &mut Cursor,
+        name: &str,
+    ) -> Result<(), Unanswered> {
+        if let Err(why) = cursor.go(self.rt, root, name) {
+            return self.take_unread(name, why);
+        }
+        match cursor.folder(root).entries(self.rt) {
             Ok(entries) => self.take_all(name, entries),
             Err(why) => self.take_unread(name, why),
         }
@@ -128,24 +133,26 @@ fn root_fault(why: Unread) -> Fault {
 }
 
 /// Opens the folder of a path.
-pub fn open_root<'a>(rt: &'a HostRuntime, path: &str) -> Result<OpenFolder<'a>, Fault> {
+pub fn open_root(rt: &HostRuntime, path: &str) -> Result<OpenFolder, Fault> {
     OpenFolder::open(rt, path).map_err(root_fault)
 }
 
 /// Lists what is in a folder. Links aren't followed.
-pub fn list_folder(alloc: Global, root: &OpenFolder) -> Result<Listing, Fault> {
+pub fn list_folder(rt: &HostRuntime, root: &OpenFolder) -> Result<Listing, Fault> {
+    let alloc = rt.alloc();
     let mut walk = Walk {
-        alloc,
+        rt,
         found: Vec::new(alloc),
         ahead: Vec::new(alloc),
     };
-    walk.take_all("", root.entries().map_err(root_fault)?)?;
+    walk.take_all("", root.entries(rt).map_err(root_fault)?)?;
+    let mut cursor = Cursor::new(alloc);
     // The system's folders come to an end some time.
     for _ in 0..u64::MAX {
         let Some(name) = walk.ahead.pop() else {
             break;
         };
-        walk.take_below(root, &name)?;
+        walk.take_below(root, &mut cursor, &name)?;
     }
     Ok(in_order(alloc, walk.found)?)
 }
@@ -171,23 +178,22 @@ const MOST_TOLD: usize = 100;
 #[derive(Drop)]
 pub struct FileFolder<'a> {
     rt: &'a HostRuntime,
-    root: &'a OpenFolder<'a>,
+    root: &'a OpenFolder,
     listing: &'a Listing,
+    /// At the folder of the file that was read last: the names come in their order, so the next is near.
+    cursor: Cell<Cursor>,
     /// How many names that were left out have been told.
     reported: Cell<usize>,
 }
 
 impl<'a> FileFolder<'a> {
     /// The folder that has this listing.
-    pub fn new(
-        rt: &'a HostRuntime,
-        root: &'a OpenFolder<'a>,
-        listing: &'a Listing,
-    ) -> FileFolder<'a> {
+    pub fn new(rt: &'a HostRuntime, root: &'a OpenFolder, listing: &'a Listing) -> FileFolder<'a> {
         FileFolder {
             rt,
             root,
             listing,
+            cursor: Cell::new(Cursor::new(rt.alloc())),
             reported: Cell::new(0),
         }
     }
@@ -199,10 +205,21 @@ impl<'a> FileFolder<'a> {
         *self.listing.nodes.get(place.ok()?)?
     }
 
-    /// Reads the file of this name, which is to be the one that was listed.
+    /// Reads the file of this name, which is to be the one that was listed, from where the cursor is.
+    fn read_from(&self, cursor: &mut Cursor, name: &str) -> Result<Contents, Unread> {
+        cursor.go(self.rt, self.root, name)?;
+        let (_, last) = name.rsplit_once('/').unwrap_or(("", name));
+        cursor
+            .folder(self.root)
+            .read(self.rt, last, self.listed(name))
+    }
+
+    /// Reads the file of this name.
     fn read_file(&self, name: &str) -> Result<Contents, Unread> {
-        let (folders, last) = name.rsplit_once('/').unwrap_or(("", name));
-        self.root.descend(folders)?.read(last, self.listed(name))
+        let mut cursor = self.cursor.replace(Cursor::new(self.rt.alloc()));
+        let contents = self.read_from(&mut cursor, name);
+        self.cursor.set(cursor);
+        contents
     }
 }
 

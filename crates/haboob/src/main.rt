@@ -8,6 +8,7 @@
 //! after which `haboob settings` says in words what is wrong, and by the status that the program ends with.
 #![tactic(auto)]
 
+mod cursor;
 mod files;
 mod folder;
 mod open_folder;

@@ -4,7 +4,7 @@
 use crate::overwritten::Node;
 use paths::MAX_FILE_BYTES;
 use program::{Contents, FileFault, Unanswered};
-use std::alloc::AllocError;
+use std::alloc::{AllocError, Global};
 use std::fs::{File, Metadata, ReadDir, read_dir, symlink_metadata};
 use std::io;
 use std::io::{ErrorKind, Read};
@@ -47,7 +47,7 @@ impl From<io::Error> for Unread {
 }
 
 /// What was looked at is no longer what it was.
-const CHANGED: Unread = Unread::Fault(FileFault::Changed);
+pub const CHANGED: Unread = Unread::Fault(FileFault::Changed);
 
 /// Whether nobody has changed a file between two looks at it.
 fn is_unchanged(before: &Metadata, after: &Metadata) -> bool {
@@ -77,73 +77,77 @@ fn contents_of(rt: &HostRuntime, file: &File) -> Result<Contents, Unread> {
 
 /// An open folder.
 #[derive(Drop)]
-pub struct OpenFolder<'a> {
-    rt: &'a HostRuntime,
+pub struct OpenFolder {
     file: File,
+    node: Node,
 }
 
-impl<'a> OpenFolder<'a> {
+impl OpenFolder {
+    /// Opens the folder of this path, which ends with a slash: so nothing but a folder is opened.
+    fn at(rt: &HostRuntime, path: &str) -> Result<OpenFolder, Unread> {
+        let file = File::open(rt, path)?;
+        let node = Node::new(&file.metadata()?);
+        Ok(OpenFolder { file, node })
+    }
+
     /// Opens the folder of a path, or the one that a link of that path leads to.
-    pub fn open(rt: &'a HostRuntime, path: &str) -> Result<OpenFolder<'a>, Unread> {
+    pub fn open(rt: &HostRuntime, path: &str) -> Result<OpenFolder, Unread> {
         if path.is_empty() {
             return Err(Unread::Fault(FileFault::Read));
         }
-        // With the slash nothing but a folder is opened.
         let path = format!(in rt.alloc(); "{path}/")?;
-        let file = File::open(rt, path.as_str())?;
-        Ok(OpenFolder { rt, file })
+        OpenFolder::at(rt, path.as_str())
+    }
+
+    /// Which folder it is.
+    pub fn node(&self) -> Node {
+        self.node
     }
 
     /// The path of what has this name in the folder, by the number of the open folder.
-    fn path(&self, name: &str) -> Result<String, AllocError> {
+    fn path(&self, alloc: Global, name: &str) -> Result<String, AllocError> {
         let number = self.file.as_raw_fd();
-        format!(in self.rt.alloc(); "/proc/self/fd/{number}/{name}")
+        format!(in alloc; "/proc/self/fd/{number}/{name}")
     }
 
-    /// The folder of this name in it.
-    fn enter(&self, name: &str) -> Result<OpenFolder<'a>, Unread> {
-        let mut path = self.path(name)?;
-        let listed = symlink_metadata(self.rt, path.as_str())?;
+    /// The folder of this name in it; by `.` itself, and by `..` the one that it is in now.
+    pub fn enter(&self, rt: &HostRuntime, name: &str) -> Result<OpenFolder, Unread> {
+        let mut path = self.path(rt.alloc(), name)?;
+        let listed = symlink_metadata(rt, path.as_str())?;
         if !listed.is_dir() {
             return Err(CHANGED);
         }
         path.push('/')?;
-        let file = File::open(self.rt, path.as_str())?;
-        if Node::new(&listed) != Node::new(&file.metadata()?) {
+        let folder = OpenFolder::at(rt, path.as_str())?;
+        if Node::new(&listed) != folder.node {
             return Err(CHANGED);
-        }
-        Ok(OpenFolder { rt: self.rt, file })
-    }
-
-    /// The folder that is reached from it by these names, joined by `/`; itself by none.
-    pub fn descend(&self, names: &str) -> Result<OpenFolder<'a>, Unread> {
-        let mut folder = self.enter(".")?;
-        for name in names.split('/') {
-            if !name.is_empty() {
-                folder = folder.enter(name)?;
-            }
         }
         Ok(folder)
     }
 
     /// What is in it.
-    pub fn entries(&self) -> Result<ReadDir, Unread> {
-        let path = self.path("")?;
-        Ok(read_dir(self.rt, path.as_str())?)
+    pub fn entries(&self, rt: &HostRuntime) -> Result<ReadDir, Unread> {
+        let path = self.path(rt.alloc(), "")?;
+        Ok(read_dir(rt, path.as_str())?)
     }
 
     /// Reads the file of this name in it, which is to be this one. What isn't a plain file isn't opened: a pipe would
     /// have the program wait.
-    pub fn read(&self, name: &str, wanted: Option<Node>) -> Result<Contents, Unread> {
-        let path = self.path(name)?;
-        let found = Node::new(&symlink_metadata(self.rt, path.as_str())?);
+    pub fn read(
+        &self,
+        rt: &HostRuntime,
+        name: &str,
+        wanted: Option<Node>,
+    ) -> Result<Contents, Unread> {
+        let path = self.path(rt.alloc(), name)?;
+        let found = Node::new(&symlink_metadata(rt, path.as_str())?);
         if wanted != Some(found) {
             return Err(CHANGED);
         }
-        let file = File::open(self.rt, path.as_str())?;
+        let file = File::open(rt, path.as_str())?;
         if found != Node::new(&file.metadata()?) {
             return Err(CHANGED);
         }
-        contents_of(self.rt, &file)
+        contents_of(rt, &file)
     }
 }
