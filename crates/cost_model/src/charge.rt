@@ -1,6 +1,6 @@
 //! What a request costs: by its route, or by the table.
 
-ghost use Rattle.std.specs.Prelude.{◌≡◌, ◌≤◌, IfOk};
+ghost use Rattle.std.specs.Prelude.{◌≡◌, ◌≤◌, [], IfOk, IsOk};
 ghost use Rattle.std.specs.Option.{option_map};
 ghost use Rattle.paths.specs.Snapshots.{max_file_bytes};
 ghost use Rattle.cost_model.specs.Reference.{bytes_given, charge, charge_on};
@@ -142,8 +142,10 @@ impl Tariff {
         len: u64,
     ) -> Result<Charge, AllocError>
         requires { len ≤ max_file_bytes }
-        ensures { IfOk result
+        ensures charge { IfOk result
             (λ c. c ≡ charge self.now target.now outcome.now head unmodified len) }
+        // Without routes the target isn't read, which alone takes memory.
+        ensures free { self.now.routes ≡ [] → IsOk result }
     {
         let route = self.routes.of_target(alloc, target)?;
         Ok(charge_on(self.costs, route, outcome, head, unmodified, len))

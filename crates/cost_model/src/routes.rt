@@ -1,6 +1,6 @@
 //! Routes: requests that cost something else, by their paths.
 
-ghost use Rattle.std.specs.Prelude.{◌≡◌, ◌≤◌, ◌+◌, [], bytes_eq, codes, find, length, IfOk};
+ghost use Rattle.std.specs.Prelude.{◌≡◌, ◌≤◌, ◌+◌, [], bytes_eq, codes, find, length, IfOk, IsOk};
 ghost use Rattle.std.specs.List.{starts_with};
 ghost use Rattle.std.specs.Option.{option_map};
 ghost use Rattle.paths.specs.Reference.{asked};
@@ -138,8 +138,9 @@ impl Routes {
     /// Memory ran out.
     #[inline]
     pub fn of_target(&self, alloc: Global, target: &[u8]) -> Result<Option<&Route>, AllocError>
-        ensures { IfOk result
+        ensures route { IfOk result
             (λ route. option_map (λ r. r.now) route ≡ route_of self.now (asked (codes "GET") target.now)) }
+        ensures free { self.now ≡ [] → IsOk result }
     {
         if self.as_slice().is_empty() {
             return Ok(None);

@@ -1,6 +1,7 @@
 //! The bytes of each connection that belong to no whole message.
 
-ghost use Rattle.std.specs.Prelude.{◌≡◌, ◌≢◌, ℕ, ◌+◌, ◌<◌, ◌≤◌, ◌^◌, ◌==◌, ◌++◌, [], List, length, nat_lt, OnOk};
+ghost use Rattle.std.specs.Prelude.{◌≡◌, ◌≢◌, ℕ, ◌+◌, ◌<◌, ◌≤◌, ◌^◌, ◌==◌, ◌++◌, [], List, length, max, nat_lt};
+ghost use Rattle.std.specs.Prelude.{OnOk};
 ghost use Rattle.captures.specs.Reference.{last_of};
 ghost use Rattle.http_requests.specs.declared.messages.Message.{Message as AMessage};
 ghost use Rattle.http_requests.specs.Reference.{blank_len, carriage_return};
@@ -201,13 +202,11 @@ impl Tails {
         &self.list
     }
 
-    /// Makes a place for a connection.
+    /// Makes a place for a connection, and none beyond it.
     fn reach(&mut self, conn: usize) -> Result<(), AllocError>
-        requires few { length self.old ≤ most_connections }
-        requires number { conn < most_connections }
         ensures place { OnOk result (conn < length self.new) }
-        ensures few { OnOk result (length self.new ≤ most_connections) }
         ensures same { (c : ℕ) → tail_at self.new c ≡ tail_at self.old c }
+        ensures room { length self.new ≤ max (length self.old) (conn + 1) }
     {
         while self.list.len() <= conn {
             self.list.push(NO_TAIL)?;
@@ -215,7 +214,7 @@ impl Tails {
         Ok(())
     }
 
-    /// A piece came on a connection, and these messages ended in it.
+    /// A piece came on a connection, and these messages ended in it. Places are made up to its number's alone.
     pub(crate) fn take(
         &mut self,
         conn: u16,
@@ -231,6 +230,7 @@ impl Tails {
             → tail_at self.new conn ≡ tail_of (text ++ piece.now) (ms ++ messages.now)) }
         ensures others { OnOk result
             ((c : ℕ) → c ≢ conn → tail_at self.new c ≡ tail_at self.old c) }
+        ensures room { length self.new ≤ max (length self.old) (conn + 1) }
     {
         let place = usize::from(conn);
         self.reach(place)?;

@@ -2,7 +2,7 @@ use Rattle.std.proofs.Common.{◌∙◌, ap}
 use Rattle.cost_model.specs.Reference.{charge_on}
 use Rattle.cost_model.proofs.charge.Tariff.charge.Goals as goal
 
-pub returns : goal.returns
-returns c =
+pub returns-clause-charge : goal.returns-clause-charge
+returns-clause-charge c =
     rw (← c.self.view_is)
-    (c.charge_on.ensures ∙ ap (λ r. charge_on c.self.inside.costs r c.args.outcome.now c.args.head c.args.unmodified c.args.len) c.in_ok-route.ensures)
+    (c.charge_on.ensures ∙ ap (λ r. charge_on c.self.inside.costs r c.args.outcome.now c.args.head c.args.unmodified c.args.len) c.in_ok-route.ensures.route)
