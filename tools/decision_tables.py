@@ -1,6 +1,6 @@
 """Reads tables of decisions (docs/FORMATS.md, Table of decisions), and takes the figures of a run of `haboob explain`.
 
-Nothing but Python's own library is used: a worker of a cluster is sent this file alone.
+Nothing but Python's own library is used: a worker of a cluster is sent this file and response_delays.py alone.
 """
 import array
 import collections
@@ -14,6 +14,9 @@ import re
 import shutil
 import subprocess
 import tempfile
+import tomllib
+
+from response_delays import Delays
 
 HEADING = "number connection tick tier status decision service credit rate start finish waited method target".split()
 TIERS = 4
@@ -100,17 +103,17 @@ def ranked(samples, percent):
 
 
 class Queue:
-    """The admitted requests that aren't answered yet."""
+    """What has begun and hasn't ended yet, as the admitted requests that aren't answered."""
 
     def __init__(self):
-        self.finishes = []  # a heap
+        self.ends = []  # a heap
 
-    def admit(self, tick, finish):
-        """How many there are with a request that comes at a tick, and is answered at its finish."""
-        while self.finishes and self.finishes[0] <= tick:
-            heapq.heappop(self.finishes)
-        heapq.heappush(self.finishes, finish)
-        return len(self.finishes)
+    def admit(self, tick, end):
+        """How many there are with one that begins at a tick and ends at another."""
+        while self.ends and self.ends[0] <= tick:
+            heapq.heappop(self.ends)
+        heapq.heappush(self.ends, end)
+        return len(self.ends)
 
 
 class TierTally:
@@ -130,9 +133,10 @@ class TierTally:
 
 
 class Tally:
-    """What is counted over the rows of a table."""
+    """What is counted over the rows of a table, of which each response takes its delay besides."""
 
-    def __init__(self):
+    def __init__(self, delays):
+        self.delays = delays
         self.tiers = collections.defaultdict(TierTally)
         self.queue = Queue()
         self.inside = 0  # the most requests that were admitted and not yet answered
@@ -149,8 +153,9 @@ class Tally:
         if row.decision == "admitted":
             self.last = max(self.last, row.finish)
             self.busy += row.finish - row.start
-            tier.samples.append(row.finish - row.tick)
-            self.inside = max(self.inside, self.queue.admit(row.tick, row.finish))
+            complete = row.finish + self.delays.of(row.target)
+            tier.samples.append(complete - row.tick)
+            self.inside = max(self.inside, self.queue.admit(row.tick, complete))
             return
         tier.rejected += 1
         tier.idle += row.waited == 0
@@ -176,18 +181,18 @@ def report_figures(lines):
     return figures
 
 
-def tally_of(table):
+def tally_of(table, delays):
     """What is counted over a table in a file of bytes, of which one row is held at a time."""
-    tally = Tally()
+    tally = Tally(delays)
     for row in rows_of(table):
         tally.take(row)
     return tally
 
 
-def tally_or_fault(table):
+def tally_or_fault(table, delays):
     """What is counted over a table, and None; or None and the fault of a text that ended too early."""
     try:
-        return tally_of(table), None
+        return tally_of(table, delays), None
     except Fault as error:
         fault = Fault("no table of haboob explain: %s" % error)
     if table.read(1):
@@ -206,6 +211,8 @@ def run(program, snapshot, capture, settings):
 
     The table comes over a pipe of its own, so that it takes no room on a disk.
     """
+    with open(settings, "rb") as file:
+        delays = Delays(tomllib.load(file))
     table_end, program_end = os.pipe()
     words = [program, "explain", "--snapshot", snapshot, "--capture", capture, "--settings", settings,
              "--messages", "/dev/fd/%d" % program_end]
@@ -217,7 +224,7 @@ def run(program, snapshot, capture, settings):
         finally:
             os.close(program_end)
         with process, table:
-            tally, fault = tally_or_fault(table)
+            tally, fault = tally_or_fault(table, delays)
         said = said_by(errors)
         if process.returncode == REFUSED:
             return {"fault": said}

@@ -10,13 +10,13 @@ import pickle
 import signal
 import tempfile
 
-from log_requests import LINE_LIMIT, NEAR, SECOND, Block, runs_of
+from log_requests import LINE_LIMIT, NEAR, RUN_LENGTH, SECOND, Block, packed, runs_of
 from tool_run import Fault
 
 BLOCK_BYTES = 4_194_304
 SIGNALS = (signal.SIGINT, signal.SIGTERM, signal.SIGHUP)
 HELD_BYTES = 67_108_864  # of requests; more are kept in a file without a name until all are there
-HELD_REQUESTS = 50_000  # that are put in order at a time
+HELD_REQUESTS = 50_000  # that are put in order, or held of what is merged, at a time
 
 
 def texts_of(one):
@@ -130,11 +130,15 @@ def read_all(blocks, read):
 
 
 class RequestStore:
-    """Keeps the requests of all blocks, and gives them by rising time."""
+    """Keeps requests in sequences by rising time, and gives all by rising time.
+
+    Of each sequence that is merged one run is held. Where these would be more than HELD_REQUESTS requests, sequences
+    are first merged into fewer, which takes as much room of the file again.
+    """
 
     def __init__(self):
         self.file = tempfile.SpooledTemporaryFile(max_size=HELD_BYTES)
-        self.runs = []  # for each block the places and lengths of its runs
+        self.sequences = []  # where the runs of each begin and end in the file
         self.count = 0
 
     def __enter__(self):
@@ -144,22 +148,41 @@ class RequestStore:
         self.file.close()
 
     def add(self, runs, count):
-        """Takes the pickled runs of a block, which hold so many requests."""
+        """Takes the runs of a sequence, which hold so many requests."""
         self.count += count
+        self.sequences.append(self._written([runs]))
+
+    def _written(self, runs):
+        """Where runs begin and end in the file, once they were written."""
         try:
-            self.runs.append([(self.file.tell(), self.file.write(run)) for run in runs])
+            self.file.seek(0, os.SEEK_END)
+            begin = end = self.file.tell()
+            for run in runs:
+                self.file.seek(end)
+                end += self.file.write(run)
         except OSError as error:
             raise Fault("a file for what is read, in %s: %s" % (tempfile.gettempdir(), error.strerror)) from None
+        return begin, end
 
-    def _requests(self, places):
-        """The requests of a block."""
-        for place, length in places:
-            self.file.seek(place)
-            yield from pickle.loads(self.file.read(length))
+    def _requests(self, begin, end):
+        """The requests of a sequence."""
+        while begin < end:
+            self.file.seek(begin)
+            run = pickle.load(self.file)
+            begin = self.file.tell()
+            yield from run
+
+    def _merged(self, sequences):
+        """The requests of some sequences by rising time; those of the same time in the order of the sequences."""
+        return heapq.merge(*itertools.starmap(self._requests, sequences), key=operator.itemgetter(0))
 
     def requests(self):
         """All requests by rising time; those of the same time in the order of the log."""
-        return heapq.merge(*map(self._requests, self.runs), key=operator.itemgetter(0))
+        at_once = max(2, HELD_REQUESTS // RUN_LENGTH)
+        while len(self.sequences) > at_once:
+            groups = (self.sequences[at:at + at_once] for at in range(0, len(self.sequences), at_once))
+            self.sequences = [self._written(packed(self._merged(group))) for group in groups]
+        return self._merged(self.sequences)
 
 
 def spread(requests):

@@ -4,6 +4,7 @@ A block is read without the others, so that several are read side by side (log_b
 """
 import collections
 import functools
+import itertools
 import operator
 import pickle
 import re
@@ -12,7 +13,7 @@ import capture_writer
 from log_formats import DURATIONS, TIMES
 
 LINE_LIMIT = 65_536  # bytes; a longer line doesn't fit
-RUN_LENGTH = 500  # requests that are packed together
+RUN_LENGTH = 100  # requests that are packed together
 SECOND = capture_writer.TICKS_IN_SECOND
 # A line stands alone in time where it is so much later or earlier than all lines near it on both sides. A line may be
 # earlier than those before it by as long as a request lasts, where the log tells when requests came (Apache's does).
@@ -58,7 +59,7 @@ class Part:
         self.firsts = {}  # the first line of each kind that is left out: file and number
         self.remarks = collections.Counter()
         self.requests = []  # time, duration, tier, head
-        self.runs = []  # the same by rising time, each run pickled
+        self.runs = b""  # the same by rising time, in runs
         self.count = 0  # of the requests
 
     def leave_out(self, kind, name, number):
@@ -72,10 +73,16 @@ class Part:
         self.runs, self.requests = runs_of(self.requests), []
 
 
+def packed(ordered):
+    """Requests in runs that are pickled each."""
+    ordered = iter(ordered)
+    while run := list(itertools.islice(ordered, RUN_LENGTH)):
+        yield pickle.dumps(run)
+
+
 def runs_of(requests):
-    """Requests by rising time, those of the same time in their order, in runs that are pickled each."""
-    ordered = sorted(requests, key=operator.itemgetter(0))
-    return [pickle.dumps(ordered[at:at + RUN_LENGTH]) for at in range(0, len(ordered), RUN_LENGTH)]
+    """Runs of requests by rising time, those of the same time in their order, one after another."""
+    return b"".join(packed(sorted(requests, key=operator.itemgetter(0))))
 
 
 def escaped_byte(found):

@@ -143,6 +143,14 @@ class Body:
         return True
 
 
+def body_of(head, length):
+    """The body that comes after a head, and has this length where the head tells none (RFC 9112, 6.3)."""
+    if CHUNKED.search(head):
+        return Body(0, True)
+    found = LENGTH.search(head)
+    return Body(int(found[1]) if found else length)
+
+
 class Exchange:
     """The requests of one connection and their answers."""
 
@@ -163,9 +171,8 @@ class Exchange:
             head = self.client.up_to(HEAD_END)
             if head is None:
                 return
-            length = LENGTH.search(head)
             self.waiting.append([time, head.split(b" ", 1)[0].decode("latin-1")])
-            self.request_body = Body(int(length[1])) if length else None
+            self.request_body = body_of(head, 0)
 
     def end_request(self, time):
         """Takes what has come of a request's body; tells whether it is whole, and then the request came now."""
@@ -204,13 +211,8 @@ class Exchange:
                 raise GivenUp(NO_HTTP)
             if self.status >= 200:
                 break
-        length = LENGTH.search(head)
-        if self.waiting[0][1] == "HEAD" or self.status in (204, 304):
-            self.answer_body = Body(0)
-        elif CHUNKED.search(head):
-            self.answer_body = Body(0, True)
-        else:
-            self.answer_body = Body(int(length[1]) if length else None)
+        has_none = self.waiting[0][1] == "HEAD" or self.status in (204, 304)
+        self.answer_body = Body(0) if has_none else body_of(head, None)
         return True
 
 

@@ -30,6 +30,7 @@ import command_line
 import decision_tables
 import input_files
 import output_file
+import response_delays
 import server_lines
 import settings_documents
 import spreadsheets
@@ -93,7 +94,7 @@ examples:
                  for name, meaning in sweep_figures.DEFINITIONS),
        textwrap.fill(", ".join(sweep_figures.LIMITED), 88).replace("\n", "\n  "))
 
-KIND = "haboob-sweep 2"  # to be raised where the figures of a result get another meaning
+KIND = "haboob-sweep 3"  # to be raised where the figures of a result get another meaning
 DIGITS = 16  # hexadecimal ones of a file's name
 RESULT_ROOM = 65_536  # bytes that are read of a result; a sound one has some hundreds
 SETTING = re.compile(r"([A-Za-z0-9_-]+[.][A-Za-z0-9_-]+)=(.*)")
@@ -331,7 +332,8 @@ class Cluster:
         self.options = options
         self.client = client
         self.inputs = Inputs((options.snapshot, *options.captures))
-        client.upload_file(decision_tables.__file__)
+        for module in (response_delays, decision_tables):  # which needs the first
+            client.upload_file(module.__file__)
         digests = set(client.run(decision_tables.digest_of_program, options.program).values())
         if len(digests) != 1:
             raise Fault("%s: %s" % (options.cluster, "not the same program on all workers" if digests

@@ -429,6 +429,21 @@ class Readers(unittest.TestCase):
         self.assertEqual(self.times(measured), [(10, 100 + first, "GET", 200, 3), (10, 100 + last, "GET", 404, 0)])
         self.assertEqual(+left_out, {})
 
+    def test_chunks_of_a_request(self):
+        """The bytes of a POST with a body of chunks come one by one, from 100 on, and then those of a GET: each request
+        comes with its last byte, the POST with the end of its trailer. A length beside chunks doesn't count."""
+        post = (b"POST /a HTTP/1.1\r\nContent-Length: 2\r\nTransfer-Encoding: gzip, chunked\r\n\r\n"
+                b"3\r\nabc\r\nA;x=y\r\nGET / HTTP\r\n0\r\nA: b\r\n\r\n")
+        requests = post + b"GET /b HTTP/1.1\r\n\r\n"
+        answers = b"HTTP/1.1 100 Continue\r\n\r\nHTTP/1.1 204 No\r\n\r\nHTTP/1.1 404 No\r\nContent-Length: 2\r\n\r\nno"
+        measured, left_out = self.measured(
+            *self.opened(),
+            *(self.data(100 + place, True, 1 + place, requests[place:place + 1]) for place in range(len(requests))),
+            self.data(900, False, 1, answers))
+        self.assertEqual(self.times(measured), [(99 + len(post), 900, "POST", 204, 0),
+                                                (99 + len(requests), 900, "GET", 404, 2)])
+        self.assertEqual(+left_out, {})
+
     def exchanged(self, client, server, size=SEGMENT):
         """What was measured, and counts of what was left out, where a client sends bytes and a server others, in
         segments of a size; fails where more than five times as many are looked at."""
@@ -446,13 +461,15 @@ class Readers(unittest.TestCase):
         get, ok, more = b"GET / HTTP/1.1\r\n\r\n", b"HTTP/1.1 200 OK\r\n", bytes(range(14, 256)) * 2_000
         most = more * (8 * MIB // len(more) + 1)
         chunks = ok + b"Transfer-Encoding: chunked\r\n\r\n"
+        chunked = b"POST / HTTP/1.1\r\nTransfer-Encoding: chunked\r\n\r\n"
         hello = b"\x16\x03\x01\x02\x00\x01\x00\x01\xfc\x03\x03"
         switched = b"HTTP/1.1 101 Switching Protocols\r\nUpgrade: websocket\r\nConnection: Upgrade\r\n\r\n"
         for name, client, server in (
                 ("a server's bytes", get, most), ("a head without an end", get, ok + b"A: " + more),
                 ("a line of a chunk without an end", get, chunks + b"5;" + more), ("no chunk", get, chunks + b"x\r\n"),
                 ("a line of a trailer without an end", get, chunks + b"0\r\nA: " + more),
-                ("a client's bytes", more, b""), ("WebSocket", get, switched + most),
+                ("no chunk of a request", chunked + b"x\r\n", b""), ("a client's bytes", more, b""),
+                ("WebSocket", get, switched + most),
                 ("WebSocket with an empty line", get, switched + b"\x82\x04\r\n\r\n"),
                 ("a TLS hello", hello + more[:300], b""), ("a TLS hello, and an answer", hello, hello + more),
                 ("an answer to a TLS hello with an empty line", hello + b"\n\n", hello + more)):

@@ -11,7 +11,6 @@ import calendar
 import collections
 import contextlib
 import gzip
-import json
 import lzma
 import os
 import random
@@ -173,6 +172,24 @@ class Logs(test_support.ToolTest):
             self.addCleanup(tracemalloc.stop)
             self.assertEqual(sum(1 for _ in log_blocks.by_arrival(day)), 80_000)
         self.assertLess(tracemalloc.get_traced_memory()[1], 80_000 * 200 // 2)
+
+    def test_memory_of_many_blocks(self):
+        """Of 200 blocks, each with 100 requests over the same hundred seconds, no more are held than may be, and those
+        of a second stay in the order of the log."""
+        blocks = [[(second * 10**6, 0, 0, b"%0300d" % (100 * block + second)) for second in range(100)]
+                  for block in range(200)]
+        runs = [log_requests.runs_of(block) for block in blocks]
+        expected = [int(block[second][3]) for second in range(100) for block in blocks]
+        del blocks
+        with unittest.mock.patch.multiple(log_blocks, HELD_REQUESTS=1000, HELD_BYTES=10**5):
+            with log_blocks.RequestStore() as store:
+                tracemalloc.start()
+                self.addCleanup(tracemalloc.stop)
+                for run in runs:
+                    store.add(run, 100)
+                self.assertTrue(all(
+                    int(head) == number for (*_, head), number in zip(store.requests(), expected, strict=True)))
+        self.assertLess(tracemalloc.get_traced_memory()[1], 1000 * 1000)  # of 20,000 requests of more than 300 bytes
 
     def test_a_begin_is_no_answer(self):
         # Apache's times are those of the requests: nothing is taken off.

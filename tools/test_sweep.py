@@ -32,6 +32,7 @@ PROGRAM = TOP / "crates" / "haboob" / "out" / "haboob"
 EXAMPLES = TOP / "examples"
 sys.path.insert(0, str(TOOLS))
 import decision_tables
+import response_delays
 import server_lines
 import settings_documents
 import spreadsheets
@@ -90,6 +91,7 @@ front_cuts = [1, 2, 3]
 [costs]
 kib = 10
 servers = 1
+delay = 0
 
 [policy]
 every = 100
@@ -235,8 +237,8 @@ def result_of(admitted, rejected, p99, **others):
 
 
 class Figures(unittest.TestCase):
-    def figures(self, rows, report=REPORT.format(3, 3, 400)):
-        tally = decision_tables.tally_of(io.BytesIO((HEADING + rows).encode()))
+    def figures(self, rows, report=REPORT.format(3, 3, 400), tables={}):
+        tally = decision_tables.tally_of(io.BytesIO((HEADING + rows).encode()), response_delays.Delays(tables))
         return {**decision_tables.report_figures(io.StringIO(report)), **tally.figures()}
 
     def test_rows(self):
@@ -266,7 +268,48 @@ class Figures(unittest.TestCase):
         with self.assertRaisesRegex(decision_tables.Fault, "row 2: not as many fields"):
             self.figures("0,0,1000,0,200\n")
         with self.assertRaisesRegex(decision_tables.Fault, "no table"):
-            decision_tables.tally_of(io.BytesIO(REPORT.encode()))
+            decision_tables.tally_of(io.BytesIO(REPORT.encode()), response_delays.Delays({}))
+
+    def test_delays(self):
+        """The example of docs/RULES.md, "Routes", whose samples are 2004, 4004 and 4058; and one that comes at 2,003,
+        when the first is served and its response, up to 2,004, isn't complete. It is served from 4,051 to 4,101, and
+        its response is complete at 4,108: after 2,105. The server works from 0 to 4,101 all the time."""
+        rows = ("0,0,0,0,200,admitted,2001,100000000000,1000000,0,2001,0,GET,/a.txt\n"
+                "1,1,0,0,405,admitted,2000,99000000000,1000000,2001,4001,2001,POST,/a.txt\n"
+                "2,2,0,1,404,admitted,50,98000000000,1000000,4001,4051,4001,GET,/none\n"
+                "3,3,2003,1,404,admitted,50,98000000000,1000000,4051,4101,2048,GET,/none\n")
+        route = {"prefix": "/a.txt", "cost": 2000, "kib": 100, "delay": 3}
+        figures = self.figures(rows, tables={"costs": {"delay": 7}, "route": [route]})
+        self.assertEqual([figures[name] for name in ("greatest", "most_inside", "busy", "span")], [4058, 4, 4101, 4101])
+        of_tiers = [[tier[name] for name in ("p50", "p90", "p99", "greatest")] for tier in figures["tiers"].values()]
+        self.assertEqual(of_tiers, [[2004, 4004, 4004, 4004], [2105, 4058, 4058, 4058]])
+
+
+class Delays(unittest.TestCase):
+    """The delay of a request's route, by its target as the table of decisions has it: a percent sign is %25."""
+
+    def test_routes(self):
+        routes = (("/api/v2", 1), ("/api/", 2), ("/a b", 3), ("/\u00e9", 4), ("/%", 5), ("/none", None), ("/", 9))
+        delays = response_delays.Delays({"costs": {"delay": 7}, "route": [
+            {"prefix": prefix, "cost": 1} | ({} if delay is None else {"delay": delay}) for prefix, delay in routes]})
+        for delay, targets in (
+                (1, ("/api/v2", "/./api//v2/x", "/api/v2?x")),
+                (2, ("/api", "/api/", "/api/v2x", "/%2561pi", "/x/../api", "/api?x=/../b", "http://h/api")),
+                (3, ("/a%2520b", "/a%20b")), (4, ("/%25c3%25A9/x", "/%C3%A9")), (5, ("/%2525",)),
+                (9, ("/", "/apis", "/x%3By", "HTTP://h", "http://h?/api", "/api/..")),
+                # A route without a delay of its own; and targets without a path, which are on no route.
+                (7, ("/none", "/x%25", "/%25zz/api", "/%25FF", "/%2500", "/api%252Fv2", "/..", "/api/../../api",
+                     "/api#", "/api?#", "http:///api", "https://h/api", "*", "", "?/api", "h:443", "%3D/api"))):
+            for target in targets:
+                with self.subTest(target):
+                    self.assertEqual(delays.of(target), delay)
+
+    def test_one_for_all(self):
+        """No target is read where all delays are one."""
+        with unittest.mock.patch.object(response_delays, "segments_of", None):
+            for tables, delay in (({}, 0), ({"costs": {"kib": 1}, "route": [{"prefix": "/a", "cost": 1}]}, 0),
+                                  ({"costs": {"delay": 5}, "route": [{"prefix": "/a", "cost": 1, "delay": 5}]}, 5)):
+                self.assertEqual(response_delays.Delays(tables).of("/a"), delay)
 
 
 class Documents(unittest.TestCase):
@@ -372,6 +415,31 @@ class Sweep(Base):
             self.assertEqual(status, 0, errors)
             rows = self.folder.table().splitlines()[1:]
             self.assertEqual([row.partition(rest)[2][:8] for row in rows], shares, words)
+
+    def test_delays(self):
+        """A delay is in all times that the table tells; the report's are the stub's. With 4,000 the responses to
+        numbers 0 and 1 are complete at 5,300 and 5,500: number 5, which comes at 5,000, is the third inside. A route
+        has the delay of /b, of numbers 1 and 5."""
+        grid = ("--set", "policy.rate=20", "--set", "policy.depth=3", "--set", "costs.delay=0,1000,4000")
+        names = ("p99", "greatest", "busy_share", "most_inside", "tier0.p50", "tier0.p99")
+
+        def rows(*words):
+            status, errors = swept(self.folder.words(*words, grid=grid))
+            self.assertEqual(status, 0, errors)
+            with open(self.folder.path / "swept" / "sweep.csv") as file:
+                table = list(csv.DictReader(file))
+            return [[row[name] for name in names] for row in table], [row["chosen"] for row in table]
+
+        self.assertEqual(rows("--at-most", "tier0.p99=1400")[0], [
+            ["900", "400", "0.166667", "2", "300", "400"], ["900", "1400", "0.166667", "2", "1300", "1400"],
+            ["900", "4400", "0.166667", "3", "4300", "4400"]])
+        self.folder.settings.write_text("[[route]]\nprefix = '/b'\ncost = 1\ndelay = 9\n")
+        found, chosen = rows("--settings", str(self.folder.settings), "--at-most", "tier0.p99=1300",
+                             "--at-most", "tier0.p50=409", "--at-most", "greatest=1299")
+        self.assertEqual([row[1:] for row in found], [  # 300, 409 and 209; 1300, 409, 209; 4300, 409, 209
+            ["409", "0.166667", "2", "300", "409"], ["1300", "0.166667", "2", "409", "1300"],
+            ["4300", "0.166667", "2", "409", "4300"]])
+        self.assertEqual(chosen, ["1", "0", "0"])
 
     def test_no_request(self):
         self.draw()
@@ -1033,6 +1101,18 @@ class Program(Base):
             self.assertEqual([found["tier%s.%s" % (tier, name)] for name in names],
                              [str(len(times)), str(away), str(times[math.ceil(0.99 * len(times)) - 1]), str(times[-1])])
         self.assertEqual((found["tier1.admitted"], found["tier1.rejected"]), ("81", "159"))  # as docs/WALK.md has them
+
+    def test_delays(self):
+        """Of one tier the percentiles that are made of the table are those of the report, which has every delay."""
+        self.folder.settings.write_text("[costs]\ndelay = 5000\n[[route]]\nprefix = '/notes.txt'\ncost = 300\n"
+                                        "delay = 90000\n[[route]]\nprefix = '/docs/'\ncost = 900\ndelay = 0\n")
+        self.rows("--settings", str(self.folder.settings), "--set", "policy.depth=10,300")
+        results = [json.loads(path.read_text()) for path in (self.folder.path / "swept" / "results").iterdir()]
+        self.assertEqual([len(results), *(list(result["tiers"]) for result in results)], [2, ["0"], ["0"]])
+        for result in results:
+            self.assertGreater(result["p99"], 90_000)
+            for name in ("p50", "p90", "p99"):
+                self.assertEqual(result["tiers"]["0"][name], result[name])
 
     def test_several_captures(self):
         """Settings for a burst, tried on the burst among readers too: each capture has its figures, as docs/WALK.md

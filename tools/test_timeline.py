@@ -155,6 +155,23 @@ class Figures(Base):
             rows = self.rows(table, "--step", "1", *words)
             self.assertEqual([row["busy_share"] for row in rows], shares, text)
 
+    def test_delays(self):
+        """Three come at once and are served for 100 each; the first two are on a route. By hand: without settings they
+        take 100, 200 and 300; with delays of 50 and 1,000 the first 150, the second 250 and the third 1,300, so that it
+        is still inside when a fourth comes at 1,250, is served for 10, and takes 60. The server works for 310."""
+        texts = [admitted(0, 0, 100), admitted(1, 0, 100, 100, "/a%2520b/x"), admitted(2, 0, 100, 200, "/c"),
+                 admitted(3, 1250, 10, target="/a%2520b?y")]
+        names, words = ("p50", "p90", "most_inside", "busy_share"), ("--step", "1ms", "--settings", str(self.settings))
+        for text, expected in (
+                ("", [["200", "300", "3", "0.3"], ["10", "10", "1", "0.01"]]),
+                ("[costs]\ndelay = 1000\n[[route]]\nprefix = '/c'\ndelay = 1000\n[[route]]\nprefix = '/'\ndelay = 50\n",
+                 [["250", "1300", "3", "0.3"], ["60", "60", "2", "0.01"]]),
+                ("[costs]\ndelay = 1000\n[[route]]\nprefix = '/a b/'\ndelay = 50\n",
+                 [["1100", "1300", "3", "0.3"], ["60", "60", "2", "0.01"]])):
+            self.settings.write_text(text)
+            rows = self.rows(HEADING + "".join(texts), *words)
+            self.assertEqual([[row[name] for name in names] for row in rows], expected, text)
+
     def test_no_message(self):
         status, _, texts = self.run_on(HEADING)
         self.assertEqual((status, texts["seconds"].count("\n")), (0, 1))
@@ -339,6 +356,15 @@ class Faults(Base):
         for servers in ("0", "1025", "[2]"):
             self.settings.write_text("[costs]\nservers = %s\n" % servers)
             self.check(TABLE, "site.toml: costs.servers: not from 1 to 1024 servers", "--settings", str(self.settings))
+        for text in ("[costs]\ndelay = -1\n", "[[route]]\nprefix = '/'\ndelay = 1000000001\n",
+                     "[[route]]\nprefix = '/'\ndelay = '1'\n"):
+            self.settings.write_text(text)
+            self.check(TABLE, "site.toml: delay: not from 0 to 1000000000 microseconds",
+                       "--settings", str(self.settings))
+        for text in ("cost = 1", "prefix = 1", "prefix = 'a'"):
+            self.settings.write_text("[[route]]\n%s\n" % text)
+            self.check(TABLE, "site.toml: route.prefix: no text that begins with a slash",
+                       "--settings", str(self.settings))
         self.settings.write_text("a = " + "[" * 5000)
         status, error, texts = self.run_on(TABLE, "--settings", str(self.settings))
         self.assertEqual((status, error.count("\n"), texts), (1, 1, {}))

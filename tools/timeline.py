@@ -21,6 +21,7 @@ import decision_tables
 import input_files
 import output_file
 import pages
+import response_delays
 import settings_documents
 import spreadsheets
 import steps
@@ -38,7 +39,9 @@ ticks at which messages came):
   requests          offered, admitted, rejected; messages that break a rule of HTTP (bypassed);
                     where there are several tiers, whose requests were turned away
   response times    of the admitted requests: median, 90th and 99th percentile, in milliseconds; with
-                    --settings the target of each tier as a line
+                    --settings the target of each tier as a line. The table has no delays: they count
+                    where --settings tells them (those of routes by the targets, which the table has
+                    whole), and without it they don't
   in line           the most requests that were admitted and not yet answered: the figure to choose a
                     depth by
   rate and credit   the last rate in force, with a mark where a control changed it, and the least
@@ -112,8 +115,9 @@ class Step:
 class Gathering:
     """Takes the rows of a table, and keeps what each step and each target has."""
 
-    def __init__(self, window, width, servers):
+    def __init__(self, window, width, servers, delays):
         self.window = window  # the first tick, and the one after the last
+        self.delays = delays
         self.servers = servers  # or as many as were at work at once, where these are more
         self.steps = steps.Steps(Step, MOST_GIVEN_STEPS if width else MOST_STEPS, width)
         self.queue = decision_tables.Queue()
@@ -125,7 +129,8 @@ class Gathering:
     def take(self, row):
         """Takes a row."""
         if row.decision == "admitted":
-            inside = self.queue.admit(row.tick, row.finish)
+            complete = row.finish + self.delays.of(row.target)
+            inside = self.queue.admit(row.tick, complete)
             self.servers = max(self.servers, self.at_work.admit(row.start, row.finish))
             self.note_service(row.start, row.finish)
         if not self.window[0] <= row.tick < self.window[1]:
@@ -137,7 +142,7 @@ class Gathering:
             return
         self.offer(step, row)
         if row.decision == "admitted":
-            step.samples.append(row.finish - row.tick)
+            step.samples.append(complete - row.tick)
             step.inside = max(step.inside, inside)
 
     def offer(self, step, row):
@@ -413,6 +418,19 @@ def servers_of(path, tables):
     return servers
 
 
+def delays_of(path, tables):
+    """What responses take beside the servers' work by the tables of a document of settings."""
+    least, greatest = settings_documents.RANGES["costs.delay"]
+    routes = tables.get(settings_documents.ROUTE, [])
+    for table in (tables.get("costs", {}), *routes):
+        delay = table.get("delay", least)
+        if type(delay) is not int or not least <= delay <= greatest:
+            raise Fault("%s: delay: not from %d to %d microseconds" % (path, least, greatest))
+    if not all(str(route.get("prefix")).startswith("/") for route in routes):
+        raise Fault("%s: route.prefix: no text that begins with a slash" % path)
+    return response_delays.Delays(tables)
+
+
 def arguments(words):
     """The words of the command line."""
     parser = command_line.Parser(prog="tools/timeline.py", description=__doc__, epilog=EXPLANATION)
@@ -421,7 +439,7 @@ def arguments(words):
     parser.add_argument("--csv", metavar="FILE", help="where the figures of each step go")
     parser.add_argument("--targets", metavar="FILE", help="where the counts of each target go")
     parser.add_argument("--capture", metavar="FILE", help="the capture, for its name and times of day")
-    parser.add_argument("--settings", metavar="FILE", help="the settings, for their name, targets and servers")
+    parser.add_argument("--settings", metavar="FILE", help="the settings, for their name, targets, servers and delays")
     parser.add_argument("--step", type=steps.width, metavar="TIME", help="how long a step is: 10, 0.5, 250ms, 5m, 1h")
     parser.add_argument("--from", dest="begin", type=steps.moment, metavar="TIME", help="leave out what is before")
     parser.add_argument("--to", dest="end", type=steps.moment, metavar="TIME",
@@ -438,9 +456,8 @@ def window_of(options, start):
     return begin, end
 
 
-def gather(options, window, servers):
-    """What the rows of the table hold; its faults have the file's name."""
-    gathered = Gathering(window, options.step, servers)
+def gather(options, gathered):
+    """Has the rows of the table taken; its faults have the file's name."""
     with open(options.table, "rb") as table:
         size = os.fstat(table.fileno()).st_size or None
         with tool_run.progress(TOOL, size, "B") as bar:
@@ -449,7 +466,6 @@ def gather(options, window, servers):
                     gathered.take(row)
             except (decision_tables.Fault, steps.TooMany) as fault:
                 raise Fault("%s: %s" % (options.table, fault)) from None
-    return gathered
 
 
 def work(options):
@@ -460,7 +476,9 @@ def work(options):
     start = start_of(options.capture) if options.capture else None
     tables = settings_documents.read(options.settings)
     aims = aims_of(options.settings, tables) if options.settings else None
-    gathered = gather(options, window_of(options, start), servers_of(options.settings, tables))
+    gathered = Gathering(window_of(options, start), options.step, servers_of(options.settings, tables),
+                         delays_of(options.settings, tables))
+    gather(options, gathered)
     columns = columns_of(gathered)
     page = page_of(options, gathered, columns, start, aims)
     written = [(options.output, lambda file: file.write(page)),
