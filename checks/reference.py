@@ -738,8 +738,7 @@ class Tier:
         self.credit = self.full = self.policy["depth"] * UNITS_IN_TOKEN
         self.tick = 0
         self.rejected = 0
-        self.samples = []
-        self.cleared = 0
+        self.responses = []
         self.controls = []
 
     def accrued(self, begin, end):
@@ -772,25 +771,29 @@ class Tier:
         self.credit -= UNITS_IN_TOKEN
         return True
 
-    def serve(self, finish, sample):
-        """Takes note of a request that is served."""
-        self.samples.append(sample)
-        self.cleared = max(self.cleared, finish)
-        if len(self.samples) % self.policy["every"] == 0:
-            self.controls.append(self.next_control())
+    def serve(self, completion, sample):
+        """Takes note of a request that is served: its response stands in the order of the completions, behind those of
+        the same tick, and the controls from it on are made again."""
+        place = bisect.bisect_right(self.responses, completion, key=lambda response: response[0])
+        self.responses.insert(place, (completion, sample))
+        every = self.policy["every"]
+        del self.controls[place // every :]
+        for count in range((place // every + 1) * every, len(self.responses) + 1, every):
+            self.controls.append(self.next_control(count))
 
-    def next_control(self):
-        """The control once all requests so far are finished (docs/RULES.md, Service times and admission)."""
+    def next_control(self, count):
+        """The control once so many responses are complete (docs/RULES.md, Service times and admission)."""
         policy = self.policy
         before = self.controls[-1] if self.controls else Control(0, 0, 0, policy["rate"])
-        percentile = ranked(self.samples[-policy["window"] :], 90)
+        last = self.responses[max(count - policy["window"], 0) : count]
+        percentile = ranked([sample for _, sample in last], 90)
         smoothed = (policy["smoothing"] * before.smoothed + (1000 - policy["smoothing"]) * percentile) // 1000
         rate = before.rate
         if smoothed > policy["target"]:
             rate = max(policy["rate_min"], 100 * rate // policy["down"])
         elif 100 * smoothed < policy["low"] * policy["target"]:
             rate = min(policy["rate_max"], rate + policy["up"])
-        return Control(self.cleared, percentile, smoothed, rate)
+        return Control(last[-1][0], percentile, smoothed, rate)
 
 
 class Admission:
@@ -811,7 +814,7 @@ class Admission:
         self.finish = max(tick, self.free_at()) + service_time
         heapq.heapreplace(self.free, self.finish)
         self.samples.append(self.finish - tick + delay)
-        self.tiers[tier].serve(self.finish, self.samples[-1])
+        self.tiers[tier].serve(self.finish + delay, self.samples[-1])
         return True
 
     def free_at(self):
@@ -912,8 +915,8 @@ def report_text(form, arrived, statuses, admission):
         controls = admission.shown_controls(number)
         if number == 0:
             lines.append("controls %d" % len(controls))
-        elif tier.samples or tier.rejected:
-            lines.append("tier %d %d %d %d" % (number, len(tier.samples), tier.rejected, len(controls)))
+        elif tier.responses or tier.rejected:
+            lines.append("tier %d %d %d %d" % (number, len(tier.responses), tier.rejected, len(controls)))
         listed = list(enumerate(controls, 1))[-CONTROLS_SHOWN:] if form.again else enumerate(controls, 1)
         lines += ["control %d %d %d %d %d" % (place, *control) for place, control in listed]
     lines += ["reject %d" % number for number in rejected]

@@ -10,7 +10,8 @@ The formula adds up what a run keeps at a time, in bytes. All runs:
   the connections      512 for each number up to the greatest that sent something, and 2 up to the greatest with a tier;
                        16 KiB (24 in the staged engine) for each of which a block came in several pieces; and the method
                        and the target of each whose body isn't whole
-  the requests         24 for each that was decided on, and 96 for each control
+  the requests         24 for each that was decided on, 72 for each admitted one whose response isn't complete, and 96
+                       for each control
   the report           twice its text without the lines of rejected requests, which are written one by one
 
 The staged engine besides:
@@ -79,8 +80,8 @@ class Input:
     def __init__(self, name, records, version=1, status=0, files=FILE, settings=b"", **numbers):
         self.name, self.records, self.version, self.status = name, records, version, status
         self.files, self.settings = files, settings
-        self.numbers = {"sent": 0, "tiers": 0, "blocks": 0, "heads": 0, "requests": 0, "controls": 0, "pieces": 0,
-                        "waiting": 0, "messages": 0, "page": 0, "unshared": 0, "cache": 0,
+        self.numbers = {"sent": 0, "tiers": 0, "blocks": 0, "heads": 0, "requests": 0, "in_flight": 0, "controls": 0,
+                        "pieces": 0, "waiting": 0, "messages": 0, "page": 0, "unshared": 0, "cache": 0,
                         "workers": DEFAULT_WORKERS, **numbers}
 
     def write(self, folder):
@@ -109,7 +110,7 @@ class Input:
         n = self.numbers
         total = BASE + snapshot + 192 * files
         total += 512 * n["sent"] + 2 * n["tiers"] + (24_576 if engine == STAGED else 16_384) * n["blocks"] + n["heads"]
-        total += 24 * n["requests"] + 96 * n["controls"] + 2 * report
+        total += 24 * n["requests"] + 72 * n["in_flight"] + 96 * n["controls"] + 2 * report
         if engine == STAGED:
             part = min(n["messages"], ENOUGH + MOST_PIECE // len(SHORTEST))
             total += min(n["waiting"], MOST_BATCH) + 64 * n["pieces"] + 256 * n["messages"]
@@ -222,13 +223,16 @@ def inputs():
                 pieces=DEFAULT_BATCH, waiting=DEFAULT_BATCH // 2 * MOST_PIECE)
     yield Input("1,048,576 requests, a control at each", lambda: requests(REQUEST, MOST_MESSAGES, 201),
                 settings=OPEN, controls=MOST_MESSAGES, **of_all)
+    yield Input("1,048,576 requests at once", lambda: requests(REQUEST, MOST_MESSAGES), settings=OPEN,
+                in_flight=1_000_000, **of_all)
     yield Input("1,048,576 requests, all but one rejected", lambda: requests(REQUEST, MOST_MESSAGES), settings=SHUT,
                 **of_all)
     yield Input("65,536 files, each asked for", each_file, files=many_files, settings=OPEN, sent=1, requests=65_536,
-                controls=65_536, pieces=32, waiting=32 * MOST_PIECE, messages=65_536, cache=65_536 * 66)
+                in_flight=65_536, controls=65_536, pieces=32, waiting=32 * MOST_PIECE, messages=65_536,
+                cache=65_536 * 66)
     yield Input("a cache one byte too small", lambda: requests(REQUEST, 8192), files=page_of(100_000),
                 settings=SMALL_CACHE, sent=1, requests=8192, controls=8192, pieces=4, waiting=4 * MOST_PIECE,
-                messages=8192, page=PAGE, cache=PAGE, unshared=ENOUGH * PAGE)
+                messages=8192, in_flight=8192, page=PAGE, cache=PAGE, unshared=ENOUGH * PAGE)
     yield Input("a batch of 3,354,624 messages", lambda: requests(SHORTEST, 1024 * 3276), status=5,
                 settings=LARGE_BATCH, sent=1, requests=MOST_MESSAGES, pieces=1024, waiting=1024 * MOST_PIECE,
                 messages=in_batch(SHORTEST, 1024 * 3276))

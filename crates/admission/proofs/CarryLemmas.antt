@@ -5,13 +5,13 @@ use Rattle.token_bucket.specs.Reference.{TOKEN, accrual}
 use Rattle.token_bucket.proofs.AccrualLemmas.{accrual-split}
 use Rattle.admission.specs.declared.policy.PolicyNumbers.{PolicyNumbers}
 use Rattle.admission.specs.declared.control.Decision.TheVariants.{Admitted, Rejected}
-use Rattle.admission.specs.Reference.{Station, rules_of, Offer, Decided, Served, of_tier, is_admitted, served, finish_after, control_at, rate_at, least_balance, credit, decide, decided_next, decided_from, decided, tick_from}
+use Rattle.admission.specs.Reference.{Station, rules_of, Offer, Decided, Served, of_tier, is_admitted, served, finish_after, by_completion, control_at, rate_at, least_balance, credit, decide, decided_next, decided_from, decided, tick_from}
 use Rattle.admission.specs.After.{AllCovered}
 use Rattle.admission.specs.Laws.{AreOffered, AreOfOthers, FirstCredit, CreditFromCredit, AccrualSplitsAtControl, RateFromOffersBefore}
 use Rattle.admission.proofs.RequestLemmas.{decided_from-push, of_tier-same, of_tier-other, of_tier-none, served-push}
 use Rattle.admission.proofs.CreditLemmas.{token_of, least_balance-none, least_balance-later, least_balance-push, covered-later, covered-push}
 use Rattle.admission.proofs.LawLemmas.{decided_from-append}
-use Rattle.admission.proofs.OfferLemmas as offers
+use Rattle.admission.proofs.TakenLemmas as taken
 
 -- ---- one more offer
 
@@ -31,7 +31,7 @@ rate_chosen : (rules : PolicyNumbers) (past : List Decided) (offer : Offer) (fin
     → rate_at rules (served (past ++ Chosen offer finish b ∷ [])) u ≡ rate_at rules (served past) u
 rate_chosen rules past offer finish u true some before =
     rw (served_admitted past offer finish)
-    (sym (offers.rate_before rules (served past) (record { offer = offer; finish = finish }) u some before))
+    (sym (taken.rate_before rules (served past) (record { offer = offer; finish = finish }) u some (omega arith)))
 rate_chosen rules past offer finish u false some before = rw (served_rejected past offer finish) refl
 
 finish_later : (servers : ℕ) (requests : List Served) (offer : Offer) (u : ℕ) → 1 ≤ offer.service → u ≤ offer.tick
@@ -186,4 +186,4 @@ credit_from_credit station xs offer tick range offered later =
 
 pub accrual_splits_at_control : AccrualSplitsAtControl
 accrual_splits_at_control rules requests k s t before following =
-    accrual-split (rate_at rules requests) s (control_at rules requests k).instant t before following
+    accrual-split (rate_at rules requests) s (control_at rules (by_completion requests) k).instant t before following

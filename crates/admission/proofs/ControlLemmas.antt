@@ -1,19 +1,18 @@
 -- The controls of requests, and of these requests with one more.
-use Rattle.std.proofs.Common.{◌≡◌, ℕ, zero, suc, max, take, ◌+◌, ◌-◌, ◌*◌, ◌/◌, ◌%◌, ◌<◌, ◌≤◌, List, [], ◌∷◌, ◌++◌, length, map, refl, sym, ◌∙◌, ap, arith, add-one, subst, length-append, Some, inl, inr}
+use Rattle.std.proofs.Common.{◌≡◌, ℕ, zero, suc, ◌+◌, ◌-◌, ◌*◌, ◌/◌, ◌%◌, ◌<◌, ◌≤◌, List, [], ◌∷◌, ◌++◌, length, map, refl, sym, ◌∙◌, ap, arith, add-one, subst, length-append, Some, inl, inr}
 use Rattle.std.specs.Prelude.{◌⊎◌, unwrap_or}
 use Rattle.std.specs.List.{range_with_len}
 use Rattle.std.proofs.Math.Nat.{le-div_iff_mul-le}
 use Rattle.std.proofs.Math.Seq.{take-length}
-use Rattle.std.proofs.lemmas.List.{take-append-le, map-append, length-map}
+use Rattle.std.proofs.lemmas.List.{take-append-le, map-append, length-map, get_or_append_left, get_or_push}
 use Rattle.std.proofs.lemmas.Bool.{cases_lt, cases_eq, eq-eqb, ne_eqb}
 use Rattle.std.proofs.lemmas.List.FromFn.{map-range_with_len_more}
 use Rattle.circular_buffer.specs.Buffer.{keep_last, last_item}
 use Rattle.circular_buffer.proofs.Places.{slice_get-last}
 use Rattle.admission.specs.declared.policy.PolicyNumbers.{PolicyNumbers}
 use Rattle.admission.specs.declared.control.Control.{Control}
-use Rattle.admission.specs.Reference.{Served, greatest, sample, samples, finishes, percentile, percentile_at, smoother, smoothed_at, adjusted, rate_after, control_at, controls_of}
+use Rattle.admission.specs.Reference.{Served, completion, sample, samples, percentile, percentile_at, smoother, smoothed_at, adjusted, rate_after, control_at}
 use Rattle.admission.specs.Running.{last_smoothed, last_rate, next_control, with_due}
-use Rattle.admission.proofs.DoneLemmas.{greatest-push}
 
 -- ---- quotients
 
@@ -77,12 +76,6 @@ whole_quotient e n some due =
     let products : e * ((n + 1) / e) ≡ e * (n / e + 1) = ap (λ q. e * q) (quotient_next e n some due) in
     omega (arith, products, due)
 
--- when all with one more are finished
-all_finished : (xs : List ℕ) (x n : ℕ) → length xs ≡ n → greatest (take (n + 1) (xs ++ x ∷ [])) ≡ max (greatest xs) x
-all_finished xs x n long =
-    let whole : n + 1 ≡ length (xs ++ x ∷ []) = omega (arith, length-append xs (x ∷ []), long) in
-    rw (whole, take-length (xs ++ x ∷ [])) (greatest-push xs x)
-
 -- ---- more samples leave the earlier controls
 
 percentile_at-more : (rules : PolicyNumbers) (xs ys : List ℕ) (k : ℕ) → k * rules.every ≤ length xs
@@ -103,36 +96,39 @@ rate_after-more rules xs ys zero within = refl
 rate_after-more rules xs ys (suc k) within =
     rw (smoothed_at-more rules xs ys (suc k) within, rate_after-more rules xs ys k (less_by_one k rules.every (length xs) within)) refl
 
--- ---- one more request
+-- ---- more requests, in the order of their completions
 
-finishes-push : (requests : List Served) (request : Served) → finishes (requests ++ request ∷ []) ≡ finishes requests ++ request.finish ∷ []
-finishes-push requests request = map-append (λ (r : Served). r.finish) requests (request ∷ [])
+pub samples-append : (first rest : List Served) → samples (first ++ rest) ≡ samples first ++ samples rest
+samples-append first rest = map-append sample first rest
 
-samples-push : (requests : List Served) (request : Served) → samples (requests ++ request ∷ []) ≡ samples requests ++ sample request ∷ []
-samples-push requests request = map-append sample requests (request ∷ [])
-
-pub length-finishes : (requests : List Served) → length (finishes requests) ≡ length requests
-length-finishes requests = length-map requests (λ (r : Served). r.finish)
-
-length-samples : (requests : List Served) → length (samples requests) ≡ length requests
+pub length-samples : (requests : List Served) → length (samples requests) ≡ length requests
 length-samples requests = length-map requests sample
 
+-- the controls of the first of them
+abbrev pub controls_by : PolicyNumbers → List Served → List Control
+controls_by rules first = map (control_at rules first) (range_with_len 1 (length first / rules.every))
+
+-- the place of the last request of a control
+place_of : (k e n : ℕ) → 0 < e → 1 ≤ k → k * e ≤ n → k * e - 1 < n
+place_of k e n some first within = let least : 1 * e ≤ k * e = smaller_product 1 k e (k * e) first (omega arith) in omega arith
+
 -- the earlier controls stay
-control_at-more : (rules : PolicyNumbers) (requests : List Served) (request : Served) (k : ℕ) → 0 < rules.every → 1 ≤ k
-    → k * rules.every ≤ length requests → control_at rules (requests ++ request ∷ []) k ≡ control_at rules requests k
-control_at-more rules requests request k some first within =
-    let within_samples : k * rules.every ≤ length (samples requests) = rw (length-samples requests) within in
-    let within_finishes : k * rules.every ≤ length (finishes requests) = rw (length-finishes requests) within in
+pub control_at-more : (rules : PolicyNumbers) (first rest : List Served) (k : ℕ) → 0 < rules.every → 1 ≤ k
+    → k * rules.every ≤ length first → control_at rules (first ++ rest) k ≡ control_at rules first k
+control_at-more rules first rest k some least within =
+    let within_samples : k * rules.every ≤ length (samples first) = rw (length-samples first) within in
+    let place : k * rules.every - 1 < length (map completion first) =
+    rw (length-map first completion) (place_of k rules.every (length first) some least within) in
     rw (
-      finishes-push requests request,
-      samples-push requests request,
-      take-append-le (k * rules.every) (finishes requests) (request.finish ∷ []) within_finishes,
-      percentile_at-more rules (samples requests) (sample request ∷ []) k within_samples,
-      smoothed_at-more rules (samples requests) (sample request ∷ []) k within_samples,
-      rate_after-more rules (samples requests) (sample request ∷ []) k within_samples,
+      map-append completion first rest,
+      samples-append first rest,
+      get_or_append_left (map completion first) (map completion rest) 0 (k * rules.every - 1) place,
+      percentile_at-more rules (samples first) (samples rest) k within_samples,
+      smoothed_at-more rules (samples first) (samples rest) k within_samples,
+      rate_after-more rules (samples first) (samples rest) k within_samples,
     ) refl
 
-map_agree : (f g : ℕ → Control) (a n : ℕ) → ((k : ℕ) → a ≤ k → k < a + n → f k ≡ g k)
+pub map_agree : (f g : ℕ → Control) (a n : ℕ) → ((k : ℕ) → a ≤ k → k < a + n → f k ≡ g k)
     → map f (range_with_len a n) ≡ map g (range_with_len a n)
 map_agree f g a zero same = refl
 map_agree f g a (suc n) same =
@@ -142,38 +138,37 @@ map_agree f g a (suc n) same =
     rw (here, rest) refl
 
 -- as many controls as before keep their values
-same_controls : (rules : PolicyNumbers) (requests : List Served) (request : Served) (m : ℕ) → 0 < rules.every → m * rules.every ≤ length requests
-    → map (control_at rules (requests ++ request ∷ [])) (range_with_len 1 m) ≡ map (control_at rules requests) (range_with_len 1 m)
-same_controls rules requests request m some within =
-    map_agree (control_at rules (requests ++ request ∷ [])) (control_at rules requests) 1 m
-    (λ k above below. control_at-more rules requests request k some above
-    (smaller_product k m rules.every (length requests) (omega arith) within))
+pub same_controls : (rules : PolicyNumbers) (first rest : List Served) (m : ℕ) → 0 < rules.every → m * rules.every ≤ length first
+    → map (control_at rules (first ++ rest)) (range_with_len 1 m) ≡ map (control_at rules first) (range_with_len 1 m)
+same_controls rules first rest m some within =
+    map_agree (control_at rules (first ++ rest)) (control_at rules first) 1 m
+    (λ k above below. control_at-more rules first rest k some above
+    (smaller_product k m rules.every (length first) (omega arith) within))
 
-length-push : (requests : List Served) (request : Served) → length (requests ++ request ∷ []) ≡ length requests + 1
-length-push requests request = length-append requests (request ∷ [])
+length-push : (first : List Served) (request : Served) → length (first ++ request ∷ []) ≡ length first + 1
+length-push first request = length-append first (request ∷ [])
 
 -- no control is due
-pub controls_of-same : (rules : PolicyNumbers) (requests : List Served) (request : Served) → 0 < rules.every
-    → ((length requests + 1) % rules.every ≡ 0 → ⊥)
-    → controls_of rules (requests ++ request ∷ []) ≡ controls_of rules requests
-controls_of-same rules requests request some apart =
-    rw (length-push requests request, quotient_same rules.every (length requests) some apart)
-    (same_controls rules requests request (length requests / rules.every) some
-    (quotient_fits (length requests / rules.every) rules.every (length requests) some (omega arith)))
+controls-same : (rules : PolicyNumbers) (first : List Served) (request : Served) → 0 < rules.every
+    → ((length first + 1) % rules.every ≡ 0 → ⊥) → controls_by rules (first ++ request ∷ []) ≡ controls_by rules first
+controls-same rules first request some apart =
+    rw (length-push first request, quotient_same rules.every (length first) some apart)
+    (same_controls rules first (request ∷ []) (length first / rules.every) some
+    (quotient_fits (length first / rules.every) rules.every (length first) some (omega arith)))
 
 -- a control is due
-pub controls_of-due : (rules : PolicyNumbers) (requests : List Served) (request : Served) → 0 < rules.every
-    → (length requests + 1) % rules.every ≡ 0
-    → controls_of rules (requests ++ request ∷ [])
-    ≡ controls_of rules requests ++ control_at rules (requests ++ request ∷ []) (length requests / rules.every + 1) ∷ []
-controls_of-due rules requests request some due =
+controls-due : (rules : PolicyNumbers) (first : List Served) (request : Served) → 0 < rules.every
+    → (length first + 1) % rules.every ≡ 0
+    → controls_by rules (first ++ request ∷ [])
+    ≡ controls_by rules first ++ control_at rules (first ++ request ∷ []) (length first / rules.every + 1) ∷ []
+controls-due rules first request some due =
     rw (
-      length-push requests request,
-      quotient_next rules.every (length requests) some due,
-      map-range_with_len_more (control_at rules (requests ++ request ∷ [])) 1 (length requests / rules.every)
-          (length requests / rules.every + 1) (omega arith),
-      same_controls rules requests request (length requests / rules.every) some
-          (quotient_fits (length requests / rules.every) rules.every (length requests) some (omega arith)),
+      length-push first request,
+      quotient_next rules.every (length first) some due,
+      map-range_with_len_more (control_at rules (first ++ request ∷ [])) 1 (length first / rules.every)
+          (length first / rules.every + 1) (omega arith),
+      same_controls rules first (request ∷ []) (length first / rules.every) some
+          (quotient_fits (length first / rules.every) rules.every (length first) some (omega arith)),
     ) refl
 
 -- ---- the control that is due, from the one before it
@@ -205,13 +200,13 @@ unfolding rate_after
 rate_from rules requests zero = refl
 rate_from rules requests (suc m) = rw (control-last rules requests m) refl
 
-pub last_smoothed-is : (rules : PolicyNumbers) (requests : List Served)
-    → last_smoothed (controls_of rules requests) ≡ smoothed_at rules (samples requests) (length requests / rules.every)
-last_smoothed-is rules requests = smoothed_from rules requests (length requests / rules.every)
+last_smoothed-is : (rules : PolicyNumbers) (first : List Served)
+    → last_smoothed (controls_by rules first) ≡ smoothed_at rules (samples first) (length first / rules.every)
+last_smoothed-is rules first = smoothed_from rules first (length first / rules.every)
 
-pub last_rate-is : (rules : PolicyNumbers) (requests : List Served)
-    → last_rate rules (controls_of rules requests) ≡ rate_after rules (samples requests) (length requests / rules.every)
-last_rate-is rules requests = rate_from rules requests (length requests / rules.every)
+pub last_rate-is : (rules : PolicyNumbers) (first : List Served)
+    → last_rate rules (controls_by rules first) ≡ rate_after rules (samples first) (length first / rules.every)
+last_rate-is rules first = rate_from rules first (length first / rules.every)
 
 smoothed_at-next : (rules : PolicyNumbers) (taken : List ℕ) (k : ℕ)
     → smoothed_at rules taken (k + 1) ≡ smoother rules (smoothed_at rules taken k) (percentile_at rules taken (k + 1))
@@ -234,57 +229,59 @@ control-parts a b instant own smoothed rate =
     let by_parts : parts a.instant a.percentile a.smoothed a.rate ≡ parts b.instant b.percentile b.smoothed b.rate = cc in
     by_parts
 
-pub control-due : (rules : PolicyNumbers) (requests : List Served) (request : Served) → 0 < rules.every
-    → (length requests + 1) % rules.every ≡ 0
-    → control_at rules (requests ++ request ∷ []) (length requests / rules.every + 1)
-    ≡ next_control rules (controls_of rules requests) (max (greatest (finishes requests)) request.finish)
-    (unwrap_or (percentile (keep_last rules.window (samples requests ++ sample request ∷ []))) 0)
-control-due rules requests request some due =
-    let whole : (length requests / rules.every + 1) * rules.every ≡ length requests + 1 =
-    whole_quotient rules.every (length requests) some due in
-    let taken : samples (requests ++ request ∷ []) ≡ samples requests ++ sample request ∷ [] = samples-push requests request in
-    let long : length (samples requests ++ sample request ∷ []) ≡ length requests + 1 =
-    length-append (samples requests) (sample request ∷ []) ∙ ap (λ n. n + 1) (length-samples requests) in
-    let early : length requests / rules.every * rules.every ≤ length (samples requests) =
-    rw (length-samples requests) (quotient_fits (length requests / rules.every) rules.every (length requests) some (omega arith)) in
-    let own : percentile_at rules (samples (requests ++ request ∷ [])) (length requests / rules.every + 1)
-    ≡ unwrap_or (percentile (keep_last rules.window (samples requests ++ sample request ∷ []))) 0 =
-    rw taken (percentile-due rules (samples requests ++ sample request ∷ []) (length requests / rules.every + 1) (whole ∙ sym long)) in
-    let smoothed : smoothed_at rules (samples (requests ++ request ∷ [])) (length requests / rules.every + 1)
-    ≡ smoother rules (last_smoothed (controls_of rules requests))
-    (unwrap_or (percentile (keep_last rules.window (samples requests ++ sample request ∷ []))) 0) =
-    smoothed_at-next rules (samples (requests ++ request ∷ [])) (length requests / rules.every)
+control-due : (rules : PolicyNumbers) (first : List Served) (request : Served) → 0 < rules.every
+    → (length first + 1) % rules.every ≡ 0
+    → control_at rules (first ++ request ∷ []) (length first / rules.every + 1)
+    ≡ next_control rules (controls_by rules first) (completion request)
+    (unwrap_or (percentile (keep_last rules.window (samples first ++ sample request ∷ []))) 0)
+control-due rules first request some due =
+    let whole : (length first / rules.every + 1) * rules.every ≡ length first + 1 =
+    whole_quotient rules.every (length first) some due in
+    let place : (length first / rules.every + 1) * rules.every - 1 ≡ length (map completion first) =
+    omega (arith, whole, length-map first completion) in
+    let taken : samples (first ++ request ∷ []) ≡ samples first ++ sample request ∷ [] = samples-append first (request ∷ []) in
+    let long : length (samples first ++ sample request ∷ []) ≡ length first + 1 =
+    length-append (samples first) (sample request ∷ []) ∙ ap (λ n. n + 1) (length-samples first) in
+    let early : length first / rules.every * rules.every ≤ length (samples first) =
+    rw (length-samples first) (quotient_fits (length first / rules.every) rules.every (length first) some (omega arith)) in
+    let own : percentile_at rules (samples (first ++ request ∷ [])) (length first / rules.every + 1)
+    ≡ unwrap_or (percentile (keep_last rules.window (samples first ++ sample request ∷ []))) 0 =
+    rw taken (percentile-due rules (samples first ++ sample request ∷ []) (length first / rules.every + 1) (whole ∙ sym long)) in
+    let smoothed : smoothed_at rules (samples (first ++ request ∷ [])) (length first / rules.every + 1)
+    ≡ smoother rules (last_smoothed (controls_by rules first))
+    (unwrap_or (percentile (keep_last rules.window (samples first ++ sample request ∷ []))) 0) =
+    smoothed_at-next rules (samples (first ++ request ∷ [])) (length first / rules.every)
     ∙ rw (
       own,
       taken,
-      smoothed_at-more rules (samples requests) (sample request ∷ []) (length requests / rules.every) early,
-      last_smoothed-is rules requests,
+      smoothed_at-more rules (samples first) (sample request ∷ []) (length first / rules.every) early,
+      last_smoothed-is rules first,
     ) refl in
     control-parts _ _
-    (rw (finishes-push requests request, whole)
-    (all_finished (finishes requests) request.finish (length requests) (length-finishes requests)))
+    (rw (map-append completion first (request ∷ []))
+    (get_or_push (map completion first) (completion request) 0 ((length first / rules.every + 1) * rules.every - 1) (sym place)))
     own smoothed
-    (rate_after-next rules (samples (requests ++ request ∷ [])) (length requests / rules.every)
+    (rate_after-next rules (samples (first ++ request ∷ [])) (length first / rules.every)
     ∙ rw (
       smoothed,
       taken,
-      rate_after-more rules (samples requests) (sample request ∷ []) (length requests / rules.every) early,
-      last_rate-is rules requests,
+      rate_after-more rules (samples first) (sample request ∷ []) (length first / rules.every) early,
+      last_rate-is rules first,
     ) refl)
 
 -- the controls with one more request
-pub controls_of-push : (rules : PolicyNumbers) (requests : List Served) (request : Served) → 0 < rules.every
-    → controls_of rules (requests ++ request ∷ [])
-    ≡ with_due rules (controls_of rules requests) (keep_last rules.window (samples requests ++ sample request ∷ []))
-    (length requests + 1) (max (greatest (finishes requests)) request.finish)
-controls_of-push rules requests request some =
-    elim (cases_eq ((length requests + 1) % rules.every) 0) [
+pub controls-push : (rules : PolicyNumbers) (first : List Served) (request : Served) → 0 < rules.every
+    → controls_by rules (first ++ request ∷ [])
+    ≡ with_due rules (controls_by rules first) (keep_last rules.window (samples first ++ sample request ∷ []))
+    (length first + 1) (completion request)
+controls-push rules first request some =
+    elim (cases_eq ((length first + 1) % rules.every) 0) [
       | inl due ↦
           rw (
-            eq-eqb ((length requests + 1) % rules.every) 0 due,
-            controls_of-due rules requests request some due,
-            control-due rules requests request some due,
+            eq-eqb ((length first + 1) % rules.every) 0 due,
+            controls-due rules first request some due,
+            control-due rules first request some due,
           ) refl
       | inr apart ↦
-          rw (ne_eqb ((length requests + 1) % rules.every) 0 apart, controls_of-same rules requests request some apart) refl
+          rw (ne_eqb ((length first + 1) % rules.every) 0 apart, controls-same rules first request some apart) refl
     ]

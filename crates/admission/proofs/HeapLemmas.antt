@@ -11,7 +11,8 @@ use Rattle.std.proofs.lemmas.List.Sorted.{IsPermutation-keeps, IsPermutation-map
 use lib.ListN.{get_or, set}
 use Rattle.admission.specs.Reference.{insert_sorted, sorted}
 use Rattle.admission.specs.Tally.{remove_one}
-use Rattle.admission.specs.Servers.{ticks_of, AllFrom}
+use Rattle.admission.specs.Standing.{AllFrom}
+use Rattle.admission.specs.Servers.{ticks_of}
 use Rattle.admission.proofs.SortLemmas.{insert-none, insert-front, insert-past, insert-swap, remove-insert}
 
 -- ---- another order

@@ -7,12 +7,12 @@ use Rattle.std.proofs.lemmas.List.Sums.{sum_by_push}
 use Rattle.token_bucket.specs.Reference.{TOKEN, accrual}
 use Rattle.admission.specs.declared.policy.PolicyNumbers.{PolicyNumbers}
 use Rattle.admission.specs.declared.control.Decision.TheVariants.{Admitted, Rejected}
-use Rattle.admission.specs.Reference.{Station, rules_of, Offer, Decided, Served, of_tier, served, samples, finish_after, smoothed_at, adjusted, rate_after, rate_at, least_balance, credit, decided_next, decided_from, decided}
+use Rattle.admission.specs.Reference.{Station, rules_of, Offer, Decided, Served, of_tier, served, samples, by_completion, finish_after, smoothed_at, adjusted, rate_after, rate_at, least_balance, credit, decided_next, decided_from, decided}
 use Rattle.admission.specs.Rules.{IsInRange}
 use Rattle.admission.specs.Laws.{DecisionsBegin, FinishRuns, OtherTiersLeave, RateBefore, RatesWithin, RejectedLeavesAll, and_rejected}
 use Rattle.admission.proofs.RequestLemmas.{decided_from-push, last_finish-push, of_tier-same, of_tier-other, served-push}
 use Rattle.admission.proofs.CreditLemmas.{token_of, tokens_of}
-use Rattle.admission.proofs.OfferLemmas as offers
+use Rattle.admission.proofs.TakenLemmas as taken
 
 -- ---- beginnings
 
@@ -133,7 +133,7 @@ rate_after_within rules taken (suc k) range =
     adjusted_within rules (smoothed_at rules taken (suc k)) (rate_after rules taken k) range (rate_after_within rules taken k range)
 
 pub rates_within : RatesWithin
-rates_within rules requests tick range = rate_after_within rules (samples requests) _ range
+rates_within rules requests tick range = rate_after_within rules (samples (by_completion requests)) _ range
 
 -- ---- finishes
 
@@ -143,4 +143,4 @@ finish_runs xs offer =
     (next, omega (arith, next), omega (arith, next))
 
 pub rate_before : RateBefore
-rate_before rules requests request tick range before = sym (offers.rate_before rules requests request tick range.every.0 before)
+rate_before rules requests request tick range before = sym (taken.rate_before rules requests request tick range.every.0 before)

@@ -1,7 +1,8 @@
 pub mod CarryLemmas
+pub mod CompletionLemmas
 pub mod ControlLemmas
 pub mod CreditLemmas
-pub mod DoneLemmas
+pub mod FlightLemmas
 pub mod HeapLemmas
 pub mod LawLemmas
 pub mod NewLemmas
@@ -12,12 +13,12 @@ pub mod RateLemmas
 pub mod RequestLemmas
 pub mod ServerLemmas
 pub mod SortLemmas
-pub mod StandLemmas
+pub mod TakenLemmas
 pub mod TallyLemmas
 pub mod WalkLemmas
 pub mod WindowLemmas
+pub mod ShownLemmas
 pub mod SoundLemmas
-pub mod UntilLemmas
 pub mod TierLemmas
 pub mod TurnLemmas
 pub mod OneTierLemmas

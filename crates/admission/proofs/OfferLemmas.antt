@@ -1,28 +1,24 @@
 -- One more offer of a tier: what is decided, and how the tier stands then.
-use Rattle.std.proofs.Common.{◌≡◌, ℕ, ◌+◌, ◌-◌, ◌*◌, ◌/◌, ◌<◌, ◌≤◌, min, max, List, [], ◌∷◌, ◌++◌, length, true, false, refl, sym, ◌∙◌, ap, arith, append-nil, length-append, inl, inr}
-use Rattle.std.specs.Prelude.{◌↔◌, IsTrue, nat_le, count_by, cond}
+use Rattle.std.proofs.Common.{◌≡◌, ℕ, ◌+◌, ◌-◌, ◌*◌, ◌<◌, ◌≤◌, min, max, List, [], ◌∷◌, ◌++◌, length, Bool, true, false, refl, sym, ◌∙◌, ap, arith, append-nil, length-append, inl, inr, if◌then◌else◌}
+use Rattle.std.specs.Prelude.{◌↔◌, IsTrue, count_by, cond}
 use Rattle.std.proofs.lemmas.Bool.{le-leb, lt-leb, cases_lt}
-use Rattle.std.proofs.lemmas.List.{map-append, length-map}
-use Rattle.std.proofs.lemmas.Grind.{common_steps}
-use Rattle.std.proofs.lemmas.List.Sums.{prefix_len-le-length, sum_by_push}
-use Rattle.circular_buffer.specs.Buffer.{keep_last}
+use Rattle.std.proofs.lemmas.List.Sums.{sum_by_push}
 use Rattle.token_bucket.specs.Reference.{TOKEN}
-use Rattle.token_bucket.specs.Calls.{Past, TryTake, and_then}
-use Rattle.token_bucket.specs.After.{BucketAfter}
+use Rattle.token_bucket.specs.Calls.{Advance, TryTake, and_then}
 use Rattle.token_bucket.specs.Running.{after}
 use Rattle.token_bucket.specs.Standing as bucket
 use Rattle.token_bucket.proofs.FitsLemmas.{standing_runs}
 use Rattle.admission.specs.declared.policy.PolicyNumbers.{PolicyNumbers}
 use Rattle.admission.specs.declared.control.Decision.TheVariants.{Admitted, Rejected}
-use Rattle.admission.specs.declared.control.Control.{Control}
-use Rattle.admission.specs.Reference.{Offer, Decided, Served, greatest, is_rejected, served, sample, samples, finishes, done, rate_after, rate_at, controls_of, least_balance, credit}
-use Rattle.admission.specs.Standing.{Window, window_of, with_sample, TierStanding}
-use Rattle.admission.specs.Running.{with_due, when_rejected, when_admitted, decision_after}
-use Rattle.admission.specs.After.{TierBucketAfter, TierFits}
-use Rattle.admission.proofs.CreditLemmas.{least_balance-le, least_balance-push, covered-push}
-use Rattle.admission.proofs.ControlLemmas.{quotient_fits, rate_after-more, controls_of-push}
+use Rattle.admission.specs.Reference.{Offer, Decided, Served, is_rejected, served, completion, rate_at, least_balance, credit}
+use Rattle.admission.specs.Standing.{TierStanding, AllFrom, completions, insert_due, IsSoundTier}
+use Rattle.admission.specs.Running.{when_rejected, when_admitted, decision_after}
+use Rattle.admission.specs.After.{due, BucketFits, AreTakenIn, TierFits}
+use Rattle.admission.proofs.CreditLemmas.{least_balance-push, covered-push}
+use Rattle.admission.proofs.CompletionLemmas.{insert_behind, by_completion-push, behind-first, due-behind}
+use Rattle.admission.proofs.HeapLemmas.{from-lower}
+use Rattle.admission.proofs.TakenLemmas.{Does, within_depth, rate_before, rate_now, fits_later}
 use Rattle.admission.proofs.RequestLemmas.{served-push}
-use Rattle.admission.proofs.DoneLemmas.{upto-push_later, greatest-push}
 
 -- ---- the bucket after `try_take`
 
@@ -34,21 +30,21 @@ still_taken full credit rate i taken within = let none : i - i ≡ 0 = omega ari
 served_rejected : (past : List Decided) (offer : Offer) → served (past ++ record { offer = offer; decision = Rejected } ∷ []) ≡ served past
 served_rejected past offer = served-push past (record { offer = offer; decision = Rejected }) ∙ append-nil (served past)
 
--- a bucket that stands so holds no more than its depth
-within_depth : (rules : PolicyNumbers) (past : List Decided) (b : bucket.Standing) (reached : ℕ) → TierBucketAfter rules past b reached
-    → b.credit ≤ b.depth * TOKEN
-within_depth rules past b reached stands =
-    rw (stands.credit, stands.depth) (least_balance-le (rate_at rules (served past)) (rules.depth * TOKEN) b.tick past)
-
 -- its credit is that of the offer
-credit_there : (rules : PolicyNumbers) (past : List Decided) (b : bucket.Standing) (reached tick : ℕ) → TierBucketAfter rules past b reached
+credit_there : (rules : PolicyNumbers) (past : List Decided) (b : bucket.Standing) (tick : ℕ) → BucketFits rules past b
     → b.tick ≡ tick → credit rules past tick ≡ b.credit
-credit_there rules past b reached tick stands at = ap (credit rules past) (sym at) ∙ sym stands.credit
+credit_there rules past b tick stands at = ap (credit rules past) (sym at) ∙ sym stands.credit
 
-stands_rejected : (rules : PolicyNumbers) (past : List Decided) (b next : bucket.Standing) (reached : ℕ) (offer : Offer)
-    → TierBucketAfter rules past b reached → b.tick ≡ offer.tick → next ≡ after b (TryTake false)
-    → TierBucketAfter rules (past ++ record { offer = offer; decision = Rejected } ∷ []) next reached
-stands_rejected rules past b next reached offer stands at is =
+take_is : (rules : PolicyNumbers) (past : List Decided) (b next : bucket.Standing) (taken : Bool) → BucketFits rules past b
+    → (if taken then TOKEN else 0) ≤ b.credit → Does b (TryTake taken) next → next ≡ after b (TryTake taken)
+take_is rules past b next taken stands enough takes =
+    standing_runs stands.past_calls b next (TryTake taken) stands.fits (omega arith) enough (takes stands.past_calls stands.fits)
+
+bucket_rejected : (rules : PolicyNumbers) (past : List Decided) (b next : bucket.Standing) (offer : Offer)
+    → BucketFits rules past b → b.tick ≡ offer.tick → Does b (TryTake false) next
+    → BucketFits rules (past ++ record { offer = offer; decision = Rejected } ∷ []) next
+bucket_rejected rules past b next offer stands at takes =
+    let is : next ≡ after b (TryTake false) = take_is rules past b next false stands (omega arith) takes in
     let same : served (past ++ record { offer = offer; decision = Rejected } ∷ []) ≡ served past = served_rejected past offer in
     let agree : (u : ℕ) → u < b.tick
     → rate_at rules (served past) u ≡ rate_at rules (served (past ++ record { offer = offer; decision = Rejected } ∷ [])) u =
@@ -56,155 +52,113 @@ stands_rejected rules past b next reached offer stands at is =
     let credit_is = least_balance-push (rate_at rules (served past))
     (rate_at rules (served (past ++ record { offer = offer; decision = Rejected } ∷ []))) (rules.depth * TOKEN) b.tick past
     (record { offer = offer; decision = Rejected }) stands.covered (sym at) agree in
-    rw is (record {
-      depth = stands.depth;
-      rate = stands.rate ∙ sym (ap (λ (rs : List Served). rate_after rules (samples rs) reached) same);
-      credit = still_taken (b.depth * TOKEN) b.credit b.rate b.tick 0 (within_depth rules past b reached stands)
-          ∙ ap (λ n. n - TOKEN * 0) stands.credit ∙ sym credit_is;
-      in_force = stands.in_force ∙ sym (ap (λ (rs : List Served). done rs b.tick / rules.every) same);
-      covered = covered-push (rate_at rules (served past))
+    record {
+      past_calls = and_then stands.past_calls (TryTake false);
+      fits = takes stands.past_calls stands.fits;
+      depth = rw is stands.depth;
+      credit = rw is (still_taken (b.depth * TOKEN) b.credit b.rate b.tick 0 (within_depth rules past b stands)
+          ∙ ap (λ n. n - TOKEN * 0) stands.credit ∙ sym credit_is);
+      covered = rw is (covered-push (rate_at rules (served past))
           (rate_at rules (served (past ++ record { offer = offer; decision = Rejected } ∷ []))) (rules.depth * TOKEN) b.tick past
-          (record { offer = offer; decision = Rejected }) stands.covered (sym at) agree (omega arith);
-    })
+          (record { offer = offer; decision = Rejected }) stands.covered (sym at) agree (omega arith));
+    }
 
 -- one more request, rejected or not
 rejected_push : (past : List Decided) (r : Decided)
     → count_by (λ r. is_rejected r.decision) (past ++ r ∷ []) ≡ count_by (λ r. is_rejected r.decision) past + cond (is_rejected r.decision) 1 0
 rejected_push past r = sum_by_push (λ r. cond (is_rejected r.decision) 1 0) past r
 
-pub tier_rejected : (t : TierStanding) (b next : bucket.Standing) (reached : ℕ) (calls : Past) (past : List Decided) (offer : Offer)
-    → TierFits past t → TierBucketAfter t.rules past b reached → b.tick ≡ offer.tick
-    → BucketAfter calls b → BucketAfter (and_then calls (TryTake false)) next
-    → TierFits (past ++ record { offer = offer; decision = Rejected } ∷ []) (when_rejected t next reached)
-tier_rejected t b next reached calls past offer fits stands at before now =
-    let next_is : next ≡ after b (TryTake false) = standing_runs calls b next (TryTake false) before (omega arith) (omega arith) now in
+pub tier_rejected : (t : TierStanding) (next : bucket.Standing) (past : List Decided) (offer : Offer)
+    → TierFits past t → t.bucket.tick ≡ offer.tick → Does t.bucket (TryTake false) next
+    → TierFits (past ++ record { offer = offer; decision = Rejected } ∷ []) (when_rejected t next)
+tier_rejected t next past offer fits at takes =
+    let is : next ≡ after t.bucket (TryTake false) = take_is t.rules past t.bucket next false fits.bucket (omega arith) takes in
     let same : served (past ++ record { offer = offer; decision = Rejected } ∷ []) ≡ served past = served_rejected past offer in
     record {
-      bucket = record {
-        past_calls = and_then calls (TryTake false);
-        fits = now;
-        stands = stands_rejected t.rules past b next reached offer stands at next_is;
-      };
+      first = fits.first;
+      rest = fits.rest;
+      taken = rw (same, is) (record {
+        order = fits.taken.order;
+        past = fits.taken.past;
+        completed = fits.taken.completed;
+        window = fits.taken.window;
+        controls = fits.taken.controls;
+        rate = fits.taken.rate;
+        responses = fits.taken.responses;
+      });
+      bucket = bucket_rejected t.rules past t.bucket next offer fits.bucket at takes;
       admitted = fits.admitted ∙ sym (ap (λ (rs : List Served). length rs) same);
       rejected = ap (λ n. n + 1) fits.rejected ∙ sym (rejected_push past (record { offer = offer; decision = Rejected }));
-      cleared = fits.cleared ∙ sym (ap (λ (rs : List Served). greatest (finishes rs)) same);
-      window = fits.window ∙ sym (ap (λ (rs : List Served). window_of t.rules.window (samples rs)) same);
-      controls = fits.controls ∙ sym (ap (controls_of t.rules) same);
     }
 
 -- ---- an admitted offer
-
-keep_last_more : (size : ℕ) (xs : List ℕ) (x : ℕ) → keep_last size (keep_last size xs ++ x ∷ []) ≡ keep_last size (xs ++ x ∷ [])
-keep_last_more size xs x = grind (arith, common_steps)
-
-window_more : (size : ℕ) (xs : List ℕ) (x : ℕ) → with_sample (window_of size xs) x ≡ window_of size (xs ++ x ∷ [])
-window_more size xs x =
-    let kept : keep_last size (keep_last size xs ++ x ∷ []) ≡ keep_last size (xs ++ x ∷ []) = keep_last_more size xs x in
-    ap (λ (held : List ℕ). record { size = size; samples = held }) kept
 
 served_admitted : (past : List Decided) (offer : Offer) (finish : ℕ)
     → served (past ++ record { offer = offer; decision = Admitted finish } ∷ []) ≡ served past ++ record { offer = offer; finish = finish } ∷ []
 served_admitted past offer finish = served-push past (record { offer = offer; decision = Admitted finish })
 
-finishes-push : (requests : List Served) (request : Served) → finishes (requests ++ request ∷ []) ≡ finishes requests ++ request.finish ∷ []
-finishes-push requests request = map-append (λ (r : Served). r.finish) requests (request ∷ [])
-
-samples-push : (requests : List Served) (request : Served) → samples (requests ++ request ∷ []) ≡ samples requests ++ sample request ∷ []
-samples-push requests request = map-append sample requests (request ∷ [])
-
--- a request that finishes later does not count
-done_before : (requests : List Served) (request : Served) (u : ℕ) → u < request.finish
-    → done (requests ++ request ∷ []) u ≡ done requests u
-done_before requests request u before =
-    rw (finishes-push requests request) (upto-push_later u request.finish (finishes requests) before)
-
-quotient_within : (rules : PolicyNumbers) (requests : List Served) (u : ℕ) → 0 < rules.every
-    → done requests u / rules.every * rules.every ≤ length (samples requests)
-quotient_within rules requests u some =
-    let fit : done requests u / rules.every * rules.every ≤ done requests u =
-    quotient_fits (done requests u / rules.every) rules.every (done requests u) some (omega arith) in
-    omega (
-      arith,
-      fit,
-      prefix_len-le-length (λ finish. nat_le finish u) (finishes requests),
-      length-map requests (λ (r : Served). r.finish),
-      length-map requests sample,
-    )
-
--- the rate before a request's finish does not depend on it
-pub rate_before : (rules : PolicyNumbers) (requests : List Served) (request : Served) (u : ℕ) → 0 < rules.every → u < request.finish
-    → rate_at rules requests u ≡ rate_at rules (requests ++ request ∷ []) u
-rate_before rules requests request u some before =
-    rw (
-      done_before requests request u before,
-      samples-push requests request,
-      rate_after-more rules (samples requests) (sample request ∷ []) (done requests u / rules.every) (quotient_within rules requests u some),
-    ) refl
-
-stands_admitted : (rules : PolicyNumbers) (past : List Decided) (b next : bucket.Standing) (reached : ℕ) (offer : Offer) (finish : ℕ)
-    → TierBucketAfter rules past b reached → b.tick ≡ offer.tick → next ≡ after b (TryTake true) → 0 < rules.every
-    → offer.tick < finish → TOKEN ≤ b.credit
-    → TierBucketAfter rules (past ++ record { offer = offer; decision = Admitted finish } ∷ []) next reached
-stands_admitted rules past b next reached offer finish stands at is some later enough =
-    let more : served (past ++ record { offer = offer; decision = Admitted finish } ∷ []) ≡ served past ++ record { offer = offer; finish = finish } ∷ [] =
-    served_admitted past offer finish in
-    let ahead : b.tick < finish = omega arith in
-    let agree : (u : ℕ) → u < b.tick
-    → rate_at rules (served past) u ≡ rate_at rules (served (past ++ record { offer = offer; decision = Admitted finish } ∷ [])) u =
-    λ u below. rw more (rate_before rules (served past) (record { offer = offer; finish = finish }) u some (omega arith)) in
-    let credit_is = least_balance-push (rate_at rules (served past))
-    (rate_at rules (served (past ++ record { offer = offer; decision = Admitted finish } ∷ []))) (rules.depth * TOKEN) b.tick past
-    (record { offer = offer; decision = Admitted finish }) stands.covered (sym at) agree in
-    let within : reached * rules.every ≤ length (samples (served past)) =
-    rw stands.in_force (quotient_within rules (served past) b.tick some) in
-    let enough_there : TOKEN * 1 ≤ least_balance (rate_at rules (served past)) (rules.depth * TOKEN) b.tick past =
-    rw (← stands.credit) (omega arith) in
-    rw is (record {
-      depth = stands.depth;
-      rate = stands.rate ∙ sym (rw (more, samples-push (served past) (record { offer = offer; finish = finish }))
-          (rate_after-more rules (samples (served past)) ((finish - offer.tick + offer.delay) ∷ []) reached within));
-      credit = still_taken (b.depth * TOKEN) b.credit b.rate b.tick TOKEN (within_depth rules past b reached stands)
-          ∙ ap (λ n. n - TOKEN * 1) stands.credit ∙ sym credit_is;
-      in_force = stands.in_force ∙ sym (rw (more, done_before (served past) (record { offer = offer; finish = finish }) b.tick ahead) refl);
-      covered = covered-push (rate_at rules (served past))
-          (rate_at rules (served (past ++ record { offer = offer; decision = Admitted finish } ∷ []))) (rules.depth * TOKEN) b.tick past
-          (record { offer = offer; decision = Admitted finish }) stands.covered (sym at) agree enough_there;
-    })
-
-pub tier_admitted : (t : TierStanding) (b next : bucket.Standing) (reached : ℕ) (calls : Past) (past : List Decided) (offer : Offer)
-    (finish : ℕ)
-    → TierFits past t → TierBucketAfter t.rules past b reached → b.tick ≡ offer.tick → 0 < t.rules.every → offer.tick < finish
-    → BucketAfter calls b → BucketAfter (and_then calls (TryTake true)) next → TOKEN ≤ b.credit
-    → TierFits (past ++ record { offer = offer; decision = Admitted finish } ∷ [])
-    (when_admitted t next reached finish (finish - offer.tick + offer.delay))
-tier_admitted t b next reached calls past offer finish fits stands at some later before now enough =
-    let next_is : next ≡ after b (TryTake true) = standing_runs calls b next (TryTake true) before (omega arith) enough now in
+bucket_admitted : (rules : PolicyNumbers) (past : List Decided) (b next : bucket.Standing) (offer : Offer) (finish : ℕ)
+    → BucketFits rules past b → b.tick ≡ offer.tick → 0 < rules.every → offer.tick < finish → TOKEN ≤ b.credit
+    → Does b (TryTake true) next
+    → BucketFits rules (past ++ record { offer = offer; decision = Admitted finish } ∷ []) next
+bucket_admitted rules past b next offer finish stands at some later enough takes =
+    let is : next ≡ after b (TryTake true) = take_is rules past b next true stands enough takes in
     let request : Served = record { offer = offer; finish = finish } in
     let more : served (past ++ record { offer = offer; decision = Admitted finish } ∷ []) ≡ served past ++ request ∷ [] =
     served_admitted past offer finish in
-    let took : ℕ = finish - offer.tick + offer.delay in
-    let window : with_sample t.window took ≡ window_of t.rules.window (samples (served past) ++ sample request ∷ []) =
-    rw fits.window (window_more t.rules.window (samples (served past)) took) in
-    let instant : max t.cleared finish ≡ max (greatest (finishes (served past))) finish = ap (λ n. max n finish) fits.cleared in
+    let agree : (u : ℕ) → u < b.tick
+    → rate_at rules (served past) u ≡ rate_at rules (served (past ++ record { offer = offer; decision = Admitted finish } ∷ [])) u =
+    λ u below. rw more (rate_before rules (served past) request u some (omega arith)) in
+    let credit_is = least_balance-push (rate_at rules (served past))
+    (rate_at rules (served (past ++ record { offer = offer; decision = Admitted finish } ∷ []))) (rules.depth * TOKEN) b.tick past
+    (record { offer = offer; decision = Admitted finish }) stands.covered (sym at) agree in
+    let enough_there : TOKEN * 1 ≤ least_balance (rate_at rules (served past)) (rules.depth * TOKEN) b.tick past =
+    rw (← stands.credit) (omega arith) in
     record {
-      bucket = record {
-        past_calls = and_then calls (TryTake true);
-        fits = now;
-        stands = stands_admitted t.rules past b next reached offer finish stands at next_is some later enough;
-      };
+      past_calls = and_then stands.past_calls (TryTake true);
+      fits = takes stands.past_calls stands.fits;
+      depth = rw is stands.depth;
+      credit = rw is (still_taken (b.depth * TOKEN) b.credit b.rate b.tick TOKEN (within_depth rules past b stands)
+          ∙ ap (λ n. n - TOKEN * 1) stands.credit ∙ sym credit_is);
+      covered = rw is (covered-push (rate_at rules (served past))
+          (rate_at rules (served (past ++ record { offer = offer; decision = Admitted finish } ∷ []))) (rules.depth * TOKEN) b.tick past
+          (record { offer = offer; decision = Admitted finish }) stands.covered (sym at) agree enough_there);
+    }
+
+-- the response goes behind those that are complete at the same tick
+taken_admitted : (t : TierStanding) (next : bucket.Standing) (requests first rest : List Served) (request : Served)
+    → AreTakenIn requests first rest t → next.tick ≡ t.bucket.tick → next.rate ≡ t.bucket.rate → t.bucket.tick < completion request
+    → AreTakenIn (requests ++ request ∷ []) first (insert_behind request rest) (when_admitted t next (due request))
+taken_admitted t next requests first rest request taken at rate later = record {
+  order = by_completion-push requests request ∙ ap (insert_behind request) taken.order
+      ∙ behind-first t.bucket.tick request first rest taken.past later;
+  past = rw at taken.past;
+  completed = taken.completed;
+  window = taken.window;
+  controls = taken.controls;
+  rate = rate ∙ taken.rate;
+  responses = ap (insert_due (due request)) taken.responses ∙ sym (due-behind request rest);
+}
+
+pub tier_admitted : (t : TierStanding) (next : bucket.Standing) (past : List Decided) (offer : Offer) (finish : ℕ)
+    → TierFits past t → t.bucket.tick ≡ offer.tick → 0 < t.rules.every → offer.tick < finish → TOKEN ≤ t.bucket.credit
+    → Does t.bucket (TryTake true) next
+    → TierFits (past ++ record { offer = offer; decision = Admitted finish } ∷ [])
+    (when_admitted t next (record { completion = finish + offer.delay; sample = finish + offer.delay - offer.tick }))
+tier_admitted t next past offer finish fits at some later enough takes =
+    let is : next ≡ after t.bucket (TryTake true) = take_is t.rules past t.bucket next true fits.bucket enough takes in
+    let request : Served = record { offer = offer; finish = finish } in
+    let more : served (past ++ record { offer = offer; decision = Admitted finish } ∷ []) ≡ served past ++ request ∷ [] =
+    served_admitted past offer finish in
+    record {
+      first = fits.first;
+      rest = insert_behind request fits.rest;
+      taken = rw more (taken_admitted t next (served past) fits.first fits.rest request fits.taken
+          (ap (λ (b : bucket.Standing). b.tick) is) (ap (λ (b : bucket.Standing). b.rate) is) (omega arith));
+      bucket = bucket_admitted t.rules past t.bucket next offer finish fits.bucket at some later enough takes;
+      admitted = rw more (ap (λ n. n + 1) fits.admitted ∙ sym (length-append (served past) (request ∷ [])));
       rejected =
           (let one = rejected_push past (record { offer = offer; decision = Admitted finish }) in let own = fits.rejected in omega (arith, one, own));
-      admitted = rw more (ap (λ n. n + 1) fits.admitted ∙ sym (length-append (served past) (request ∷ [])));
-      cleared = rw (more, finishes-push (served past) request) (instant ∙ sym (greatest-push (finishes (served past)) finish));
-      window = rw (more, samples-push (served past) request) window;
-      controls =
-          ap (λ (controls : List Control). with_due t.rules controls (with_sample t.window took).samples (t.admitted + 1) (max t.cleared finish)) fits.controls
-          ∙ ap (λ (w : Window). with_due t.rules (controls_of t.rules (served past)) w.samples (t.admitted + 1) (max t.cleared finish)) window
-          ∙ ap (λ n. with_due t.rules (controls_of t.rules (served past))
-          (keep_last t.rules.window (samples (served past) ++ sample request ∷ [])) (n + 1) (max t.cleared finish)) fits.admitted
-          ∙ ap (λ n. with_due t.rules (controls_of t.rules (served past))
-          (keep_last t.rules.window (samples (served past) ++ sample request ∷ [])) (length (served past) + 1) n) instant
-          ∙ sym (rw more (controls_of-push t.rules (served past) request some));
     }
 
 -- what `try_take` said of the credit
@@ -216,15 +170,59 @@ pub enough_of : (held credit : ℕ) → (IsTrue true ↔ (TOKEN ≤ credit)) →
 enough_of held credit taken is = let enough : TOKEN ≤ credit = taken.0 refl in omega arith
 
 -- the decision
-pub decision_rejected : (rules : PolicyNumbers) (past : List Decided) (b : bucket.Standing) (reached free tick service : ℕ)
-    → TierBucketAfter rules past b reached → b.tick ≡ tick → b.credit < TOKEN → Rejected ≡ decision_after rules past free tick service
-decision_rejected rules past b reached free tick service stands at short =
-    let there : credit rules past tick ≡ b.credit = credit_there rules past b reached tick stands at in
+pub decision_rejected : (rules : PolicyNumbers) (past : List Decided) (b : bucket.Standing) (free tick service : ℕ)
+    → BucketFits rules past b → b.tick ≡ tick → b.credit < TOKEN → Rejected ≡ decision_after rules past free tick service
+decision_rejected rules past b free tick service stands at short =
+    let there : credit rules past tick ≡ b.credit = credit_there rules past b tick stands at in
     sym (rw (lt-leb TOKEN (credit rules past tick) (rw there short)) refl)
 
-pub decision_admitted : (rules : PolicyNumbers) (past : List Decided) (b : bucket.Standing) (reached free tick service finish : ℕ)
-    → TierBucketAfter rules past b reached → b.tick ≡ tick → TOKEN ≤ b.credit → finish ≡ max free tick + service
+pub decision_admitted : (rules : PolicyNumbers) (past : List Decided) (b : bucket.Standing) (free tick service finish : ℕ)
+    → BucketFits rules past b → b.tick ≡ tick → TOKEN ≤ b.credit → finish ≡ max free tick + service
     → Admitted finish ≡ decision_after rules past free tick service
-decision_admitted rules past b reached free tick service finish stands at enough is =
-    let there : credit rules past tick ≡ b.credit = credit_there rules past b reached tick stands at in
+decision_admitted rules past b free tick service finish stands at enough is =
+    let there : credit rules past tick ≡ b.credit = credit_there rules past b tick stands at in
     ap (λ f. Admitted f) is ∙ sym (rw (le-leb TOKEN (credit rules past tick) (rw there enough)) refl)
+
+-- what a request finds
+pub foresees : (t : TierStanding) (past : List Decided) (tick : ℕ) → TierFits past t → t.bucket.tick ≡ tick → 0 < t.rules.every
+    → AllFrom (tick + 1) (completions t.flight.responses)
+    → (t.bucket.credit ≡ credit t.rules past tick) × (t.bucket.rate ≡ rate_at t.rules (served past) tick)
+foresees t past tick fits at some ahead = (
+  sym (credit_there t.rules past t.bucket tick fits.bucket at),
+  sym (rate_now (served past) fits.first fits.rest t tick fits.taken some (omega arith) ahead),
+)
+
+-- ---- an offer at a later tick, up to which time has passed
+
+pub moved_fits : (t : TierStanding) (moved : bucket.Standing) (past : List Decided) (tick : ℕ) → IsSoundTier t
+    → t.bucket.tick ≤ tick → AllFrom (tick + 1) (completions t.flight.responses) → Does t.bucket (Advance tick) moved
+    → TierFits past t → TierFits past (record t { bucket = moved })
+moved_fits t moved past tick sound forward complete moves fits =
+    fits_later t past moved tick fits sound.every forward
+    (from-lower tick (tick + 1) (completions t.flight.responses) (omega arith) complete) moves
+
+pub found_at : (t : TierStanding) (moved : bucket.Standing) (past : List Decided) (tick : ℕ) → IsSoundTier t
+    → t.bucket.tick ≤ tick → AllFrom (tick + 1) (completions t.flight.responses) → Does t.bucket (Advance tick) moved → moved.tick ≡ tick
+    → TierFits past t
+    → (moved.credit ≡ credit t.rules past tick) × (moved.rate ≡ rate_at t.rules (served past) tick)
+found_at t moved past tick sound forward complete moves at fits =
+    foresees (record t { bucket = moved }) past tick (moved_fits t moved past tick sound forward complete moves fits) at sound.every complete
+
+pub rejected_fits : (t : TierStanding) (moved next : bucket.Standing) (past : List Decided) (offer : Offer) (tick : ℕ) → IsSoundTier t
+    → t.bucket.tick ≤ tick → AllFrom (tick + 1) (completions t.flight.responses) → Does t.bucket (Advance tick) moved → moved.tick ≡ tick
+    → Does moved (TryTake false) next → offer.tick ≡ tick → TierFits past t
+    → TierFits (past ++ record { offer = offer; decision = Rejected } ∷ []) (when_rejected t next)
+rejected_fits t moved next past offer tick sound forward complete moves there takes at fits =
+    tier_rejected (record t { bucket = moved }) next past offer (moved_fits t moved past tick sound forward complete moves fits)
+    (there ∙ sym at) takes
+
+pub admitted_fits : (t : TierStanding) (moved next : bucket.Standing) (past : List Decided) (offer : Offer) (tick delay finish : ℕ)
+    → IsSoundTier t → t.bucket.tick ≤ tick → AllFrom (tick + 1) (completions t.flight.responses) → Does t.bucket (Advance tick) moved
+    → moved.tick ≡ tick → Does moved (TryTake true) next → offer.tick ≡ tick → offer.delay ≡ delay → tick < finish → TOKEN ≤ moved.credit
+    → TierFits past t
+    → TierFits (past ++ record { offer = offer; decision = Admitted finish } ∷ [])
+    (when_admitted t next (record { completion = finish + delay; sample = finish + delay - tick }))
+admitted_fits t moved next past offer tick delay finish sound forward complete moves there takes at late later enough fits =
+    rw (← at, ← late)
+    (tier_admitted (record t { bucket = moved }) next past offer finish (moved_fits t moved past tick sound forward complete moves fits)
+    (there ∙ sym at) sound.every (omega (arith, at)) enough takes)

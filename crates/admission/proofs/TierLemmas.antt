@@ -5,7 +5,6 @@ use Rattle.std.proofs.lemmas.Bool.{cases_eq}
 use Rattle.std.proofs.lemmas.List.{length-set, length-replicate, get_or-replicate}
 use Rattle.std.proofs.lemmas.Option.{get_or_from_slice_get}
 use Rattle.token_bucket.specs.Reference.{TOKEN}
-use Rattle.token_bucket.specs.Standing.{MAX_TICK}
 use Rattle.admission.specs.declared.policy.PolicyNumbers.{PolicyNumbers}
 use Rattle.admission.specs.Limits.{MAX_OFFERS, MAX_SERVICE}
 use Rattle.admission.specs.declared.control.Control.{Control}
@@ -17,10 +16,10 @@ use Rattle.admission.specs.Servers.{free_ticks}
 use Rattle.admission.specs.After.{outlook, controls_in, all_controls, TierFits, ControllerAfter}
 use Rattle.admission.specs.Standing.{TierStanding, Standing, station_of, first_free, IsShare, IsSound}
 use Rattle.admission.specs.Running.{decision_after, finish_or, servers_after}
-use Rattle.admission.specs.TierCalls.{AreNew, IsBeside, Decides, Takes, Shows, Foresees, AllShare, AllShow}
+use Rattle.admission.specs.TierCalls.{AreNew, IsComplete, AreComplete, Decides, Takes, Shows, Foresees, AllShare, AllShow}
 use Rattle.admission.proofs.RequestLemmas.{decided_from-push, served-push, of_tier-same, of_tier-other, of_tier-none, tick_from-push}
 use Rattle.admission.proofs.ServerLemmas.{free_ticks-none, free_ticks-push, free_first, first-exchanged, length-exchanged}
-use Rattle.admission.proofs.SoundLemmas.{share_later}
+use Rattle.admission.proofs.SoundLemmas.{share_later, share_complete_at}
 
 -- ---- one of the tiers
 
@@ -29,15 +28,15 @@ get_at [] i t within at = absurd (omega arith)
 get_at (first ∷ ts) zero t within at = ap (λ (t : TierStanding). Some t) (sym at)
 get_at (first ∷ ts) (suc i) t within at = get_at ts i t (omega arith) at
 
-same_some : (a b : TierStanding) → Some a ≡ Some b → a ≡ b
+pub same_some : (a b : TierStanding) → Some a ≡ Some b → a ≡ b
 same_some a b same = cc
 
-set_here : (ts : List TierStanding) (i : ℕ) (next t : TierStanding) → i < length ts → slice_get (slice_set ts i next) i ≡ Some t → t ≡ next
+pub set_here : (ts : List TierStanding) (i : ℕ) (next t : TierStanding) → i < length ts → slice_get (slice_set ts i next) i ≡ Some t → t ≡ next
 set_here [] i next t within at = absurd (omega arith)
 set_here (first ∷ ts) zero next t within at = sym (same_some next t at)
 set_here (first ∷ ts) (suc i) next t within at = set_here ts i next t (omega arith) at
 
-set_there : (ts : List TierStanding) (i j : ℕ) (next t : TierStanding) → (j ≡ i → ⊥) → slice_get (slice_set ts i next) j ≡ Some t
+pub set_there : (ts : List TierStanding) (i j : ℕ) (next t : TierStanding) → (j ≡ i → ⊥) → slice_get (slice_set ts i next) j ≡ Some t
     → slice_get ts j ≡ Some t
 set_there [] i j next t apart at = at
 set_there (first ∷ ts) zero zero next t apart at = absurd (apart refl)
@@ -57,7 +56,13 @@ rules_at c i t at = rules_in c.tiers i t at
 
 -- the controller with one tier changed
 abbrev pub with_tier : Standing → ℕ → TierStanding → List ℕ → ℕ → Standing
-with_tier c i next servers tick = record { tiers = slice_set c.tiers i next; servers = servers; offers = c.offers + 1; tick = tick }
+with_tier c i next servers tick = record {
+  tiers = slice_set c.tiers i next;
+  servers = servers;
+  offers = c.offers + 1;
+  tick = tick;
+  clock = c.clock;
+}
 
 pub station_kept : (c : Standing) (i : ℕ) (t next : TierStanding) (servers : List ℕ) (tick : ℕ) → slice_get c.tiers i ≡ Some t
     → next.rules ≡ t.rules → length servers ≡ length c.servers → station_of (with_tier c i next servers tick) ≡ station_of c
@@ -165,31 +170,33 @@ first_after servers (Admitted finish) some later = first-exchanged finish server
 first_after servers Rejected some later = omega arith
 
 pub offer_sound : (c : Standing) (i tick service : ℕ) (decision : Decision) (next : TierStanding)
-    → IsSound c → i < length c.tiers → c.offers < MAX_OFFERS → tick ≤ MAX_TICK → service ≤ MAX_SERVICE → c.tick ≤ tick
+    → IsSound c → c.clock ≡ tick → AreComplete c.tiers tick → i < length c.tiers → c.offers < MAX_OFFERS → service ≤ MAX_SERVICE
     → first_free c.servers ≤ finish_or (first_free c.servers) decision
     → finish_or (first_free c.servers) decision ≤ max (first_free c.servers) tick + service
-    → IsShare (c.offers + 1) tick next
+    → IsShare (c.offers + 1) tick tick next
     → IsSound (with_tier c i next (servers_after c.servers decision) tick)
-offer_sound c i tick service decision next sound within room most short forward longer bound share = record {
+offer_sound c i tick service decision next sound now complete within room short longer bound share = record {
   four = length-set c.tiers i next ∙ sound.four;
   offers = omega arith;
   some = omega (arith, many_after c.servers decision, sound.some);
-  free = omega (arith, sound.free, first_after c.servers decision sound.some longer);
-  tick = most;
+  free = omega (arith, now, sound.free, sound.clock.1, first_after c.servers decision sound.some longer);
+  clock = (omega (arith, now), sound.clock.1);
   tiers = λ j found at. elim (cases_eq j i) [
     | inl same ↦
         let is : found ≡ next = set_here c.tiers i next found within (rw same at at) in
-        rw is share
+        rw (is, now) share
     | inr apart ↦
-        share_later c.offers c.tick (c.offers + 1) tick found (sound.tiers j found (set_there c.tiers i j next found apart at))
-        (omega arith) forward
+        let there : slice_get c.tiers j ≡ Some found = set_there c.tiers i j next found apart at in
+        share_complete_at (c.offers + 1) c.tick c.clock tick found
+        (share_later c.offers c.tick c.clock (c.offers + 1) c.clock found (sound.tiers j found there) (omega arith) (omega arith))
+        (complete j found there)
   ];
 }
 
 -- ---- a controller that was offered nothing
 
-pub four_new : (a b c d : TierStanding) → TierFits [] a × IsShare 0 0 a → TierFits [] b × IsShare 0 0 b
-    → TierFits [] c × IsShare 0 0 c → TierFits [] d × IsShare 0 0 d → AreNew (a ∷ b ∷ c ∷ d ∷ [])
+pub four_new : (a b c d : TierStanding) → TierFits [] a × IsShare 0 0 0 a → TierFits [] b × IsShare 0 0 0 b
+    → TierFits [] c × IsShare 0 0 0 c → TierFits [] d × IsShare 0 0 0 d → AreNew (a ∷ b ∷ c ∷ d ∷ [])
 four_new a b c d na nb nc nd zero t at = rw (sym (same_some a t at)) na
 four_new a b c d na nb nc nd (suc zero) t at = rw (sym (same_some b t at)) nb
 four_new a b c d na nb nc nd (suc (suc zero)) t at = rw (sym (same_some c t at)) nc
@@ -208,7 +215,7 @@ four_rules (p ∷ q ∷ r ∷ []) a b c d e f g h long pa pb pc pd = absurd (ome
 four_rules (p ∷ q ∷ r ∷ s ∷ t ∷ rest) a b c d e f g h long pa pb pc pd = absurd (omega arith)
 
 abbrev pub started : List TierStanding → List ℕ → Standing
-started ts servers = record { tiers = ts; servers = servers; offers = 0; tick = 0 }
+started ts servers = record { tiers = ts; servers = servers; offers = 0; tick = 0; clock = 0 }
 
 pub started_sound : (ts : List TierStanding) (servers : List ℕ) (n : ℕ) → length ts ≡ 4 → AreNew ts → 1 ≤ n → servers ≡ replicate n 0
     → IsSound (started ts servers)
@@ -217,7 +224,7 @@ started_sound ts servers n long news some is = record {
   offers = omega arith;
   some = rw (is, length-replicate {A = ℕ} n 0) some;
   free = rw (is, get_or-replicate {A = ℕ} n 0 0 0 some) (omega arith);
-  tick = omega arith;
+  clock = (omega arith, omega arith);
   tiers = λ i t at. (news i t at).1;
 }
 
@@ -239,11 +246,11 @@ started_station policies ts servers n rules is = rw (rules, is, length-replicate
 
 -- ---- what the controller's calls ask of a tier, and what they get
 
--- a tier of a sound controller, where it is offered nothing more
-pub shared_at : (c : Standing) (i : ℕ) (t : TierStanding) → IsSound c → i < length c.tiers → t ≡ slice_index_or c.tiers i t
-    → IsBeside c.tick (slice_index_or c.tiers i t)
-shared_at c i t sound within at =
-    rw (← at) (c.offers, sound.offers, sound.tiers i t (get_at c.tiers i t within at))
+-- a tier of a sound controller has taken in all that was complete at the last offer
+pub complete_at : (c : Standing) (i : ℕ) (t : TierStanding) → IsSound c → i < length c.tiers → t ≡ slice_index_or c.tiers i t
+    → IsComplete c.tick (slice_index_or c.tiers i t)
+complete_at c i t sound within at =
+    rw (← at) (sound.tiers i t (get_at c.tiers i t within at)).complete
 
 -- the standing of a tier, and that it fits its own requests
 pub own_fits : (c : Standing) (i : ℕ) (t : TierStanding) (offers : List Offer) → i < length c.tiers
@@ -260,12 +267,15 @@ shown_at c i t offers shown within at fits shows =
     rw (rules_at c i t found, ← fits.tick)
     (rw (← at) at (shows (of_tier i (decided (station_of c) offers)) (rw (← at) (fits.tiers i t found))))
 
--- a tier that is offered one more request
-pub offered_at : (c : Standing) (i tick : ℕ) (t : TierStanding) → IsSound c → i < length c.tiers → t ≡ slice_index_or c.tiers i t
-    → c.tick ≤ tick → IsShare c.offers tick (slice_index_or c.tiers i t)
-offered_at c i tick t sound within at forward =
-    rw (← at) (share_later c.offers c.tick c.offers tick t (sound.tiers i t (get_at c.tiers i t within at))
-    (omega arith) forward)
+-- a tier that is offered one more request at the tick up to which time has passed
+pub offered_at : (c : Standing) (i tick : ℕ) (t : TierStanding) → IsSound c → c.clock ≡ tick → AreComplete c.tiers tick
+    → i < length c.tiers → t ≡ slice_index_or c.tiers i t → IsShare c.offers tick tick (slice_index_or c.tiers i t)
+offered_at c i tick t sound now complete within at =
+    let there : slice_get c.tiers i ≡ Some t = get_at c.tiers i t within at in
+    rw (← at)
+    (share_complete_at c.offers c.tick tick tick t
+    (share_later c.offers c.tick c.clock c.offers tick t (sound.tiers i t there) (omega arith) (omega (arith, now)))
+    (complete i t there))
 
 pub offered_decision : (c : Standing) (i tick service delay : ℕ) (t : TierStanding) (offers : List Offer) (decision : Decision)
     → 1 ≤ length c.servers → i < length c.tiers → t ≡ slice_index_or c.tiers i t → ControllerAfter offers c
@@ -299,17 +309,13 @@ offered_station c i tick decision t next within at rules =
     station_kept c i t next (servers_after c.servers decision) tick (get_at c.tiers i t within at) (rw (← at) at rules)
     (many_after c.servers decision)
 
--- what a request of a tier finds that comes at a later tick
-pub later_at : (c : Standing) (i tick : ℕ) (t : TierStanding) → IsSound c → i < length c.tiers → t ≡ slice_index_or c.tiers i t
-    → c.tick ≤ tick → IsBeside tick (slice_index_or c.tiers i t)
-later_at c i tick t sound within at forward =
-    rw (← at) (
-      c.offers,
-      sound.offers,
-      share_later c.offers c.tick c.offers tick t (sound.tiers i t (get_at c.tiers i t within at))
-          (omega arith) forward,
-    )
+-- its bucket is not beyond the tick up to which time has passed
+pub clock_at : (c : Standing) (i tick : ℕ) (t : TierStanding) → IsSound c → c.clock ≡ tick → i < length c.tiers
+    → t ≡ slice_index_or c.tiers i t → (slice_index_or c.tiers i t).bucket.tick ≤ tick
+clock_at c i tick t sound now within at =
+    rw (← at) (let own = (sound.tiers i t (get_at c.tiers i t within at)).clock in omega (arith, own, now))
 
+-- what a request of a tier finds that comes at a later tick
 pub foreseen_at : (c : Standing) (i tick : ℕ) (t : TierStanding) (offers : List Offer) (found : Outlook) → 1 ≤ length c.servers
     → i < length c.tiers → t ≡ slice_index_or c.tiers i t → ControllerAfter offers c
     → Foresees (slice_index_or c.tiers i t) (first_free c.servers) tick found
@@ -349,6 +355,31 @@ all_shown c offers (w ∷ x ∷ []) four long fits shows = absurd (omega (arith,
 all_shown c offers (w ∷ x ∷ y ∷ []) four long fits shows = absurd (omega (arith, long))
 all_shown c offers (w ∷ x ∷ y ∷ z ∷ v ∷ rest) four long fits shows = absurd (omega (arith, long))
 
-pub all_share : (c : Standing) → IsSound c → AllShare c.tiers c.tick
-all_share c sound i t at =
-    (c.offers, sound.offers, sound.tiers i t at)
+pub all_share : (c : Standing) (tick : ℕ) → IsSound c → c.clock ≤ tick → AllShare c.tiers tick
+all_share c tick sound later i t at =
+    (c.offers, c.tick, sound.offers, share_later c.offers c.tick c.clock c.offers tick t (sound.tiers i t at) (omega arith) later)
+
+pub all_complete : (c : Standing) → IsSound c → AreComplete c.tiers c.tick
+all_complete c sound i t at = (sound.tiers i t at).complete
+
+same_controls : (u v : List Control) → Some u ≡ Some v → u ≡ v
+same_controls u v same = cc
+
+shows_there : (tiers : List TierStanding) (tick i : ℕ) (a t : TierStanding) (w controls : List Control) → Shows a tick w
+    → slice_get tiers i ≡ Some a → slice_get tiers i ≡ Some t → Some w ≡ Some controls → Shows t tick controls
+shows_there tiers tick i a t w controls shows own at shown =
+    rw (sym (same_some a t (sym own ∙ at)), sym (same_controls w controls shown)) shows
+
+-- the controls of the tiers one by one
+pub four_show : (tiers : List TierStanding) (tick : ℕ) (w x y z : List Control) (a b c d : TierStanding)
+    → Shows a tick w → Shows b tick x → Shows c tick y → Shows d tick z
+    → slice_get tiers 0 ≡ Some a → slice_get tiers 1 ≡ Some b → slice_get tiers 2 ≡ Some c → slice_get tiers 3 ≡ Some d
+    → AllShow tiers tick (w ∷ x ∷ y ∷ z ∷ [])
+four_show tiers tick w x y z a b c d sa sb sc sd ia ib ic id zero t controls at shown = shows_there tiers tick 0 a t w controls sa ia at shown
+four_show tiers tick w x y z a b c d sa sb sc sd ia ib ic id (suc zero) t controls at shown =
+    shows_there tiers tick 1 b t x controls sb ib at shown
+four_show tiers tick w x y z a b c d sa sb sc sd ia ib ic id (suc (suc zero)) t controls at shown =
+    shows_there tiers tick 2 c t y controls sc ic at shown
+four_show tiers tick w x y z a b c d sa sb sc sd ia ib ic id (suc (suc (suc zero))) t controls at shown =
+    shows_there tiers tick 3 d t z controls sd id at shown
+four_show tiers tick w x y z a b c d sa sb sc sd ia ib ic id (suc (suc (suc (suc i)))) t controls at shown = absurd (cc)

@@ -1,13 +1,15 @@
 -- What a controller keeps of the offers so far.
-use Rattle.std.specs.Prelude.{◌≡◌, ℕ, ◌+◌, ◌*◌, ◌/◌, ◌≤◌, List, [], ◌∷◌, length, count_by, Some, slice_get, map}
+use Rattle.std.specs.Prelude.{◌≡◌, ℕ, ◌+◌, ◌*◌, ◌/◌, ◌≤◌, List, [], ◌∷◌, ◌++◌, length, count_by, Some, slice_get}
+use Rattle.std.specs.Prelude.{map}
+use Rattle.std.specs.List.{range_with_len}
 use Rattle.token_bucket.specs.Reference.{TOKEN, accrual}
 use Rattle.token_bucket.specs.Calls.{Past}
 use Rattle.admission.specs.declared.policy.PolicyNumbers.{PolicyNumbers}
-use Rattle.admission.specs.Reference.{Offer, Decided, of_tier, is_admitted, is_rejected, served, finishes, greatest}
-use Rattle.admission.specs.Reference.{samples, done, controls_of, rate_after, rate_at, credit, decided, tick_from}
-use Rattle.admission.specs.Reference.{Station, rules_of, free_at, controls_until}
+use Rattle.admission.specs.Reference.{Offer, Decided, Served, of_tier, is_admitted, is_rejected, served, completion}
+use Rattle.admission.specs.Reference.{sample, samples, by_completion, control_at, rate_after, rate_at, credit, decided}
+use Rattle.admission.specs.Reference.{tick_from, Station, rules_of, free_at, controls_until}
 use Rattle.admission.specs.Servers.{free_ticks}
-use Rattle.admission.specs.Standing.{window_of, TierStanding, Standing, station_of}
+use Rattle.admission.specs.Standing.{window_of, Due, TierStanding, Standing, station_of}
 use Rattle.admission.specs.declared.control.Outlook.{Outlook}
 use Rattle.admission.specs.declared.control.Control.{Control}
 use Rattle.token_bucket.specs.After as calls
@@ -22,30 +24,43 @@ AllCovered rate full tick (request ∷ requests) =
     (request ∷ requests) ≤ full + accrual rate request.offer.tick tick)
     × AllCovered rate full tick requests
 
--- the bucket of a tier stands as these requests of the tier left it: the controls that its clock has reached are those
--- in force, its rate is theirs, and its credit that of a request which comes now
-pub record TierBucketAfter (rules : PolicyNumbers) (past : List Decided) (b : bucket.Standing)
-    (reached : ℕ) : Type 0 where
-  pub depth : b.depth ≡ rules.depth
-  pub rate : b.rate ≡ rate_after rules (samples (served past)) reached
-  pub credit : b.credit ≡ credit rules past b.tick
-  pub in_force : reached ≡ done (served past) b.tick / rules.every
-  pub covered : AllCovered (rate_at rules (served past)) (rules.depth * TOKEN) b.tick past
+-- none of these is after this tick
+unfoldable pub AllUpTo : ℕ → List ℕ → Type 0
+AllUpTo tick [] = Unit {0}
+AllUpTo tick (x ∷ xs) = (x ≤ tick) × AllUpTo tick xs
 
--- so it stands after some calls on it
-pub record BucketFits (rules : PolicyNumbers) (past : List Decided) (b : bucket.Standing) (reached : ℕ) : Type 0 where
+-- when a response is complete, and how long it took then
+abbrev pub due : Served → Due
+due request = record { completion = completion request; sample = sample request }
+
+-- the bucket of a tier stands as these requests of the tier left it: its credit is that of a request which comes now
+pub record BucketFits (rules : PolicyNumbers) (past : List Decided) (b : bucket.Standing) : Type 0 where
   pub past_calls : Past
   pub fits : calls.BucketAfter past_calls b
-  pub stands : TierBucketAfter rules past b reached
+  pub depth : b.depth ≡ rules.depth
+  pub credit : b.credit ≡ credit rules past b.tick
+  pub covered : AllCovered (rate_at rules (served past)) (rules.depth * TOKEN) b.tick past
 
--- a tier whose bucket, window and controls are those of these requests of the tier
+-- of the requests in the order of their completions the first are complete when the bucket's clock has come so far, and
+-- made these samples and controls and this rate; the others are on their way
+pub record AreTakenIn (requests first rest : List Served) (t : TierStanding) : Type 0 where
+  pub order : by_completion requests ≡ first ++ rest
+  pub past : AllUpTo t.bucket.tick (map completion first)
+  pub completed : t.completed ≡ length first
+  pub window : t.window ≡ window_of t.rules.window (samples first)
+  pub controls : t.controls ≡ map (control_at t.rules first) (range_with_len 1 (length first / t.rules.every))
+  pub rate : t.bucket.rate ≡ rate_after t.rules (samples first) (length first / t.rules.every)
+  pub responses : t.flight.responses ≡ map due rest
+
+-- a tier that stands as these requests of the tier left it, of which the first in the order of their completions were
+-- taken in
 pub record TierFits (past : List Decided) (t : TierStanding) : Type 0 where
-  pub bucket : BucketFits t.rules past t.bucket t.reached
-  pub admitted : t.admitted ≡ length (served past)
+  pub first : List Served
+  pub rest : List Served
+  pub taken : AreTakenIn (served past) first rest t
+  pub bucket : BucketFits t.rules past t.bucket
+  pub admitted : t.flight.admitted ≡ length (served past)
   pub rejected : t.rejected ≡ count_by (λ r. is_rejected r.decision) past
-  pub cleared : t.cleared ≡ greatest (finishes (served past))
-  pub window : t.window ≡ window_of t.rules.window (samples (served past))
-  pub controls : t.controls ≡ controls_of t.rules (served past)
 
 -- a controller that stands so after these offers: each tier by its own requests, the servers by those of all tiers
 pub record ControllerAfter (offers : List Offer) (c : Standing) : Type 0 where
@@ -54,6 +69,13 @@ pub record ControllerAfter (offers : List Offer) (c : Standing) : Type 0 where
   pub servers : c.servers ≡ free_ticks (length c.servers) (served (decided (station_of c) offers))
   pub tiers : (i : ℕ) (t : TierStanding) → slice_get c.tiers i ≡ Some t
       → TierFits (of_tier i (decided (station_of c) offers)) t
+
+-- a controller that stands for the same offers as before
+pub record StandsAsBefore (old new : Standing) : Type 0 where
+  pub fits : (offers : List Offer) → ControllerAfter offers old → ControllerAfter offers new
+  pub offers : new.offers ≡ old.offers
+  pub tick : new.tick ≡ old.tick
+  pub station : station_of new ≡ station_of old
 
 -- Which offered requests are admitted.
 

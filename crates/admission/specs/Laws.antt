@@ -4,7 +4,8 @@ use Rattle.token_bucket.specs.Reference.{TOKEN, accrual}
 use Rattle.admission.specs.declared.policy.PolicyNumbers.{PolicyNumbers}
 use Rattle.admission.specs.declared.control.Decision.TheVariants.{Rejected}
 use Rattle.admission.specs.Reference.{Station, rules_of, Offer, Decided, Served, of_tier, served}
-use Rattle.admission.specs.Reference.{is_admitted, control_at, rate_at, credit, decide, decided}
+use Rattle.admission.specs.Reference.{is_admitted, completion, by_completion, control_at, rate_at, credit, decide}
+use Rattle.admission.specs.Reference.{decided}
 use Rattle.admission.specs.Servers.{last_finish, offers_served}
 use Rattle.admission.specs.Rules.{IsInRange}
 
@@ -46,10 +47,10 @@ FinishRuns = (offers : List Offer) (offer : Offer)
     × (last_finish offers ≤ last_finish (offers ++ offer ∷ []))
     × (offer.service ≤ last_finish (offers ++ offer ∷ []) - offer.tick)
 
--- the rate in force before a request's finish does not depend on that request
+-- the rate in force before a response is complete does not depend on its request
 abbrev pub RateBefore : Type 0
 RateBefore = (rules : PolicyNumbers) (requests : List Served) (request : Served) (tick : ℕ) → IsInRange rules
-    → tick < request.finish → rate_at rules (requests ++ request ∷ []) tick ≡ rate_at rules requests tick
+    → tick < completion request → rate_at rules (requests ++ request ∷ []) tick ≡ rate_at rules requests tick
 
 -- ---- one step from what is carried
 
@@ -100,10 +101,11 @@ CreditFromCredit = (station : Station) (offers : List Offer) (offer : Offer) (ti
 -- what accrues from one tick to another falls into what accrues up to a control between them and from it on
 abbrev pub AccrualSplitsAtControl : Type 0
 AccrualSplitsAtControl = (rules : PolicyNumbers) (requests : List Served) (k s t : ℕ)
-    → s ≤ (control_at rules requests k).instant → (control_at rules requests k).instant ≤ t
+    → s ≤ (control_at rules (by_completion requests) k).instant
+    → (control_at rules (by_completion requests) k).instant ≤ t
     → accrual (rate_at rules requests) s t
-    ≡ accrual (rate_at rules requests) s (control_at rules requests k).instant
-    + accrual (rate_at rules requests) (control_at rules requests k).instant t
+    ≡ accrual (rate_at rules requests) s (control_at rules (by_completion requests) k).instant
+    + accrual (rate_at rules requests) (control_at rules (by_completion requests) k).instant t
 
 -- the rate of a tier in force at a tick that no further offer of any tier comes before depends on the offers so far
 -- alone

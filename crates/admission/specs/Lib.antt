@@ -1,4 +1,5 @@
 pub mod After
+pub mod InFlight
 pub mod Laws
 pub mod Limits
 pub mod OneTier

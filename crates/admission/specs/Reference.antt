@@ -2,7 +2,7 @@
 use Rattle.std.specs.Prelude.{ℕ, List, slice_index_or, ◌+◌, ◌-◌, max, Bool, true, false, [], ◌∷◌, ◌++◌, map, filter}
 use Rattle.std.specs.Prelude.{count_by, nat_eq, nat_le, ◌*◌, ◌/◌, length, if◌then◌else◌, Option, slice_get}
 use Rattle.std.specs.Prelude.{zero, suc, min, take, reverse, unwrap_or, nat_lt}
-use Rattle.std.specs.List.{prefix_len, range_with_len}
+use Rattle.std.specs.List.{range_with_len}
 use Rattle.admission.specs.declared.policy.PolicyNumbers.{PolicyNumbers}
 use Rattle.admission.specs.declared.control.Decision.{Decision}
 use Rattle.admission.specs.declared.control.Decision.TheVariants.{Admitted, Rejected}
@@ -99,16 +99,30 @@ free_at n requests = slice_index_or (reverse (sorted (finishes requests))) (n - 
 abbrev pub finish_after : ℕ → List Served → Offer → ℕ
 finish_after servers requests offer = max (free_at servers requests) offer.tick + offer.service
 
--- how many of the first are finished at tick u, each together with all before it
-abbrev pub done : List Served → ℕ → ℕ
-done requests u = prefix_len (λ finish. nat_le finish u) (finishes requests)
+-- the tick at which a response is complete: its delay after the end of its service
+abbrev pub completion : Served → ℕ
+completion request = request.finish + request.offer.delay
 
--- how long a response took, from the request's arrival to its finish, with its delay
+-- how long a response took, from the request's arrival until it was complete
 abbrev pub sample : Served → ℕ
-sample request = request.finish - request.offer.tick + request.offer.delay
+sample request = completion request - request.offer.tick
 
 abbrev pub samples : List Served → List ℕ
 samples requests = map sample requests
+
+-- how many of the responses are complete at tick u
+abbrev pub done : List Served → ℕ → ℕ
+done requests u = count_by (λ r. nat_le (completion r) u) requests
+
+unfoldable pub insert_complete : Served → List Served → List Served
+insert_complete r [] = r ∷ []
+insert_complete r (s ∷ ss) =
+    if nat_le (completion r) (completion s) then (r ∷ s ∷ ss) else (s ∷ insert_complete r ss)
+
+-- the requests in the order in which their responses are complete, of two at one tick the one that was admitted first
+unfoldable pub by_completion : List Served → List Served
+by_completion [] = []
+by_completion (r ∷ rs) = insert_complete r (by_completion rs)
 
 -- The 90th percentile of samples, by the nearest rank.
 
@@ -148,31 +162,28 @@ unfoldable pub rate_after : PolicyNumbers → List ℕ → ℕ → ℕ
 rate_after rules taken zero = rules.rate
 rate_after rules taken (suc k) = adjusted rules (smoothed_at rules taken (suc k)) (rate_after rules taken k)
 
--- the greatest of these numbers, 0 of none
-unfoldable pub greatest : List ℕ → ℕ
-greatest [] = 0
-greatest (x ∷ xs) = max x (greatest xs)
-
--- control k, counted from 1, stands where the first k times `every` requests are all finished
+-- control k, counted from 1, of requests in the order of their completions: it stands where the first k times `every`
+-- are complete
 abbrev pub control_at : PolicyNumbers → List Served → ℕ → Control
-control_at rules requests k = record {
-  instant = greatest (take (k * rules.every) (finishes requests));
-  percentile = percentile_at rules (samples requests) k;
-  smoothed = smoothed_at rules (samples requests) k;
-  rate = rate_after rules (samples requests) k;
+control_at rules ordered k = record {
+  instant = slice_index_or (map completion ordered) (k * rules.every - 1) 0;
+  percentile = percentile_at rules (samples ordered) k;
+  smoothed = smoothed_at rules (samples ordered) k;
+  rate = rate_after rules (samples ordered) k;
 }
 
 -- the controls of these requests
 abbrev pub controls_of : PolicyNumbers → List Served → List Control
-controls_of rules requests = map (control_at rules requests) (range_with_len 1 (length requests / rules.every))
+controls_of rules requests =
+    map (control_at rules (by_completion requests)) (range_with_len 1 (length requests / rules.every))
 
 -- those whose instant is at most this tick
 abbrev pub controls_until : PolicyNumbers → List Served → ℕ → List Control
 controls_until rules requests tick = filter (λ c. nat_le c.instant tick) (controls_of rules requests)
 
--- the rate in force at tick u: that of the last control whose requests are all finished
+-- the rate in force at tick u: that of the last control whose responses are all complete
 abbrev pub rate_at : PolicyNumbers → List Served → ℕ → ℕ
-rate_at rules requests u = rate_after rules (samples requests) (done requests u / rules.every)
+rate_at rules requests u = rate_after rules (samples (by_completion requests)) (done requests u / rules.every)
 
 -- What a controller keeps of the offers so far.
 

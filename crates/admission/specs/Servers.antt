@@ -1,11 +1,14 @@
 -- The servers one by one, and a single one.
-use Rattle.std.specs.Prelude.{◌≡◌, ℕ, ◌+◌, ◌<◌, ◌≤◌, min, max, List, [], ◌∷◌, ◌++◌, length, map, take, drop, replicate}
-use Rattle.std.specs.Prelude.{sum_by, count_by, nat_eq, nat_le, slice_index, if◌then◌else◌}
-use Rattle.admission.specs.Reference.{Station, Offer, Served, of_tier, served, finishes, sorted, finish_after, done}
-use Rattle.admission.specs.Reference.{greatest, decided}
+use Rattle.std.specs.Prelude.{◌≡◌, ℕ, ◌+◌, ◌-◌, ◌*◌, ◌<◌, ◌≤◌, min, max, List, [], ◌∷◌, ◌++◌, length, map, drop}
+use Rattle.std.specs.Prelude.{replicate, sum_by, nat_eq, nat_le, slice_index_or, if◌then◌else◌}
+use Rattle.std.specs.List.{prefix_len}
+use Rattle.admission.specs.declared.policy.PolicyNumbers.{PolicyNumbers}
+use Rattle.admission.specs.Reference.{Station, rules_of, Offer, Served, of_tier, served, finishes, sorted, finish_after}
+use Rattle.admission.specs.Reference.{done, by_completion, control_at, decided}
 use Rattle.std.specs.Ordering.{nat_cmp}
 use Rattle.std.specs.BinaryHeap.{IsHeap}
 use Rattle.std.specs.declared.cmp.Reverse.{Reverse}
+use Rattle.admission.specs.Standing.{AllFrom}
 
 -- How a heap holds when the servers but the first one are free.
 
@@ -15,11 +18,6 @@ ticks_of items = map (λ r. r.0) items
 -- the least stands on top
 abbrev pub IsOrdered : List (Reverse ℕ) → Type 0
 IsOrdered items = IsHeap (λ (x y : Reverse ℕ). nat_cmp y.0 x.0) items
-
--- none of these is before this tick
-unfoldable pub AllFrom : ℕ → List ℕ → Type 0
-AllFrom tick [] = Unit {0}
-AllFrom tick (x ∷ xs) = (tick ≤ x) × AllFrom tick xs
 
 -- the others are free no sooner than the first, and where there are some the heap has room for one more
 pub record AreOthers (first : ℕ) (items : List (Reverse ℕ)) (len capacity : ℕ) : Type 0 where
@@ -82,12 +80,20 @@ OneServerFinishes = (station : Station) (offers : List Offer) (offer : Offer) �
 abbrev pub own_served : Station → List Offer → ℕ → List Served
 own_served station offers tier = served (of_tier tier (decided station offers))
 
--- the requests of a tier are finished by one server in their order: as many of the first are as have a finish up to a
--- tick, and the first of them all are finished when the last of these is
+-- none of these offers has a delay
+unfoldable pub HaveNoDelay : List Offer → Type 0
+HaveNoDelay [] = Unit {0}
+HaveNoDelay (offer ∷ offers) = (offer.delay ≡ 0) × HaveNoDelay offers
+
+-- requests whose responses are complete in their order, each at its finish: as many are complete as of the first have a
+-- finish up to a tick, and a control stands at the finish of the last of its requests
+pub record AreInOrder (rules : PolicyNumbers) (requests : List Served) (tick k : ℕ) : Type 0 where
+  pub order : by_completion requests ≡ requests
+  pub complete : done requests tick ≡ prefix_len (λ finish. nat_le finish tick) (finishes requests)
+  pub instant : (control_at rules requests k).instant ≡ slice_index_or (finishes requests) (k * rules.every - 1) 0
+
+-- so are the requests of a tier where there is one server and no delay
 abbrev pub OneServerInOrder : Type 0
-OneServerInOrder = (station : Station) (offers : List Offer) (tier tick k : ℕ) → station.servers ≡ 1
-    → (done (own_served station offers tier) tick
-    ≡ count_by (λ finish. nat_le finish tick) (finishes (own_served station offers tier)))
-    × (k < length (own_served station offers tier)
-    → greatest (take (k + 1) (finishes (own_served station offers tier)))
-    ≡ slice_index (finishes (own_served station offers tier)) k)
+OneServerInOrder = (station : Station) (offers : List Offer) (tier tick k : ℕ)
+    → station.servers ≡ 1 → HaveNoDelay offers
+    → AreInOrder (rules_of station tier) (own_served station offers tier) tick k

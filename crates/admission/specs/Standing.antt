@@ -1,6 +1,6 @@
 -- What a contract sees of a `Controller`.
-use Rattle.std.specs.Prelude.{◌≡◌, ℕ, ◌+◌, ◌*◌, ◌<◌, ◌≤◌, List, [], ◌∷◌, length, drop, map, Some, slice_get}
-use Rattle.std.specs.Prelude.{slice_index_or, ◌++◌}
+use Rattle.std.specs.Prelude.{◌≡◌, ℕ, ◌+◌, ◌*◌, ◌<◌, ◌≤◌, List, [], ◌∷◌, length, map, Some, slice_get, nat_lt}
+use Rattle.std.specs.Prelude.{slice_index_or, ◌++◌, if◌then◌else◌}
 use Rattle.token_bucket.specs.Standing.{MAX_TICK, MAX_RATE}
 use Rattle.admission.specs.declared.policy.PolicyNumbers.{PolicyNumbers}
 use Rattle.admission.specs.Limits.{MAX_OFFERS, MAX_SERVICE}
@@ -28,26 +28,59 @@ with_sample window sample = record {
       (window.samples ++ sample ∷ []);
 }
 
--- a tier: its policy's numbers; its bucket; how many of its requests were admitted, and how many rejected; its window;
--- when the admitted ones are all finished; its controls made so far, and how many of them the bucket's clock has
--- reached
+-- What a contract sees of the responses that aren't complete yet.
+
+-- one of them: the tick at which it is complete, and how long it took then
+pub record Due : Type 0 where
+  pub completion : ℕ
+  pub sample : ℕ
+
+-- how many requests were admitted, and the responses that aren't complete yet, in the order of their completions, of
+-- two at one tick the one that was admitted first
+pub record Flight : Type 0 where
+  pub admitted : ℕ
+  pub responses : List Due
+
+abbrev pub completions : List Due → List ℕ
+completions responses = map (λ r. r.completion) responses
+
+-- behind those that are complete at the same tick
+unfoldable pub insert_due : Due → List Due → List Due
+insert_due x [] = x ∷ []
+insert_due x (y ∷ ys) = if nat_lt x.completion y.completion then (x ∷ y ∷ ys) else (y ∷ insert_due x ys)
+
+-- with one more admitted request
+abbrev pub with_response : Flight → Due → Flight
+with_response flight due = record {
+  admitted = flight.admitted + 1;
+  responses = insert_due due flight.responses;
+}
+
+-- none of these is before this tick
+unfoldable pub AllFrom : ℕ → List ℕ → Type 0
+AllFrom tick [] = Unit {0}
+AllFrom tick (x ∷ xs) = (tick ≤ x) × AllFrom tick xs
+
+-- a tier: its policy's numbers; its bucket; its admitted requests, and how many of their responses are complete; how
+-- many of its requests were rejected; the window of the complete ones, and the controls that were made of them
 pub record TierStanding : Type 0 where
   pub rules : PolicyNumbers
   pub bucket : bucket.Standing
-  pub admitted : ℕ
+  pub flight : Flight
+  pub completed : ℕ
   pub rejected : ℕ
   pub window : Window
-  pub cleared : ℕ
   pub controls : List Control
-  pub reached : ℕ
 
--- the tiers; when each server is free, the first to be free first; how many requests were offered, and the tick of the
--- last one, 0 before the first
+-- the tiers; when each server is free, the first to be free first; how many requests were offered; the tick of the last
+-- one, 0 before the first; and the tick up to which time has passed, which is later where no memory was left for an
+-- offer
 pub record Standing : Type 0 where
   pub tiers : List TierStanding
   pub servers : List ℕ
   pub offers : ℕ
   pub tick : ℕ
+  pub clock : ℕ
 
 -- the tick of the last offer of any tier, 0 before the first
 abbrev pub last_tick : Standing → ℕ
@@ -76,17 +109,18 @@ AllRates (control ∷ controls) = (1 ≤ control.rate) × (control.rate ≤ MAX_
 pub record IsSoundTier (t : TierStanding) : Type 0 where
   pub every : 1 ≤ t.rules.every
   pub size : t.window.size ≡ t.rules.window
-  pub made : length t.controls ≤ t.admitted
-  pub reached : t.reached ≤ length t.controls
+  pub count : t.completed + length t.flight.responses ≡ t.flight.admitted
+  pub later : AllFrom t.bucket.tick (completions t.flight.responses)
+  pub rising : RiseWithin 0 t.bucket.tick t.controls
   pub rates : AllRates t.controls
 
--- a tier beside the others: no more of its requests were admitted than offered in all, its clock is not beyond this
--- tick, and the instants of its pending controls rise from there to when its requests are all finished
-pub record IsShare (offers tick : ℕ) (t : TierStanding) : Type 0 where
-  pub admitted : t.admitted ≤ offers
+-- a tier beside the others, where time has passed up to now: no more of its requests were admitted than offered in all,
+-- its bucket is not beyond now, and all responses that were complete at this tick were taken in
+pub record IsShare (offers tick now : ℕ) (t : TierStanding) : Type 0 where
+  pub admitted : t.flight.admitted ≤ offers
   pub rejected : t.rejected ≤ offers
-  pub clock : t.bucket.tick ≤ tick
-  pub rising : RiseWithin t.bucket.tick t.cleared (drop t.reached t.controls)
+  pub clock : t.bucket.tick ≤ now
+  pub complete : AllFrom (tick + 1) (completions t.flight.responses)
 
 -- what each controller keeps, whatever was offered
 pub record IsSound (c : Standing) : Type 0 where
@@ -94,13 +128,13 @@ pub record IsSound (c : Standing) : Type 0 where
   pub offers : c.offers ≤ MAX_OFFERS
   pub some : 1 ≤ length c.servers
   pub free : first_free c.servers ≤ MAX_TICK + MAX_SERVICE * c.offers
-  pub tick : c.tick ≤ MAX_TICK
-  pub tiers : (i : ℕ) (t : TierStanding) → slice_get c.tiers i ≡ Some t → IsShare c.offers c.tick t
+  pub clock : (c.tick ≤ c.clock) × (c.clock ≤ MAX_TICK)
+  pub tiers : (i : ℕ) (t : TierStanding) → slice_get c.tiers i ≡ Some t → IsShare c.offers c.tick c.clock t
 
 -- what is offered: one of the four tiers, a tick and a service within their limits
 abbrev pub IsOffer : ℕ → ℕ → ℕ → Type 0
 IsOffer tier tick service = (tier < 4) × (tick ≤ MAX_TICK) × (1 ≤ service) × (service ≤ MAX_SERVICE)
 
--- the controller takes an offer at this tick: it is not before the last one, and there were fewer than the limit
+-- the controller takes an offer at this tick: time has not passed beyond it, and there were fewer than the limit
 abbrev pub TakesOfferAt : Standing → ℕ → Type 0
-TakesOfferAt c tick = (last_tick c ≤ tick) × (c.offers < MAX_OFFERS)
+TakesOfferAt c tick = (c.clock ≤ tick) × (c.offers < MAX_OFFERS)

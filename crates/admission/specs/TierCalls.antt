@@ -1,18 +1,36 @@
 -- What the calls on a tier say of it, whatever requests of the tier it stands for.
-use Rattle.std.specs.Prelude.{◌≡◌, ℕ, ◌+◌, ◌≤◌, List, [], ◌∷◌, ◌++◌, drop, Some, slice_get}
-use Rattle.token_bucket.specs.Standing as bucket
+use Rattle.std.specs.Prelude.{◌≡◌, ℕ, ◌+◌, ◌≤◌, List, [], ◌∷◌, ◌++◌, map, Some, slice_get}
 use Rattle.admission.specs.declared.control.Control.{Control}
 use Rattle.admission.specs.declared.control.Decision.{Decision}
 use Rattle.admission.specs.declared.control.Outlook.{Outlook}
 use Rattle.admission.specs.Reference.{Offer, Decided, served, controls_until, rate_at, credit}
 use Rattle.admission.specs.Limits.{MAX_OFFERS}
-use Rattle.admission.specs.Standing.{TierStanding, RiseWithin, IsShare}
+use Rattle.admission.specs.Standing.{TierStanding, completions, AllFrom, IsShare}
 use Rattle.admission.specs.Running.{decision_after}
-use Rattle.admission.specs.After.{BucketFits, TierFits}
+use Rattle.admission.specs.After.{TierFits}
 
 -- tiers that were offered nothing yet
 abbrev pub AreNew : List TierStanding → Type 0
-AreNew tiers = (i : ℕ) (t : TierStanding) → slice_get tiers i ≡ Some t → TierFits [] t × IsShare 0 0 t
+AreNew tiers = (i : ℕ) (t : TierStanding) → slice_get tiers i ≡ Some t → TierFits [] t × IsShare 0 0 0 t
+
+-- all responses that are complete at this tick were taken in
+abbrev pub IsComplete : ℕ → TierStanding → Type 0
+IsComplete tick t = AllFrom (tick + 1) (completions t.flight.responses)
+
+-- while time passes up to this tick the tier stands for the same requests, beside the others
+pub record Moves (t : TierStanding) (tick : ℕ) (next : TierStanding) : Type 0 where
+  pub rules : next.rules ≡ t.rules
+  pub fits : (past : List Decided) → TierFits past t → TierFits past next
+  pub share : (offers last now : ℕ) → tick ≤ now → IsShare offers last now t → IsShare offers last now next
+
+-- each of these tiers does so
+pub record AllMove (tiers : List TierStanding) (tick : ℕ) (moved : List TierStanding) : Type 0 where
+  pub rules : map (λ t. t.rules) moved ≡ map (λ t. t.rules) tiers
+  pub each : (i : ℕ) (next : TierStanding) → slice_get moved i ≡ Some next
+      → (t : TierStanding) × (slice_get tiers i ≡ Some t) × Moves t tick next
+
+abbrev pub AreComplete : List TierStanding → ℕ → Type 0
+AreComplete tiers tick = (i : ℕ) (t : TierStanding) → slice_get tiers i ≡ Some t → IsComplete tick t
 
 -- the decision on an offer at this tick is that of the definitions
 abbrev pub Decides : TierStanding → ℕ → ℕ → ℕ → Decision → Type 0
@@ -26,16 +44,7 @@ Takes t tick delay decision next = (past : List Decided) (offer : Offer) → off
 
 -- and stays beside the others
 abbrev pub StaysBeside : TierStanding → ℕ → TierStanding → Type 0
-StaysBeside t tick next = (offers : ℕ) → IsShare offers tick t → IsShare (offers + 1) tick next
-
--- the bucket of the tier at a later tick, where it has taken on n controls
-abbrev pub Passes : TierStanding → bucket.Standing → ℕ → Type 0
-Passes t b reached = (past : List Decided) → TierFits past t → BucketFits t.rules past b reached
-
--- the controls that it has not taken on then rise from there
-abbrev pub RisesFrom : TierStanding → ℕ → ℕ → Type 0
-RisesFrom t tick reached = RiseWithin t.bucket.tick t.cleared (drop t.reached t.controls)
-    → RiseWithin tick t.cleared (drop reached t.controls)
+StaysBeside t tick next = (offers : ℕ) → IsShare offers tick tick t → IsShare (offers + 1) tick tick next
 
 -- these are the controls of the tier up to this tick
 abbrev pub Shows : TierStanding → ℕ → List Control → Type 0
@@ -49,11 +58,11 @@ Foresees t free tick found = (past : List Decided) → TierFits past t → found
 
 -- a tier beside the others up to this tick, of whatever was offered
 abbrev pub IsBeside : ℕ → TierStanding → Type 0
-IsBeside tick t = (offers : ℕ) × (offers ≤ MAX_OFFERS) × IsShare offers tick t
+IsBeside clock t = (offers : ℕ) × (tick : ℕ) × (offers ≤ MAX_OFFERS) × IsShare offers tick clock t
 
 -- tiers that stay beside one another up to this tick
 abbrev pub AllShare : List TierStanding → ℕ → Type 0
-AllShare tiers tick = (i : ℕ) (t : TierStanding) → slice_get tiers i ≡ Some t → IsBeside tick t
+AllShare tiers clock = (i : ℕ) (t : TierStanding) → slice_get tiers i ≡ Some t → IsBeside clock t
 
 -- these lists are the controls of these tiers up to this tick
 abbrev pub AllShow : List TierStanding → ℕ → List (List Control) → Type 0

@@ -3,7 +3,7 @@
 /// A change of the rate. `percentile` and `smoothed` are in ticks, `rate` in thousandths of a token a second.
 #[derive(Clone, Copy, Debug, PartialEq, Eq, Hash)]
 pub struct Control {
-    /// The tick that its rate holds from: that at which all requests it was made of are finished.
+    /// The tick that its rate holds from: that at which the responses that it was made of are complete.
     pub instant: u64,
     /// The 90th percentile of the window's response times.
     pub percentile: u64,

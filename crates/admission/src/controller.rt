@@ -3,10 +3,10 @@
 ghost use Rattle.std.specs.Prelude.{◌≡◌, ◌+◌, ◌*◌, ◌<◌, ◌≤◌, ◌++◌, [], ◌∷◌, ℕ, List, length, map, IfOk, OnOk, OnErr};
 ghost use Rattle.std.specs.Prelude.{count_by};
 ghost use Rattle.admission.specs.Reference.{Offer, of_tier, served, is_rejected, decide, decided};
-ghost use Rattle.admission.specs.After.{outlook, controls_in, all_controls, ControllerAfter};
+ghost use Rattle.admission.specs.After.{outlook, controls_in, all_controls, ControllerAfter, StandsAsBefore};
 ghost use Rattle.admission.specs.Standing.{last_tick, station_of, IsOffer, TakesOfferAt};
 ghost use Rattle.admission.specs.Running.{finish_or};
-ghost use Rattle.admission.specs.TierCalls.{AreNew, AllShare, AllShow};
+ghost use Rattle.admission.specs.TierCalls.{AreNew, AllShare, AllMove, AreComplete, AllShow};
 
 use crate::servers::Servers;
 use crate::tier::Tier;
@@ -26,6 +26,8 @@ pub struct Controller {
     offers: u64,
     /// The tick of the last one.
     tick: u64,
+    /// The tick up to which time has passed, later than that where there was no memory for an offer.
+    clock: u64,
 }
 
 impl Model for Controller {
@@ -33,10 +35,21 @@ impl Model for Controller {
 
     ghost Value = { Standing };
 
-    ghost view = { λ c. record { tiers = c.tiers; servers = c.servers; offers = c.offers; tick = c.tick } };
+    ghost view = { λ c. record {
+      tiers = c.tiers;
+      servers = c.servers;
+      offers = c.offers;
+      tick = c.tick;
+      clock = c.clock;
+    } };
 
-    ghost invariant = { λ c. IsSound
-        (record { tiers = c.tiers; servers = c.servers; offers = c.offers; tick = c.tick }) };
+    ghost invariant = { λ c. IsSound (record {
+      tiers = c.tiers;
+      servers = c.servers;
+      offers = c.offers;
+      tick = c.tick;
+      clock = c.clock;
+    }) };
 }
 
 /// The tiers of these policies, which were offered nothing yet.
@@ -54,10 +67,22 @@ fn tiers_of(alloc: Global, policies: &[Policy]) -> Result<[Tier; 4], AllocError>
     ])
 }
 
+/// Lets time pass up to `tick` in each tier.
+fn pass(tiers: &mut [Tier; 4], tick: u64) -> Result<(), AllocError>
+    requires share { AllShare tiers.old tick }
+    requires tick { tick ≤ MAX_TICK }
+    ensures moves { AllMove tiers.old tick tiers.new }
+    ensures complete { OnOk result (AreComplete tiers.new tick) }
+{
+    for tier in 0..4 {
+        tiers[tier].pass(tick)?;
+    }
+    Ok(())
+}
+
 /// The controls of four tiers up to this tick, without a copy.
 fn controls_of(tiers: [Tier; 4], tick: u64) -> [Vec<Control>; 4]
-    requires tiers { AllShare tiers tick }
-    requires tick { tick ≤ MAX_TICK }
+    requires { AreComplete tiers tick }
     ensures four { length result ≡ 4 }
     ensures shown { AllShow tiers tick (map (λ v. v.items) result) }
 {
@@ -77,7 +102,7 @@ impl Controller {
         ensures station { IfOk result
             (λ controller. station_of controller ≡ record { policies = policies; servers = 1 }) }
         ensures start { IfOk result
-            (λ controller. (controller.offers ≡ 0) × (last_tick controller ≡ 0)) }
+            (λ controller. (controller.offers ≡ 0) × (controller.clock ≡ 0)) }
     {
         Controller::with_servers(alloc, policies, 1)
     }
@@ -93,7 +118,7 @@ impl Controller {
         ensures station { IfOk result
             (λ controller. station_of controller ≡ record { policies = policies; servers = servers }) }
         ensures start { IfOk result
-            (λ controller. (controller.offers ≡ 0) × (last_tick controller ≡ 0)) }
+            (λ controller. (controller.offers ≡ 0) × (controller.clock ≡ 0)) }
     {
         let tiers = tiers_of(alloc, &policies)?;
         let servers = Servers::new(alloc, servers)?;
@@ -102,6 +127,7 @@ impl Controller {
             servers,
             offers: 0,
             tick: 0,
+            clock: 0,
         })
     }
 
@@ -121,7 +147,8 @@ impl Controller {
         ensures next { OnOk result
             ((last_tick self.new ≡ tick) × (self.new.offers ≡ self.old.offers + 1)
             × (station_of self.new ≡ station_of self.old)) }
-        ensures err { OnErr result (self.new ≡ self.old) }
+        ensures clock { self.new.clock ≡ tick }
+        ensures err { OnErr result (StandsAsBefore self.old self.new) }
     {
         self.offer_delayed(tier, tick, service, 0)
     }
@@ -150,14 +177,16 @@ impl Controller {
         ensures next { OnOk result
             ((last_tick self.new ≡ tick) × (self.new.offers ≡ self.old.offers + 1)
             × (station_of self.new ≡ station_of self.old)) }
+        ensures clock { self.new.clock ≡ tick }
 
         // It fits beside its delay.
         ensures finish { IfOk result
             (λ decision. finish_or 0 decision ≤ MAX_TICK + MAX_SERVICE * MAX_OFFERS) }
 
-        // Without memory nothing has changed.
-        ensures err { OnErr result (self.new ≡ self.old) }
+        // Without memory the offer wasn't made, but time has passed.
+        ensures err { OnErr result (StandsAsBefore self.old self.new) }
     {
+        self.pass(tick)?;
         let free = self.servers.first();
         let decision = self.tiers[usize::from(tier)].offer(free, tick, service, delay)?;
         self.servers.serve(decision);
@@ -166,10 +195,37 @@ impl Controller {
         Ok(decision)
     }
 
-    /// What a request of a tier (0 to 3) finds that comes at `tick`.
-    pub fn outlook(&self, tier: u8, tick: u64) -> Outlook
+    /// Lets time pass up to `tick`.
+    fn pass(&mut self, tick: u64) -> Result<(), AllocError>
+        requires forward { (self.old.clock ≤ tick) × (tick ≤ MAX_TICK) }
+        ensures same { StandsAsBefore self.old self.new }
+        ensures servers { self.new.servers ≡ self.old.servers }
+        ensures clock { self.new.clock ≡ tick }
+        ensures complete { OnOk result (AreComplete self.new.tiers tick) }
+    {
+        self.clock = tick;
+        pass(&mut self.tiers, tick)
+    }
+
+    /// What a request of a tier (0 to 3) finds that comes at `tick`. The next offer doesn't come before that.
+    pub fn outlook(&mut self, tier: u8, tick: u64) -> Result<Outlook, AllocError>
         requires tier { tier < 4 }
-        requires forward { (last_tick self.now ≤ tick) × (tick ≤ MAX_TICK) }
+        requires forward { (self.old.clock ≤ tick) × (tick ≤ MAX_TICK) }
+        ensures finds { IfOk result (λ found. (offers : List Offer) → ControllerAfter offers self.old
+            → found ≡ outlook (station_of self.old) (decided (station_of self.old) offers) tier tick) }
+        ensures range { IfOk result (λ found. found.free ≤ MAX_TICK + MAX_SERVICE * MAX_OFFERS) }
+        ensures same { StandsAsBefore self.old self.new }
+        ensures clock { self.new.clock ≡ tick }
+    {
+        self.pass(tick)?;
+        Ok(self.found_at(tier, tick))
+    }
+
+    /// What a request of a tier (0 to 3) finds that comes at `tick`, up to which time has passed.
+    fn found_at(&self, tier: u8, tick: u64) -> Outlook
+        requires tier { tier < 4 }
+        requires complete { AreComplete self.now.tiers tick }
+        requires clock { (self.now.clock ≡ tick) × (tick ≤ MAX_TICK) }
         ensures finds { (offers : List Offer) → ControllerAfter offers self.now
             → result ≡ outlook (station_of self.now) (decided (station_of self.now) offers) tier tick }
         ensures range { result.free ≤ MAX_TICK + MAX_SERVICE * MAX_OFFERS }
@@ -184,7 +240,7 @@ impl Controller {
             → result ≡ length (served (of_tier tier (decided (station_of self.now) offers))) }
     {
         let own = &self.tiers[usize::from(tier)];
-        own.admitted
+        own.in_flight.admitted
     }
 
     /// How many requests of a tier (0 to 3) were turned away.

@@ -36,7 +36,7 @@ pub fn finish_runs()
     ensures { FinishRuns }
 {}
 
-/// The rate in force at a tick depends on the requests that are finished by then alone.
+/// The rate in force at a tick depends on the responses that are complete by then alone.
 pub fn rate_before()
     ensures { RateBefore }
 {}
@@ -79,8 +79,8 @@ pub fn one_server_finishes()
     ensures { OneServerFinishes }
 {}
 
-/// Where there is one server, the requests of a tier are finished in their order: a control stands at the finish of its
-/// last request, and the rate in force is by how many are finished.
+/// Where there is one server and no delay, the responses of a tier are complete in the order of its requests: a control
+/// stands at the finish of its last request, and the rate in force is by how many of the first are finished.
 pub fn one_server_in_order()
     ensures { OneServerInOrder }
 {}

@@ -4,8 +4,8 @@ ghost use Rattle.std.specs.Prelude.{◌≡◌, ℕ, ◌+◌, ◌<◌, ◌≤◌,
 ghost use Rattle.std.specs.BinaryHeap.{heap_items, heap_len, heap_capacity};
 ghost use Rattle.admission.specs.Reference.{insert_sorted, sorted};
 ghost use Rattle.admission.specs.Running.{finish_or, servers_after};
-ghost use Rattle.admission.specs.Standing.{first_free};
-ghost use Rattle.admission.specs.Servers.{ticks_of, AreOthers, IsOrdered, AllFrom};
+ghost use Rattle.admission.specs.Standing.{first_free, AllFrom};
+ghost use Rattle.admission.specs.Servers.{ticks_of, AreOthers, IsOrdered};
 
 use crate::{Decision, MAX_SERVERS};
 use std::alloc::{AllocError, Global};

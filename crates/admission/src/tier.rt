@@ -1,18 +1,15 @@
 //! A tier: its bucket, its window of samples and its controls.
 
-ghost use Rattle.std.specs.Prelude.{◌≡◌, ◌+◌, ◌-◌, ◌*◌, ◌<◌, ◌≤◌, ◌++◌, [], ◌∷◌, ℕ, List, length, drop, max, vec_len};
-ghost use Rattle.std.specs.Prelude.{vec_capacity, unwrap_or, IsTrue, IfOk, OnOk, OnErr};
-ghost use Rattle.std.specs.Option.{option_copied};
-ghost use Rattle.circular_buffer.specs.Buffer.{last_item};
-ghost use Rattle.token_bucket.specs.Calls.{Past};
-ghost use Rattle.token_bucket.specs.After.{BucketAfter};
-ghost use Rattle.admission.specs.Reference.{percentile, smoother, adjusted};
-ghost use Rattle.admission.specs.Standing.{RiseWithin, AllRates, IsShare, with_sample};
+ghost use Rattle.std.specs.Prelude.{◌≡◌, ◌+◌, ◌-◌, ◌*◌, ◌<◌, ◌≤◌, [], ◌∷◌, ℕ, List, drop, take, filter, max, nat_le};
+ghost use Rattle.std.specs.Prelude.{length, vec_len, vec_capacity, slice_get, Some, IfOk, OnOk, OnErr};
+ghost use Rattle.admission.specs.Reference.{smoother, adjusted};
+ghost use Rattle.admission.specs.Standing.{RiseWithin, AllRates, AllFrom, IsShare, completions, with_sample};
 ghost use Rattle.admission.specs.After.{TierFits};
-ghost use Rattle.admission.specs.TierCalls.{Decides, Takes, StaysBeside, IsBeside, Passes, RisesFrom, Shows, Foresees};
-ghost use Rattle.admission.specs.Running.{passing, passed, last_rate, next_control, with_due, when_rejected};
-ghost use Rattle.admission.specs.Running.{when_admitted, finish_or};
+ghost use Rattle.admission.specs.InFlight.{due_of};
+ghost use Rattle.admission.specs.TierCalls.{Decides, Takes, StaysBeside, Moves, IsComplete, Shows, Foresees};
+ghost use Rattle.admission.specs.Running.{last_rate, next_control, with_due, when_rejected, finish_or};
 
+use crate::in_flight::{InFlight, Response};
 use crate::{
     Control, Decision, MAX_DELAY, MAX_OFFERS, MAX_RATE, MAX_SERVICE, MAX_TICK, Outlook, Policy,
     SampleWindow,
@@ -25,20 +22,18 @@ use token_bucket::Bucket;
 #[derive(Drop)]
 pub(crate) struct Tier {
     policy: Policy,
-    /// The bucket at the tick of the tier's last offer.
+    /// The bucket at the tick of the tier's last offer, or of the last completion where that was later.
     bucket: Bucket,
-    /// How many of the tier's requests were admitted.
-    pub(crate) admitted: u64,
-    /// How many of them were turned away.
+    /// The admitted requests whose responses aren't complete yet.
+    pub(crate) in_flight: InFlight,
+    /// How many responses are complete.
+    completed: u64,
+    /// How many requests were turned away.
     pub(crate) rejected: u64,
-    /// The response times of the last ones.
+    /// The response times of the last complete ones.
     window: SampleWindow,
-    /// When the admitted ones are all finished.
-    cleared: u64,
-    /// The controls of the admitted requests, also those whose instant is still to come.
+    /// The controls of the complete ones.
     controls: Vec<Control>,
-    /// How many of them the bucket has taken on.
-    reached: usize,
 }
 
 impl Model for Tier {
@@ -49,52 +44,22 @@ impl Model for Tier {
     ghost view = { λ t. record {
       rules = t.policy;
       bucket = t.bucket;
-      admitted = t.admitted;
+      flight = t.in_flight;
+      completed = t.completed;
       rejected = t.rejected;
       window = t.window;
-      cleared = t.cleared;
       controls = t.controls.items;
-      reached = t.reached;
     } };
 
     ghost invariant = { λ t. IsSoundTier (record {
       rules = t.policy;
       bucket = t.bucket;
-      admitted = t.admitted;
+      flight = t.in_flight;
+      completed = t.completed;
       rejected = t.rejected;
       window = t.window;
-      cleared = t.cleared;
       controls = t.controls.items;
-      reached = t.reached;
     }) };
-}
-
-/// Lets time pass up to `tick`. The bucket takes on each pending control's rate at its instant, and what
-/// came before it is credited at the old rate. Returns how many controls were reached.
-fn pass(bucket: &mut Bucket, pending: &[Control], tick: u64) -> usize
-    requires rising { (hi : ℕ) × RiseWithin bucket.old.tick hi pending.now }
-    requires rates { AllRates pending.now }
-    requires forward { bucket.old.tick ≤ tick }
-    requires within { tick ≤ MAX_TICK }
-    ensures reached { result ≡ passed pending.now tick }
-    ensures tick { bucket.new.tick ≡ tick }
-    ensures passes { (past : Past) → BucketAfter past bucket.old
-        → ((later : Past) × BucketAfter later bucket.new)
-        × (bucket.new ≡ passing bucket.old pending.now tick) }
-{
-    let mut reached = 0;
-    let mut rest = pending;
-    while let Some((control, later)) = rest.split_first() {
-        if control.instant > tick {
-            break;
-        }
-        bucket.advance(control.instant);
-        bucket.set_rate(control.rate);
-        reached += 1;
-        rest = later;
-    }
-    bucket.advance(tick);
-    reached
 }
 
 /// The smoothed percentile: `smoothing` thousandths of the one before, the rest of the new one, rounded down.
@@ -154,28 +119,28 @@ fn next_control(policy: Policy, controls: &[Control], percentile: u64, instant: 
     }
 }
 
-/// Makes a control where that many admitted requests make one due.
+/// Makes a control where that many complete responses make one due.
 fn note_control(
     policy: Policy,
     window: &SampleWindow,
     controls: &mut Vec<Control>,
-    admitted: u64,
+    completed: u64,
     instant: u64,
 )
     requires rates { AllRates controls.old.items }
     requires room { vec_len controls.old < vec_capacity controls.old }
     ensures controls { controls.new.items
-        ≡ with_due policy controls.old.items window.now.samples admitted instant }
+        ≡ with_due policy controls.old.items window.now.samples completed instant }
     ensures rates { AllRates controls.new.items }
 {
-    if admitted % policy.numbers.every == 0 {
+    if completed % policy.numbers.every == 0 {
         let percentile = window.percentile().unwrap_or(0);
         let control = next_control(policy, controls, percentile, instant);
         controls.push_reserved(control);
     }
 }
 
-/// Makes all the growths of an admitted request: room for a control, and the sample in the window.
+/// Makes all the growths of a complete response: room for a control, and the sample in the window.
 fn grow(
     window: &mut SampleWindow,
     controls: &mut Vec<Control>,
@@ -190,27 +155,81 @@ fn grow(
     window.add(sample)
 }
 
+/// How many of the controls have an instant of at most `tick`.
+fn count_until(controls: &[Control], tick: u64) -> usize
+    requires { (hi : ℕ) × RiseWithin 0 hi controls.now }
+    ensures within { result ≤ length controls.now }
+    ensures first { take result controls.now ≡ filter (λ c. nat_le c.instant tick) controls.now }
+{
+    let mut count = controls.len();
+    while count > 0 && controls[count - 1].instant > tick {
+        count -= 1;
+    }
+    count
+}
+
 impl Tier {
     /// A tier that was offered nothing yet.
     pub(crate) fn new(alloc: Global, policy: Policy) -> Result<Self, AllocError>
         ensures rules { IfOk result (λ tier. tier.rules ≡ policy) }
         ensures fits { IfOk result (λ tier. TierFits [] tier) }
-        ensures share { IfOk result (λ tier. IsShare 0 0 tier) }
+        ensures share { IfOk result (λ tier. IsShare 0 0 0 tier) }
     {
         Ok(Tier {
             policy,
             bucket: Bucket::new(policy.numbers.depth, policy.numbers.rate),
-            admitted: 0,
+            in_flight: InFlight::new(alloc),
+            completed: 0,
             rejected: 0,
             window: SampleWindow::new(alloc, policy.numbers.window as usize)?,
-            cleared: 0,
             controls: Vec::new(alloc),
-            reached: 0,
         })
     }
 
-    /// Offers a request of this tier that comes at `tick` and takes `service` ticks of a server, which is free from
-    /// `free` on. Its response takes `delay` ticks beside that.
+    /// Lets time pass up to `tick`: takes in the responses that are complete then, in the order of their completions.
+    pub(crate) fn pass(&mut self, tick: u64) -> Result<(), AllocError>
+        requires tick { tick ≤ MAX_TICK }
+        requires few { self.old.flight.admitted ≤ MAX_OFFERS }
+        ensures moves { Moves self.old tick self.new }
+        ensures complete { OnOk result (IsComplete tick self.new) }
+    {
+        while let Some(response) = self.in_flight.next() {
+            if response.completion > tick {
+                break;
+            }
+            self.take_in(response)?;
+        }
+        Ok(())
+    }
+
+    /// Takes in the response that is complete first: its sample goes into the window, and at each `every`-th a control
+    /// is made, whose rate holds from that tick on. What came before it is credited at the old rate.
+    fn take_in(&mut self, response: Response) -> Result<(), AllocError>
+        requires next { slice_get self.old.flight.responses 0 ≡ Some (due_of response) }
+        requires least { AllFrom response.completion (completions self.old.flight.responses) }
+        requires within { response.completion ≤ MAX_TICK }
+        requires few { self.old.flight.admitted ≤ MAX_OFFERS }
+        ensures moves { Moves self.old response.completion self.new }
+        ensures fewer { OnOk result (self.new.flight
+            ≡ record { admitted = self.old.flight.admitted; responses = drop 1 self.old.flight.responses }) }
+    {
+        grow(&mut self.window, &mut self.controls, response.sample)?;
+        self.in_flight.take();
+        self.completed += 1;
+        note_control(
+            self.policy,
+            &self.window,
+            &mut self.controls,
+            self.completed,
+            response.completion,
+        );
+        self.bucket.advance(response.completion);
+        self.bucket.set_rate(last_rate(self.policy, &self.controls));
+        Ok(())
+    }
+
+    /// Offers a request of this tier that comes at `tick`, up to which time has passed, and takes `service` ticks of a
+    /// server, which is free from `free` on. Its response takes `delay` ticks beside that.
     pub(crate) fn offer(
         &mut self,
         free: u64,
@@ -218,11 +237,10 @@ impl Tier {
         service: u64,
         delay: u64,
     ) -> Result<Decision, AllocError>
-        requires share { (offers : ℕ) × (offers < MAX_OFFERS) × IsShare offers tick self.old }
+        requires share { (offers : ℕ) × (offers < MAX_OFFERS) × IsShare offers tick tick self.old }
         requires free { free ≤ MAX_TICK + MAX_SERVICE * MAX_OFFERS }
         requires tick { tick ≤ MAX_TICK }
-        requires service { (1 ≤ service) × (service ≤ MAX_SERVICE) }
-        requires delay { delay ≤ MAX_DELAY }
+        requires work { (1 ≤ service) × (service ≤ MAX_SERVICE) × (delay ≤ MAX_DELAY) }
         ensures decision { IfOk result (λ decision. Decides self.old free tick service decision) }
         ensures fits { IfOk result (λ decision. Takes self.old tick delay decision self.new) }
         ensures share { OnOk result (StaysBeside self.old tick self.new) }
@@ -231,47 +249,49 @@ impl Tier {
         ensures rules { OnOk result (self.new.rules ≡ self.old.rules) }
         ensures err { OnErr result (self.new ≡ self.old) }
     {
-        let (mut bucket, reached) = self.bucket_at(tick);
+        let mut bucket = self.bucket;
+        bucket.advance(tick);
         if !bucket.try_take() {
-            self.reject(bucket, reached);
+            self.reject(bucket);
             return Ok(Decision::Rejected);
         }
         // at most MAX_TICK + MAX_SERVICE * (MAX_OFFERS + 1), and with MAX_DELAY still less than 2^64
         let finish = free.max(tick) + service;
-        self.admit(bucket, reached, finish, finish - tick + delay)?;
+        let completion = finish + delay;
+        self.in_flight.add(completion, completion - tick)?;
+        self.bucket = bucket;
         Ok(Decision::Admitted { finish })
     }
 
-    /// The controls whose instant is at most this tick.
+    /// The controls whose instant is at most this tick, up to which time has passed.
     pub(crate) fn controls_until(&self, tick: u64) -> &[Control]
-        requires share { IsBeside tick self.now }
-        requires tick { tick ≤ MAX_TICK }
+        requires { IsComplete tick self.now }
         ensures { Shows self.now tick result.now }
     {
-        let (_, reached) = self.bucket_at(tick);
-        &self.controls[..reached]
+        &self.controls[..count_until(&self.controls, tick)]
     }
 
     /// The same, without a copy and without the rest of the tier.
     pub(crate) fn into_controls_until(self, tick: u64) -> Vec<Control>
-        requires share { IsBeside tick self }
-        requires tick { tick ≤ MAX_TICK }
+        requires { IsComplete tick self }
         ensures { Shows self tick result.items }
     {
-        let (_, reached) = self.bucket_at(tick);
+        let count = count_until(&self.controls, tick);
         let mut controls = self.controls;
-        controls.truncate(reached);
+        controls.truncate(count);
         controls
     }
 
-    /// What a request of this tier finds that comes at `tick`, where a server is free from `free` on.
+    /// What a request of this tier finds that comes at `tick`, up to which time has passed, where a server is free from
+    /// `free` on.
     pub(crate) fn outlook(&self, free: u64, tick: u64) -> Outlook
-        requires share { IsBeside tick self.now }
-        requires tick { tick ≤ MAX_TICK }
+        requires complete { IsComplete tick self.now }
+        requires forward { (self.now.bucket.tick ≤ tick) × (tick ≤ MAX_TICK) }
         ensures finds { Foresees self.now free tick result }
         ensures free { result.free ≡ free }
     {
-        let (bucket, _) = self.bucket_at(tick);
+        let mut bucket = self.bucket;
+        bucket.advance(tick);
         Outlook {
             credit: bucket.credit(),
             rate: bucket.rate(),
@@ -279,58 +299,14 @@ impl Tier {
         }
     }
 
-    /// The bucket at a later tick, and how many controls it has taken on then.
-    fn bucket_at(&self, tick: u64) -> (Bucket, usize)
-        requires share { IsBeside tick self.now }
-        requires tick { tick ≤ MAX_TICK }
-        ensures tick { result.0.tick ≡ tick }
-        ensures reached { result.1 ≤ length self.now.controls }
-        ensures rising { RisesFrom self.now tick result.1 }
-        ensures every { 1 ≤ self.now.rules.every }
-        ensures fits { Passes self.now result.0 result.1 }
-    {
-        let mut bucket = self.bucket;
-        let passed = pass(&mut bucket, &self.controls[self.reached..], tick);
-        (bucket, self.reached + passed)
-    }
-
     /// Keeps the bucket that turned an offer away.
-    fn reject(&mut self, bucket: Bucket, reached: usize)
-        requires reached { reached ≤ length self.old.controls }
+    fn reject(&mut self, bucket: Bucket)
+        requires later { AllFrom bucket.tick (completions self.old.flight.responses) }
+        requires forward { self.old.bucket.tick ≤ bucket.tick }
         requires room { self.old.rejected < MAX_OFFERS }
-        ensures { self.new ≡ when_rejected self.old bucket reached }
+        ensures { self.new ≡ when_rejected self.old bucket }
     {
         self.bucket = bucket;
         self.rejected += 1;
-        self.reached = reached;
-    }
-
-    /// Takes a request for which `bucket` gave a token, which is finished at `finish`, and whose response took `sample`
-    /// ticks.
-    fn admit(
-        &mut self,
-        bucket: Bucket,
-        reached: usize,
-        finish: u64,
-        sample: u64,
-    ) -> Result<(), AllocError>
-        requires reached { reached ≤ length self.old.controls }
-        requires room { self.old.admitted < MAX_OFFERS }
-        ensures ok { OnOk result (self.new ≡ when_admitted self.old bucket reached finish sample) }
-        ensures err { OnErr result (self.new ≡ self.old) }
-    {
-        grow(&mut self.window, &mut self.controls, sample)?;
-        self.bucket = bucket;
-        self.reached = reached;
-        self.admitted += 1;
-        self.cleared = self.cleared.max(finish);
-        note_control(
-            self.policy,
-            &self.window,
-            &mut self.controls,
-            self.admitted,
-            self.cleared,
-        );
-        Ok(())
     }
 }

@@ -58,3 +58,33 @@ fn each_growth_of_servers_refused(rt: HostRuntime) {
     assert!(rt; controller.controls(0).is_empty());
     assert_eq!(rt; controller.admitted(0), 6);
 }
+
+/// What a request would find is asked again where there was no memory for the responses that are complete by then.
+#[test]
+fn each_growth_refused_while_time_passes(rt: HostRuntime) {
+    let policy = Policy::new(2, 1, 700, 1000, 500, 2000, 10, 120, 1000, 90, 10).expect(
+        &rt, "a policy",
+    );
+    let Ok(mut controller) = Controller::new(rt.alloc(), [policy; 4]) else {
+        return;
+    };
+    for place in 0..3u64 {
+        let service = if place == 0 { 5000 } else { 100 };
+        let answer = match controller.offer(0, place, service) {
+            Ok(decision) => Ok(decision),
+            Err(_) => controller.offer(0, place, service),
+        };
+        if answer.is_err() {
+            return;
+        }
+    }
+    let answer = match controller.outlook(0, 6000) {
+        Ok(found) => Ok(found),
+        Err(_) => controller.outlook(0, 6000),
+    };
+    let Ok(found) = answer else {
+        return;
+    };
+    assert_eq!(rt; found.rate, 578);
+    assert_eq!(rt; found.free, 5200);
+}

@@ -132,7 +132,7 @@ fn the_text_of_each_fault_of_a_policy(rt: HostRuntime) -> Result<(), Fail> {
 }
 
 /// docs/RULES.md, "Servers": the third request waits for the server that is the first to be free, and the controls
-/// stand at tick 9, at which the first request is finished.
+/// stand where the responses are complete, the first request's last.
 #[test]
 fn three_requests_on_two_servers(rt: HostRuntime) -> Result<(), Fail> {
     let policy = Policy::new(1, 1, 700, 1000, 500, 2000, 10, 120, 1000, 90, 10).expect(
@@ -152,32 +152,101 @@ fn three_requests_on_two_servers(rt: HostRuntime) -> Result<(), Fail> {
         Decision::Admitted { finish: 8 }
     );
     let before = Outlook {
-        credit: 7_000_008_000,
-        rate: 1000,
+        credit: 7_000_008_030,
+        rate: 1020,
         free: 8,
     };
-    assert_eq!(rt; controller.outlook(0, 8), before);
+    assert_eq!(rt; controller.outlook(0, 8)?, before);
     let at = Outlook {
-        credit: 7_000_009_000,
+        credit: 7_000_009_050,
         rate: 1030,
         free: 8,
     };
-    assert_eq!(rt; controller.outlook(0, 9), at);
+    assert_eq!(rt; controller.outlook(0, 9)?, at);
     assert_eq!(rt;
         controller.offer(1, 20, 1)?,
         Decision::Admitted { finish: 21 }
     );
     let shown = [
-        control(9, 9, 2, 1010),
-        control(9, 4, 2, 1020),
-        control(9, 6, 3, 1030),
+        control(5, 4, 1, 1010),
+        control(8, 6, 2, 1020),
+        control(9, 9, 4, 1030),
     ];
     assert_eq!(rt; controller.controls(0), shown.as_slice());
     Ok(())
 }
 
-/// A delay is in the response times alone: it makes the controller lower its rate, and the server is free before it is
-/// over.
+/// While one of three servers works on a long request, the others' requests are complete, and a control stands where
+/// each of them is.
+#[test]
+fn a_long_request_stops_no_control(rt: HostRuntime) -> Result<(), Fail> {
+    let policy = Policy::new(1, 1, 0, 1000, 500, 2000, 10, 120, 1000, 90, 10).expect(
+        &rt, "a policy",
+    );
+    let mut controller = Controller::with_servers(rt.alloc(), [policy; 4], 3)?;
+    assert_eq!(rt;
+        controller.offer(0, 0, 2000)?,
+        Decision::Admitted { finish: 2000 }
+    );
+    assert_eq!(rt;
+        controller.offer(0, 1, 2)?,
+        Decision::Admitted { finish: 3 }
+    );
+    assert_eq!(rt;
+        controller.offer(0, 2, 2)?,
+        Decision::Admitted { finish: 4 }
+    );
+    assert_eq!(rt;
+        controller.offer(0, 10, 5)?,
+        Decision::Admitted { finish: 15 }
+    );
+    assert_eq!(rt;
+        controller.offer(1, 20, 1)?,
+        Decision::Admitted { finish: 21 }
+    );
+    let short = [
+        control(3, 2, 2, 1010),
+        control(4, 2, 2, 1020),
+        control(15, 5, 5, 1030),
+    ];
+    assert_eq!(rt; controller.controls(0), short.as_slice());
+    assert_eq!(rt;
+        controller.offer(1, 2000, 1)?,
+        Decision::Admitted { finish: 2001 }
+    );
+    let controls = controller.controls(0);
+    assert_eq!(rt; controls.len(), 4);
+    assert_eq!(rt; controls[3], control(2000, 2000, 2000, 858));
+    Ok(())
+}
+
+/// Of two responses that are complete at one tick, that of the request that was admitted first is taken first.
+#[test]
+fn two_are_complete_at_one_tick(rt: HostRuntime) -> Result<(), Fail> {
+    let policy = Policy::new(1, 1, 0, 1000, 500, 2000, 10, 120, 1000, 90, 10).expect(
+        &rt, "a policy",
+    );
+    let mut controller = Controller::with_servers(rt.alloc(), [policy; 4], 2)?;
+    // the first one's server is free at tick 4, and its response is complete at tick 9
+    assert_eq!(rt;
+        controller.offer_delayed(0, 0, 4, 5)?,
+        Decision::Admitted { finish: 4 }
+    );
+    assert_eq!(rt;
+        controller.offer(0, 4, 5)?,
+        Decision::Admitted { finish: 9 }
+    );
+    assert_eq!(rt;
+        controller.offer(1, 9, 1)?,
+        Decision::Admitted { finish: 10 }
+    );
+    let shown = [control(9, 9, 9, 1010), control(9, 5, 5, 1020)];
+    assert_eq!(rt; controller.controls(0), shown.as_slice());
+    Ok(())
+}
+
+/// A delay is in the response times alone: it makes the controller lower its rate once the response is complete, and
+/// the server is free before that.
 #[test]
 fn a_delay_lowers_the_rate(rt: HostRuntime) -> Result<(), Fail> {
     let policy = Policy::new(1, 1, 700, 1000, 500, 2000, 10, 120, 1000, 90, 10).expect(
@@ -196,7 +265,16 @@ fn a_delay_lowers_the_rate(rt: HostRuntime) -> Result<(), Fail> {
         controller.offer(0, 200, 100)?,
         Decision::Admitted { finish: 300 }
     );
-    let shown = [control(100, 5100, 1530, 833), control(200, 5200, 2631, 694)];
+    assert!(rt; controller.controls(0).is_empty());
+    assert_eq!(rt;
+        controller.offer(1, 5200, 1)?,
+        Decision::Admitted { finish: 5201 }
+    );
+    let shown = [
+        control(300, 100, 30, 1010),
+        control(5100, 5100, 1551, 841),
+        control(5200, 5200, 2645, 700),
+    ];
     assert_eq!(rt; controller.controls(0), shown.as_slice());
     let controls = controller.into_controls();
     assert_eq!(rt; controls[0].as_slice(), shown.as_slice());

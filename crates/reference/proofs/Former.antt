@@ -24,7 +24,7 @@ use Rattle.captures.proofs.UpgradeLaws.{upgrade_is, numbers_once, more_messages}
 use Rattle.http_requests.specs.Reference.{MessagesOf}
 use Rattle.admission.specs.declared.policy.PolicyNumbers.{PolicyNumbers}
 use Rattle.admission.specs.declared.control.Control.{Control}
-use Rattle.admission.specs.Reference.{Station, rules_of, Offer, Decided, of_tier, served, samples, is_rejected, control_at, controls_until, decided, tick_from}
+use Rattle.admission.specs.Reference.{Station, rules_of, Offer, Decided, of_tier, served, samples, is_rejected, by_completion, control_at, controls_until, decided, tick_from}
 use Rattle.admission.specs.OneTier.{decided_alone, decided_alone_next, decided_alone_from, AreOfTier}
 use Rattle.admission.proofs.RequestLemmas.{of_tier-other, of_tier-none}
 use Rattle.admission.proofs.OneTierLemmas.{one_tier_as_before}
@@ -235,7 +235,7 @@ unfolding tally_of former_samples former_controls
 first_tally terms arrivals =
     let offers = former_offers (former_terms terms) arrivals in
     let alone = one_tier_as_before (station_for terms) offers (former_lowest (former_terms terms) arrivals) in
-    let count = length-map (served (decided_alone terms.tariff.costs.servers (rules_of (station_for terms) 0) offers)) (λ r. r.finish - r.offer.tick + r.offer.delay) in
+    let count = length-map (served (decided_alone terms.tariff.costs.servers (rules_of (station_for terms) 0) offers)) (λ r. r.finish + r.offer.delay - r.offer.tick) in
     rw (alone.1, turned_is (former_terms terms) arrivals, count) refl
 
 others_none : (servers : ℕ) (rules : PolicyNumbers) (tier : ℕ) (past : List Decided) (offers : List Offer) → (0 ≡ tier → ⊥)
@@ -256,7 +256,7 @@ other_tally station offers tier apart of =
     ∙ others_none station.servers (rules_of station 0) tier [] offers apart of (of_tier-none tier) in
     let controls : controls_until (rules_of station tier) [] (tick_from 0 offers) ≡ [] =
     ap (λ n. filter (λ c. nat_le c.instant (tick_from 0 offers))
-    (map (control_at (rules_of station tier) []) (range_with_len 1 n))) (zero-div (rules_of station tier).every) in
+    (map (control_at (rules_of station tier) (by_completion [])) (range_with_len 1 n))) (zero-div (rules_of station tier).every) in
     rw (none, controls) refl
 
 -- ---- the outcome

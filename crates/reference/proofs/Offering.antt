@@ -8,7 +8,7 @@ use Rattle.http_requests.specs.declared.messages.Meaning.{Meaning}
 use Rattle.http_requests.specs.declared.messages.Meaning.TheVariants.{Request, Bad}
 use Rattle.admission.specs.declared.control.Decision.{Decision}
 use Rattle.admission.specs.declared.control.Decision.TheVariants.{Admitted, Rejected}
-use Rattle.admission.specs.Reference.{Station, Offer, Decided, served, as_served, finish_after, decide, decided, decided_next}
+use Rattle.admission.specs.Reference.{Station, Offer, Decided, served, sample, samples, as_served, finish_after, decide, decided, decided_next}
 use Rattle.admission.proofs.RequestLemmas.{decided_from-push, served-push}
 use Rattle.reference.specs.Reference.{Terms, offer_at, offers_of, rejects, handled_next, handled_after, handled, samples_of}
 use Rattle.arrivals.specs.Reference.{Arrival}
@@ -40,16 +40,6 @@ offers_few terms (a ∷ arrivals) = omega (
 decided_more : (station : Station) (offers : List Offer) (offer : Offer) → decided station (offers ++ offer ∷ []) ≡ decided station offers ++ decided_next station (decided station offers) offer ∷ []
 decided_more station offers offer = decided_from-push station [] offers offer
 
--- an admitted request has a sample, which is from its arrival to its finish, with its delay
-pub samples_admitted : (station : Station) (offers : List Offer) (offer : Offer) (finish : ℕ) → Admitted finish ≡ decide station (decided station offers) offer
-    → samples_of station (offers ++ offer ∷ []) ≡ samples_of station offers ++ (finish - offer.tick + offer.delay) ∷ []
-unfolding samples_of
-samples_admitted station offers offer finish e =
-    let next = decided_next station (decided station offers) offer in
-    let own : as_served offer next.decision ≡ record { offer = offer; finish = finish } ∷ [] = rw (← e) refl in
-    rw (decided_more station offers offer, served-push (decided station offers) next, own)
-    (map-append (λ r. r.finish - r.offer.tick + r.offer.delay) (served (decided station offers)) (record { offer = offer; finish = finish } ∷ []))
-
 -- a rejected one has none
 pub samples_rejected : (station : Station) (offers : List Offer) (offer : Offer) → Rejected ≡ decide station (decided station offers) offer
     → samples_of station (offers ++ offer ∷ []) ≡ samples_of station offers
@@ -80,6 +70,19 @@ pub finish_late : (station : Station) (past : List Decided) (offer : Offer) (fin
 finish_late station past offer finish e =
     let is : finish ≡ finish_after station.servers (served past) offer = finish_is _ _ _ e in
     omega (arith, is)
+
+-- an admitted request has a sample, which is from its arrival to its finish, with its delay
+pub samples_admitted : (station : Station) (offers : List Offer) (offer : Offer) (finish : ℕ) → Admitted finish ≡ decide station (decided station offers) offer
+    → samples_of station (offers ++ offer ∷ []) ≡ samples_of station offers ++ (finish - offer.tick + offer.delay) ∷ []
+unfolding samples_of
+samples_admitted station offers offer finish e =
+    let next = decided_next station (decided station offers) offer in
+    let own : as_served offer next.decision ≡ record { offer = offer; finish = finish } ∷ [] = rw (← e) refl in
+    let late : offer.tick ≤ finish = finish_late station (decided station offers) offer finish e in
+    let same : finish + offer.delay - offer.tick ≡ finish - offer.tick + offer.delay = omega arith in
+    rw (decided_more station offers offer, served-push (decided station offers) next, own)
+    (map-append sample (served (decided station offers)) (record { offer = offer; finish = finish } ∷ [])
+    ∙ ap (λ n. samples (served (decided station offers)) ++ n ∷ []) same)
 
 -- ---- messages
 

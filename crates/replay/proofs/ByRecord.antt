@@ -241,7 +241,7 @@ pub serves_full : (t : Texts) (terms : Terms) (most id : ℕ) (o : Origin) (i : 
     → WritesFull t most desk.start records arrivals (r ∷ []) old new
 serves_full t terms most id o i ms records arrivals r after before desk old new brings serves lt full written =
     let place = length records in
-    let is = answered_is terms arrivals desk serves.stands in
+    let is = answered_is terms arrivals desk serves.stands.counted in
     let len : length (arrivals_with place id o ms) ≡ length ms = length-map ms _ in
     record {
       more = arrivals_with place id o ms;
@@ -258,7 +258,7 @@ pub serves_part : (t : Texts) (terms : Terms) (most id : ℕ) (o : Origin) (i : 
     → WritesInPart t most desk.start records arrivals (r ∷ []) old new
 serves_part t terms most id o i ms records arrivals r after before desk old new brings serves few written =
     let place = length records in
-    let is = answered_is terms arrivals desk serves.stands in
+    let is = answered_is terms arrivals desk serves.stands.counted in
     record {
       more = arrivals_with place id o ms;
       arrived = brings.arrived;
@@ -314,7 +314,7 @@ most_of {v} {w} {most} {answered} same is within = let limit = limit_of same is 
 
 -- the messages that were answered are no more than the format allows
 within_most : (terms : Terms) (v : Version) (arrivals : List Arrival) (desk : Desk) → DeskAfter terms arrivals desk → desk.totals.answered ≤ (format_of v).max_messages → length arrivals ≤ (format_of v).max_messages
-within_most terms v arrivals desk stands most = let is = answered_is terms arrivals desk stands in omega (arith, is, most)
+within_most terms v arrivals desk stands most = let is = answered_is terms arrivals desk stands.counted in omega (arith, is, most)
 
 -- the whole capture was told of
 pub all_written : (t : Texts) (terms : Terms) (v : Version) (start count : ℕ) (records : List Record) (arrivals : List Arrival) (connections : List Connection) (desk : Desk)
@@ -329,8 +329,8 @@ all_written t terms v start count records arrivals connections desk input old mi
     are = serves.arrived;
     few = within_most terms v arrivals desk serves.stands most;
   };
-  written = text_ended t start count arrivals old mid new laws (counted ∙ answered_is terms arrivals desk serves.stands) before last;
-  outcome_is = same_outcome outcome (outcome_of v terms arrivals) version (rejected ∙ ap (λ t. t.rejected) serves.stands.totals) given_by;
+  written = text_ended t start count arrivals old mid new laws (counted ∙ answered_is terms arrivals desk serves.stands.counted) before last;
+  outcome_is = same_outcome outcome (outcome_of v terms arrivals) version (rejected ∙ ap (λ t. t.rejected) serves.stands.counted.totals) given_by;
 }
 
 -- the last line was not
@@ -347,7 +347,7 @@ ends_short t terms v start count records arrivals connections desk input old mid
         are = serves.arrived;
         few = within_most terms v arrivals desk serves.stands most;
       },
-      text_ended_part t start count arrivals old mid new laws (counted ∙ answered_is terms arrivals desk serves.stands) before last,
+      text_ended_part t start count arrivals old mid new laws (counted ∙ answered_is terms arrivals desk serves.stands.counted) before last,
     ))
 
 -- ---- faults

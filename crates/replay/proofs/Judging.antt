@@ -6,7 +6,7 @@ use Rattle.std.proofs.lemmas.List.{length-append}
 use Rattle.http_requests.specs.declared.messages.Meaning.{Meaning}
 use Rattle.admission.specs.declared.control.Decision.{Decision}
 use Rattle.admission.specs.declared.control.Decision.TheVariants.{Admitted, Rejected}
-use Rattle.admission.specs.Reference.{Offer, served, decide, decided, decided_from}
+use Rattle.admission.specs.Reference.{Offer, served, decide, decided, decided_from, tick_from}
 use Rattle.admission.specs.Standing.{Standing, station_of}
 use Rattle.admission.specs.After.{ControllerAfter}
 use Rattle.responses.specs.declared.slip.Persistence.{Persistence}
@@ -18,7 +18,7 @@ use Rattle.paths.specs.Reference.{asked, outcome}
 use Rattle.paths.specs.declared.file.File.{File}
 use Rattle.paths.specs.declared.resolution.Outcome.{Outcome}
 use Rattle.http_requests.specs.declared.messages.HttpVersion.{HttpVersion}
-use Rattle.http_requests.specs.declared.messages.Meaning.TheVariants.{Request}
+use Rattle.http_requests.specs.declared.messages.Meaning.TheVariants.{Request, Bad}
 use Rattle.responses.specs.declared.slip.Given.{Given}
 use Rattle.responses.specs.declared.slip.Given.TheVariants.{Plain}
 use Rattle.responses.specs.declared.slip.Status.TheVariants.{ServiceUnavailable}
@@ -28,10 +28,10 @@ use Rattle.arrivals.specs.declared.incoming.Origin.{Origin}
 use Rattle.captures.specs.declared.pass_fault.PassFault.{PassFault}
 use Rattle.captures.specs.declared.pass_fault.PassFault.TheVariants.{Capture, TooMany, Memory, Write as Unwritten}
 use Rattle.replay.specs.Totals.{AreBelow, no_counts, totals_of, noted, decided_totals, Decides}
-use Rattle.replay.specs.Serving.{DeskAfter, AreBy, records_after}
+use Rattle.replay.specs.Serving.{Counted, DeskAfter, AreBy, IsOnTime, records_after}
 use Rattle.http_requests.specs.declared.messages.Message.{Message}
 use Rattle.arrivals.specs.Connections.{arrivals_with}
-use Rattle.std.proofs.lemmas.List.Elements.{All-nil, All-cons, All-append}
+use Rattle.std.proofs.lemmas.List.Elements.{All-nil, All-cons, All-append, All-head, All-tail}
 use Rattle.replay.specs.declared.totals.Totals.{Totals}
 use Rattle.replay.specs.declared.desk.Desk.{Desk}
 use Rattle.reference.proofs.Offering.{offers_more, handled_push, handled_count, samples_admitted, samples_rejected, is_admitted_one, is_rejected_one}
@@ -43,20 +43,23 @@ use Rattle.replay.proofs.CountMore.{counts_more, bypassed_more, bypassed_few, re
 
 -- nothing is offered
 pub decides_none : (offers : List Offer) (desk : Desk) → ControllerAfter offers desk.controller → desk.totals.samples ≡ samples_of (station_of desk.controller) offers → Decides offers [] desk desk false
+unfolding tick_from
 decides_none offers desk fits samples = record {
   station = refl;
   fits = rw (append-nil offers) fits;
   is_away = refl;
   totals = rw (append-nil offers, ← samples, append-nil desk.totals.rejected) refl;
   start = refl;
+  clock = refl;
 }
 
 pub decides_admitted : (offers : List Offer) (offer : Offer) (finish : ℕ) (decision : Decision) (old new : Desk) (controller : Standing) → decision ≡ Admitted finish
     → decision ≡ decide (station_of old.controller) (decided (station_of old.controller) offers) offer
-    → station_of controller ≡ station_of old.controller → ControllerAfter (offers ++ offer ∷ []) controller → old.totals.samples ≡ samples_of (station_of old.controller) offers
+    → station_of controller ≡ station_of old.controller → ControllerAfter (offers ++ offer ∷ []) controller → controller.clock ≡ offer.tick → old.totals.samples ≡ samples_of (station_of old.controller) offers
     → new ≡ record { start = old.start; controller = controller; totals = decided_totals old.totals (old.totals.samples ++ (finish - offer.tick + offer.delay) ∷ []) false }
     → Decides offers (offer ∷ []) old new false
-decides_admitted offers offer finish decision old new controller is e rules fits samples given_by =
+unfolding tick_from
+decides_admitted offers offer finish decision old new controller is e rules fits clock samples given_by =
     let own : Admitted finish ≡ decide (station_of old.controller) (decided (station_of old.controller) offers) offer = sym is ∙ e in
     rw given_by (record {
       station = rules;
@@ -64,14 +67,16 @@ decides_admitted offers offer finish decision old new controller is e rules fits
       is_away = is_admitted_one (station_of old.controller) offers offer finish own;
       totals = ap (λ xs. decided_totals old.totals xs false) (ap (λ xs. xs ++ (finish - offer.tick + offer.delay) ∷ []) samples ∙ sym (samples_admitted (station_of old.controller) offers offer finish own));
       start = refl;
+      clock = clock;
     })
 
 pub decides_rejected : (offers : List Offer) (offer : Offer) (decision : Decision) (old new : Desk) (controller : Standing) → decision ≡ Rejected
     → decision ≡ decide (station_of old.controller) (decided (station_of old.controller) offers) offer
-    → station_of controller ≡ station_of old.controller → ControllerAfter (offers ++ offer ∷ []) controller → old.totals.samples ≡ samples_of (station_of old.controller) offers
+    → station_of controller ≡ station_of old.controller → ControllerAfter (offers ++ offer ∷ []) controller → controller.clock ≡ offer.tick → old.totals.samples ≡ samples_of (station_of old.controller) offers
     → new ≡ record { start = old.start; controller = controller; totals = decided_totals old.totals old.totals.samples true }
     → Decides offers (offer ∷ []) old new true
-decides_rejected offers offer decision old new controller is e rules fits samples given_by =
+unfolding tick_from
+decides_rejected offers offer decision old new controller is e rules fits clock samples given_by =
     let own : Rejected ≡ decide (station_of old.controller) (decided (station_of old.controller) offers) offer = sym is ∙ e in
     rw given_by (record {
       station = rules;
@@ -79,6 +84,7 @@ decides_rejected offers offer decision old new controller is e rules fits sample
       is_away = is_rejected_one (station_of old.controller) offers offer own;
       totals = ap (λ xs. decided_totals old.totals xs true) (samples ∙ sym (samples_rejected (station_of old.controller) offers offer own));
       start = refl;
+      clock = clock;
     })
 
 -- the desk with another controller, and with other lists of rejected requests and samples
@@ -133,39 +139,64 @@ totals_more terms arrivals a away e =
       offers_more terms arrivals a,
     ) refl
 
-pub stands_more : (terms : Terms) (arrivals : List Arrival) (a : Arrival) (away : Bool) (old mid new : Desk) (status : ℕ) → DeskAfter terms arrivals old
+-- a message counts after the clock that it has set
+clock_more : (terms : Terms) (a : Arrival) (what : Meaning) (before after : ℕ) → IsOnTime terms.speed a.origin.tick before → after ≡ tick_from before (offer_at terms a.origin what)
+    → IsOnTime terms.speed a.origin.tick after
+unfolding tick_from
+clock_more terms a (Request method target version closing since) before after by e = λ counted counts. rw e (counts a.origin.tick (omega arith))
+clock_more terms a (Bad fault) before after by e = λ counted counts. rw e (by counted counts)
+
+last_by : (arrivals : List Arrival) (a : Arrival) (tick : ℕ) → AreBy tick (arrivals ++ a ∷ []) → a.origin.tick ≤ tick
+last_by [] a tick by = All-head (λ x. x.origin.tick ≤ tick) a [] by
+last_by (x ∷ arrivals) a tick by = last_by arrivals a tick (All-tail (λ x. x.origin.tick ≤ tick) x (arrivals ++ a ∷ []) by)
+
+later_more : (terms : Terms) (arrivals : List Arrival) (a : Arrival) (clock : ℕ) → IsOnTime terms.speed a.origin.tick clock
+    → (tick : ℕ) → AreBy tick (arrivals ++ a ∷ []) → IsOnTime terms.speed tick clock
+later_more terms arrivals a clock by tick all = λ counted counts.
+    let last = last_by arrivals a tick all in
+    by counted (λ earlier le. counts earlier (omega (arith, le, last)))
+
+pub stands_more : (terms : Terms) (arrivals : List Arrival) (a : Arrival) (away : Bool) (old mid new : Desk) (status : ℕ) → Counted terms arrivals old
+    → IsOnTime terms.speed a.origin.tick old.controller.clock
     → Decides (offers_of terms arrivals) (offer_at terms a.origin a.message.what) old mid away
     → status ≡ status_of (given {X = Unit {0}} terms away a.message.what)
     → new.controller ≡ mid.controller → new.totals ≡ noted mid.totals status (breaks_a_rule a.message.what)
     → length arrivals < 536870912 → DeskAfter terms (arrivals ++ a ∷ []) new
-stands_more terms arrivals a away old mid new status stands decides given_by same counted few =
+stands_more terms arrivals a away old mid new status stands by decides given_by same counted few =
     let away_is : away ≡ is_turned_away terms arrivals a = rw stands.station at decides.is_away in
+    let passed = clock_more terms a a.message.what _ _ by (ap (λ c. c.clock) same ∙ decides.clock) in
     record {
-      station = ap station_of same ∙ decides.station ∙ stands.station;
-      fits = rw (same, offers_more terms arrivals a) decides.fits;
-      totals = counted ∙ rw (decides.totals, stands.totals, stands.station, given_by) (totals_more terms arrivals a away away_is);
-      few = let len = length-append arrivals (a ∷ []) in omega (arith, len, few);
+      counted = record {
+        station = ap station_of same ∙ decides.station ∙ stands.station;
+        fits = rw (same, offers_more terms arrivals a) decides.fits;
+        totals = counted ∙ rw (decides.totals, stands.totals, stands.station, given_by) (totals_more terms arrivals a away away_is);
+        few = let len = length-append arrivals (a ∷ []) in omega (arith, len, few);
+      };
+      clock = later_more terms arrivals a new.controller.clock passed;
     }
 
-pub stands_none : (terms : Terms) (desk : Desk) → (station_of desk.controller) ≡ (station_for terms) → ControllerAfter [] desk.controller
+pub stands_none : (terms : Terms) (desk : Desk) → (station_of desk.controller) ≡ (station_for terms) → ControllerAfter [] desk.controller → desk.controller.clock ≡ 0
     → desk.totals ≡ record { answered = 0; counts = no_counts; bypassed = 0; rejected = []; samples = [] } → DeskAfter terms [] desk
 unfolding offers_of samples_of handled_after served decided_from
-stands_none terms desk rules fits totals = record { station = rules; fits = fits; totals = totals; few = omega arith }
+stands_none terms desk rules fits clock totals = record {
+  counted = record { station = rules; fits = fits; totals = totals; few = omega arith };
+  clock = λ tick by counted counts. rw clock (omega arith);
+}
 
 -- ---- what the desk's calls ask
 
-pub answered_is : (terms : Terms) (arrivals : List Arrival) (desk : Desk) → DeskAfter terms arrivals desk → desk.totals.answered ≡ length arrivals
+pub answered_is : (terms : Terms) (arrivals : List Arrival) (desk : Desk) → Counted terms arrivals desk → desk.totals.answered ≡ length arrivals
 answered_is terms arrivals desk stands = ap (λ t. t.answered) stands.totals
 
-pub samples_are : (terms : Terms) (arrivals : List Arrival) (desk : Desk) → DeskAfter terms arrivals desk → desk.totals.samples ≡ samples_of (station_of desk.controller) (offers_of terms arrivals)
+pub samples_are : (terms : Terms) (arrivals : List Arrival) (desk : Desk) → Counted terms arrivals desk → desk.totals.samples ≡ samples_of (station_of desk.controller) (offers_of terms arrivals)
 samples_are terms arrivals desk stands = rw stands.station (ap (λ t. t.samples) stands.totals)
 
-pub counts_room : (terms : Terms) (arrivals : List Arrival) (desk : Desk) (n : ℕ) → DeskAfter terms arrivals desk → length arrivals < n → AreBelow n desk.totals.counts
+pub counts_room : (terms : Terms) (arrivals : List Arrival) (desk : Desk) (n : ℕ) → Counted terms arrivals desk → length arrivals < n → AreBelow n desk.totals.counts
 counts_room terms arrivals desk n stands lt =
     let len : length (handled terms arrivals) ≡ length arrivals = handled_count terms [] arrivals in
     rw (ap (λ t. t.counts) stands.totals) (counts_below terms (handled terms arrivals) n (omega (arith, len, lt)))
 
-pub bypassed_room : (terms : Terms) (arrivals : List Arrival) (desk : Desk) (n : ℕ) → DeskAfter terms arrivals desk → length arrivals < n → desk.totals.bypassed < n
+pub bypassed_room : (terms : Terms) (arrivals : List Arrival) (desk : Desk) (n : ℕ) → Counted terms arrivals desk → length arrivals < n → desk.totals.bypassed < n
 bypassed_room terms arrivals desk n stands lt =
     let is : desk.totals.bypassed ≡ bypassed_of arrivals = ap (λ t. t.bypassed) stands.totals in
     let few = bypassed_few arrivals in
@@ -177,7 +208,7 @@ bypassed_room terms arrivals desk n stands lt =
 abbrev pub Judged : {X : Type 0} → Terms → List Offer → Origin → Meaning → Desk → Desk → Given X → Type 0
 Judged terms offers origin what old mid given_by = (away : Bool) × Decides offers (offer_at terms origin what) old mid away × (given_by ≡ given terms away what)
 
-pub counts_kept : (X : Type 0) (terms : Terms) (arrivals : List Arrival) (origin : Origin) (what : Meaning) (old mid : Desk) (given_by : Given X) (n : ℕ) → DeskAfter terms arrivals old
+pub counts_kept : (X : Type 0) (terms : Terms) (arrivals : List Arrival) (origin : Origin) (what : Meaning) (old mid : Desk) (given_by : Given X) (n : ℕ) → Counted terms arrivals old
     → Judged terms (offers_of terms arrivals) origin what old mid given_by → length arrivals < n → AreBelow n mid.totals.counts × (mid.totals.bypassed < n) × (mid.totals.answered ≡ old.totals.answered)
 counts_kept X terms arrivals origin what old mid given_by n stands judged lt =
     let kept = judged.1.totals in (
@@ -186,17 +217,17 @@ counts_kept X terms arrivals origin what old mid given_by n stands judged lt =
       ap (λ t. t.answered) kept,
     )
 
-pub stands_after : (X : Type 0) (terms : Terms) (arrivals : List Arrival) (a : Arrival) (origin : Origin) (what : Meaning) (old mid : Desk) (totals : Totals) (given_by : Given X) → DeskAfter terms arrivals old
+pub stands_after : (X : Type 0) (terms : Terms) (arrivals : List Arrival) (a : Arrival) (origin : Origin) (what : Meaning) (old mid : Desk) (totals : Totals) (given_by : Given X) → Counted terms arrivals old → IsOnTime terms.speed a.origin.tick old.controller.clock
     → a.origin ≡ origin → a.message.what ≡ what → old.totals.answered < 536870912 → Judged terms (offers_of terms arrivals) origin what old mid given_by
     → totals ≡ noted mid.totals (status_of given_by) (breaks_a_rule what)
     → DeskAfter terms (arrivals ++ a ∷ []) (record { start = mid.start; controller = mid.controller; totals = totals })
-stands_after X terms arrivals a origin what old mid totals given_by stands from meaning room judged counted =
+stands_after X terms arrivals a origin what old mid totals given_by stands by from meaning room judged counted =
     let e = answered_is terms arrivals old stands in
     let status : status_of given_by ≡ status_of (given {X = Unit {0}} terms judged.0 a.message.what) = rw (judged.2, meaning) (status_same X (Unit {0}) terms judged.0 what) in
-    stands_more terms arrivals a judged.0 old mid _ (status_of given_by) stands (rw (from, meaning) judged.1) status refl (rw meaning counted) (omega (arith, e, room))
+    stands_more terms arrivals a judged.0 old mid _ (status_of given_by) stands by (rw (from, meaning) judged.1) status refl (rw meaning counted) (omega (arith, e, room))
 
 pub slip_is : (X : Type 0) (terms : Terms) (start : ℕ) (arrivals : List Arrival) (a : Arrival) (origin : Origin) (what : Meaning) (old mid : Desk) (given_by : Given X) (conn : ℕ) (head : Bool) (link : Persistence) (slip : Slip X)
-    → DeskAfter terms arrivals old → a.origin ≡ origin → a.message.what ≡ what → Judged terms (offers_of terms arrivals) origin what old mid given_by
+    → Counted terms arrivals old → a.origin ≡ origin → a.message.what ≡ what → Judged terms (offers_of terms arrivals) origin what old mid given_by
     → conn ≡ origin.conn → head ≡ answers_head what → link ≡ persistence_of what
     → slip ≡ record { number = old.totals.answered; conn = conn; date = start + tick_in terms origin / 1000000; head = head; link = link; what = given_by }
     → slip ≡ slip_of terms start (handled_next terms arrivals a)

@@ -1,5 +1,4 @@
 pub mod CountMore
-pub mod OfferedBy
 pub mod Judging
 pub mod Writing
 pub mod Texts

@@ -88,7 +88,7 @@ next_is files terms tariff lookups old now rest after pending_replies k arrivals
     let tick : a.origin.tick ≡ s.message.origin.tick = ap (λ (m : Incoming). m.origin.tick) own in
     let timing = in_time_at arrivals more k a timely here.rest in
     let now_stands = settled.stands arrivals more stands looked_up in
-    let counted = answered_is terms (arrivals ++ take k more) now now_stands in
+    let counted = answered_is terms (arrivals ++ take k more) now now_stands.counted in
     let len = length-append arrivals (take k more) in
     let short = length_take_below k more here.below in
     let below = here.below in (

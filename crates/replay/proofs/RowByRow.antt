@@ -14,8 +14,8 @@ use Rattle.http_requests.specs.declared.messages.Meaning.TheVariants.{Request, B
 use Rattle.admission.specs.declared.control.Outlook.{Outlook}
 use Rattle.admission.specs.declared.control.Decision.TheVariants.{Admitted, Rejected}
 use Rattle.admission.specs.Reference.{Station, Offer, served, free_at, is_rejected, decide, decided}
-use Rattle.admission.specs.After.{outlook, ControllerAfter}
-use Rattle.admission.specs.Standing.{station_of}
+use Rattle.admission.specs.After.{outlook, ControllerAfter, StandsAsBefore}
+use Rattle.admission.specs.Standing.{Standing, station_of}
 use Rattle.responses.specs.Reference.{status_of}
 use Rattle.responses.specs.declared.slip.Given.{Given}
 use Rattle.responses.specs.declared.slip.Slip.{Slip}
@@ -25,7 +25,7 @@ use Rattle.arrivals.specs.Reference.{Arrival}
 use Rattle.arrivals.specs.declared.incoming.Origin.{Origin}
 use Rattle.reference.specs.Reference.{station_for, Terms, tick_in, given, outcome_answer, is_unmodified, is_head, charge_of, offer_at, offers_of, rejects, is_turned_away, handled_next, slip_of}
 use Rattle.replay.specs.Fronts.{lookup_of}
-use Rattle.replay.specs.Serving.{DeskAfter}
+use Rattle.replay.specs.Serving.{Counted}
 use Rattle.reference.specs.Explaining.{first_offered, row_of, method_of, target_of, row_after, rows_after}
 use Rattle.replay.specs.Rowing.{service_in, turns_away, offered_with}
 use Rattle.replay.specs.declared.desk.Desk.{Desk}
@@ -94,8 +94,18 @@ row_is X terms start arrivals a origin tick service found slip row from timed co
 
 -- ---- one row written
 
+-- the desk stands for the same messages after it was asked what a request finds
+pub stands_still : (terms : Terms) (arrivals : List Arrival) (desk : Desk) (controller : Standing) → StandsAsBefore desk.controller controller → Counted terms arrivals desk
+    → Counted terms arrivals (record { start = desk.start; controller = controller; totals = desk.totals })
+stands_still terms arrivals desk controller same stands = record {
+  station = same.station ∙ stands.station;
+  fits = same.fits (offers_of terms arrivals) stands.fits;
+  totals = stands.totals;
+  few = stands.few;
+}
+
 -- what the desk foresees
-pub foreseen : (terms : Terms) (arrivals : List Arrival) (desk : Desk) (found : Outlook) (tier tick : ℕ) → DeskAfter terms arrivals desk
+pub foreseen : (terms : Terms) (arrivals : List Arrival) (desk : Desk) (found : Outlook) (tier tick : ℕ) → Counted terms arrivals desk
     → ((offers : List Offer) → ControllerAfter offers desk.controller → found ≡ outlook (station_of desk.controller) (decided (station_of desk.controller) offers) tier tick)
     → found ≡ outlook (station_for terms) (decided (station_for terms) (offers_of terms arrivals)) tier tick
 foreseen terms arrivals desk found tier tick stands finds = rw stands.station at (finds (offers_of terms arrivals) stands.fits)

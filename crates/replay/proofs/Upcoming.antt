@@ -249,8 +249,8 @@ pub answered_now : (terms : Terms) (messages part : List Incoming) (old now : De
     → (s : Served terms messages old now before after rest) → rest ≡ part ∷ following → Upcoming terms arrivals more messages old
     → (now.totals.answered ≡ old.totals.answered + s.count) × (s.count + length part ≤ length messages)
 answered_now terms messages part old now before after rest following arrivals more s steps up =
-    let first = answered_is terms arrivals old up.stands in
-    let later = answered_is terms (arrivals ++ take s.count more) now (s.stands arrivals more up) in
+    let first = answered_is terms arrivals old up.stands.counted in
+    let later = answered_is terms (arrivals ++ take s.count more) now (s.stands arrivals more up).counted in
     let len = length-append arrivals (take s.count more) in
     let counted = come_count terms arrivals more messages old up in
     let below = s.below in

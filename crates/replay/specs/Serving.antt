@@ -23,20 +23,29 @@ use Rattle.reference.specs.declared.summary.Outcome.{Outcome}
 abbrev pub most_messages : ℕ
 most_messages = 536870912
 
--- these messages were decided on and counted
-pub record DeskAfter (terms : Terms) (arrivals : List Arrival) (desk : Desk) : Type 0 where
-  pub station : station_of desk.controller ≡ (station_for terms)
-  pub fits : ControllerAfter (offers_of terms arrivals) desk.controller
-  pub totals : desk.totals ≡ totals_of terms arrivals
-  pub few : length arrivals ≤ most_messages
-
--- none of them came later than this tick
+-- none of these messages came later than this tick
 abbrev pub AreBy : ℕ → List Arrival → Type 0
 AreBy tick arrivals = All (λ a. a.origin.tick ≤ tick) arrivals
 
 -- at this speed no tick up to the one counts later than the other
 abbrev pub CountsBy : ℕ → ℕ → ℕ → Type 0
 CountsBy speed tick counted = (earlier : ℕ) → earlier ≤ tick → earlier * 100 / speed ≤ counted
+
+-- at this speed no message of this tick counts before the clock
+abbrev pub IsOnTime : ℕ → ℕ → ℕ → Type 0
+IsOnTime speed tick clock = (counted : ℕ) → CountsBy speed tick counted → clock ≤ counted
+
+-- these messages were decided on and counted
+pub record Counted (terms : Terms) (arrivals : List Arrival) (desk : Desk) : Type 0 where
+  pub station : station_of desk.controller ≡ (station_for terms)
+  pub fits : ControllerAfter (offers_of terms arrivals) desk.controller
+  pub totals : desk.totals ≡ totals_of terms arrivals
+  pub few : length arrivals ≤ most_messages
+
+-- and no time has passed beyond the last of them
+pub record DeskAfter (terms : Terms) (arrivals : List Arrival) (desk : Desk) : Type 0 where
+  pub counted : Counted terms arrivals desk
+  pub clock : (tick : ℕ) → AreBy tick arrivals → IsOnTime terms.speed tick desk.controller.clock
 
 -- none of them came later than this record
 abbrev pub IsLater : Record → List Arrival → Type 0

@@ -12,6 +12,7 @@ use Rattle.arrivals.specs.declared.incoming.Incoming.{Incoming}
 use Rattle.arrivals.specs.declared.incoming.Origin.{Origin}
 use Rattle.reference.specs.Reference.{Terms, slip_of, handled_after}
 use Rattle.replay.specs.Serving.{
+  Counted,
   DeskAfter,
   Serves,
   WritesMore,
@@ -31,7 +32,7 @@ use Rattle.replay.specs.declared.desk.Desk.{Desk}
 
 -- the next message, of this origin and meaning, was decided on
 abbrev pub DecidesNext : Terms → Origin → Meaning → Desk → Desk → Type 0
-DecidesNext terms origin what before after = (arrivals : List Arrival) (a : Arrival) → DeskAfter terms arrivals before
+DecidesNext terms origin what before after = (arrivals : List Arrival) (a : Arrival) → Counted terms arrivals before
     → a.origin ≡ origin → a.message.what ≡ what → DeskAfter terms (arrivals ++ a ∷ []) after
 
 -- its text was written, and a prefix of that was

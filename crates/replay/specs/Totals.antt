@@ -7,7 +7,7 @@ use Rattle.arrivals.specs.Reference.{Arrival}
 use Rattle.reference.specs.declared.summary.Counts.{Counts}
 use Rattle.replay.specs.declared.totals.Totals.{Totals}
 use Rattle.std.specs.List.{list_any}
-use Rattle.admission.specs.Reference.{Offer}
+use Rattle.admission.specs.Reference.{Offer, tick_from}
 use Rattle.admission.specs.After.{ControllerAfter}
 use Rattle.admission.specs.Standing.{station_of}
 use Rattle.replay.specs.declared.desk.Desk.{Desk}
@@ -69,3 +69,4 @@ pub record Decides (offers next : List Offer) (old new : Desk) (away : Bool) : T
   pub is_away : away ≡ list_any (rejects (station_of old.controller) offers) next
   pub totals : new.totals ≡ decided_totals old.totals (samples_of (station_of old.controller) (offers ++ next)) away
   pub start : new.start ≡ old.start
+  pub clock : new.controller.clock ≡ tick_from old.controller.clock next

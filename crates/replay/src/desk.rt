@@ -1,7 +1,7 @@
 //! The desk: the controller and the totals, which see each message in its order, and decide on it.
 
 ghost use Rattle.std.specs.Prelude.{◌≡◌, ◌<◌, ◌≤◌, ◌∷◌, ◌&&◌, [], true, Bool, List, length, IfOk, ◌+◌, ◌++◌, map, OnOk};
-ghost use Rattle.admission.specs.Reference.{Offer, tick_from};
+ghost use Rattle.admission.specs.Reference.{Offer};
 ghost use Rattle.admission.specs.After.{ControllerAfter};
 ghost use Rattle.admission.specs.Standing.{station_of};
 ghost use Rattle.reference.specs.Reference.{terms_of, answers_head, given, offer_at, samples_of, handled_next};
@@ -13,7 +13,7 @@ ghost use Rattle.replay.specs.Backs.{given_by, only_head, has_location, is_due, 
 ghost use Rattle.std.specs.List.{list_all};
 ghost use Rattle.captures.specs.Reference.{max_start, max_tick};
 ghost use Rattle.arrivals.specs.Reference.{Arrival};
-ghost use Rattle.replay.specs.Serving.{DeskAfter, AreBy};
+ghost use Rattle.replay.specs.Serving.{Counted, DeskAfter, IsOnTime};
 ghost use Rattle.replay.specs.Steps.{DecidesNext};
 ghost use Rattle.replay.specs.Waiting.{AreLookedUp, InTime};
 ghost use Rattle.replay.specs.declared.back.BackState.TheVariants.{Due as Waits};
@@ -45,6 +45,7 @@ pub(crate) fn controller_of(alloc: Global, settings: &Settings) -> Result<Contro
     ensures fits { IfOk result (λ controller. ControllerAfter [] controller) }
     ensures station { IfOk result (λ controller. station_of controller
         ≡ record { policies = settings.now.policies; servers = settings.now.tariff.costs.servers }) }
+    ensures clock { IfOk result (λ controller. controller.clock ≡ 0) }
 {
     Controller::with_servers(
         alloc,
@@ -58,8 +59,8 @@ impl Desk {
     /// beside that: whether it is turned away.
     fn offer(&mut self, tier: u8, tick: u64, service: u64, delay: u64) -> Result<bool, AllocError>
         requires offers { (offers : List Offer) × ControllerAfter offers self.old.controller
-            × (tick_from 0 offers ≤ tick)
             × (length offers < MAX_MESSAGES) }
+        requires clock { self.old.controller.clock ≤ tick }
         requires tier { tier < 4 }
         requires tick { tick ≤ MAX_TICK }
         requires service { (1 ≤ service) × (service ≤ MAX_SERVICE) }
@@ -91,8 +92,8 @@ impl Desk {
         lookup: Lookup,
     ) -> Result<Due<F>, AllocError>
         requires offers { (offers : List Offer) × ControllerAfter offers self.old.controller
-            × (tick_from 0 offers ≤ tick_in (terms_of F.files server.now) origin)
             × (length offers < MAX_MESSAGES) }
+        requires clock { self.old.controller.clock ≤ tick_in (terms_of F.files server.now) origin }
         requires tier { origin.tier < 4 }
         requires tick { origin.tick ≤ MAX_TICK }
         requires lookup { lookup ≡ lookup_of F.files server.now.tariff what.now }
@@ -143,13 +144,13 @@ pub(crate) fn settle<F: Tree>(
     requires tier { origin.tier < 4 }
     requires few { desk.old.totals.answered < MAX_MESSAGES }
     requires stands { (arrivals : List Arrival)
-        × DeskAfter (terms_of F.files server.now) arrivals desk.old
-        × AreBy origin.tick arrivals }
+        × Counted (terms_of F.files server.now) arrivals desk.old
+        × IsOnTime server.now.speed origin.tick desk.old.controller.clock }
     requires lookup { lookup ≡ lookup_of F.files server.now.tariff what.now }
     ensures stands { OnOk result
         (DecidesNext (terms_of F.files server.now) origin what.now desk.old desk.new) }
     ensures slip { IfOk result (λ t. (arrivals : List Arrival) (a : Arrival)
-        → DeskAfter (terms_of F.files server.now) arrivals desk.old → a.origin ≡ origin → a.message.what ≡ what.now
+        → Counted (terms_of F.files server.now) arrivals desk.old → a.origin ≡ origin → a.message.what ≡ what.now
         → slip_of_pending t ≡ slip_of (terms_of F.files server.now) desk.old.start
         (handled_next (terms_of F.files server.now) arrivals a)) }
     ensures ready { IfOk result (λ t. is_back F.files (Waits t) ≡ true) }

@@ -172,7 +172,7 @@ impl Format for Rows {
         let lookup = look_up(server, what)?;
         let service = service_in(&lookup);
         let tick = server.tick(origin);
-        let found = desk.controller.outlook(origin.tier, tick);
+        let found = desk.controller.outlook(origin.tier, tick)?;
         let pending = settle(server, origin, what, lookup, desk)?;
         let row = row_of(origin, tick, service, found, &pending);
         write_row(writer, &row, method_of(what), target_of(what))?;

@@ -1,6 +1,5 @@
 use Rattle.std.proofs.Common.{◌≡◌, ◌*◌, ◌≤◌}
-use Rattle.admission.specs.Standing.{last_tick}
 use Rattle.admission_tests.proofs.memory.each_growth_refused.Given as goal
 
 abbrev pub invariant-loop-place : goal.invariant-loop-place
-invariant-loop-place g l = (l.controller.offers ≡ l.place) × (last_tick l.controller ≤ 5000 * l.place)
+invariant-loop-place g l = (l.controller.offers ≡ l.place) × (l.controller.clock ≤ 5000 * l.place)

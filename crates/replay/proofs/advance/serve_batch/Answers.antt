@@ -44,7 +44,7 @@ returns-in_err-serve_parts-clause-many g c =
       full.0,
       λ records rs arrivals next.
           (let b = brings _ records rs arrivals _ _ _ _ _ _ _ next c.in_ok-seats.ensures found.origins found.found found.seats c.in_ok-parts.ensures.joined in
-          let is = answered_is _ arrivals _ b.up.stands in
+          let is = answered_is _ arrivals _ b.up.stands.counted in
           let count = come_count _ arrivals b.more _ _ b.up in
           let all = full.3 in
           let beyond = full.2 in
@@ -67,7 +67,7 @@ returns-in_err-serve_parts-clause-part g c =
     (λ f same. rw same (on_cut c.in_err-serve_parts.field-0.0 _ _
     (λ short. inr (λ records rs arrivals next.
     (let b = brings _ records rs arrivals _ _ _ _ _ _ _ next c.in_ok-seats.ensures found.origins found.found found.seats c.in_ok-parts.ensures.joined in
-    let is = answered_is _ arrivals _ b.up.stands in
+    let is = answered_is _ arrivals _ b.up.stands.counted in
     let few = short.2 in
     record {
       more = b.more;

@@ -26,7 +26,7 @@ pub settle-requires-clause-stands : goal.settle-requires-clause-stands
 settle-requires-clause-stands g c =
     let given = c.requires.arrived in
     let next = (next_is _ _ _ _ _ _ _ _ _ _ given.0 given.1 c.in-Some.looked_up c.loop-looked_up.invariant c.in-Some.ensures.steps.0 given.2 given.3 given.4 given.5).0 in
-    (next.arrivals, next.stands, next.by)
+    (next.arrivals, next.stands.counted, next.stands.clock c.in-Some.looked_up.message.origin.tick next.by)
 
 pub settle-requires-clause-lookup : goal.settle-requires-clause-lookup
 settle-requires-clause-lookup g c =
@@ -37,15 +37,15 @@ pub loop-looked_up-preserved : goal.loop-looked_up-preserved
 loop-looked_up-preserved g c =
     let one = c.in_ok-pending.ensures in
     rw (c.in_ok-push.ensures.items, c.in_ok-push.ensures.len) (settled_more _ _ _ _ _ _ _ _ _ _ c.in_ok-pending.pending _ c.in-Some.looked_up c.loop-looked_up.invariant c.in-Some.ensures.steps.0
-    (λ arrivals a stands own. one.stands arrivals a stands (ap (λ (m : Incoming). m.origin) own) (ap (λ (m : Incoming). m.what) own))
-    (λ arrivals a stands own. one.slip arrivals a stands (ap (λ (m : Incoming). m.origin) own) (ap (λ (m : Incoming). m.what) own)) one.ready one.start)
+    (λ arrivals a stands own. one.stands arrivals a stands.counted (ap (λ (m : Incoming). m.origin) own) (ap (λ (m : Incoming). m.what) own))
+    (λ arrivals a stands own. one.slip arrivals a stands.counted (ap (λ (m : Incoming). m.origin) own) (ap (λ (m : Incoming). m.what) own)) one.ready one.start)
 
 pub loop-looked_up-preserved-in_ok-push : goal.loop-looked_up-preserved-in_ok-push
 loop-looked_up-preserved-in_ok-push g c =
     let one = c.in_ok-pending.ensures in
     rw (c.in_ok-push.ensures.items, c.in_ok-push.ensures.len) (settled_more _ _ _ _ _ _ _ _ _ _ c.in_ok-pending.pending _ c.in-Some.looked_up c.loop-looked_up.invariant c.in-Some.ensures.steps.0
-    (λ arrivals a stands own. one.stands arrivals a stands (ap (λ (m : Incoming). m.origin) own) (ap (λ (m : Incoming). m.what) own))
-    (λ arrivals a stands own. one.slip arrivals a stands (ap (λ (m : Incoming). m.origin) own) (ap (λ (m : Incoming). m.what) own)) one.ready one.start)
+    (λ arrivals a stands own. one.stands arrivals a stands.counted (ap (λ (m : Incoming). m.origin) own) (ap (λ (m : Incoming). m.what) own))
+    (λ arrivals a stands own. one.slip arrivals a stands.counted (ap (λ (m : Incoming). m.origin) own) (ap (λ (m : Incoming). m.what) own)) one.ready one.start)
 
 pub returns-clause-stands : goal.returns-clause-stands
 returns-clause-stands g c = λ arrivals more stands looked_up.

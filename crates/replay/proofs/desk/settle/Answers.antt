@@ -1,9 +1,7 @@
 use Rattle.std.proofs.Common.{arith, subst, ◌≤◌}
-use Rattle.admission.specs.Reference.{tick_from}
 use Rattle.reference.specs.Reference.{terms_of, offers_of}
 use Rattle.replay.specs.Backs.{given_by}
 use Rattle.reference.proofs.Offering.{offers_few}
-use Rattle.replay.proofs.OfferedBy.{last_by}
 use Rattle.replay.proofs.Judging.{answered_is, samples_are, counts_kept, stands_after}
 use Rattle.replay.proofs.desk.settle.Goals as goal
 
@@ -14,8 +12,11 @@ decide-requires-clause-offers g c =
     let below = c.requires.few in
     let is = answered_is terms given.0 c.args.desk.now given.1 in
     let few = offers_few terms given.0 in
-    let by = last_by terms given.0 c.args.origin.tick c.tick.result given.2 c.tick.ensures.rises in
-    (offers_of terms given.0, given.1.fits, subst (λ t. tick_from 0 (offers_of terms given.0) ≤ t) c.tick.ensures.value by, omega (arith, below, is, few))
+    (offers_of terms given.0, given.1.fits, omega (arith, below, is, few))
+
+pub decide-requires-clause-clock : goal.decide-requires-clause-clock
+decide-requires-clause-clock g c =
+    subst (λ t. c.args.desk.now.controller.clock ≤ t) c.tick.ensures.value (c.requires.stands.2 c.tick.result c.tick.ensures.rises)
 
 pub note-requires-clause-counts : goal.note-requires-clause-counts
 note-requires-clause-counts g c =
@@ -30,4 +31,4 @@ pub returns-clause-stands : goal.returns-clause-stands
 returns-clause-stands g c = λ arrivals a stands from meaning.
     let terms = terms_of g.F.Tree.files c.args.server.now in
     let judged = c.in_ok-due.ensures.given_by (offers_of terms arrivals) stands.fits (samples_are terms arrivals c.args.desk.now stands) in
-    stands_after _ terms arrivals a c.args.origin c.args.what.now c.args.desk.now c.decide.new.self c.note.new.self (given_by c.in_ok-due.due) stands from meaning c.requires.few judged c.note.ensures
+    stands_after _ terms arrivals a c.args.origin c.args.what.now c.args.desk.now c.decide.new.self c.note.new.self (given_by c.in_ok-due.due) stands (rw from c.requires.stands.2) from meaning c.requires.few judged c.note.ensures

@@ -29,21 +29,21 @@ pub settle-requires-clause-stands : goal.settle-requires-clause-stands
 settle-requires-clause-stands g c =
     let given = c.requires.next in
     let next = next_of _ _ _ _ _ _ _ _ _ _ given.0 given.1 c.in-Some.message c.loop-message.invariant c.in-Some.ensures.steps.0 given.2 given.3 in
-    (next.arrivals, next.stands, next.by)
+    (next.arrivals, next.stands.counted, next.stands.clock c.in-Some.message.origin.tick next.by)
 
 pub loop-message-preserved : goal.loop-message-preserved
 loop-message-preserved g c =
     let one = c.in_ok-pending.ensures in
     rw (c.in_ok-push.ensures.items, c.in_ok-push.ensures.len) (settled_next _ _ _ _ _ _ _ _ _ _ c.in_ok-pending.pending _ c.in-Some.message c.loop-message.invariant c.in-Some.ensures.steps.0
-    (λ arrivals a stands own. one.stands arrivals a stands (ap (λ (m : Incoming). m.origin) own) (ap (λ (m : Incoming). m.what) own))
-    (λ arrivals a stands own. one.slip arrivals a stands (ap (λ (m : Incoming). m.origin) own) (ap (λ (m : Incoming). m.what) own)) one.ready one.start)
+    (λ arrivals a stands own. one.stands arrivals a stands.counted (ap (λ (m : Incoming). m.origin) own) (ap (λ (m : Incoming). m.what) own))
+    (λ arrivals a stands own. one.slip arrivals a stands.counted (ap (λ (m : Incoming). m.origin) own) (ap (λ (m : Incoming). m.what) own)) one.ready one.start)
 
 pub loop-message-preserved-in_ok-push : goal.loop-message-preserved-in_ok-push
 loop-message-preserved-in_ok-push g c =
     let one = c.in_ok-pending.ensures in
     rw (c.in_ok-push.ensures.items, c.in_ok-push.ensures.len) (settled_next _ _ _ _ _ _ _ _ _ _ c.in_ok-pending.pending _ c.in-Some.message c.loop-message.invariant c.in-Some.ensures.steps.0
-    (λ arrivals a stands own. one.stands arrivals a stands (ap (λ (m : Incoming). m.origin) own) (ap (λ (m : Incoming). m.what) own))
-    (λ arrivals a stands own. one.slip arrivals a stands (ap (λ (m : Incoming). m.origin) own) (ap (λ (m : Incoming). m.what) own)) one.ready one.start)
+    (λ arrivals a stands own. one.stands arrivals a stands.counted (ap (λ (m : Incoming). m.origin) own) (ap (λ (m : Incoming). m.what) own))
+    (λ arrivals a stands own. one.slip arrivals a stands.counted (ap (λ (m : Incoming). m.origin) own) (ap (λ (m : Incoming). m.what) own)) one.ready one.start)
 
 pub returns-clause-stands : goal.returns-clause-stands
 returns-clause-stands g c = λ arrivals more up.

@@ -72,7 +72,7 @@ loop-message-preserved g c =
     let a : ℕ → ℕ → Arrival = λ place id. record { origin = c.args.origin; connection = id; place = place; message = get_or messages i m } in
     let sofar : ℕ → ℕ → List Arrival = λ place id. arrivals_with place id c.args.origin (take i messages) in (
       λ arrivals place id stands. rw (arrivals_step place id c.args.origin messages i m lt)
-          (rw (append_assoc arrivals (sofar place id) (a place id ∷ [])) at (one.stands (arrivals ++ sofar place id) (a place id) (inv.0 arrivals place id stands) refl what)),
+          (rw (append_assoc arrivals (sofar place id) (a place id ∷ [])) at (one.stands (arrivals ++ sofar place id) (a place id) (inv.0 arrivals place id stands).counted refl what)),
       λ arrivals place id stands. rw (arrivals_step place id c.args.origin messages i m lt)
           (wrote_more _ c.args.desk.now.start arrivals (sofar place id) (a place id ∷ []) _ _ _ (c.requires.texts (terms_of g.F.Tree.files c.args.server.now)) (inv.1 arrivals place id stands) (rw inv.2 at (one.written (arrivals ++ sofar place id) (a place id) (inv.0 arrivals place id stands) refl what))),
       one.start ∙ inv.2,

@@ -10,7 +10,7 @@ returns-then-len-room-clause-part g c =
     let len : c.len.result ≡ length messages = c.len.ensures ∙ c.args.messages.ok.0 in
     let fits = c.if-len-room.true in
     let next = c.requires.next in
-    let is = answered_is _ next.0 _ next.2.stands in
+    let is = answered_is _ next.0 _ next.2.stands.counted in
     let few = c.requires.limit.0 in
     let bound = c.requires.limit.1 in
     short_cut c.serve_few.result _ _
@@ -26,7 +26,7 @@ pub serve_few-requires-2-clause-next : goal.serve_few-requires-2-clause-next
 serve_few-requires-2-clause-next g c = λ κs lives.
     let next = c.requires.next in
     let room = c.args.floors.now.most - c.args.desk.now.totals.answered in
-    let is = answered_is _ next.0 _ next.2.stands in
+    let is = answered_is _ next.0 _ next.2.stands.counted in
     let few = c.requires.limit.0 in
     let bound = c.requires.limit.1 in
     let short = take_short room next.1 in
@@ -38,7 +38,7 @@ returns-in_err-serve_few-clause-part g c =
     let beyond = c.if-len-room.false in
     let room = c.args.floors.now.most - c.args.desk.now.totals.answered in
     let next = c.requires.next in
-    let is = answered_is _ next.0 _ next.2.stands in
+    let is = answered_is _ next.0 _ next.2.stands.counted in
     let few = c.requires.limit.0 in
     let bound = c.requires.limit.1 in
     cut_short c.from_residual.result _ (
@@ -54,7 +54,7 @@ returns-clause-many g c =
     let beyond = c.if-len-room.false in
     let room = c.args.floors.now.most - c.args.desk.now.totals.answered in
     let next = c.requires.next in
-    let is = answered_is _ next.0 _ next.2.stands in
+    let is = answered_is _ next.0 _ next.2.stands.counted in
     let few = c.requires.limit.0 in
     let bound = c.requires.limit.1 in (
       refl,
@@ -69,11 +69,11 @@ returns-then-len-room-clause-within g c =
     let len : c.len.result ≡ length c.args.messages.items = c.len.ensures ∙ c.args.messages.ok.0 in
     let fits = c.if-len-room.true in
     let next = c.requires.next in
-    let is = answered_is _ next.0 _ next.2.stands in
+    let is = answered_is _ next.0 _ next.2.stands.counted in
     let few = c.requires.limit.0 in
     let count = come_count _ next.0 next.1 _ _ next.2 in
     ok_more c.serve_few.result _ _
     (λ stands. (
-    let after = answered_is _ (next.0 ++ next.1) _ (stands next.0 next.1 next.2) in
+    let after = answered_is _ (next.0 ++ next.1) _ (stands next.0 next.1 next.2).counted in
     omega (arith, after, length-append next.0 next.1, count, len, fits, is, few)))
     c.serve_few.ensures.stands

@@ -4,5 +4,5 @@ use Rattle.replay.proofs.plain.outcome_of.Goals as goal
 
 pub returns-clause-summary : goal.returns-clause-summary
 returns-clause-summary c = λ terms arrivals stands.
-    let tiers = rw stands.station at (c.tallies_of.ensures (offers_of terms arrivals) stands.fits) in
-    rw (stands.totals, tiers) refl
+    let tiers = rw stands.counted.station at (c.tallies_of.ensures (offers_of terms arrivals) stands.counted.fits) in
+    rw (stands.counted.totals, tiers) refl

@@ -39,7 +39,7 @@ loop-next-init g c =
         [],
         [],
         rw c.start.ensures c.in-Ok.ensures.ok.after,
-        serves_none terms c.new-connections.result _ c.new-connections.ensures (stands_none terms _ (c.in_ok-controller_of.ensures.station) c.in_ok-controller_of.ensures.fits c.new.ensures),
+        serves_none terms c.new-connections.result _ c.new-connections.ensures (stands_none terms _ (c.in_ok-controller_of.ensures.station) c.in_ok-controller_of.ensures.fits c.in_ok-controller_of.ensures.clock c.new.ensures),
         tiers_none c.new-tiers.result c.new-tiers.ensures,
         text_begun (g.T.Format.texts terms) c.start.result c.args.writer.now.bytes c.begin.new.writer.bytes (c.in_ok-begin.ensures.texts terms) (c.in_ok-begin.ensures.written terms),
         c.version-version.ensures,

@@ -39,7 +39,7 @@ loop-messages-init g c =
         tiers_are = tiers_none c.new-tiers.result c.new-tiers.ensures;
         idle = waits_none _ c.new-seats.ensures;
         answered = record {
-          serves = serves_none terms _ _ (ap connections_of c.new-seats.ensures) (stands_none terms _ (c.in_ok-controller_of.ensures.station) c.in_ok-controller_of.ensures.fits c.new.ensures);
+          serves = serves_none terms _ _ (ap connections_of c.new-seats.ensures) (stands_none terms _ (c.in_ok-controller_of.ensures.station) c.in_ok-controller_of.ensures.fits c.in_ok-controller_of.ensures.clock c.new.ensures);
           replies = first_written terms c.start.result c.args.writer.now.bytes c.write_first_line.new.writer.bytes c.in_ok-write_first_line.ensures.written;
           limit = c.max_messages.ensures;
           within = (let none = ap (λ (t : Totals). t.answered) c.new.ensures in omega (arith, none));

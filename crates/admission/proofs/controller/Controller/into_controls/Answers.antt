@@ -1,10 +1,10 @@
 use Rattle.std.proofs.Common.{◌∙◌}
 use Rattle.std.proofs.lemmas.List.{length-map}
-use Rattle.admission.proofs.TierLemmas.{all_shown, all_share}
+use Rattle.admission.proofs.TierLemmas.{all_shown, all_complete}
 use Rattle.admission.proofs.controller.Controller.into_controls.Goals as goal
 
-pub controls_of-requires-clause-tiers : goal.controls_of-requires-clause-tiers
-controls_of-requires-clause-tiers c = all_share _ c.self.invariant
+pub controls_of-requires : goal.controls_of-requires
+controls_of-requires c = all_complete _ c.self.invariant
 
 pub returns : goal.returns
 returns c offers fits =

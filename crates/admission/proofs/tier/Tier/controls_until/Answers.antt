@@ -1,9 +1,15 @@
-use Rattle.admission.proofs.UntilLemmas.{until_fits}
+use Rattle.std.proofs.Common.{sym}
+use Rattle.std.proofs.lemmas.List.{length-take-le}
+use Rattle.admission.proofs.ShownLemmas.{shows}
 use Rattle.admission.proofs.tier.Tier.controls_until.Goals as goal
+
+pub slice_bounds-result-end : goal.slice_bounds-result-end
+slice_bounds-result-end c =
+    sym (length-take-le c.count_until.result c.deref.result.now
+    (rw (c.deref.ensures.value, ← c.deref-2.ensures.value) c.count_until.ensures.within))
 
 pub returns : goal.returns
 returns c past fits =
-    let passed = rw (← c.self.view_is) at (c.bucket_at-reached.ensures.fits past fits) in
     rw (← c.self.view_is, c.deref.ensures.value)
-    (until_fits past c.args.tick _ c.bucket_at-reached.result.0 c.bucket_at-reached.result.1 c.self.invariant.every
-    (rw (← c.self.view_is) at fits) passed c.bucket_at-reached.ensures.tick)
+    (shows _ past c.args.tick _ (rw (← c.self.view_is) at fits) c.self.invariant.every (rw (← c.self.view_is) at c.requires)
+    (rw c.deref-2.ensures.value at c.count_until.ensures.first))

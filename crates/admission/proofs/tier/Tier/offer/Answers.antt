@@ -1,55 +1,80 @@
-use Rattle.std.proofs.Common.{◌≡◌, ◌+◌, ◌-◌, max, ◌∙◌, sym, ap, arith}
-use Rattle.admission.proofs.OfferLemmas.{short_of, enough_of, decision_rejected, decision_admitted, tier_rejected, tier_admitted}
-use Rattle.admission.proofs.SoundLemmas.{share_rejected, share_admitted}
+use Rattle.std.proofs.Common.{◌≡◌, ◌+◌, ◌-◌, ◌≤◌, max, ◌∙◌, ap, arith}
+use Rattle.token_bucket.specs.Reference.{TOKEN}
+use Rattle.admission.specs.Standing.{Due, AllFrom, completions}
+use Rattle.admission.proofs.HeapLemmas.{from-lower}
+use Rattle.admission.proofs.OfferLemmas.{short_of, enough_of, decision_rejected, decision_admitted, moved_fits, rejected_fits, admitted_fits}
+use Rattle.admission.proofs.SoundLemmas.{sound_admitted, share_admitted}
 use Rattle.admission.proofs.tier.Tier.offer.Goals as goal
+
+pub reject-requires-clause-later : goal.reject-requires-clause-later
+reject-requires-clause-later c =
+    rw (c.try_take.ensures.tick, c.advance.ensures.tick)
+    (from-lower c.args.tick (c.args.tick + 1) (completions c.args.self.now.flight.responses) (omega arith) c.requires.share.2.complete)
 
 pub returns-then-not-try_take-clause-decision : goal.returns-then-not-try_take-clause-decision
 returns-then-not-try_take-clause-decision c past fits =
-    let passed = c.bucket_at-bucket.ensures.fits past fits in
-    decision_rejected c.args.self.now.rules past c.bucket_at-bucket.result.0 c.bucket_at-bucket.result.1 c.args.free c.args.tick c.args.service
-    passed.stands c.bucket_at-bucket.ensures.tick
-    (short_of _ _ (c.if-not-try_take.ensures.taken passed.past_calls passed.fits) passed.fits.credit)
+    let share = rw (← c.self.view_is) at c.requires.share.2 in
+    let moved = moved_fits _ c.advance.new.self past c.args.tick c.self.invariant share.clock share.complete c.advance.ensures.fits
+    (rw (← c.self.view_is) at fits) in
+    rw (← c.self.view_is)
+    (decision_rejected c.self.inside.policy past c.advance.new.self c.args.free c.args.tick c.args.service moved.bucket c.advance.ensures.tick
+    (short_of _ _ (c.if-not-try_take.ensures.taken moved.bucket.past_calls moved.bucket.fits) moved.bucket.fits.credit))
 
 pub returns-then-not-try_take-clause-fits : goal.returns-then-not-try_take-clause-fits
 returns-then-not-try_take-clause-fits c past offer at late fits =
-    let passed = c.bucket_at-bucket.ensures.fits past fits in
-    rw c.reject.ensures
-    (tier_rejected c.args.self.now c.bucket_at-bucket.result.0 c.try_take.new.self c.bucket_at-bucket.result.1 passed.past_calls past
-    offer fits passed.stands (c.bucket_at-bucket.ensures.tick ∙ sym at) passed.fits
-    (c.if-not-try_take.ensures.fits passed.past_calls passed.fits))
+    let share = rw (← c.self.view_is) at c.requires.share.2 in
+    rw (c.reject.ensures, ← c.self.view_is)
+    (rejected_fits _ c.advance.new.self c.try_take.new.self past offer c.args.tick c.self.invariant share.clock share.complete
+    c.advance.ensures.fits c.advance.ensures.tick c.if-not-try_take.ensures.fits at (rw (← c.self.view_is) at fits))
 
-pub returns-then-not-try_take-clause-share : goal.returns-then-not-try_take-clause-share
-returns-then-not-try_take-clause-share c offers share =
-    rw c.reject.ensures
-    (share_rejected offers c.args.tick c.args.self.now c.try_take.new.self c.bucket_at-bucket.result.1 share
-    (c.try_take.ensures.tick ∙ c.bucket_at-bucket.ensures.tick) (c.bucket_at-bucket.ensures.rising share.rising))
+pub invariant_of-self-2 : goal.invariant_of-self-2
+invariant_of-self-2 c =
+    let share = rw (← c.self.view_is) at c.requires.share.2 in
+    let due : Due = record {
+      completion = c.max.result + c.args.service + c.args.delay;
+      sample = c.max.result + c.args.service + c.args.delay - c.args.tick;
+    } in
+    let at : c.try_take.new.self.tick ≡ c.args.tick = c.try_take.ensures.tick ∙ c.advance.ensures.tick in
+    let clock : c.self.inside.bucket.tick ≤ c.args.tick = share.clock in
+    let later : AllFrom c.try_take.new.self.tick (completions c.self.inside.in_flight.responses) =
+    rw at (from-lower c.args.tick (c.args.tick + 1) (completions c.self.inside.in_flight.responses) (omega arith) share.complete) in
+    rw c.in_ok-add.ensures.ok
+    (sound_admitted _ c.try_take.new.self due c.self.invariant later (omega (arith, clock, at))
+    (let finish : c.max.result ≡ max c.args.free c.args.tick = c.max.ensures in omega (arith, at, finish)))
 
 pub returns-clause-decision : goal.returns-clause-decision
 returns-clause-decision c past fits =
-    let passed = c.bucket_at-bucket.ensures.fits past fits in
-    decision_admitted c.args.self.now.rules past c.bucket_at-bucket.result.0 c.bucket_at-bucket.result.1 c.args.free c.args.tick c.args.service
-    (c.max.result + c.args.service) passed.stands c.bucket_at-bucket.ensures.tick
-    (enough_of _ _ (c.if-not-try_take.ensures.taken passed.past_calls passed.fits) passed.fits.credit)
-    (ap (λ n. n + c.args.service) c.max.ensures)
+    let share = rw (← c.self.view_is) at c.requires.share.2 in
+    let moved = moved_fits _ c.advance.new.self past c.args.tick c.self.invariant share.clock share.complete c.advance.ensures.fits
+    (rw (← c.self.view_is) at fits) in
+    rw (← c.self.view_is)
+    (decision_admitted c.self.inside.policy past c.advance.new.self c.args.free c.args.tick c.args.service (c.max.result + c.args.service)
+    moved.bucket c.advance.ensures.tick
+    (enough_of _ _ (c.if-not-try_take.ensures.taken moved.bucket.past_calls moved.bucket.fits) moved.bucket.fits.credit)
+    (ap (λ n. n + c.args.service) c.max.ensures))
 
 pub returns-clause-fits : goal.returns-clause-fits
 returns-clause-fits c past offer at late fits =
-    let passed = c.bucket_at-bucket.ensures.fits past fits in
+    let share = rw (← c.self.view_is) at c.requires.share.2 in
+    let moved = moved_fits _ c.advance.new.self past c.args.tick c.self.invariant share.clock share.complete c.advance.ensures.fits
+    (rw (← c.self.view_is) at fits) in
     let finish : c.max.result + c.args.service ≡ max c.args.free c.args.tick + c.args.service =
     ap (λ n. n + c.args.service) c.max.ensures in
-    rw (c.in_ok-admit.ensures.ok, ← at, ← late)
-    (tier_admitted c.args.self.now c.bucket_at-bucket.result.0 c.try_take.new.self c.bucket_at-bucket.result.1 passed.past_calls past
-    offer (c.max.result + c.args.service) fits passed.stands (c.bucket_at-bucket.ensures.tick ∙ sym at)
-    c.bucket_at-bucket.ensures.every (omega (arith, finish, at, c.requires.service.0)) passed.fits
-    (c.if-not-try_take.ensures.fits passed.past_calls passed.fits)
-    (enough_of _ _ (c.if-not-try_take.ensures.taken passed.past_calls passed.fits) passed.fits.credit))
+    let enough : TOKEN ≤ c.advance.new.self.credit =
+    enough_of _ _ (c.if-not-try_take.ensures.taken moved.bucket.past_calls moved.bucket.fits) moved.bucket.fits.credit in
+    rw c.in_ok-add.ensures.ok
+    (admitted_fits _ c.advance.new.self c.try_take.new.self past offer c.args.tick c.args.delay (c.max.result + c.args.service)
+    c.self.invariant share.clock share.complete c.advance.ensures.fits c.advance.ensures.tick c.if-not-try_take.ensures.fits at late
+    (omega (arith, finish, c.requires.work.0)) enough (rw (← c.self.view_is) at fits))
 
 pub returns-clause-share : goal.returns-clause-share
 returns-clause-share c offers share =
+    let due : Due = record {
+      completion = c.max.result + c.args.service + c.args.delay;
+      sample = c.max.result + c.args.service + c.args.delay - c.args.tick;
+    } in
     let finish : c.max.result + c.args.service ≡ max c.args.free c.args.tick + c.args.service =
     ap (λ n. n + c.args.service) c.max.ensures in
-    rw c.in_ok-admit.ensures.ok
-    (share_admitted offers c.args.tick (c.max.result + c.args.service) (c.max.result + c.args.service - c.args.tick + c.args.delay) c.args.self.now
-    c.try_take.new.self c.bucket_at-bucket.result.1 share
-    (c.try_take.ensures.tick ∙ c.bucket_at-bucket.ensures.tick) (c.bucket_at-bucket.ensures.rising share.rising)
-    c.bucket_at-bucket.ensures.reached (omega (arith, finish)))
+    rw c.in_ok-add.ensures.ok
+    (share_admitted offers c.args.tick _ c.try_take.new.self due (rw (← c.self.view_is) at share)
+    (c.try_take.ensures.tick ∙ c.advance.ensures.tick) (omega (arith, finish, c.requires.work.0)))

@@ -15,10 +15,10 @@ overflow_add-finish c =
 
 pub returns-in_ok-push-in-Admitted : goal.returns-in_ok-push-in-Admitted
 returns-in_ok-push-in-Admitted c = λ offers fits samples.
-    decides_admitted offers _ c.in-Admitted.finish _ _ _ _ c.in-Admitted.is (c.in_ok-finish.ensures.decision offers fits) c.in_ok-finish.ensures.next.2 (c.in_ok-finish.ensures.fits offers fits) samples
+    decides_admitted offers _ c.in-Admitted.finish _ _ _ _ c.in-Admitted.is (c.in_ok-finish.ensures.decision offers fits) c.in_ok-finish.ensures.next.2 (c.in_ok-finish.ensures.fits offers fits) c.in_ok-finish.ensures.clock samples
     (desk_sampled c.args.self.now c.offer_delayed.new.self _ _ c.in_ok-push-in-Admitted.ensures.ok)
 
 pub returns-in_ok-push-in-Rejected : goal.returns-in_ok-push-in-Rejected
 returns-in_ok-push-in-Rejected c = λ offers fits samples.
-    decides_rejected offers _ _ _ _ _ c.in-Rejected.is (c.in_ok-finish.ensures.decision offers fits) c.in_ok-finish.ensures.next.2 (c.in_ok-finish.ensures.fits offers fits) samples
+    decides_rejected offers _ _ _ _ _ c.in-Rejected.is (c.in_ok-finish.ensures.decision offers fits) c.in_ok-finish.ensures.next.2 (c.in_ok-finish.ensures.fits offers fits) c.in_ok-finish.ensures.clock samples
     (desk_rejected c.args.self.now c.offer_delayed.new.self _ c.in_ok-push-in-Rejected.ensures.ok)

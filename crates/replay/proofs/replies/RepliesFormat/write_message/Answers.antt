@@ -18,7 +18,7 @@ returns-in_err-pending-clause-part g c =
 pub returns-clause-written : goal.returns-clause-written
 returns-clause-written g c = ok_more c.answer_pending.result _ _
     (λ written arrivals a stands from meaning.
-    (let slips = c.in_ok-pending.ensures.slip arrivals a stands from meaning in
+    (let slips = c.in_ok-pending.ensures.slip arrivals a stands.counted from meaning in
     let all = reply_written _ (terms_of g.F.Tree.files c.args.server.now) c.args.desk.now.start arrivals a _ _ slips refl in
     subst (λ text. Appends c.args.writer.now.bytes c.answer_pending.new.writer.bytes text) all written))
     c.answer_pending.ensures.written
@@ -26,7 +26,7 @@ returns-clause-written g c = ok_more c.answer_pending.result _ _
 pub returns-clause-part : goal.returns-clause-part
 returns-clause-part g c = err_more c.answer_pending.result _ _
     (λ part arrivals a stands from meaning.
-    (let slips = c.in_ok-pending.ensures.slip arrivals a stands from meaning in
+    (let slips = c.in_ok-pending.ensures.slip arrivals a stands.counted from meaning in
     let all = reply_written _ (terms_of g.F.Tree.files c.args.server.now) c.args.desk.now.start arrivals a _ _ slips refl in
     subst (λ text. AppendsPrefix c.args.writer.now.bytes c.answer_pending.new.writer.bytes text) all part))
     c.answer_pending.ensures.part

@@ -1,38 +1,53 @@
-use Rattle.std.proofs.Common.{subst, arith}
+use Rattle.std.proofs.Common.{subst, sym, ◌∙◌, ◌≤◌, arith}
 use Rattle.std.specs.Io.KnownBytes.{Appends}
 use Rattle.devices.specs.Devices.{AppendsPrefix}
 use Rattle.devices.proofs.Appending.{prefix_none, proper_is_prefix}
 use Rattle.reference.specs.Reference.{terms_of}
-use Rattle.replay.proofs.OfferedBy.{last_by}
 use Rattle.replay.proofs.Judging.{on_err}
-use Rattle.replay.proofs.RowByRow.{costs_known, foreseen, row_written}
+use Rattle.replay.proofs.RowByRow.{costs_known, foreseen, stands_still, row_written}
 use Rattle.replay.proofs.rows.RowsFormat.write_message.Goals as goal
 
-pub outlook-found-requires-clause-forward : goal.outlook-found-requires-clause-forward
-outlook-found-requires-clause-forward g c =
+pub outlook-requires-clause-forward : goal.outlook-requires-clause-forward
+outlook-requires-clause-forward g c =
     let given = c.requires.stands in
-    let late = last_by (terms_of g.F.Tree.files c.args.server.now) given.0 c.args.origin.tick c.tick-tick.result given.2 c.tick-tick.ensures.rises in
-    let last = given.1.fits.tick in
+    let late = given.1.clock c.args.origin.tick given.2 c.tick-tick.result c.tick-tick.ensures.rises in
     let most = c.requires.tick in
     let range = c.tick-tick.ensures.range in
-    (omega (arith, late, last), omega (arith, most, range))
+    (late, omega (arith, most, range))
+
+pub settle-requires-clause-stands : goal.settle-requires-clause-stands
+settle-requires-clause-stands g c =
+    let given = c.requires.stands in (
+      given.0,
+      stands_still (terms_of g.F.Tree.files c.args.server.now) given.0 c.args.desk.now c.outlook.new.self c.outlook.ensures.same given.1.counted,
+      λ counted counts. subst (λ t. t ≤ counted) (sym c.tick-tick.ensures.value ∙ sym c.outlook.ensures.clock) (counts c.args.origin.tick (omega arith)),
+    )
 
 pub returns-in_err-lookup-clause-part : goal.returns-in_err-lookup-clause-part
 returns-in_err-lookup-clause-part g c =
     on_err c.from_residual.result _ (λ arrivals a stands from meaning. prefix_none c.args.writer.now.bytes _)
 
+pub returns-in_err-found-clause-part : goal.returns-in_err-found-clause-part
+returns-in_err-found-clause-part g c =
+    on_err c.from_residual-in_err-found.result _ (λ arrivals a stands from meaning. prefix_none c.args.writer.now.bytes _)
+
 pub returns-in_err-pending-clause-part : goal.returns-in_err-pending-clause-part
 returns-in_err-pending-clause-part g c =
     on_err c.from_residual-in_err-pending.result _ (λ arrivals a stands from meaning. prefix_none c.args.writer.now.bytes _)
+
+pub returns-clause-stands : goal.returns-clause-stands
+returns-clause-stands g c = λ arrivals a stands from meaning.
+    c.in_ok-pending.ensures.stands arrivals a (stands_still (terms_of g.F.Tree.files c.args.server.now) arrivals c.args.desk.now c.outlook.new.self c.outlook.ensures.same stands) from meaning
 
 pub returns-in_err-write_row-clause-part : goal.returns-in_err-write_row-clause-part
 returns-in_err-write_row-clause-part g c =
     let terms = terms_of g.F.Tree.files c.args.server.now in
     on_err c.from_residual-in_err-write_row.result _
     (λ arrivals a stands from meaning.
-    (let finds = foreseen terms arrivals c.args.desk.now c.outlook-found.result c.args.origin.tier c.tick-tick.result stands c.outlook-found.ensures.finds in
+    (let still = stands_still terms arrivals c.args.desk.now c.outlook.new.self c.outlook.ensures.same stands.counted in
+    let finds = foreseen terms arrivals c.args.desk.now c.in_ok-found.found c.args.origin.tier c.tick-tick.result stands.counted c.in_ok-found.ensures.finds in
     let costs = costs_known g.F.Tree.files c.args.server.now.tariff c.args.what.now a.message.what _ _ c.service_in-service.ensures.is c.in_ok-lookup.ensures meaning in
-    let row = c.row_of-row.ensures terms c.args.desk.now.start arrivals a from c.tick-tick.ensures.value costs finds (c.in_ok-pending.ensures.slip arrivals a stands from meaning) in
+    let row = c.row_of-row.ensures terms c.args.desk.now.start arrivals a from c.tick-tick.ensures.value costs finds (c.in_ok-pending.ensures.slip arrivals a still from meaning) in
     let text = row_written terms arrivals a c.row_of-row.result c.args.what.now c.method_of.result.now c.target_of.result.now row meaning c.method_of.ensures c.target_of.ensures in
     let part = proper_is_prefix _ _ _ c.in_err-write_row.ensures.prefix in
     subst (λ v. AppendsPrefix c.args.writer.now.bytes c.write_row.new.output.bytes v) text part))
@@ -40,8 +55,9 @@ returns-in_err-write_row-clause-part g c =
 pub returns-clause-written : goal.returns-clause-written
 returns-clause-written g c = λ arrivals a stands from meaning.
     let terms = terms_of g.F.Tree.files c.args.server.now in
-    let finds = foreseen terms arrivals c.args.desk.now c.outlook-found.result c.args.origin.tier c.tick-tick.result stands c.outlook-found.ensures.finds in
+    let still = stands_still terms arrivals c.args.desk.now c.outlook.new.self c.outlook.ensures.same stands.counted in
+    let finds = foreseen terms arrivals c.args.desk.now c.in_ok-found.found c.args.origin.tier c.tick-tick.result stands.counted c.in_ok-found.ensures.finds in
     let costs = costs_known g.F.Tree.files c.args.server.now.tariff c.args.what.now a.message.what _ _ c.service_in-service.ensures.is c.in_ok-lookup.ensures meaning in
-    let row = c.row_of-row.ensures terms c.args.desk.now.start arrivals a from c.tick-tick.ensures.value costs finds (c.in_ok-pending.ensures.slip arrivals a stands from meaning) in
+    let row = c.row_of-row.ensures terms c.args.desk.now.start arrivals a from c.tick-tick.ensures.value costs finds (c.in_ok-pending.ensures.slip arrivals a still from meaning) in
     let text = row_written terms arrivals a c.row_of-row.result c.args.what.now c.method_of.result.now c.target_of.result.now row meaning c.method_of.ensures c.target_of.ensures in
     subst (λ v. Appends c.args.writer.now.bytes c.write_row.new.output.bytes v) text c.in_ok-write_row.ensures.prefix
