@@ -8,10 +8,11 @@ byte; the replies go into a pipe that is read byte by byte, or into one whose re
 into a file that may have only so many bytes, and replies onto a disk with little room (where one can be mounted: a
 user's own tmpfs). With a C compiler (CC, or cc) besides: each read gives one byte, each write takes one byte; each read
 fails in turn, then each write, by an error and by an interruption; no more reads are made than buffers of the inputs'
-sizes need; and each thread in turn can't be started, in small batches and in large ones. Of these one has work for threads that cut pieces and for those of the front floor, and three
-for threads of one kind alone, those that cut, of the front floor and of the back floor: each has to start some.
-(Whatever the machine has, the program is told of PROCESSORS processors.) What stands at a device is always a prefix of
-what is right, all of it where the status is 0, and a file that is full has all that it may have.
+sizes need; and each thread in turn can't be started, in small batches and in large ones. Of these one has work for
+threads that cut pieces and for those of the front floor, and three for threads of one kind alone, those that cut, of
+the front floor and of the back floor: each has to start some. (Whatever the machine has, the program is told of
+PROCESSORS processors.) What stands at a device is always a prefix of what is right, all of it where the status is 0,
+and a file that is full has all that it may have.
 """
 import errno
 import os

@@ -43,6 +43,7 @@ TABLES = os.path.join(TOP, "checks", "mutants")
 PARTS = ("src", "specs", "proofs")
 # Crates whose mutants weren't all tried on the text that is there: their records aren't compared yet.
 UNTRIED = {"command_line", "program", "replay", "settings", "stage_graph", "test_support"}
+MOST = 12  # in a pass, so that all processors have one, and little is lost where it is cut off
 REFUSED = ("values", "goal", "answer", "limit", "word")
 UNKNOWN, ALIVE, BROKEN = "no verdict", "not refused", "doesn't compile"
 HEAD = re.compile(r"^( *)(?:pub(?:\(\w+\))? )?(?:const |unsafe )*fn (\w+)")
@@ -233,7 +234,7 @@ class Sites:
 
 
 def grouped(mutants, sites):
-    """Passes: as many mutants in each as stand in different functions; those that stand elsewhere alone."""
+    """Passes: up to MOST mutants in each, which stand in different functions; those that stand elsewhere alone."""
     passes, alone = [], []
     for mutant in mutants:
         where = sites.of(mutant)
@@ -242,7 +243,7 @@ def grouped(mutants, sites):
             continue
         keys = {it[:3] for it in where}
         for taken, members in passes:
-            if not taken & keys:
+            if not taken & keys and len(members) < MOST:
                 taken |= keys
                 members.append(mutant)
                 break

@@ -20,7 +20,7 @@ import sys
 TOP = pathlib.Path(__file__).resolve().parent.parent
 PAGE = TOP / "checks" / "README.md"
 # What a hand-in touches that has to run the check; and the check itself.
-PLACES = ("packaging", "tools", "crates/command_line/src", "checks/package.py")
+PLACES = ("packaging", "tools", "build", "crates/command_line/src", "checks/package.py")
 DIGITS = 12
 LINE = re.compile(r"^Last run of `package[.]py`: (\S+), commit `([0-9a-f]+)`; (\d+) steps, 0 wrong; on (.*)[.]$",
                   re.MULTILINE)

@@ -23,8 +23,8 @@ ODD_WORDS = [
     [b"replay", b"--snapshot", b"snapshot", b"--capture", b"capture", b"--replies", b"new\xe9"],
 ]
 
-# Characters that act on a terminal, end a line, have no width or say how others are shown: by Python's Unicode data,
-# those of the categories Cc, Cf, Zl and Zp. Others stand beside them.
+# Control and format characters, and those that end a line or a paragraph: by Python's Unicode data, the categories
+# Cc, Cf, Zl and Zp. Others stand beside them.
 HIDDEN = [c for c in map(chr, range(1, sys.maxunicode + 1)) if unicodedata.category(c) in ("Cc", "Cf", "Zl", "Zp")]
 SHOWN = "\u00a0\u061b\u061d\u200a\u2010\u2027\u202f\u2065\u2070\ufefe\u00e9\U0001f600"
 # The words of wrong command lines, each with a place for a wrong word.

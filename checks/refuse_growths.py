@@ -7,8 +7,8 @@ It takes the tests that `rt ci` has built (crates/*/out/*) and that have `growth
 N = 1, 2, .. the Nth request of such a test is refused, until some runs make fewer: the test has to pass each time, for
 it looks at what is answered and what stands then. Of a test with `twice` in its name the next request is refused as
 well, in runs of its own. (Above MOST requests only each STRIDEth is refused, after the first MOST.) It needs a C
-compiler (CC, or cc) and the C library of GNU; without a compiler it fails. Exits with 1 where a test fails, or where no test is
-found.
+compiler (CC, or cc) and the C library of GNU; without a compiler it fails. Exits with 1 where a test fails, or where
+no test is found.
 """
 import concurrent.futures
 import glob

@@ -158,7 +158,7 @@ is_hidden_in LineSeparator = true
 is_hidden_in ParagraphSeparator = true
 is_hidden_in other = false
 
--- a character that acts on a terminal, ends a line, has no width, or says how others are shown (Unicode 18, 4.5)
+-- a control or a format character, or one that ends a line or a paragraph (Unicode 18, 4.5)
 abbrev pub is_hidden : ℕ → Bool
 is_hidden c = is_hidden_in (general_category c)
 

@@ -202,8 +202,8 @@ impl Fault {
     }
 }
 
-/// Whether a character acts on a terminal, ends a line, has no width, or says how others are shown: by its general
-/// category (Unicode 18, section 4.5).
+/// Whether a character is a control or a format character, or ends a line or a paragraph: by its general category
+/// (Unicode 18, section 4.5).
 fn is_hidden(c: char) -> bool
     ensures { result ≡ is_hidden c }
 {
