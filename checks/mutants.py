@@ -42,7 +42,7 @@ TOP = os.path.dirname(os.path.dirname(os.path.abspath(__file__)))
 TABLES = os.path.join(TOP, "checks", "mutants")
 PARTS = ("src", "specs", "proofs")
 # Crates whose mutants weren't all tried on the text that is there: their records aren't compared yet.
-UNTRIED = {"command_line", "program", "replay", "settings", "stage_graph", "test_support"}
+UNTRIED = {"program", "replay", "settings", "stage_graph"}
 MOST = 12  # in a pass, so that all processors have one, and little is lost where it is cut off
 REFUSED = ("values", "goal", "answer", "limit", "word")
 UNKNOWN, ALIVE, BROKEN = "no verdict", "not refused", "doesn't compile"
