@@ -3,10 +3,11 @@
 
     checks/many_messages.py PROGRAM
 
-A traffic text has no limit of messages. Two have 2^22 + 2, each in a record of its own. Where all come at tick 0, only
+A capture has at most 2^20 messages, a traffic text any number. Two of these have 2^22 + 2, each in a record of its own. Where all come at tick 0, only
 the first is let in. Where they come a tick after each other, all are: the service is 201 ticks, so the n-th (from 0) is
 finished at 201 (n + 1), and its sample is 200 n + 201; a control looks at the last sample alone, after each 4,096. The
-first text without its last line is a fault of the record after so many. The expected texts are counted up from this.
+first text without its last line is a fault of the record after so many; of a capture of them the table has the rows
+within the limit. The expected texts are counted up from this.
 Prints a line for each run, and exits with 1 where one is wrong.
 """
 import itertools
@@ -22,6 +23,7 @@ from program_parts import FIRST_LINE, HEADER, HEADER_TRAFFIC, PIECE, REJECTED, R
 from program_parts import Report, program_of
 
 COUNT = 2**22 + 2
+LIMIT = 2**20
 SECONDS = 300
 BLOCK = 1024  # messages that are written, and compared, at once
 SLIM_PIECE = b"piece 0 0 27\nGET /a.txt HTTP/1.1\nHost:\n\n\n"
@@ -33,6 +35,7 @@ OPEN = (
 HEADING = b"number,connection,tick,tier,status,decision,service,credit,rate,start,finish,waited,method,target\n"
 ROW = b"%d,0,0,0,503,rejected,201,0,1000,,,201,GET,/a.txt\n"
 FIRST_ROW = b"0,0,0,0,200,admitted,201,1000000000,1000,0,201,0,GET,/a.txt\n"
+TOO_MANY = b"haboob: capture: message %d: TooMany\n" % LIMIT
 CUT = b"haboob: capture: record %d: Cut\n" % (COUNT + 1)  # the first line is record 0
 INSPECTION = (
     b"haboob-inspection 1\nversion %b\nstart 784111777\nrecords %d\npieces %d\nends 0\ntiers 0\nfirst 0\nlast 0\n"
@@ -145,6 +148,8 @@ def runs():
     explain = ["explain", "--snapshot", "snapshot", "--capture", "traffic", "--messages", "pipe", *tight]
     rows = chain([HEADING + FIRST_ROW], numbered(ROW, 1, COUNT))
     yield "explain", explain, report(*once), rows, b""
+    within = chain([HEADING + FIRST_ROW], numbered(ROW, 1, LIMIT))
+    yield "explain: too many", named(explain, "capture"), [], within, TOO_MANY
     many = (b"traffic", COUNT, COUNT, b"open 1\n", COUNT * len(REQUEST)) + (COUNT,) * 5
     yield "inspect", ["inspect", "--capture", "traffic"], [INSPECTION % many], None, b""
     yield "inspect: cut", ["inspect", "--capture", "cut"], [INSPECTION % many], None, CUT

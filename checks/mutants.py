@@ -41,8 +41,6 @@ import tomllib
 TOP = os.path.dirname(os.path.dirname(os.path.abspath(__file__)))
 TABLES = os.path.join(TOP, "checks", "mutants")
 PARTS = ("src", "specs", "proofs")
-# Crates whose mutants weren't all tried on the text that is there: their records aren't compared yet.
-UNTRIED = {"program", "replay", "settings", "stage_graph"}
 MOST = 12  # in a pass, so that all processors have one, and little is lost where it is cut off
 REFUSED = ("values", "goal", "answer", "limit", "word")
 UNKNOWN, ALIVE, BROKEN = "no verdict", "not refused", "doesn't compile"
@@ -440,7 +438,7 @@ class Trial:
 
 def amiss(crate):
     """What is wrong with a crate's table, beside the sources."""
-    table, texts, is_open = load(crate), files_of(os.path.join(TOP, "crates", crate)), crate in UNTRIED
+    table, texts = load(crate), files_of(os.path.join(TOP, "crates", crate))
     names = collections.Counter(it["name"] for it in table["mutant"])
     yield from ("%s/%s: the name stands twice" % (crate, name) for name, count in names.items() if count > 1)
     for mutant in table["mutant"]:
@@ -448,10 +446,10 @@ def amiss(crate):
         if applied(texts, mutant) is None:
             yield "%s: an old text doesn't stand once" % label
         elif mutant.get("tried") != own_sum(mutant) or "verdict" not in mutant:
-            yield from () if is_open else ["%s: not tried as it stands" % label]
+            yield "%s: not tried as it stands" % label
         elif mutant["verdict"] not in REFUSED:
             yield "%s: %s" % (label, mutant["verdict"])
-    if not is_open and table.get("record", {}).get("text") != text_sum(crate):
+    if table.get("record", {}).get("text") != text_sum(crate):
         yield "%s: the record is of another text: run checks/mutants.py %s" % (crate, crate)
 
 
@@ -462,8 +460,6 @@ def check():
         wrong += amiss(crate)
         count += len(load(crate)["mutant"])
     print("\n".join(wrong + ["%d mutants of %d crates, %d wrong" % (count, len(tables()), len(wrong))]))
-    if UNTRIED:
-        print("not all tried yet: %s" % ", ".join(sorted(UNTRIED)))
     return int(bool(wrong))
 
 

@@ -14,8 +14,6 @@ mod large_pieces;
 #[cfg(test)]
 mod many_replies;
 #[cfg(test)]
-mod many_rows;
-#[cfg(test)]
 mod policies;
 #[cfg(test)]
 mod replay_devices;
